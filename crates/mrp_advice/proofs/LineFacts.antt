@@ -44,7 +44,8 @@ said : (P : Advice → Type 0) (f : Action → Advice) (o : Option Action) → (
 said P f None each = tt
 said P f (Some a) each = each a
 
-pub advice_is : (N : Table) (order : OpenOrder) (safety : ℕ) (gross : List ℕ) (had : ℕ) (advice : Option Advice) → length gross ≡ horizon N → IsOpenOrder N order
+pub advice_is : (N : Table) (order : OpenOrder) (safety : ℕ) (gross : List ℕ) (had : ℕ) (advice : Option Advice) → length gross ≡ horizon N
+    → IsOpenOrder N order
     → advice ≡ advice_for order (first_short safety gross had) → IfSome advice (IsAdvice N)
 advice_is N order safety gross had advice periods is same =
     let t = first_short safety gross had in
@@ -59,7 +60,8 @@ one_row : (line : AdviceLine) (o : Option Advice) → flat_map (advice_line_row 
 one_row line None = refl
 one_row line (Some advice) = append-nil (advice_line_row line advice)
 
-module _ (line : AdviceLine) (pair : PairRow) (gross : List ℕ) (orders : List OpenOrder) (i : ℕ) (order : OpenOrder) (same : order ≡ open_order_at orders i) where
+module _ (line : AdviceLine) (pair : PairRow) (gross : List ℕ) (orders : List OpenOrder) (i : ℕ) (order : OpenOrder)
+    (same : order ≡ open_order_at orders i) where
   pub had_next : (had after : ℕ) → i < length orders → had ≡ had_before pair orders i → after ≡ had + order.quantity → after ≡ had_before pair orders (i + 1)
   had_next had after within now grown =
       let quantity = ap (λ (o : OpenOrder). o.quantity) same in
@@ -75,7 +77,8 @@ module _ (line : AdviceLine) (pair : PairRow) (gross : List ℕ) (orders : List 
       ∙ filter_map-append (advice_at pair gross orders) (range_with_len 0 i) (i ∷ [])
 
   pub rows_next : (had : ℕ) (before now after : List ℕ) → had ≡ had_before pair orders i → now ≡ before ++ flat_map (advice_line_row line) (so_far i)
-      → after ≡ now ++ message_text line (advice_for order (first_short pair.safety gross had)) → after ≡ before ++ flat_map (advice_line_row line) (so_far (i + 1))
+      → after ≡ now ++ message_text line (advice_for order (first_short pair.safety gross had))
+      → after ≡ before ++ flat_map (advice_line_row line) (so_far (i + 1))
   rows_next had before now after has written grown =
       let advice = advice_at pair gross orders i in
       let rows = flat_map (advice_line_row line) in
@@ -92,7 +95,8 @@ module _ (line : AdviceLine) (pair : PairRow) (gross : List ℕ) (orders : List 
 
 -- ---- the rows of a line are those of its pair
 
-pub line_is_pair : (N : Table) (table : List PlanRows) (x : ℕ) (line : AdviceLine) (pair : PairRow) (gross : List ℕ) (orders : List OpenOrder) → IsAdviceLine N x line
+pub line_is_pair : (N : Table) (table : List PlanRows) (x : ℕ) (line : AdviceLine) (pair : PairRow) (gross : List ℕ) (orders : List OpenOrder)
+    → IsAdviceLine N x line
     → pair ≡ pair_at N x → gross ≡ (rows_at table x).gross → orders ≡ open_orders N x → advice_line_text line pair gross orders ≡ pair_advice_text N table x
 unfolding pair_advice_text
 line_is_pair N table x line pair gross orders is at required mine =
@@ -115,7 +119,8 @@ line_has_dates N x line is =
     ∙ sym (ap (λ (n : Table). horizon n) is.network)
 
 -- what a plan that fits a sized network requires of a pair is within the bound, and so is what the pair has
-pub pair_is_advised : (N : Table) (table : List PlanRows) (x : ℕ) (line : AdviceLine) (pair : PairRow) (gross : List ℕ) (orders : List OpenOrder) → IsSized N → Fits N table → IsPair N x
+pub pair_is_advised : (N : Table) (table : List PlanRows) (x : ℕ) (line : AdviceLine) (pair : PairRow) (gross : List ℕ) (orders : List OpenOrder) → IsSized N
+    → Fits N table → IsPair N x
     → IsAdviceLine N x line → pair ≡ pair_at N x → gross ≡ (rows_at table x).gross → orders ≡ open_orders N x → IsAdvised line.network.now pair gross orders
 pair_is_advised N table x line pair gross orders sized fits in_table is at required mine =
     let within = gross_within_need N sized sized.needs sized.are_needs table fits x in_table in

@@ -33,7 +33,8 @@ pub gross_to-le : (gross : List ℕ) (u t : ℕ) → u ≤ t → gross_to gross 
 gross_to-le gross u t by = front-le (λ (n : ℕ). n) gross (u + 1) (t + 1) (omega arith)
 
 -- one order more
-pub had_more : (pair : PairRow) (orders : List OpenOrder) (i : ℕ) → i < length orders → had_before pair orders (i + 1) ≡ had_before pair orders i + (open_order_at orders i).quantity
+pub had_more : (pair : PairRow) (orders : List OpenOrder) (i : ℕ) → i < length orders
+    → had_before pair orders (i + 1) ≡ had_before pair orders i + (open_order_at orders i).quantity
 had_more pair orders i within = omega (arith, sum_by_more (λ (o : OpenOrder). o.quantity) orders i no_order within)
 
 module _ (pair : PairRow) (gross : List ℕ) (orders : List OpenOrder) (t : ℕ) where

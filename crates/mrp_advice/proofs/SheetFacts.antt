@@ -21,7 +21,8 @@ use Rattle.mrp_advice.specs.declared.orders.OrderKind.{OrderKind}
 use Rattle.mrp_advice.specs.declared.orders.OrderKind.TheVariants.{Receipt, Ship}
 use Rattle.mrp_advice.specs.Advice.{pair_advice}
 use Rattle.mrp_advice.specs.Laws.{AdviceIsReadBack}
-use Rattle.mrp_advice.specs.Rows.{action_word, advice_fields, advice_names, advice_row, advice_text, order_kind_word, messages_text, needed_date, needed_period, pair_advice_text, sender_name}
+use Rattle.mrp_advice.specs.Rows.{action_word, advice_fields, advice_names, advice_row, advice_text, order_kind_word, messages_text, needed_date, needed_period}
+use Rattle.mrp_advice.specs.Rows.{pair_advice_text, sender_name}
 use Rattle.mrp_advice.specs.Sheets.{pair_advice_sheet}
 
 action_plain : (action : Action) → IsPlain (action_word action)

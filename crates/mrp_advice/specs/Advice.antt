@@ -1,5 +1,6 @@
 -- Exception messages for the open orders of a pair.
-use Rattle.std.specs.Prelude.{ℕ, ◌==◌, nat_lt, if◌then◌else◌, List, length, filter_map, slice_index_or, Option, Some, None, option_map}
+use Rattle.std.specs.Prelude.{ℕ, ◌==◌, nat_lt, if◌then◌else◌, List, length, filter_map, slice_index_or, Option, Some}
+use Rattle.std.specs.Prelude.{None, option_map}
 use Rattle.std.specs.List.{range_with_len}
 use Rattle.mrp_lot.specs.One.{PlanRows}
 use Rattle.mrp_rows.specs.declared.rows.PairRow.{PairRow}
@@ -21,7 +22,8 @@ action_for due (Some t) = if t == due then None else Some (if nat_lt t due then 
 
 -- the message for an order, where there is something to do
 abbrev pub advice_for : OpenOrder → Option ℕ → Option Advice
-advice_for order needed = option_map (λ action. record { action = action; order = order; needed = needed }) (action_for order.period needed)
+advice_for order needed = option_map (λ action. record { action = action; order = order; needed = needed })
+    (action_for order.period needed)
 
 -- what a look-up past the orders reads
 abbrev pub no_order : OpenOrder

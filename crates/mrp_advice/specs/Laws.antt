@@ -14,10 +14,12 @@ use Rattle.mrp_advice.specs.OpenOrders.{all_orders, open_orders, orders_in}
 use Rattle.mrp_advice.specs.Rows.{advice_text}
 use Rattle.mrp_advice.specs.Sheets.{advice_sheet}
 
--- what has come by a period if each open order of a pair comes when it is needed, and one that is needed in no period never
+-- what has come by a period if each open order of a pair comes when it is needed, and one that is needed in no period
+-- never
 abbrev pub timely : PairRow → List ℕ → List OpenOrder → ℕ → ℕ
 timely pair gross orders t =
-    sum_by (λ i. if is_needed_by t (needed pair gross orders i) then (open_order_at orders i).quantity else 0) (range_with_len 0 (length orders))
+    sum_by (λ i. if is_needed_by t (needed pair gross orders i) then (open_order_at orders i).quantity else 0)
+    (range_with_len 0 (length orders))
 
 -- then the balance without any planned order is at safety stock or above in each period before one in which an order is
 -- needed, and in all periods of the horizon where an order is needed in none
@@ -35,13 +37,16 @@ NeedsRise =
 
 -- each receipt and each shipment is an open order of one pair, once
 abbrev pub OrdersAreKept : Type 0
-OrdersAreKept = (N : Table) → IsTable N → IsPermutation (all_orders N) (flat_map (open_orders N) (range_with_len 0 (length N.pairs)))
+OrdersAreKept = (N : Table) → IsTable N → IsPermutation (all_orders N)
+    (flat_map (open_orders N) (range_with_len 0 (length N.pairs)))
 
 -- the open orders of a pair in a period add up to what comes in for it
 abbrev pub OrdersComeIn : Type 0
 OrdersComeIn = (N : Table) (x t : ℕ) → sum_by (λ o. o.quantity) (orders_in N x t) ≡ incoming N x t
 
--- the report of an accepted table is read back: what csv reads of it by its defaults is the fields that its rows are made of
+-- the report of an accepted table is read back: what csv reads of it by its defaults is the fields that its rows are
+-- made of
 abbrev pub AdviceIsReadBack : Type 0
 AdviceIsReadBack =
-    (N : Table) → IsTable N → (heading : Heading) (table : List PlanRows) → IsReadAs (advice_text heading N table) (advice_sheet heading N table)
+    (N : Table) → IsTable N → (heading : Heading) (table : List PlanRows)
+    → IsReadAs (advice_text heading N table) (advice_sheet heading N table)

@@ -20,8 +20,10 @@ use Rattle.mrp_advice.specs.Advice.{pair_advice}
 -- the names of the columns
 abbrev pub advice_names : List (List ℕ)
 advice_names =
-    text_bytes "row" ∷ text_bytes "action" ∷ text_bytes "kind" ∷ text_bytes "plant" ∷ text_bytes "item" ∷ text_bytes "supplier"
-    ∷ text_bytes "period" ∷ text_bytes "date" ∷ text_bytes "quantity" ∷ text_bytes "needed" ∷ text_bytes "needed_date" ∷ []
+    text_bytes "row" ∷ text_bytes "action" ∷ text_bytes "kind" ∷ text_bytes "plant" ∷ text_bytes "item"
+    ∷ text_bytes "supplier"
+    ∷ text_bytes "period" ∷ text_bytes "date" ∷ text_bytes "quantity" ∷ text_bytes "needed" ∷ text_bytes "needed_date"
+    ∷ []
 
 -- what a row calls an action, and a kind of open order
 abbrev pub action_word : Action → List ℕ
@@ -50,7 +52,8 @@ needed_date dates (Some t) = date_in dates t
 -- the fields of the row of a message: what to do, what the order is, when it is due, and when it is needed
 abbrev pub advice_fields : Table → List ℕ → List ℕ → List (List ℕ) → Advice → List (List ℕ)
 advice_fields N plant item dates advice =
-    text_bytes "advice" ∷ action_word advice.action ∷ order_kind_word advice.order.kind ∷ plant ∷ item ∷ sender_name N advice.order.kind
+    text_bytes "advice" ∷ action_word advice.action ∷ order_kind_word advice.order.kind ∷ plant ∷ item
+    ∷ sender_name N advice.order.kind
     ∷ decimal advice.order.period ∷ date_in dates advice.order.period ∷ decimal advice.order.quantity
     ∷ needed_period advice.needed ∷ needed_date dates advice.needed ∷ []
 
@@ -60,7 +63,8 @@ advice_row N plant item dates advice = row (advice_fields N plant item dates adv
 
 -- the rows of a pair's messages, in the order of its open orders
 unfoldable pub pair_advice_text : Table → List PlanRows → ℕ → List ℕ
-pair_advice_text N table x = flat_map (advice_row N (plant_of N x) (item_of N x) (dates_of N.calendar)) (pair_advice N table x)
+pair_advice_text N table x = flat_map (advice_row N (plant_of N x) (item_of N x) (dates_of N.calendar))
+    (pair_advice N table x)
 
 -- the messages of each pair, in table order
 unfoldable pub messages_text : Table → List PlanRows → List ℕ

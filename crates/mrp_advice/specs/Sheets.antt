@@ -12,7 +12,8 @@ use Rattle.mrp_advice.specs.Rows.{advice_fields, advice_names}
 
 -- the messages of a pair, in the order of its open orders
 abbrev pub pair_advice_sheet : Table → List PlanRows → ℕ → Sheet
-pair_advice_sheet N table x = map (advice_fields N (plant_of N x) (item_of N x) (dates_of N.calendar)) (pair_advice N table x)
+pair_advice_sheet N table x = map (advice_fields N (plant_of N x) (item_of N x) (dates_of N.calendar))
+    (pair_advice N table x)
 
 -- those of each pair, in table order, below the names of their columns, where these are asked for
 abbrev pub advice_sheet : Heading → Table → List PlanRows → Sheet

@@ -10,7 +10,8 @@ ghost use Rattle.mrp_sheet.specs.Headings.{header_row};
 ghost use Rattle.mrp_sheet.specs.Writing.{IsBetweenRows, written};
 ghost use Rattle.mrp_sheet.specs.Sent.{SendsReport};
 ghost use Rattle.mrp_advice.specs.Advice.{advice_for};
-ghost use Rattle.mrp_advice.specs.AdviceLines.{HasSender, IsAdvice, IsAdvised, IsAdviceLine, IsOpenOrder, advice_line_row, advice_line_text, message_text};
+ghost use Rattle.mrp_advice.specs.AdviceLines.{HasSender, IsAdvice, IsAdvised, IsAdviceLine, IsOpenOrder};
+ghost use Rattle.mrp_advice.specs.AdviceLines.{advice_line_row, advice_line_text, message_text};
 ghost use Rattle.mrp_advice.specs.Covered.{Covers};
 ghost use Rattle.mrp_advice.specs.Gathered.{AreOpenOrders};
 ghost use Rattle.mrp_advice.specs.Needed.{first_short};
@@ -80,7 +81,8 @@ pub fn advice_rows<W: Write>(
     out: &mut W,
 ) -> Result<(), ReportFault>
     requires fits { Fits net.now.network plan.now }
-    ensures text { SendsReport (W.contents out.old) (W.contents out.new) result (advice_text heading net.now.network plan.now) }
+    ensures text { SendsReport (W.contents out.old) (W.contents out.new) result
+        (advice_text heading net.now.network plan.now) }
     ensures untouched { result ≡ Err ReportFault.Memory → out.new ≡ out.old }
 {
     let network = net.network();
@@ -104,7 +106,8 @@ fn advice_text(
 ) -> Result<Vec<u8>, ReportFault>
     requires sized { IsSized report.now.network.now }
     requires fits { Fits report.now.network.now report.now.plan.now }
-    requires orders { AreOpenOrders report.now.network.now report.now.orders.now.rows.items report.now.orders.now.starts.items }
+    requires orders { AreOpenOrders report.now.network.now report.now.orders.now.rows.items
+        report.now.orders.now.starts.items }
     requires dates { report.now.dates.now ≡ dates_of report.now.network.now.calendar }
     ensures text { IfOk result (λ text. text.items ≡ advice_text heading report.now.network.now report.now.plan.now) }
     ensures fault { IfErr result (λ fault. fault ≡ ReportFault.Memory) }
@@ -150,9 +153,11 @@ fn put_all_messages(
     requires between { IsBetweenRows rows.old }
     requires sized { IsSized report.now.network.now }
     requires fits { Fits report.now.network.now report.now.plan.now }
-    requires orders { AreOpenOrders report.now.network.now report.now.orders.now.rows.items report.now.orders.now.starts.items }
+    requires orders { AreOpenOrders report.now.network.now report.now.orders.now.rows.items
+        report.now.orders.now.starts.items }
     requires dates { report.now.dates.now ≡ dates_of report.now.network.now.calendar }
-    ensures rows { OnOk result (written rows.new ≡ written rows.old ++ messages_text report.now.network.now report.now.plan.now) }
+    ensures rows { OnOk result (written rows.new ≡ written rows.old
+        ++ messages_text report.now.network.now report.now.plan.now) }
     ensures between { OnOk result (IsBetweenRows rows.new) }
     ensures fault { IfErr result (λ fault. fault ≡ ReportFault.Memory) }
 {
@@ -171,10 +176,12 @@ fn put_pair_messages(
     requires between { IsBetweenRows rows.old }
     requires sized { IsSized report.now.network.now }
     requires fits { Fits report.now.network.now report.now.plan.now }
-    requires orders { AreOpenOrders report.now.network.now report.now.orders.now.rows.items report.now.orders.now.starts.items }
+    requires orders { AreOpenOrders report.now.network.now report.now.orders.now.rows.items
+        report.now.orders.now.starts.items }
     requires dates { report.now.dates.now ≡ dates_of report.now.network.now.calendar }
     requires pair { IsPair report.now.network.now x.0 }
-    ensures rows { OnOk result (written rows.new ≡ written rows.old ++ pair_advice_text report.now.network.now report.now.plan.now x.0) }
+    ensures rows { OnOk result (written rows.new ≡ written rows.old
+        ++ pair_advice_text report.now.network.now report.now.plan.now x.0) }
     ensures between { OnOk result (IsBetweenRows rows.new) }
     ensures fault { IfErr result (λ fault. fault ≡ ReportFault.Memory) }
 {
@@ -210,7 +217,8 @@ fn put_messages<'a>(
     requires between { IsBetweenRows rows.old }
     requires dates { length line.now.dates.now ≡ horizon line.now.network.now }
     requires advised { IsAdvised line.now.network.now pair gross.now orders.now }
-    ensures rows { OnOk result (written rows.new ≡ written rows.old ++ advice_line_text line.now pair gross.now orders.now) }
+    ensures rows { OnOk result (written rows.new ≡ written rows.old
+        ++ advice_line_text line.now pair gross.now orders.now) }
     ensures between { OnOk result (IsBetweenRows rows.new) }
     ensures fault { IfErr result (λ fault. fault ≡ ReportFault.Memory) }
 {
@@ -241,7 +249,8 @@ fn put_next<'a>(
     requires required { safety + sum gross.now ≤ MOST }
     requires had { cover.old.had + order.quantity ≤ MOST }
     requires order { IsOpenOrder line.now.network.now order }
-    ensures row { OnOk result (written rows.new ≡ written rows.old ++ message_text line.now (advice_for order (first_short safety gross.now cover.old.had))) }
+    ensures row { OnOk result (written rows.new ≡ written rows.old
+        ++ message_text line.now (advice_for order (first_short safety gross.now cover.old.had))) }
     ensures between { OnOk result (IsBetweenRows rows.new) }
     ensures fault { IfErr result (λ fault. fault ≡ ReportFault.Memory) }
     ensures covers { Covers safety gross.now cover.new }

@@ -1,5 +1,6 @@
 -- What one record more of a lane brings, and what sums over the lanes become by it.
-use Rattle.std.proofs.Common.{◌≡◌, ℕ, zero, suc, ◌+◌, ◌<◌, ◌≤◌, ◌==◌, eqb, cond, Bool, false, ◌||◌, List, [], ◌∷◌, ◌++◌, inl, inr, length, get_or, refl, ap, ◌∙◌, arith, append-nil}
+use Rattle.std.proofs.Common.{◌≡◌, ℕ, zero, suc, ◌+◌, ◌<◌, ◌≤◌, ◌==◌, eqb, cond, Bool, false, ◌||◌, List, [], ◌∷◌, ◌++◌, inl, inr, length, get_or, refl, ap}
+use Rattle.std.proofs.Common.{◌∙◌, arith, append-nil}
 use Rattle.std.specs.List.{count_by, sum_by, list_any, filter_map}
 use Rattle.std.proofs.lemmas.Bool.{cases_Bool, cases_eq, eq-eqb, ne_eqb}
 use Rattle.std.proofs.lemmas.List.{map-append}
@@ -22,7 +23,8 @@ use Rattle.mrp_agent.proofs.Sent.{changed_there, changed_elsewhere}
 
 -- ---- a sum with one part changed
 
-sum_same : {X : Type 0} (f g key : X → ℕ) (n : ℕ) (xs : List X) → count_by (λ x. eqb (key x) n) xs ≡ 0 → ((x : X) → (key x ≡ n → ⊥) → f x ≡ g x) → sum_by f xs ≡ sum_by g xs
+sum_same : {X : Type 0} (f g key : X → ℕ) (n : ℕ) (xs : List X) → count_by (λ x. eqb (key x) n) xs ≡ 0 → ((x : X) → (key x ≡ n → ⊥) → f x ≡ g x)
+    → sum_by f xs ≡ sum_by g xs
 sum_same f g key n [] gone same = refl
 sum_same {X} f g key n (x ∷ xs) gone same =
     let all = sum_by-cons (λ (x : X). cond (eqb (key x) n) 1 0) x xs in
@@ -60,11 +62,13 @@ sum_each f g (x ∷ xs) same = omega (arith, same x, sum_each f g xs same, sum_b
 contents_more : (records : List Record) (r : Record) → contents (records ++ r ∷ []) ≡ contents records ++ content r ∷ []
 contents_more records r = map-append content records (r ∷ [])
 
-entries_more : (item : ℕ) (records : List Record) (r : Record) → entries_of item (contents (records ++ r ∷ [])) ≡ entries_of item (contents records) ++ entries_of item (content r ∷ [])
+entries_more : (item : ℕ) (records : List Record) (r : Record) → entries_of item (contents (records ++ r ∷ [])) ≡ entries_of item (contents records)
+    ++ entries_of item (content r ∷ [])
 entries_more item records r = ap (entries_of item) (contents_more records r) ∙ filter-append (is_of item) (contents records) (content r ∷ [])
 
 -- a record of another item changes nothing
-pub entries_stay : (item : ℕ) (records : List Record) (r : Record) → is_of item (content r) ≡ false → entries_of item (contents (records ++ r ∷ [])) ≡ entries_of item (contents records)
+pub entries_stay : (item : ℕ) (records : List Record) (r : Record) → is_of item (content r) ≡ false
+    → entries_of item (contents (records ++ r ∷ [])) ≡ entries_of item (contents records)
 entries_stay item records r other =
     let nothing : entries_of item (content r ∷ []) ≡ [] = ap (λ (b : Bool). cond b (content r ∷ []) []) other in
     entries_more item records r ∙ ap (λ (z : List Entry). entries_of item (contents records) ++ z) nothing ∙ append-nil (entries_of item (contents records))
@@ -77,14 +81,17 @@ any-append p (x ∷ xs) ys =
       | inr not ↦ rw not (any-append p xs ys)
     ]
 
-pub ended_more : (item : ℕ) (records : List Record) (r : Record) → is_ended item (contents (records ++ r ∷ [])) ≡ (is_ended item (contents records) || is_ended item (content r ∷ []))
-ended_more item records r = ap (list_any is_end) (entries_more item records r) ∙ any-append is_end (entries_of item (contents records)) (entries_of item (content r ∷ []))
+pub ended_more : (item : ℕ) (records : List Record) (r : Record)
+    → is_ended item (contents (records ++ r ∷ [])) ≡ (is_ended item (contents records) || is_ended item (content r ∷ []))
+ended_more item records r = ap (list_any is_end) (entries_more item records r)
+    ∙ any-append is_end (entries_of item (contents records)) (entries_of item (content r ∷ []))
 
 -- the pieces of an item that a record brings in a period
 abbrev pub brought : ℕ → ℕ → Entry → ℕ
 brought item period e = pieces_in item period (e ∷ [])
 
-pub pieces_more : (item period : ℕ) (records : List Record) (r : Record) → pieces_in item period (contents (records ++ r ∷ [])) ≡ pieces_in item period (contents records) + brought item period (content r)
+pub pieces_more : (item period : ℕ) (records : List Record) (r : Record)
+    → pieces_in item period (contents (records ++ r ∷ [])) ≡ pieces_in item period (contents records) + brought item period (content r)
 pieces_more item period records r =
     let pieces : Delivery → ℕ = λ line. cond (eqb line.period period) line.quantity 0 in
     ap (λ (z : List Entry). quantity_in period (filter_map entry_delivery z)) (entries_more item records r)
@@ -94,7 +101,8 @@ pieces_more item period records r =
 pub other_brings_nothing : (item period : ℕ) (e : Entry) → is_of item e ≡ false → brought item period e ≡ 0
 other_brings_nothing item period e other = ap (λ (b : Bool). quantity_in period (filter_map entry_delivery (cond b (e ∷ []) []))) other
 
-pub line_brings : (item period quantity cumulative other t : ℕ) → item ≡ other → period ≡ t → brought other t (LineOf item period quantity cumulative) ≡ quantity
+pub line_brings : (item period quantity cumulative other t : ℕ) → item ≡ other → period ≡ t
+    → brought other t (LineOf item period quantity cumulative) ≡ quantity
 line_brings item period quantity cumulative other t is at =
     let here : brought other t (LineOf item period quantity cumulative) ≡ 0 + cond (eqb period t) quantity 0 =
     ap (λ (b : Bool). quantity_in t (filter_map entry_delivery (cond b (LineOf item period quantity cumulative ∷ []) []))) (eq-eqb item other is) in
@@ -135,8 +143,10 @@ with_taken V taken k r = changed taken (incoming_at V k).number.0 (taken (incomi
 abbrev pub HasLanesOnce : PlantRows → Type 0
 HasLanesOnce V = (l : ℕ) → count_by (λ lane. lane.number.0 == l) V.incoming ≤ 1
 
-pub booked_after : (kind : LaneKind) (V : PlantRows) (taken : ℕ → List Record) (k : ℕ) (r : Record) (item : ItemNo) (t : ℕ) → HasLanesOnce V → k < length V.incoming
-    → booked_on kind V (with_taken V taken k r) item t ≡ booked_on kind V taken item t + cond (is_of_kind kind (incoming_at V k).kind) (brought item.0 t (content r)) 0
+pub booked_after : (kind : LaneKind) (V : PlantRows) (taken : ℕ → List Record) (k : ℕ) (r : Record) (item : ItemNo) (t : ℕ) → HasLanesOnce V
+    → k < length V.incoming
+    → booked_on kind V (with_taken V taken k r) item t ≡ booked_on kind V taken item t
+    + cond (is_of_kind kind (incoming_at V k).kind) (brought item.0 t (content r)) 0
 booked_after kind V taken k r item t once within =
     let l : ℕ = (incoming_at V k).number.0 in
     let on : IncomingLane → Bool = λ lane. is_of_kind kind lane.kind in
@@ -144,12 +154,14 @@ booked_after kind V taken k r item t once within =
     let part : (ℕ → List Record) → IncomingLane → ℕ = λ lists lane. cond (on lane) (pieces lists lane) 0 in
     let new : ℕ → List Record = with_taken V taken k r in
     let others : (lane : IncomingLane) → (lane.number.0 ≡ l → ⊥) → part new lane ≡ part taken lane =
-    λ lane other. ap (λ (z : List Record). cond (on lane) (pieces_in item.0 t (contents z)) 0) (changed_elsewhere taken l (taken l ++ r ∷ []) lane.number.0 other) in
+    λ lane other. ap (λ (z : List Record). cond (on lane) (pieces_in item.0 t (contents z)) 0)
+    (changed_elsewhere taken l (taken l ++ r ∷ []) lane.number.0 other) in
     let sums = sum_changed (part new) (part taken) (λ (lane : IncomingLane). lane.number.0) V.incoming k no_incoming (once l) within others in
     let there : pieces new (incoming_at V k) ≡ pieces taken (incoming_at V k) + brought item.0 t (content r) =
     ap (λ (z : List Record). pieces_in item.0 t (contents z)) (changed_there taken l (taken l ++ r ∷ [])) ∙ pieces_more item.0 t (taken l) r in
     let here : part new (incoming_at V k) ≡ part taken (incoming_at V k) + cond (on (incoming_at V k)) (brought item.0 t (content r)) 0 =
-    elim (cases_Bool (on (incoming_at V k))) as (λ _. part new (incoming_at V k) ≡ part taken (incoming_at V k) + cond (on (incoming_at V k)) (brought item.0 t (content r)) 0) [
+    elim (cases_Bool (on (incoming_at V k))) as (λ _. part new (incoming_at V k)
+    ≡ part taken (incoming_at V k) + cond (on (incoming_at V k)) (brought item.0 t (content r)) 0) [
       | inl is ↦ rw is there
       | inr not ↦ rw not refl
     ] in

@@ -23,16 +23,19 @@ pub record AskedTo (plans : List PlanRows) (edges : List ParentEdge) (k : ℕ) (
 pub none_asked : (plans : List PlanRows) (edges : List ParentEdge) (old : List ℕ) → AskedTo plans edges 0 old old
 none_asked plans edges old = record { size = refl; each = λ t h. omega arith }
 
-pub next_within : (plans : List PlanRows) (edges : List ParentEdge) (k : ℕ) (e : ParentEdge) (old now : List ℕ) → AskedTo plans edges k old now → k < length edges → e ≡ get_or edges k no_edge
+pub next_within : (plans : List PlanRows) (edges : List ParentEdge) (k : ℕ) (e : ParentEdge) (old now : List ℕ) → AskedTo plans edges k old now
+    → k < length edges → e ≡ get_or edges k no_edge
     → ((t : ℕ) → t < length old → slice_index old t + asked_by plans edges t ≤ MOST)
     → (t : ℕ) → t < length now → slice_index now t + asked_on plans t e ≤ MOST
 next_within plans edges k e old now h inside is within t low =
     let lower : t < length old = omega (arith, low, h.size) in
     let this : asked_on plans t e ≡ asked_on plans t (get_or edges k no_edge) = ap (asked_on plans t) is in
-    let more : asked_by plans (take k edges) t + asked_on plans t (get_or edges k no_edge) ≤ asked_by plans edges t = sum_by_more_le (asked_on plans t) edges k no_edge inside in
+    let more : asked_by plans (take k edges) t + asked_on plans t (get_or edges k no_edge) ≤ asked_by plans edges t =
+    sum_by_more_le (asked_on plans t) edges k no_edge inside in
     omega (arith, h.each t lower, within t lower, more, this)
 
-pub more_asked : (plans : List PlanRows) (edges : List ParentEdge) (k : ℕ) (e : ParentEdge) (old now new : List ℕ) → AskedTo plans edges k old now → k < length edges → e ≡ get_or edges k no_edge
+pub more_asked : (plans : List PlanRows) (edges : List ParentEdge) (k : ℕ) (e : ParentEdge) (old now new : List ℕ) → AskedTo plans edges k old now
+    → k < length edges → e ≡ get_or edges k no_edge
     → length new ≡ length now → ((t : ℕ) → t < length now → slice_index new t ≡ slice_index now t + asked_on plans t e)
     → AskedTo plans edges (k + 1) old new
 more_asked plans edges k e old now new h inside is size each = record {
@@ -40,7 +43,8 @@ more_asked plans edges k e old now new h inside is size each = record {
   each = λ t low.
       let lower : t < length now = omega (arith, low, h.size) in
       let this : asked_on plans t e ≡ asked_on plans t (get_or edges k no_edge) = ap (asked_on plans t) is in
-      let more : asked_by plans (take (k + 1) edges) t ≡ asked_by plans (take k edges) t + asked_on plans t (get_or edges k no_edge) = sum_by_more (asked_on plans t) edges k no_edge inside in
+      let more : asked_by plans (take (k + 1) edges) t ≡ asked_by plans (take k edges) t + asked_on plans t (get_or edges k no_edge) =
+      sum_by_more (asked_on plans t) edges k no_edge inside in
       omega (arith, each t lower, h.each t low, more, this);
 }
 
@@ -52,16 +56,19 @@ grossed_at : (called : List ℕ) (edges : List ParentEdge) (plans : List PlanRow
 grossed_at called edges plans t low =
     get_or-map-range_with_len (λ (t : ℕ). slice_index called t + asked_by plans edges t) 0 (length called) t t 0 low (omega arith)
 
-pub gross_within : (params : PairParams) (came called : List ℕ) (edges : List ParentEdge) (plans : List PlanRows) → IsWithin params came (grossed called edges plans)
+pub gross_within : (params : PairParams) (came called : List ℕ) (edges : List ParentEdge) (plans : List PlanRows)
+    → IsWithin params came (grossed called edges plans)
     → (t : ℕ) → t < length called → slice_index called t + asked_by plans edges t ≤ MOST
 gross_within params came called edges plans h t low =
     let inside : t < length (grossed called edges plans) =
     omega (arith, low, length-map-range_with_len (λ (t : ℕ). slice_index called t + asked_by plans edges t) 0 (length called)) in
-    let part : slice_index (grossed called edges plans) t ≤ sum (grossed called edges plans) = get_or-le-sum_by (λ (n : ℕ). n) (grossed called edges plans) t 0 inside in
+    let part : slice_index (grossed called edges plans) t ≤ sum (grossed called edges plans) =
+    get_or-le-sum_by (λ (n : ℕ). n) (grossed called edges plans) t 0 inside in
     omega (arith, part, h.total, grossed_at called edges plans t low)
 
 -- so what is called for is small
-pub called_within : (params : PairParams) (came called : List ℕ) (edges : List ParentEdge) (plans : List PlanRows) → IsWithin params came (grossed called edges plans)
+pub called_within : (params : PairParams) (came called : List ℕ) (edges : List ParentEdge) (plans : List PlanRows)
+    → IsWithin params came (grossed called edges plans)
     → All (λ n. n ≤ MOST) called
 called_within params came called edges plans h =
     All-from_get_or (λ (n : ℕ). n ≤ MOST) called 0 (λ t low. omega (arith, gross_within params came called edges plans h t low))
@@ -78,12 +85,14 @@ grossed_is called edges plans new size each =
 pub grossed_length : (called : List ℕ) (edges : List ParentEdge) (plans : List PlanRows) → length (grossed called edges plans) ≡ length called
 grossed_length called edges plans = length-map-range_with_len (λ (t : ℕ). slice_index called t + asked_by plans edges t) 0 (length called)
 
-pub came_length : (params : PairParams) (came called : List ℕ) (edges : List ParentEdge) (plans : List PlanRows) → IsWithin params came (grossed called edges plans)
+pub came_length : (params : PairParams) (came called : List ℕ) (edges : List ParentEdge) (plans : List PlanRows)
+    → IsWithin params came (grossed called edges plans)
     → length came ≡ length called
 came_length params came called edges plans h = h.periods ∙ grossed_length called edges plans
 
 -- a plan has a period for each that is called for
-pub drafted_length : (params : PairParams) (came called : List ℕ) (edges : List ParentEdge) (plans : List PlanRows) (plan : PlanRows) → plan ≡ one params came (grossed called edges plans)
+pub drafted_length : (params : PairParams) (came called : List ℕ) (edges : List ParentEdge) (plans : List PlanRows) (plan : PlanRows)
+    → plan ≡ one params came (grossed called edges plans)
     → length plan.gross ≡ length called
 drafted_length params came called edges plans plan is =
     ap (λ (z : PlanRows). length z.gross) is ∙ ap length (one-gross params came (grossed called edges plans)) ∙ grossed_length called edges plans

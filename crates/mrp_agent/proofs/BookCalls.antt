@@ -29,7 +29,8 @@ pub record IsOnLane (A : AgentState) (I : Indexes) (l j : ℕ) (was : Figures) :
   pub read : was ≡ get_or A.books j was
 
 -- what was added up by the lane that was read, and which pairs wait
-pub record HasAdded (A : AgentState) (I : Indexes) (j : ℕ) (r : Record) (lanes : List IncomingLane) (lane : IncomingLane) (came called : List ℕ) (progress : Progress) : Type 0 where
+pub record HasAdded (A : AgentState) (I : Indexes) (j : ℕ) (r : Record) (lanes : List IncomingLane) (lane : IncomingLane) (came called : List ℕ)
+    (progress : Progress) : Type 0 where
   pub lanes_are : lanes ≡ A.view.incoming
   pub comes : came ≡ came_by (get_or lanes j lane).kind A.view A.came r
   pub calls : called ≡ called_after (get_or lanes j lane).kind A.view A.called r
@@ -57,15 +58,18 @@ module _ {A : AgentState} {I : Indexes} {l j : ℕ} {was : Figures} (on : IsOnLa
 
   -- a refused record goes on with no list that is shown
   pub refused_is : (fault : BookFault)
-      → ((F : LaneForm) (records : List Record) → book.BookShows F was records → (first_fault (figures F records) r ≡ Some fault) × (IsInForm F (records ++ r ∷ []) → ⊥))
+      → ((F : LaneForm) (records : List Record) → book.BookShows F was records
+      → (first_fault (figures F records) r ≡ Some fault) × (IsInForm F (records ++ r ∷ []) → ⊥))
       → (taken : ℕ → List Record) → BooksShow A taken
       → (first_fault (figures (form_of A.view Lane) (taken l)) r ≡ Some fault) × (IsInForm (form_of A.view Lane) (taken l ++ r ∷ []) → ⊥)
   refused_is fault refused taken shows =
-      let shown : book.BookShows (form_of A.view Lane) was (taken Lane.number.0) = subst (λ (z : Figures). book.BookShows (form_of A.view Lane) z (taken Lane.number.0)) (sym was_is) (shows Place on.within) in
+      let shown : book.BookShows (form_of A.view Lane) was (taken Lane.number.0) =
+      subst (λ (z : Figures). book.BookShows (form_of A.view Lane) z (taken Lane.number.0)) (sym was_is) (shows Place on.within) in
       refused (form_of A.view Lane) (taken l) (subst (λ (n : ℕ). book.BookShows (form_of A.view Lane) was (taken n)) number_is shown)
 
   module _ {now : Figures} (booked : (F : LaneForm) (records : List Record) → book.BookShows F was records → book.BookShows F now (records ++ r ∷ [])) where
-    on_lane : (records : List Record) → book.BookShows (form_of A.view Lane) (book_at A Place) records → book.BookShows (form_of A.view Lane) now (records ++ r ∷ [])
+    on_lane : (records : List Record) → book.BookShows (form_of A.view Lane) (book_at A Place) records
+        → book.BookShows (form_of A.view Lane) now (records ++ r ∷ [])
     on_lane records shows = booked (form_of A.view Lane) records (subst (λ (z : Figures). book.BookShows (form_of A.view Lane) z records) (sym was_is) shows)
 
     pub ends : IfSome (ended_place I.items r) (IsAwaited A.progress)
@@ -73,7 +77,8 @@ module _ {A : AgentState} {I : Indexes} {l j : ℕ} {was : Figures} (on : IsOnLa
         subst (λ (items : List ItemNo). IfSome (ended_place items r) (IsAwaited A.progress)) (sym on.kept.indexes.items)
         (ends_awaited A on.kept.view on.kept.rooms Place on.within r now A.progress on_lane on.kept.taken.taken on.kept.taken.books on.kept.taken.waits)
 
-    module _ {lanes : List IncomingLane} {lane : IncomingLane} {came called : List ℕ} {progress : Progress} (added : HasAdded A I j r lanes lane came called progress) where
+    module _ {lanes : List IncomingLane} {lane : IncomingLane} {came called : List ℕ} {progress : Progress}
+        (added : HasAdded A I j r lanes lane came called progress) where
       abbrev New : AgentState
       New = record A { books = set A.books j now; came = came; called = called; progress = progress }
 
@@ -89,9 +94,11 @@ module _ {A : AgentState} {I : Indexes} {l j : ℕ} {was : Figures} (on : IsOnLa
       ended_is = subst (λ (items : List ItemNo). BlockEnded (ended_place items r) A.progress progress) on.kept.indexes.items added.ended
 
       pub kept_now : IsKept New I
-      kept_now = subst (λ (z : AgentState). IsKept z I) (sym new_is) (booked_kept A on.kept.view on.kept.rooms Place on.within r now progress on_lane I on.kept ended_is)
+      kept_now = subst (λ (z : AgentState). IsKept z I) (sym new_is)
+          (booked_kept A on.kept.view on.kept.rooms Place on.within r now progress on_lane I on.kept ended_is)
 
-      pub shows_now : (sent taken : ℕ → List Record) (planned : ℕ → Bool) → ShowsHistory A sent taken planned → ShowsHistory New sent (changed taken l (taken l ++ r ∷ [])) planned
+      pub shows_now : (sent taken : ℕ → List Record) (planned : ℕ → Bool) → ShowsHistory A sent taken planned
+          → ShowsHistory New sent (changed taken l (taken l ++ r ∷ [])) planned
       shows_now sent taken planned shows =
           let after : ShowsHistory New sent (with_taken A.view taken Place r) planned =
           subst (λ (z : AgentState). ShowsHistory z sent (with_taken A.view taken Place r) planned) (sym new_is)

@@ -1,5 +1,6 @@
 -- What an agent shows after a record was booked.
-use Rattle.std.proofs.Common.{◌≡◌, ℕ, ◌+◌, ◌-◌, ◌*◌, ◌<◌, eqb, Bool, true, false, cond, Option, Some, None, IfSome, List, [], ◌∷◌, ◌++◌, inl, inr, length, get_or, map, refl, sym, ap, ◌∙◌, subst, arith}
+use Rattle.std.proofs.Common.{◌≡◌, ℕ, ◌+◌, ◌-◌, ◌*◌, ◌<◌, eqb, Bool, true, false, cond, Option, Some, None, IfSome, List, [], ◌∷◌, ◌++◌, inl, inr, length}
+use Rattle.std.proofs.Common.{get_or, map, refl, sym, ap, ◌∙◌, subst, arith}
 use Rattle.std.specs.List.{Contains, fold, sum_by, filter_map, list_any, range_with_len}
 use Rattle.std.proofs.lemmas.Bool.{both_ways, cases_eq, cases_lt, eq-eqb, false_from_ne_true, le-ltb, lt-ltb}
 use Rattle.std.proofs.lemmas.List.{get_or-map, get_or-set_same, get_or-set_other, length-map, length-set}
@@ -28,7 +29,8 @@ use Rattle.mrp_record.proofs.Queues.{looks_at_queued}
 use Rattle.mrp_ready.specs.Counts.{open_blocks}
 use Rattle.mrp_ready.specs.Progress.{Progress, is_planned}
 use Rattle.mrp_events.specs.Goods.{goods_by, goods_of, called_for, by_period_from, IsSendable}
-use Rattle.mrp_events.specs.LocalPlans.{amount_at, asked_within, booked_on, is_of_kind, lanes_in, local_gross, local_incoming, local_plan, local_row, AwaitsNothing, Carries, IsLocal, IsPlannedLocally}
+use Rattle.mrp_events.specs.LocalPlans.{amount_at, asked_within, booked_on, is_of_kind, lanes_in, local_gross, local_incoming, local_plan, local_row}
+use Rattle.mrp_events.specs.LocalPlans.{AwaitsNothing, Carries, IsLocal, IsPlannedLocally}
 use Rattle.mrp_agent.specs.State.{AgentState, book_at, incoming_at, outgoing_at, out_at, pair_place, plans_of, no_book, no_incoming}
 use Rattle.mrp_agent.specs.After.{after_booked, added_for, came_by, called_after, ended_place, items_of, place_of, with_line, BlockEnded, IsAwaited}
 use Rattle.mrp_agent.specs.Kept.{HasRooms, HasTaken, Indexes, IsKept}
@@ -73,7 +75,8 @@ row_same V f g same = each (range_with_len 0 V.horizon)
     each (t ∷ ts) = ap (λ (n : ℕ). n ∷ map f ts) (same t) ∙ ap (λ (z : List ℕ). g t ∷ z) (each ts)
 
 module _ (V : PlantRows) (taken : ℕ → List Record) (planned : ℕ → Bool) (k : ℕ) (within : k < length V.incoming) (r : Record)
-    (fits : EntryFits (form_of V (incoming_at V k)) (contents (taken (incoming_at V k).number.0)) (content r)) (p : PlantPair) (ready : AwaitsNothing V taken planned p) where
+    (fits : EntryFits (form_of V (incoming_at V k)) (contents (taken (incoming_at V k).number.0)) (content r)) (p : PlantPair)
+    (ready : AwaitsNothing V taken planned p) where
   abbrev Later : ℕ → List Record
   Later = with_taken V taken k r
 
@@ -92,17 +95,24 @@ module _ (V : PlantRows) (taken : ℕ → List Record) (planned : ℕ → Bool) 
       elim (cases_eq n l) as (λ _. entries_of p.item.0 (contents (Later n)) ≡ entries_of p.item.0 (contents (taken n))) [
         | inl e ↦
             subst (λ (m : ℕ). entries_of p.item.0 (contents (Later m)) ≡ entries_of p.item.0 (contents (taken m))) (sym e)
-            (ap (λ (z : List Record). entries_of p.item.0 (contents z)) (changed_there taken l (taken l ++ r ∷ [])) ∙ entries_stay p.item.0 (taken l) r gets_none)
+            (ap (λ (z : List Record). entries_of p.item.0 (contents z)) (changed_there taken l (taken l ++ r ∷ []))
+            ∙ entries_stay p.item.0 (taken l) r gets_none)
         | inr other ↦ ap (λ (z : List Record). entries_of p.item.0 (contents z)) (changed_elsewhere taken l (taken l ++ r ∷ []) n other)
       ]
 
   booked_same : (kind : LaneKind) (t : ℕ) → booked_on kind V Later p.item t ≡ booked_on kind V taken p.item t
   booked_same kind t =
-      let pieces : (ℕ → List Record) → IncomingLane → ℕ = λ lists lane. quantity_in t (filter_map entry_delivery (entries_of p.item.0 (contents (lists lane.number.0)))) in
-      sum_each (pieces Later) (pieces taken) (lanes_in kind V) (λ lane. ap (λ (z : List Entry). quantity_in t (filter_map entry_delivery z)) (same_entries lane.number.0))
+      let pieces : (ℕ → List Record) → IncomingLane → ℕ = λ lists lane. quantity_in t
+      (filter_map entry_delivery (entries_of p.item.0 (contents (lists lane.number.0)))) in
+      sum_each (pieces Later) (pieces taken) (lanes_in kind V) (λ lane. ap (λ (z : List Entry). quantity_in t (filter_map entry_delivery z))
+      (same_entries lane.number.0))
 
   still_ready : AwaitsNothing V Later planned p
-  still_ready = record { parents = ready.parents; brought = λ i d inside carries. ap (list_any is_end) (same_entries (get_or V.incoming i d).number.0) ∙ ready.brought i d inside carries }
+  still_ready = record {
+    parents = ready.parents;
+    brought = λ i d inside carries. ap (list_any is_end) (same_entries (get_or V.incoming i d).number.0)
+        ∙ ready.brought i d inside carries;
+  }
 
   plan_same : (plans : ℕ → PlanRows) → local_plan V Later plans p ≡ local_plan V taken plans p
   plan_same plans =
@@ -111,12 +121,15 @@ module _ (V : PlantRows) (taken : ℕ → List Record) (planned : ℕ → Bool) 
       let gross : local_row V (local_gross V Later plans p) ≡ local_row V (local_gross V taken plans p) =
       row_same V (local_gross V Later plans p) (local_gross V taken plans p)
       (λ t. ap (λ (n : ℕ). amount_at V V.demands p.number t + asked_within V plans p.number t + n) (booked_same Schedule t)) in
-      ap (λ (row : List ℕ). one p.params row (local_row V (local_gross V Later plans p))) incoming ∙ ap (λ (row : List ℕ). one p.params (local_row V (local_incoming V taken p)) row) gross
+      ap (λ (row : List ℕ). one p.params row (local_row V (local_gross V Later plans p))) incoming
+      ∙ ap (λ (row : List ℕ). one p.params (local_row V (local_incoming V taken p)) row) gross
 
 -- ---- what is shown
 
-module _ (A : AgentState) (view : IsView A.view) (rooms : HasRooms A) (k : ℕ) (within : k < length A.view.incoming) (r : Record) (figures : Figures) (progress : Progress)
-    (booked : (records : List Record) → book.BookShows (form_of A.view (incoming_at A.view k)) (book_at A k) records → book.BookShows (form_of A.view (incoming_at A.view k)) figures (records ++ r ∷ [])) where
+module _ (A : AgentState) (view : IsView A.view) (rooms : HasRooms A) (k : ℕ) (within : k < length A.view.incoming) (r : Record) (figures : Figures)
+    (progress : Progress)
+    (booked : (records : List Record) → book.BookShows (form_of A.view (incoming_at A.view k)) (book_at A k) records
+    → book.BookShows (form_of A.view (incoming_at A.view k)) figures (records ++ r ∷ [])) where
   abbrev New : AgentState
   New = after_booked A k r figures progress
 
@@ -144,18 +157,21 @@ module _ (A : AgentState) (view : IsView A.view) (rooms : HasRooms A) (k : ℕ) 
         subst (λ (z : List Record). book.BookShows (form_of A.view Lane) (book_at New k) z) (sym (changed_there taken l (taken l ++ r ∷ [])))
         (subst (λ (z : Figures). book.BookShows (form_of A.view Lane) z (taken l ++ r ∷ [])) (sym is) (booked (taken l) (shows k within)))
 
-    book_elsewhere : (i : ℕ) → i < length A.view.incoming → (i ≡ k → ⊥) → book.BookShows (form_of A.view (incoming_at A.view i)) (book_at New i) (Then (incoming_at A.view i).number.0)
+    book_elsewhere : (i : ℕ) → i < length A.view.incoming → (i ≡ k → ⊥)
+        → book.BookShows (form_of A.view (incoming_at A.view i)) (book_at New i) (Then (incoming_at A.view i).number.0)
     book_elsewhere i inside other =
         let is : book_at New i ≡ book_at A i = get_or-set_other A.books k i figures no_book other in
         let l : ℕ = Lane.number.0 in
         let n : ℕ = (incoming_at A.view i).number.0 in
-        subst (λ (z : List Record). book.BookShows (form_of A.view (incoming_at A.view i)) (book_at New i) z) (sym (changed_elsewhere taken l (taken l ++ r ∷ []) n (lanes_apart i inside other)))
+        subst (λ (z : List Record). book.BookShows (form_of A.view (incoming_at A.view i)) (book_at New i) z)
+        (sym (changed_elsewhere taken l (taken l ++ r ∷ []) n (lanes_apart i inside other)))
         (subst (λ (z : Figures). book.BookShows (form_of A.view (incoming_at A.view i)) z (taken n)) (sym is) (shows i inside))
 
     pub books_show : BooksShow New Then
     books_show i inside =
         elim (cases_eq i k) as (λ _. book.BookShows (form_of A.view (incoming_at A.view i)) (book_at New i) (Then (incoming_at A.view i).number.0)) [
-          | inl e ↦ subst (λ (z : ℕ). book.BookShows (form_of A.view (incoming_at A.view z)) (book_at New z) (Then (incoming_at A.view z).number.0)) (sym e) book_there
+          | inl e ↦ subst (λ (z : ℕ). book.BookShows (form_of A.view (incoming_at A.view z)) (book_at New z) (Then (incoming_at A.view z).number.0))
+              (sym e) book_there
           | inr other ↦ book_elsewhere i inside other
         ]
 
@@ -172,23 +188,30 @@ module _ (A : AgentState) (view : IsView A.view) (rooms : HasRooms A) (k : ℕ) 
         → amount_at A.view (came_by kind A.view A.came r) p.number t ≡ up_to_last (local_incoming A.view Then p t)
     came_more p there before Despatch kind t inside =
         let more = booked_after Despatch A.view taken k r p.item t view.incoming_once within in
-        let on : cond (is_of_kind Despatch Lane.kind) (brought p.item.0 t (content r)) 0 ≡ brought p.item.0 t (content r) = ap (λ (z : LaneKind). cond (is_of_kind Despatch z) (brought p.item.0 t (content r)) 0) kind in
-        line_comes A.view view A.came rooms.came p there t inside (local_incoming A.view taken p t) (before t inside) r ∙ ap up_to_last (omega (arith, more, on))
+        let on : cond (is_of_kind Despatch Lane.kind) (brought p.item.0 t (content r)) 0 ≡ brought p.item.0 t (content r) =
+        ap (λ (z : LaneKind). cond (is_of_kind Despatch z) (brought p.item.0 t (content r)) 0) kind in
+        line_comes A.view view A.came rooms.came p there t inside (local_incoming A.view taken p t) (before t inside) r
+        ∙ ap up_to_last (omega (arith, more, on))
     came_more p there before Schedule kind t inside =
         let more = booked_after Despatch A.view taken k r p.item t view.incoming_once within in
-        let off : cond (is_of_kind Despatch Lane.kind) (brought p.item.0 t (content r)) 0 ≡ 0 = ap (λ (z : LaneKind). cond (is_of_kind Despatch z) (brought p.item.0 t (content r)) 0) kind in
+        let off : cond (is_of_kind Despatch Lane.kind) (brought p.item.0 t (content r)) 0 ≡ 0 =
+        ap (λ (z : LaneKind). cond (is_of_kind Despatch z) (brought p.item.0 t (content r)) 0) kind in
         before t inside ∙ ap up_to_last (omega (arith, more, off))
 
     called_more : (p : PlantPair) → Contains A.view.pairs p → IsCalled A taken p → (kind : LaneKind) → Lane.kind ≡ kind → (t : ℕ) → t < A.view.horizon
-        → amount_at A.view (called_after kind A.view A.called r) p.number t ≡ up_to_last (amount_at A.view A.view.demands p.number t + booked_on Schedule A.view Then p.item t)
+        → amount_at A.view (called_after kind A.view A.called r) p.number t
+        ≡ up_to_last (amount_at A.view A.view.demands p.number t + booked_on Schedule A.view Then p.item t)
     called_more p there before Despatch kind t inside =
         let more = booked_after Schedule A.view taken k r p.item t view.incoming_once within in
-        let off : cond (is_of_kind Schedule Lane.kind) (brought p.item.0 t (content r)) 0 ≡ 0 = ap (λ (z : LaneKind). cond (is_of_kind Schedule z) (brought p.item.0 t (content r)) 0) kind in
+        let off : cond (is_of_kind Schedule Lane.kind) (brought p.item.0 t (content r)) 0 ≡ 0 =
+        ap (λ (z : LaneKind). cond (is_of_kind Schedule z) (brought p.item.0 t (content r)) 0) kind in
         before t inside ∙ ap up_to_last (omega (arith, more, off))
     called_more p there before Schedule kind t inside =
         let more = booked_after Schedule A.view taken k r p.item t view.incoming_once within in
-        let on : cond (is_of_kind Schedule Lane.kind) (brought p.item.0 t (content r)) 0 ≡ brought p.item.0 t (content r) = ap (λ (z : LaneKind). cond (is_of_kind Schedule z) (brought p.item.0 t (content r)) 0) kind in
-        line_comes A.view view A.called rooms.called p there t inside (amount_at A.view A.view.demands p.number t + booked_on Schedule A.view taken p.item t) (before t inside) r
+        let on : cond (is_of_kind Schedule Lane.kind) (brought p.item.0 t (content r)) 0 ≡ brought p.item.0 t (content r) =
+        ap (λ (z : LaneKind). cond (is_of_kind Schedule z) (brought p.item.0 t (content r)) 0) kind in
+        line_comes A.view view A.called rooms.called p there t inside (amount_at A.view A.view.demands p.number t + booked_on Schedule A.view taken p.item t)
+        (before t inside) r
         ∙ ap up_to_last (omega (arith, more, on))
 
     -- plans and goods stay
@@ -201,26 +224,40 @@ module _ (A : AgentState) (view : IsView A.view) (rooms : HasRooms A) (k : ℕ) 
           plan = h.plan ∙ sym (plan_same A.view taken planned k within r fits p h.ready plans);
         }
 
-    goods_stay : (planned : ℕ → Bool) (plans : ℕ → PlanRows) → IsLocal A.view taken planned plans → (i : OutgoingLoad) → IsOwnOf A.view (call_of i).customer i.item → (kind : LaneKind) → (kind ≡ Schedule → planned (call_of i).customer.0 ≡ true)
+    goods_stay : (planned : ℕ → Bool) (plans : ℕ → PlanRows) → IsLocal A.view taken planned plans → (i : OutgoingLoad)
+        → IsOwnOf A.view (call_of i).customer i.item → (kind : LaneKind) → (kind ≡ Schedule → planned (call_of i).customer.0 ≡ true)
         → (l : ℕ) → goods_by kind A.view taken plans l i ≡ goods_by kind A.view Then plans l i
     goods_stay planned plans local i own Despatch decided l = refl
     goods_stay planned plans local i (p, there, number, its) Schedule decided l =
         let is : planned p.number.0 ≡ true = ap (λ x. planned x.0) number ∙ decided refl in
-        let h : IsPlannedLocally A.view taken planned plans p = All-contains (λ (q : PlantPair). planned q.number.0 ≡ true → IsPlannedLocally A.view taken planned plans q) A.view.pairs p local there is in
+        let h : IsPlannedLocally A.view taken planned plans p = All-contains (λ (q : PlantPair). planned q.number.0 ≡ true
+        → IsPlannedLocally A.view taken planned plans q) A.view.pairs p local there is in
         let same : entries_of i.item.0 (contents (Then (l - 1))) ≡ entries_of i.item.0 (contents (taken (l - 1))) =
-        subst (λ (item : ItemNo). entries_of item.0 (contents (Then (l - 1))) ≡ entries_of item.0 (contents (taken (l - 1)))) its (same_entries A.view taken planned k within r fits p h.ready (l - 1)) in
-        let G : List Entry → Goods = λ z. record { item = i.item.0; opening = fold figure_after i.figure z + sum_by closed_of z; reset = i.reset; from = by_period_from (called_for plans i) A.view.horizon } in
+        subst (λ (item : ItemNo). entries_of item.0 (contents (Then (l - 1))) ≡ entries_of item.0 (contents (taken (l - 1)))) its
+        (same_entries A.view taken planned k within r fits p h.ready (l - 1)) in
+        let G : List Entry → Goods = λ z. record {
+          item = i.item.0;
+          opening = fold figure_after i.figure z + sum_by closed_of z;
+          reset = i.reset;
+          from = by_period_from (called_for plans i) A.view.horizon;
+        } in
         ap G (sym same)
 
     -- the cursors look at the goods of planned customers alone
-    outs_stay : (sent : ℕ → List Record) (planned : ℕ → Bool) → IsLocal A.view taken planned (plans_of A) → (i : ℕ) → i < length A.view.outgoing → OutShows A sent taken planned i → OutShows New sent Then planned i
+    outs_stay : (sent : ℕ → List Record) (planned : ℕ → Bool) → IsLocal A.view taken planned (plans_of A) → (i : ℕ) → i < length A.view.outgoing
+        → OutShows A sent taken planned i → OutShows New sent Then planned i
     outs_stay sent planned local i inside out =
         let lane : OutgoingLane = outgoing_at A.view i in
         let same : (j : ℕ) → Contains (out_at A i).queue j → goods_of A.view taken (plans_of A) lane j ≡ goods_of A.view Then (plans_of A) lane j = λ j queued.
         let may = (out.queued j).0 queued in
         by_kind j may lane.kind refl
         in
-        record { size = out.size; shows = looks_at_queued (goods_of A.view taken (plans_of A) lane) (goods_of A.view Then (plans_of A) lane) (out_at A i) (sent lane.number.0) same out.shows; queued = out.queued }
+        record {
+          size = out.size;
+          shows = looks_at_queued (goods_of A.view taken (plans_of A) lane) (goods_of A.view Then (plans_of A) lane) (out_at A i)
+              (sent lane.number.0) same out.shows;
+          queued = out.queued;
+        }
       where
         by_kind : (j : ℕ) → IsSendable planned (outgoing_at A.view i) j → (kind : LaneKind) → (outgoing_at A.view i).kind ≡ kind
             → goods_of A.view taken (plans_of A) (outgoing_at A.view i) j ≡ goods_of A.view Then (plans_of A) (outgoing_at A.view i) j
@@ -236,7 +273,8 @@ module _ (A : AgentState) (view : IsView A.view) (rooms : HasRooms A) (k : ℕ) 
             ∙ sym (ap (λ (z : LaneKind). goods_by z A.view Then (plans_of A) lane.number.0 (load_at lane.items j)) kind)
 
   -- the record is appended to what was taken, and nothing else has changed
-  pub booked_shows : BlockEnded (ended_place (items_of A.view) r) A.progress progress → (sent taken : ℕ → List Record) (planned : ℕ → Bool) → ShowsHistory A sent taken planned
+  pub booked_shows : BlockEnded (ended_place (items_of A.view) r) A.progress progress → (sent taken : ℕ → List Record) (planned : ℕ → Bool)
+      → ShowsHistory A sent taken planned
       → ShowsHistory New sent (with_taken A.view taken k r) planned
   booked_shows ended sent taken planned shows = record {
     books = books_show taken shows.books;

@@ -1,5 +1,6 @@
 -- What an agent knows of a record that it books.
-use Rattle.std.proofs.Common.{◌≡◌, ℕ, suc, ◌+◌, ◌*◌, ◌<◌, ◌==◌, eqb, Bool, true, false, Option, Some, None, List, [], ◌∷◌, inl, inr, length, get_or, set, map, position, refl, sym, ap, ◌∙◌, subst, arith}
+use Rattle.std.proofs.Common.{◌≡◌, ℕ, suc, ◌+◌, ◌*◌, ◌<◌, ◌==◌, eqb, Bool, true, false, Option, Some, None, List, [], ◌∷◌, inl, inr, length, get_or, set, map}
+use Rattle.std.proofs.Common.{position, refl, sym, ap, ◌∙◌, subst, arith}
 use Rattle.std.specs.Prelude.{IsSomeAnd}
 use Rattle.std.specs.List.{Contains, find, position_or_len}
 use Rattle.std.proofs.lemmas.Bool.{cases_Bool, cases_eq, cases_lt, eq-eqb, eqb-true, ne_eqb, lt-ltb, le-ltb}
@@ -48,7 +49,8 @@ placed V view p (k, within, is) =
     let item : position_or_len (λ (q : PlantPair). eqb q.item.0 p.item.0) V.pairs ≡ k =
     place_is_only (λ (q : PlantPair). eqb q.item.0 p.item.0) V.pairs k no_plant_pair (view.items_once p.item.0) within
     (eq-eqb (get_or V.pairs k no_plant_pair).item.0 p.item.0 (ap (λ (q : PlantPair). q.item.0) at)) in
-    let found : position_or_len (λ (i : ItemNo). eqb i.0 p.item.0) (items_of V) ≡ k = place-map (λ (i : ItemNo). eqb i.0 p.item.0) (λ (q : PlantPair). q.item) V.pairs ∙ item in
+    let found : position_or_len (λ (i : ItemNo). eqb i.0 p.item.0) (items_of V) ≡ k =
+    place-map (λ (i : ItemNo). eqb i.0 p.item.0) (λ (q : PlantPair). q.item) V.pairs ∙ item in
     let inside = length-map V.pairs (λ (q : PlantPair). q.item) in
     record {
       within = omega (arith, number, within);
@@ -56,12 +58,14 @@ placed V view p (k, within, is) =
       item = place_known (λ (i : ItemNo). eqb i.0 p.item.0) (items_of V) (omega (arith, found, within, inside)) ∙ ap (λ (n : ℕ). Some n) (found ∙ sym number);
     }
 
-pub item_there : (V : PlantRows) → IsView V → (p : PlantPair) → Contains V.pairs p → (item : ItemNo) (y : ℕ) → place_of (items_of V) item ≡ Some y → pair_place V p.number.0 ≡ y → p.item.0 ≡ item.0
+pub item_there : (V : PlantRows) → IsView V → (p : PlantPair) → Contains V.pairs p → (item : ItemNo) (y : ℕ) → place_of (items_of V) item ≡ Some y
+    → pair_place V p.number.0 ≡ y → p.item.0 ≡ item.0
 item_there V view p there item y e same =
     let at = place_at (λ (i : ItemNo). eqb i.0 item.0) (items_of V) y e in
     let n : ℕ = position_or_len (λ (i : ItemNo). eqb i.0 item.0) (items_of V) in
     let h = placed V view p there in
-    let passes : eqb (get_or (items_of V) n item).0 item.0 ≡ true = passes_at_first (λ (i : ItemNo). eqb i.0 item.0) (items_of V) item (omega (arith, at.0, at.1)) in
+    let passes : eqb (get_or (items_of V) n item).0 item.0 ≡ true =
+    passes_at_first (λ (i : ItemNo). eqb i.0 item.0) (items_of V) item (omega (arith, at.0, at.1)) in
     let read : get_or (items_of V) (pair_place V p.number.0) item ≡ (get_or V.pairs (pair_place V p.number.0) no_plant_pair).item =
     get_or-map (λ (q : PlantPair). q.item) V.pairs (pair_place V p.number.0) no_plant_pair item h.within in
     let is : (get_or (items_of V) n item).0 ≡ p.item.0 =
@@ -70,10 +74,12 @@ item_there V view p there item y e same =
 
 -- ---- a line's pieces come at its item's pair and its period, and nowhere else
 
-module _ (V : PlantRows) (view : IsView V) (amounts : List ℕ) (size : length amounts ≡ length V.pairs * V.horizon) (p : PlantPair) (there : Contains V.pairs p) (t : ℕ) (inside : t < V.horizon)
+module _ (V : PlantRows) (view : IsView V) (amounts : List ℕ) (size : length amounts ≡ length V.pairs * V.horizon) (p : PlantPair) (there : Contains V.pairs p)
+    (t : ℕ) (inside : t < V.horizon)
     (sum : ℕ) (now : amount_at V amounts p.number t ≡ up_to_last sum) where
   line_at : (number period quantity cumulative : ℕ) (item : ItemNo) → period < V.horizon → (o : Option ℕ) → place_of (items_of V) item ≡ o
-      → amount_at V (added_for amounts V.horizon period quantity o) p.number t ≡ up_to_last (sum + brought p.item.0 t (LineOf item.0 period quantity cumulative))
+      → amount_at V (added_for amounts V.horizon period quantity o) p.number t
+      ≡ up_to_last (sum + brought p.item.0 t (LineOf item.0 period quantity cumulative))
   line_at number period quantity cumulative item within None e =
       let h = placed V view p there in
       let other : item.0 ≡ p.item.0 → ⊥ = λ same.
@@ -114,7 +120,8 @@ module _ (V : PlantRows) (view : IsView V) (amounts : List ℕ) (size : length a
 
   pub line_comes : (r : Record) → amount_at V (with_line (items_of V) V.horizon amounts r) p.number t ≡ up_to_last (sum + brought p.item.0 t (content r))
   line_comes (Line number item period quantity cumulative) =
-      elim (cases_lt period V.horizon) as (λ _. amount_at V (with_line (items_of V) V.horizon amounts (Line number item period quantity cumulative)) p.number t ≡ up_to_last (sum + brought p.item.0 t (LineOf item.0 period quantity cumulative))) [
+      elim (cases_lt period V.horizon) as (λ _. amount_at V (with_line (items_of V) V.horizon amounts (Line number item period quantity cumulative)) p.number t
+      ≡ up_to_last (sum + brought p.item.0 t (LineOf item.0 period quantity cumulative))) [
         | inl low ↦ rw (lt-ltb period V.horizon low) (line_at number period quantity cumulative item low (place_of (items_of V) item) refl)
         | inr high ↦
             let nothing = line_brings_later item.0 period quantity cumulative p.item.0 t (λ e. omega arith) in
@@ -141,7 +148,8 @@ record IsAmong (items : List IncomingItem) (n : ℕ) (i : FormItem) : Type 0 whe
   is : (get_or items place no_item).item.0 ≡ n
   same : i.item ≡ n
 
-found_among : (items : List IncomingItem) (n : ℕ) (i : FormItem) → find (λ z. z.item == n) (map book.book_form_item (map book_item items)) ≡ Some i → IsAmong items n i
+found_among : (items : List IncomingItem) (n : ℕ) (i : FormItem) → find (λ z. z.item == n) (map book.book_form_item (map book_item items)) ≡ Some i
+    → IsAmong items n i
 found_among [] n i e = absurd (cc e)
 found_among (x ∷ items) n i e =
     elim (cases_Bool (eqb x.item.0 n)) as (λ _. IsAmong (x ∷ items) n i) [
@@ -155,14 +163,16 @@ found_among (x ∷ items) n i e =
           record { place = suc h.place; within = omega (arith, h.within); is = h.is; same = h.same }
     ]
 
-open_from : (V : PlantRows) (lane : IncomingLane) (before : List Entry) (item : ℕ) (P : FormItem → Type 0) (o : Option FormItem) → item_on (form_of V lane) item ≡ o
+open_from : (V : PlantRows) (lane : IncomingLane) (before : List Entry) (item : ℕ) (P : FormItem → Type 0) (o : Option FormItem)
+    → item_on (form_of V lane) item ≡ o
     → IsSomeAnd o (λ i. GoesOn (form_of V lane) i before × P i) → IsOpenOn lane before item
 open_from V lane before item P None e h = absurd h
 open_from V lane before item P (Some i) e h =
     let at = found_among lane.items item i e in
     record { place = at.place; within = at.within; is = at.is; unended = ap (λ (n : ℕ). is_ended n before) (sym at.same) ∙ h.0.unended }
 
-pub open_on : (V : PlantRows) (lane : IncomingLane) (before : List Entry) (e : Entry) (item : ℕ) → EntryFits (form_of V lane) before e → is_of item e ≡ true → IsOpenOn lane before item
+pub open_on : (V : PlantRows) (lane : IncomingLane) (before : List Entry) (e : Entry) (item : ℕ) → EntryFits (form_of V lane) before e → is_of item e ≡ true
+    → IsOpenOn lane before item
 open_on V lane before (LineOf i period quantity cumulative) item fits own =
     subst (λ (n : ℕ). IsOpenOn lane before n) (eqb-true i item own) (open_from V lane before i _ (item_on (form_of V lane) i) refl fits)
 open_on V lane before (EndOf i lines cumulative) item fits own =

@@ -10,7 +10,8 @@ use Rattle.mrp_agent.specs.Sending.{next_called, called_by, call_line}
 abbrev found_in : (ℕ → ℕ) → ℕ → ℕ → Option NextLine
 found_in amount period n = option_map call_line (find has_pieces (map (delivery_in amount) (range_with_len period n)))
 
-found_here : (amount : ℕ → ℕ) (period n : ℕ) → 0 < amount period → found_in amount period (suc n) ≡ Some (record { period = period; quantity = amount period; after = period + 1 })
+found_here : (amount : ℕ → ℕ) (period n : ℕ) → 0 < amount period
+    → found_in amount period (suc n) ≡ Some (record { period = period; quantity = amount period; after = period + 1 })
 found_here amount period n some =
     let passes : has_pieces (delivery_in amount period) ≡ true = ap not (ne_eqb (amount period) 0 (λ e. omega arith)) in
     rw passes refl

@@ -46,7 +46,8 @@ pub record CallFacts (A : AgentState) (lane : OutgoingLane) (j : ℕ) : Type 0 w
   pub shares : IsCallShare (call_of (load_at lane.items j))
   pub after : 1 ≤ lane.number.0
 
-pub call_facts : (A : AgentState) {I : Indexes} → IsKept A I → (lane : OutgoingLane) → Contains A.view.outgoing lane → lane.kind ≡ Schedule → (j : ℕ) → j < length lane.items → CallFacts A lane j
+pub call_facts : (A : AgentState) {I : Indexes} → IsKept A I → (lane : OutgoingLane) → Contains A.view.outgoing lane → lane.kind ≡ Schedule → (j : ℕ)
+    → j < length lane.items → CallFacts A lane j
 call_facts A kept lane there kind j within =
     let sched = All-contains (λ (z : OutgoingLane). z.kind ≡ Schedule → IsScheduleLane A.view z) A.view.outgoing lane kept.view.schedules there kind in
     let called : HasCall A.view (load_at lane.items j) = sched.calls j no_load within in
@@ -63,49 +64,59 @@ call_facts A kept lane there kind j within =
       after = sched.after;
     }
 
-pub call_is : (A : AgentState) (lane : OutgoingLane) (j mark : ℕ) (item : OutgoingItem) (call : Call) (b : Figures) (plan : PlanRows) (r : Remainder) → lane.kind ≡ Schedule
-    → item ≡ bare (load_at lane.items j) → call ≡ call_of (load_at lane.items j) → b ≡ book_at A (incoming_place A.view (lane.number.0 - 1)) → plan ≡ plans_of A (call_of (load_at lane.items j)).customer.0
+pub call_is : (A : AgentState) (lane : OutgoingLane) (j mark : ℕ) (item : OutgoingItem) (call : Call) (b : Figures) (plan : PlanRows) (r : Remainder)
+    → lane.kind ≡ Schedule
+    → item ≡ bare (load_at lane.items j) → call ≡ call_of (load_at lane.items j) → b ≡ book_at A (incoming_place A.view (lane.number.0 - 1))
+    → plan ≡ plans_of A (call_of (load_at lane.items j)).customer.0
     → r ≡ left_to_call b plan.release item call mark → r ≡ remainder A lane mark j
 call_is A lane j mark item call b plan r kind i c e p is =
     is
     ∙ ap (λ (z : OutgoingItem). left_to_call b plan.release z call mark) i
     ∙ ap (λ (z : Call). left_to_call b plan.release (bare (load_at lane.items j)) z mark) c
     ∙ ap (λ (z : Figures). left_to_call z plan.release (bare (load_at lane.items j)) (call_of (load_at lane.items j)) mark) e
-    ∙ ap (λ (z : PlanRows). left_to_call (book_at A (incoming_place A.view (lane.number.0 - 1))) z.release (bare (load_at lane.items j)) (call_of (load_at lane.items j)) mark) p
+    ∙ ap (λ (z : PlanRows). left_to_call (book_at A (incoming_place A.view (lane.number.0 - 1))) z.release (bare (load_at lane.items j))
+    (call_of (load_at lane.items j)) mark) p
     ∙ ap (λ (z : LaneKind). remainder_by z A lane (load_at lane.items j) mark) (sym kind)
 
 -- ---- promises
 
-pub given_legal : (A : AgentState) {I : Indexes} → IsKept A I → (k : ℕ) → k < length A.view.outgoing → (o : Option Record) → o ≡ next_out A k → IfSome o (λ r. GivenIsLegal A k r)
+pub given_legal : (A : AgentState) {I : Indexes} → IsKept A I → (k : ℕ) → k < length A.view.outgoing → (o : Option Record) → o ≡ next_out A k
+    → IfSome o (λ r. GivenIsLegal A k r)
 given_legal A kept k within None e = search rules
 given_legal A kept k within (Some r) e =
     λ sent taken planned shows bounded. given_is_legal A kept.view kept.rooms sent taken planned shows k within r bounded (sym e)
 
-pub none_legal : (A : AgentState) {I : Indexes} → IsKept A I → (k : ℕ) → k < length A.view.outgoing → (o : Option Record) → o ≡ next_out A k → IfNone o (NoneCanBeSent A k)
+pub none_legal : (A : AgentState) {I : Indexes} → IsKept A I → (k : ℕ) → k < length A.view.outgoing → (o : Option Record) → o ≡ next_out A k
+    → IfNone o (NoneCanBeSent A k)
 none_legal A kept k within None e = λ sent taken planned shows. none_can_be_sent A kept.view kept.rooms sent taken planned shows k within (sym e)
 none_legal A kept k within (Some r) e = search rules
 
-pub appended : (A B : AgentState) {I : Indexes} → IsKept A I → (k : ℕ) → k < length A.view.outgoing → B ≡ after_sent A k → (r : Record) → next_out A k ≡ Some r → IsAppended A B k r
+pub appended : (A B : AgentState) {I : Indexes} → IsKept A I → (k : ℕ) → k < length A.view.outgoing → B ≡ after_sent A k → (r : Record) → next_out A k ≡ Some r
+    → IsAppended A B k r
 appended A B kept k within is r given =
     let P : AgentState → Type 0 = λ z. IsAppended A z k r in
     subst P (sym is) (λ sent taken planned shows bounded. sent_shows A kept.view kept.rooms sent taken planned shows k within r bounded given)
 
 -- the cursors after a step
-pub stepped_outs : (A : AgentState) (k j : ℕ) (o new : OutFigures) (left : Option Remainder) → k ≡ j → j < length A.outs → o ≡ get_or A.outs k o → left ≡ left_at A k → new ≡ stepped o left
+pub stepped_outs : (A : AgentState) (k j : ℕ) (o new : OutFigures) (left : Option Remainder) → k ≡ j → j < length A.outs → o ≡ get_or A.outs k o
+    → left ≡ left_at A k → new ≡ stepped o left
     → set A.outs k new ≡ set A.outs j (stepped (out_at A j) (left_at A j))
 stepped_outs A k j o new left same within is e s =
     let inside : k < length A.outs = omega arith in
     let is' : o ≡ out_at A k = read_is A.outs k o no_out is inside in
-    let step : new ≡ stepped (out_at A k) (left_at A k) = s ∙ ap (λ (z : OutFigures). stepped z left) is' ∙ ap (λ (z : Option Remainder). stepped (out_at A k) z) e in
+    let step : new ≡ stepped (out_at A k) (left_at A k) = s ∙ ap (λ (z : OutFigures). stepped z left) is'
+    ∙ ap (λ (z : Option Remainder). stepped (out_at A k) z) e in
     ap (λ (z : OutFigures). set A.outs k z) step ∙ ap (λ (z : ℕ). set A.outs z (stepped (out_at A z) (left_at A z))) same
 
-pub kept_outs : (A : AgentState) {I : Indexes} (k : ℕ) (outs : List OutFigures) → k < length A.view.outgoing → IsKept A I → outs ≡ set A.outs k (stepped (out_at A k) (left_at A k)) → IsKept (record A { outs = outs }) I
+pub kept_outs : (A : AgentState) {I : Indexes} (k : ℕ) (outs : List OutFigures) → k < length A.view.outgoing → IsKept A I
+    → outs ≡ set A.outs k (stepped (out_at A k) (left_at A k)) → IsKept (record A { outs = outs }) I
 kept_outs A {I} k outs within kept is =
     let P : List OutFigures → Type 0 = λ z. IsKept (record A { outs = z }) I in
     subst P (sym is) (sent_kept A I k within kept)
 
 -- the record that is given
-pub next_is : (A : AgentState) (k j : ℕ) (o : OutFigures) (left : Option Remainder) (r : Option Record) → k ≡ j → j < length A.outs → o ≡ get_or A.outs k o → left ≡ left_at A k → r ≡ next_record o left → r ≡ next_out A j
+pub next_is : (A : AgentState) (k j : ℕ) (o : OutFigures) (left : Option Remainder) (r : Option Record) → k ≡ j → j < length A.outs → o ≡ get_or A.outs k o
+    → left ≡ left_at A k → r ≡ next_record o left → r ≡ next_out A j
 next_is A k j o left r same within is e s =
     let inside : k < length A.outs = omega arith in
     let is' : o ≡ out_at A k = read_is A.outs k o no_out is inside in
@@ -114,21 +125,25 @@ next_is A k j o left r same within is e s =
 -- ---- where a record is given the cursor has gone on after it, and nothing has changed where there is none
 
 -- the cursors after a lane was asked
-pub gone_outs : (A : AgentState) (k j : ℕ) (o new : OutFigures) (left : Option Remainder) (r : Option Record) → k ≡ j → j < length A.outs → o ≡ get_or A.outs k o → left ≡ left_at A k → new ≡ gone_on r o left
+pub gone_outs : (A : AgentState) (k j : ℕ) (o new : OutFigures) (left : Option Remainder) (r : Option Record) → k ≡ j → j < length A.outs
+    → o ≡ get_or A.outs k o → left ≡ left_at A k → new ≡ gone_on r o left
     → set A.outs k new ≡ set A.outs j (gone_on r (out_at A j) (left_at A j))
 gone_outs A k j o new left r same within is e s =
     let inside : k < length A.outs = omega arith in
     let is' : o ≡ out_at A k = read_is A.outs k o no_out is inside in
-    let step : new ≡ gone_on r (out_at A k) (left_at A k) = s ∙ ap (λ (z : OutFigures). gone_on r z left) is' ∙ ap (λ (z : Option Remainder). gone_on r (out_at A k) z) e in
+    let step : new ≡ gone_on r (out_at A k) (left_at A k) = s ∙ ap (λ (z : OutFigures). gone_on r z left) is'
+    ∙ ap (λ (z : Option Remainder). gone_on r (out_at A k) z) e in
     ap (λ (z : OutFigures). set A.outs k z) step ∙ ap (λ (z : ℕ). set A.outs z (gone_on r (out_at A z) (left_at A z))) same
 
-pub kept_gone : (A : AgentState) {I : Indexes} (k : ℕ) (outs : List OutFigures) (r : Option Record) → k < length A.view.outgoing → IsKept A I → outs ≡ set A.outs k (gone_on r (out_at A k) (left_at A k)) → IsKept (record A { outs = outs }) I
+pub kept_gone : (A : AgentState) {I : Indexes} (k : ℕ) (outs : List OutFigures) (r : Option Record) → k < length A.view.outgoing → IsKept A I
+    → outs ≡ set A.outs k (gone_on r (out_at A k) (left_at A k)) → IsKept (record A { outs = outs }) I
 kept_gone A {I} k outs None within kept is =
     let P : List OutFigures → Type 0 = λ z. IsKept (record A { outs = z }) I in
     subst P (sym (is ∙ set-get_or A.outs k no_out)) kept
 kept_gone A k outs (Some r) within kept is = kept_outs A k outs within kept is
 
-pub record_gone : (A B : AgentState) (k : ℕ) (r : Option Record) → B ≡ record A { outs = set A.outs k (gone_on r (out_at A k) (left_at A k)) } → IfSome r (λ _. B ≡ after_sent A k)
+pub record_gone : (A B : AgentState) (k : ℕ) (r : Option Record) → B ≡ record A { outs = set A.outs k (gone_on r (out_at A k) (left_at A k)) }
+    → IfSome r (λ _. B ≡ after_sent A k)
 record_gone A B k None is = tt
 record_gone A B k (Some r) is = is
 

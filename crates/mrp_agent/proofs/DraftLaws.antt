@@ -52,7 +52,8 @@ module _ (N : Table) (plant x : ℕ) (at : IsPairAt N plant x) where
       let known : get_or (plant_pairs N plant) place no_plant_pair ≡ plant_pair N (get_or numbers place 0) =
       get_or-map (plant_pair N) numbers place 0 no_plant_pair (omega (arith, within, length-map numbers (plant_pair N))) in
       let found : (get_or (plant_pairs N plant) place no_plant_pair).number.0 ≡ x =
-      eqb-true (get_or (plant_pairs N plant) place no_plant_pair).number.0 x (passes_at_first (λ (p : PlantPair). p.number.0 == x) (plant_pairs N plant) no_plant_pair within) in
+      eqb-true (get_or (plant_pairs N plant) place no_plant_pair).number.0 x
+      (passes_at_first (λ (p : PlantPair). p.number.0 == x) (plant_pairs N plant) no_plant_pair within) in
       let same : get_or numbers place 0 ≡ x = sym (ap (λ (p : PlantPair). p.number.0) known) ∙ found in
       known ∙ ap (plant_pair N) same
 
@@ -61,22 +62,23 @@ module _ (N : Table) (plant x : ℕ) (at : IsPairAt N plant x) where
 module _ (V : PlantRows) (taken : ℕ → List Record) (plans : ℕ → PlanRows) (came called : List ℕ) (p : PlantPair)
     (small : IsWithin p.params (local_row V (local_incoming V taken p)) (local_row V (local_gross V taken plans p)))
     (comes : (t : ℕ) → t < V.horizon → amount_at V came p.number t ≡ up_to_last (local_incoming V taken p t))
-    (is_called : (t : ℕ) → t < V.horizon → amount_at V called p.number t ≡ up_to_last (amount_at V V.demands p.number t + booked_on Schedule V taken p.item t)) where
-  incoming_is : local_row V (λ t. amount_at V came p.number t) ≡ local_row V (local_incoming V taken p)
-  incoming_is =
-      map_same (λ (t : ℕ). amount_at V came p.number t) (local_incoming V taken p) 0 V.horizon
-      (λ t h.
-      let low : t < V.horizon = omega arith in
-      comes t low ∙ small_sum (local_incoming V taken p t) (omega (arith, in_row V (local_incoming V taken p) t low, small.total)))
+    (is_called : (t : ℕ) → t < V.horizon → amount_at V called p.number t ≡ up_to_last (amount_at V V.demands p.number t + booked_on Schedule V taken p.item t))
+  where
+    incoming_is : local_row V (λ t. amount_at V came p.number t) ≡ local_row V (local_incoming V taken p)
+    incoming_is =
+        map_same (λ (t : ℕ). amount_at V came p.number t) (local_incoming V taken p) 0 V.horizon
+        (λ t h.
+        let low : t < V.horizon = omega arith in
+        comes t low ∙ small_sum (local_incoming V taken p t) (omega (arith, in_row V (local_incoming V taken p) t low, small.total)))
 
-  gross_is : local_row V (λ t. amount_at V called p.number t + asked_within V plans p.number t) ≡ local_row V (local_gross V taken plans p)
-  gross_is =
-      map_same (λ (t : ℕ). amount_at V called p.number t + asked_within V plans p.number t) (local_gross V taken plans p) 0 V.horizon
-      (λ t h.
-      let low : t < V.horizon = omega arith in
-      let most : local_gross V taken plans p t ≤ MOST = omega (arith, in_row V (local_gross V taken plans p) t low, small.total) in
-      let sum_is = small_sum (amount_at V V.demands p.number t + booked_on Schedule V taken p.item t) (omega (arith, most)) in
-      omega (arith, is_called t low, sum_is))
+    gross_is : local_row V (λ t. amount_at V called p.number t + asked_within V plans p.number t) ≡ local_row V (local_gross V taken plans p)
+    gross_is =
+        map_same (λ (t : ℕ). amount_at V called p.number t + asked_within V plans p.number t) (local_gross V taken plans p) 0 V.horizon
+        (λ t h.
+        let low : t < V.horizon = omega arith in
+        let most : local_gross V taken plans p t ≤ MOST = omega (arith, in_row V (local_gross V taken plans p) t low, small.total) in
+        let sum_is = small_sum (amount_at V V.demands p.number t + booked_on Schedule V taken p.item t) (omega (arith, most)) in
+        omega (arith, is_called t low, sum_is))
 
 -- ---- the laws
 
@@ -99,12 +101,19 @@ rows_are N sized plant A sent taken planned w x at ready =
     let R : PlantRows = plant_rows N plant in
     let p : PlantPair = plant_pair N x in
     let small = network.drafts_are_within N sized plant taken planned (plans_of A) (plans_locally N plant A sent taken planned w) x at ready in
-    let there : Contains A.view.pairs p = subst (λ (V : PlantRows). Contains V.pairs p) (sym w.view) (Contains-from_in (plant_pairs N plant) p (sees_pair N plant x at)) in
-    let comes = subst (λ (V : PlantRows). (t : ℕ) → t < V.horizon → amount_at V A.came p.number t ≡ up_to_last (local_incoming V taken p t)) w.view (w.shows.came p there) in
+    let there : Contains A.view.pairs p = subst (λ (V : PlantRows). Contains V.pairs p) (sym w.view)
+    (Contains-from_in (plant_pairs N plant) p (sees_pair N plant x at)) in
+    let comes = subst (λ (V : PlantRows). (t : ℕ) → t < V.horizon → amount_at V A.came p.number t ≡ up_to_last (local_incoming V taken p t)) w.view
+    (w.shows.came p there) in
     let is_called =
-    subst (λ (V : PlantRows). (t : ℕ) → t < V.horizon → amount_at V A.called p.number t ≡ up_to_last (amount_at V V.demands p.number t + booked_on Schedule V taken p.item t)) w.view (w.shows.called p there) in
-    subst (RowsAre N taken (plans_of A) A.came A.called x R) (sym w.view)
-    (pair_is N plant x at, incoming_is R taken (plans_of A) A.came A.called p small comes is_called, gross_is R taken (plans_of A) A.came A.called p small comes is_called)
+    subst (λ (V : PlantRows). (t : ℕ) → t < V.horizon → amount_at V A.called p.number t
+    ≡ up_to_last (amount_at V V.demands p.number t + booked_on Schedule V taken p.item t)) w.view (w.shows.called p there) in
+    subst (RowsAre N taken (plans_of A) A.came A.called x R) (sym w.view) (
+      pair_is N plant x at,
+      incoming_is R taken (plans_of A) A.came A.called p small comes is_called,
+      gross_is R taken
+          (plans_of A) A.came A.called p small comes is_called,
+    )
 
 pub drafts_are_within : AgentDraftsAreWithin
 drafts_are_within N sized plant A sent taken planned w x at ready =
@@ -130,4 +139,5 @@ drafts_are_the_plan N sized plant A sent taken planned w x at ready =
     ap (λ (q : PlantPair). one q.params incoming gross) rows.0
     ∙ ap (λ (z : List ℕ). one p.params z gross) rows.1
     ∙ ap (λ (z : List ℕ). one p.params (local_row R (local_incoming R taken p)) z) rows.2
-    ∙ (network.drafts_are_the_plan N sized.table sized.loop_free plant taken planned (plans_of A) (plans_locally N plant A sent taken planned w) x at ready).plan
+    ∙ (network.drafts_are_the_plan N sized.table sized.loop_free plant taken planned (plans_of A)
+    (plans_locally N plant A sent taken planned w) x at ready).plan

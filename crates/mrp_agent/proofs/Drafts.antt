@@ -1,5 +1,6 @@
 -- What an agent drafts from is what its state says.
-use Rattle.std.proofs.Common.{◌≡◌, ℕ, zero, suc, ◌+◌, ◌-◌, ◌*◌, ◌<◌, ◌≤◌, ◌==◌, eqb, cond, if◌then◌else◌, Bool, true, false, List, [], ◌∷◌, inl, inr, length, get_or, map, sum_by, slice_index, slice_range, take, drop, refl, sym, ap, ◌∙◌, subst, arith}
+use Rattle.std.proofs.Common.{◌≡◌, ℕ, zero, suc, ◌+◌, ◌-◌, ◌*◌, ◌<◌, ◌≤◌, ◌==◌, eqb, cond, if◌then◌else◌, Bool, true, false, List, [], ◌∷◌, inl, inr, length}
+use Rattle.std.proofs.Common.{get_or, map, sum_by, slice_index, slice_range, take, drop, refl, sym, ap, ◌∙◌, subst, arith}
 use Rattle.std.specs.List.{All, filter, range_with_len}
 use Rattle.std.proofs.lemmas.Bool.{cases_eq, eq-eqb, eqb-true, ne_eqb}
 use Rattle.std.proofs.lemmas.List.FromFn.{fill_by_all, get_or-map-range_with_len, length-map-range_with_len}
@@ -29,7 +30,8 @@ pub part_is : (xs : List ℕ) (a n : ℕ) → a + n ≤ length xs → slice_rang
 part_is xs a n within =
     let count : a + n - a ≡ n = omega arith in
     let size : length (take n (drop a xs)) ≡ n = length-take-le n (drop a xs) (omega (arith, within, length-drop a xs)) in
-    let each : (t : ℕ) → t < n → slice_index (take n (drop a xs)) t ≡ slice_index xs (a + t) = λ t low. get_or-take n (drop a xs) t 0 low ∙ get_or-drop a xs t 0 in
+    let each : (t : ℕ) → t < n → slice_index (take n (drop a xs)) t ≡ slice_index xs (a + t) =
+    λ t low. get_or-take n (drop a xs) t 0 low ∙ get_or-drop a xs t 0 in
     ap (λ (k : ℕ). take k (drop a xs)) count ∙ fill_by_all (λ (t : ℕ). slice_index xs (a + t)) (take n (drop a xs)) n 0 size each
 
 pub row_within : (place pairs periods : ℕ) → place < pairs → place * periods + periods ≤ pairs * periods
@@ -48,10 +50,12 @@ row_within place pairs periods within =
 pub places_apart : (V : PlantRows) (x y : PairNo) → IsOwnPair V x → IsOwnPair V y → pair_place V x.0 ≡ pair_place V y.0 → x.0 ≡ y.0
 places_apart V x y own_x own_y same =
     let at : (z : PairNo) → IsOwnPair V z → (get_or V.pairs (pair_place V z.0) no_plant_pair).number.0 ≡ z.0 = λ z own.
-    eqb-true (get_or V.pairs (pair_place V z.0) no_plant_pair).number.0 z.0 (passes_at_first (λ (p : PlantPair). eqb p.number.0 z.0) V.pairs no_plant_pair (own_within V z own)) in
+    eqb-true (get_or V.pairs (pair_place V z.0) no_plant_pair).number.0 z.0
+    (passes_at_first (λ (p : PlantPair). eqb p.number.0 z.0) V.pairs no_plant_pair (own_within V z own)) in
     sym (at x own_x) ∙ ap (λ (k : ℕ). (get_or V.pairs k no_plant_pair).number.0) same ∙ at y own_y
 
-same_component : (V : PlantRows) (x : PairNo) (e : PlantEdge) → IsOwnPair V x → IsPlantEdge V e → (pair_place V e.component.0 == pair_place V x.0) ≡ (e.component.0 == x.0)
+same_component : (V : PlantRows) (x : PairNo) (e : PlantEdge) → IsOwnPair V x → IsPlantEdge V e
+    → (pair_place V e.component.0 == pair_place V x.0) ≡ (e.component.0 == x.0)
 same_component V x e own is =
     elim (cases_eq e.component.0 x.0) as (λ _. eqb (pair_place V e.component.0) (pair_place V x.0) ≡ eqb e.component.0 x.0) [
       | inl same ↦ eq-eqb (pair_place V e.component.0) (pair_place V x.0) (ap (pair_place V) same) ∙ sym (eq-eqb e.component.0 x.0 same)
@@ -72,7 +76,8 @@ asked_is A x own t (e ∷ es) h =
     let here : test ≡ (e.component.0 == x.0) = same_component V x e own (All-head (IsPlantEdge V) e es h) in
     let later = asked_is A x own t es (All-tail (IsPlantEdge V) e es h) in
     let all = sum_by-cons (λ (e : PlantEdge). if e.component.0 == x.0 then asks e else 0) e es in
-    let F : Bool → Type 0 = λ b. asked_by A.plans (cond b (parent_edge V e ∷ filter (λ e. e.component == pair_place V x.0) (map (parent_edge V) es)) (filter (λ e. e.component == pair_place V x.0) (map (parent_edge V) es))) t
+    let F : Bool → Type 0 = λ b. asked_by A.plans (cond b (parent_edge V e ∷ filter (λ e. e.component == pair_place V x.0) (map (parent_edge V) es))
+    (filter (λ e. e.component == pair_place V x.0) (map (parent_edge V) es))) t
     ≡ cond b (asks e) 0 + sum_by (λ e. if e.component.0 == x.0 then asks e else 0) es in
     let by : (b : Bool) → F b = λ b. elim b as F [
       | true ↦
@@ -136,11 +141,14 @@ module _ (A : AgentState) (view : IsView A.view) (rooms : HasRooms A) (x : PairN
       → HasDraft (pair_owned A.view x).params (Part A.came) (Part A.called) (edges_at A.view (pair_place A.view x.0)) A.plans
   has_draft within = record {
     within =
-        subst (λ (z : List ℕ). IsWithin (pair_owned A.view x).params z (grossed (Part A.called) (edges_at A.view (pair_place A.view x.0)) A.plans)) (sym came_is)
+        subst (λ (z : List ℕ). IsWithin (pair_owned A.view x).params z (grossed (Part A.called) (edges_at A.view (pair_place A.view x.0)) A.plans))
+        (sym came_is)
         (subst (λ (z : List ℕ). IsWithin (pair_owned A.view x).params (drafted_incoming A x) z) (sym gross_is) within);
     edges_are =
-        All-filter (λ (e : ParentEdge). e.component == pair_place A.view x.0) (ParentCanAsk A.plans (length (Part A.called))) (map (parent_edge A.view) A.view.edges)
-        (All-map (ParentCanAsk A.plans (length (Part A.called))) (parent_edge A.view) A.view.edges (λ k d h. can_ask (get_or A.view.edges k d) (view.edges k d h)));
+        All-filter (λ (e : ParentEdge). e.component == pair_place A.view x.0) (ParentCanAsk A.plans (length (Part A.called)))
+        (map (parent_edge A.view) A.view.edges)
+        (All-map (ParentCanAsk A.plans (length (Part A.called))) (parent_edge A.view) A.view.edges
+        (λ k d h. can_ask (get_or A.view.edges k d) (view.edges k d h)));
   }
 
   pub drafted_is : one (pair_owned A.view x).params (Part A.came) (grossed (Part A.called) (edges_at A.view (pair_place A.view x.0)) A.plans) ≡ drafted A x

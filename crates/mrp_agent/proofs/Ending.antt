@@ -1,5 +1,6 @@
 -- How many blocks are open after a record: one fewer of a pair after its item's end, and else as many.
-use Rattle.std.proofs.Common.{◌≡◌, ℕ, ◌+◌, ◌<◌, ◌==◌, eqb, cond, Bool, true, false, ◌&&◌, ◌||◌, not, Option, Some, IfSome, List, [], ◌∷◌, ◌++◌, inl, inr, length, get_or, position, refl, sym, ap, ◌∙◌, subst, arith, rules}
+use Rattle.std.proofs.Common.{◌≡◌, ℕ, ◌+◌, ◌<◌, ◌==◌, eqb, cond, Bool, true, false, ◌&&◌, ◌||◌, not, Option, Some, IfSome, List, [], ◌∷◌, ◌++◌, inl, inr}
+use Rattle.std.proofs.Common.{length, get_or, position, refl, sym, ap, ◌∙◌, subst, arith, rules}
 use Rattle.std.specs.List.{count_by, sum_by, flat_map}
 use Rattle.std.proofs.lemmas.Bool.{cases_Bool, eq-eqb, ne_eqb, or_right}
 use Rattle.std.proofs.lemmas.List.Sums.{sum_by-cons, sum_by-append}
@@ -45,7 +46,8 @@ open_is : (V : PlantRows) (taken : ℕ → List Record) (y : ℕ) → open_block
 open_is V taken y =
     let test : Awaited → Bool = λ b. (b.pair == y) && not b.ended in
     sum_flat (λ (b : Awaited). cond (test b) 1 0) (awaited_on V taken) V.incoming
-    ∙ sum_each (λ (lane : IncomingLane). count_by test (awaited_on V taken lane)) (open_on_lane V taken y) V.incoming (λ lane. count-map test (block_awaited V taken lane) lane.items)
+    ∙ sum_each (λ (lane : IncomingLane). count_by test (awaited_on V taken lane)) (open_on_lane V taken y) V.incoming
+    (λ lane. count-map test (block_awaited V taken lane) lane.items)
 
 module _ (V : PlantRows) (view : IsView V) (taken : ℕ → List Record) (k : ℕ) (within : k < length V.incoming) (r : Record) where
   abbrev Lane : IncomingLane
@@ -56,7 +58,8 @@ module _ (V : PlantRows) (view : IsView V) (taken : ℕ → List Record) (k : �
 
   -- the other lanes have the same open blocks
   others : (y : ℕ) (lane : IncomingLane) → (lane.number.0 ≡ Lane.number.0 → ⊥) → open_on_lane V (with_taken V taken k r) y lane ≡ open_on_lane V taken y lane
-  others y lane other = ap (λ (z : List Record). sum_by (awaits_one V y z) lane.items) (changed_elsewhere taken Lane.number.0 (Before ++ r ∷ []) lane.number.0 other)
+  others y lane other = ap (λ (z : List Record). sum_by (awaits_one V y z) lane.items)
+      (changed_elsewhere taken Lane.number.0 (Before ++ r ∷ []) lane.number.0 other)
 
   on_lane : (y : ℕ) → open_on_lane V (with_taken V taken k r) y Lane ≡ sum_by (awaits_one V y (Before ++ r ∷ [])) Lane.items
   on_lane y = ap (λ (z : List Record). sum_by (awaits_one V y z) Lane.items) (changed_there taken Lane.number.0 (Before ++ r ∷ []))
@@ -65,7 +68,8 @@ module _ (V : PlantRows) (view : IsView V) (taken : ℕ → List Record) (k : �
   change : (y : ℕ) → open_blocks (awaited V (with_taken V taken k r)) y + sum_by (awaits_one V y Before) Lane.items
       ≡ open_blocks (awaited V taken) y + sum_by (awaits_one V y (Before ++ r ∷ [])) Lane.items
   change y =
-      let sums = sum_changed (open_on_lane V (with_taken V taken k r) y) (open_on_lane V taken y) (λ (lane : IncomingLane). lane.number.0) V.incoming k no_incoming (view.incoming_once Lane.number.0) within (others y) in
+      let sums = sum_changed (open_on_lane V (with_taken V taken k r) y) (open_on_lane V taken y)
+      (λ (lane : IncomingLane). lane.number.0) V.incoming k no_incoming (view.incoming_once Lane.number.0) within (others y) in
       omega (arith, sums, on_lane y, open_is V taken y, open_is V (with_taken V taken k r) y)
 
   -- where no item's end comes as many are open
@@ -73,7 +77,8 @@ module _ (V : PlantRows) (view : IsView V) (taken : ℕ → List Record) (k : �
   stays no_end y =
       let same : (i : IncomingItem) → awaits_one V y (Before ++ r ∷ []) i ≡ awaits_one V y Before i = λ i.
       ap (λ (b : Bool). cond ((pair_place V i.pair.0 == y) && not b) 1 0)
-      (ended_more i.item.0 Before r ∙ ap (λ (b : Bool). is_ended i.item.0 (contents Before) || b) (no_end i.item.0) ∙ or_false (is_ended i.item.0 (contents Before)))
+      (ended_more i.item.0 Before r ∙ ap (λ (b : Bool). is_ended i.item.0 (contents Before) || b) (no_end i.item.0)
+      ∙ or_false (is_ended i.item.0 (contents Before)))
       in
       omega (arith, change y, sum_each (awaits_one V y (Before ++ r ∷ [])) (awaits_one V y Before) Lane.items same)
 
@@ -108,7 +113,8 @@ module _ (V : PlantRows) (view : IsView V) (taken : ℕ → List Record) (k : �
     now_ended : (y : ℕ) → awaits_one V y (Before ++ r ∷ []) It ≡ 0
     now_ended y =
         let ended : is_ended It.item.0 (contents (Before ++ r ∷ [])) ≡ true =
-        ended_more It.item.0 Before r ∙ or_right (is_ended It.item.0 (contents Before)) (is_ended It.item.0 (content r ∷ [])) (ends It.item.0 ∙ eq-eqb item.0 It.item.0 (sym o.is)) in
+        ended_more It.item.0 Before r ∙ or_right (is_ended It.item.0 (contents Before)) (is_ended It.item.0 (content r ∷ []))
+        (ends It.item.0 ∙ eq-eqb item.0 It.item.0 (sym o.is)) in
         ap (λ (b : Bool). cond ((pair_place V It.pair.0 == y) && not b) 1 0) ended
         ∙ elim (cases_Bool (eqb Pair y)) as (λ _. ◌≡◌ {A = ℕ} (cond (eqb Pair y && false) 1 0) 0) [
           | inl here ↦ rw here refl
@@ -126,7 +132,8 @@ module _ (V : PlantRows) (view : IsView V) (taken : ℕ → List Record) (k : �
 
     fewer : (y : ℕ) → open_blocks (awaited V (with_taken V taken k r)) y + cond (eqb Pair y) 1 0 ≡ open_blocks (awaited V taken) y
     fewer y =
-        let sums = sum_changed (awaits_one V y (Before ++ r ∷ [])) (awaits_one V y Before) (λ (i : IncomingItem). i.item.0) Lane.items o.place no_item (lane_is.once It.item.0) o.within (same y) in
+        let sums = sum_changed (awaits_one V y (Before ++ r ∷ [])) (awaits_one V y Before) (λ (i : IncomingItem). i.item.0) Lane.items o.place no_item
+        (lane_is.once It.item.0) o.within (same y) in
         omega (arith, sums, change y, now_ended y, was_open y)
 
     one_ended : IsOneEnded Pair (open_blocks (awaited V taken)) (open_blocks (awaited V (with_taken V taken k r)))
@@ -164,8 +171,10 @@ module _ (V : PlantRows) (view : IsView V) (taken : ℕ → List Record) (k : �
               ]
       by (ItemEnd number item lines cumulative) is =
           let o : IsOpenOn Lane (contents Before) item.0 =
-          open_on V Lane (contents Before) (EndOf item.0 lines cumulative) item.0 (subst (λ (z : Record). EntryFits (form_of V Lane) (contents Before) (content z)) is fits) (eq-eqb item.0 item.0 refl) in
-          subst (λ (o : Option ℕ). Falls o (open_blocks (awaited V taken)) (open_blocks (awaited V (with_taken V taken k r)))) (sym (place_is number lines cumulative item is o).0)
+          open_on V Lane (contents Before) (EndOf item.0 lines cumulative) item.0
+          (subst (λ (z : Record). EntryFits (form_of V Lane) (contents Before) (content z)) is fits) (eq-eqb item.0 item.0 refl) in
+          subst (λ (o : Option ℕ). Falls o (open_blocks (awaited V taken)) (open_blocks (awaited V (with_taken V taken k r))))
+          (sym (place_is number lines cumulative item is o).0)
           (one_ended number lines cumulative item is o)
       by (Reset number item closed) is = stays (λ i. ap (λ (z : Record). is_ended i (content z ∷ [])) is ∙ reset_ends_nothing i)
         where
@@ -186,11 +195,13 @@ module _ (V : PlantRows) (view : IsView V) (taken : ℕ → List Record) (k : �
       by (Line number item period quantity cumulative) is = search rules
       by (ItemEnd number item lines cumulative) is =
           let o : IsOpenOn Lane (contents Before) item.0 =
-          open_on V Lane (contents Before) (EndOf item.0 lines cumulative) item.0 (subst (λ (z : Record). EntryFits (form_of V Lane) (contents Before) (content z)) is fits) (eq-eqb item.0 item.0 refl) in
+          open_on V Lane (contents Before) (EndOf item.0 lines cumulative) item.0
+          (subst (λ (z : Record). EntryFits (form_of V Lane) (contents Before) (content z)) is fits) (eq-eqb item.0 item.0 refl) in
           let at = place_is number lines cumulative item is o in
           let fewer = one_ended number lines cumulative item is o in
           let y : ℕ = pair_place V (get_or Lane.items o.place no_item).pair.0 in
           let known : y < length progress.waits = omega (arith, at.1, size) in
-          subst (λ (o : Option ℕ). IfSome o (IsAwaited progress)) (sym at.0) (record { known = known; waits = omega (arith, counts.counted y known, fewer.ended) })
+          subst (λ (o : Option ℕ). IfSome o (IsAwaited progress)) (sym at.0)
+          (record { known = known; waits = omega (arith, counts.counted y known, fewer.ended) })
       by (Reset number item closed) is = search rules
       by (Close number) is = search rules

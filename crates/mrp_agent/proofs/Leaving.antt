@@ -1,5 +1,6 @@
 -- What an agent has left to send is what is left of its goods.
-use Rattle.std.proofs.Common.{◌≡◌, ℕ, zero, suc, ◌+◌, ◌-◌, ◌<◌, ◌≤◌, ◌==◌, eqb, Bool, true, Option, Some, None, option_map, List, [], ◌∷◌, inl, inr, length, get_or, map, drop, refl, sym, ap, ◌∙◌, subst, arith, add-one}
+use Rattle.std.proofs.Common.{◌≡◌, ℕ, zero, suc, ◌+◌, ◌-◌, ◌<◌, ◌≤◌, ◌==◌, eqb, Bool, true, Option, Some, None, option_map, List, [], ◌∷◌, inl, inr, length}
+use Rattle.std.proofs.Common.{get_or, map, drop, refl, sym, ap, ◌∙◌, subst, arith, add-one}
 use Rattle.std.specs.List.{Contains, count_by, filter, find, position_or_len, range_with_len, slice_get}
 use Rattle.std.proofs.lemmas.Bool.{cases_Bool, eq-eqb}
 use Rattle.std.proofs.lemmas.List.{get_or_default, get_or-map, length-map, drop_all}
@@ -57,7 +58,8 @@ first_passes : (amount : ℕ → ℕ) (n mark : ℕ) (line : Delivery) → find 
     → calls_from amount mark n ≡ line ∷ calls_from amount (line.period + 1) (mark + n - (line.period + 1))
 first_passes amount zero mark line e = absurd (cc e)
 first_passes amount (suc n) mark line e =
-    elim (cases_Bool (has_pieces (delivery_in amount mark))) as (λ _. calls_from amount mark (suc n) ≡ line ∷ calls_from amount (line.period + 1) (mark + suc n - (line.period + 1))) [
+    elim (cases_Bool (has_pieces (delivery_in amount mark))) as (λ _. calls_from amount mark (suc n)
+    ≡ line ∷ calls_from amount (line.period + 1) (mark + suc n - (line.period + 1))) [
       | inl here ↦
           let is : Some (delivery_in amount mark) ≡ Some line = rw here at e in
           let same : delivery_in amount mark ≡ line = cc is in
@@ -73,17 +75,21 @@ first_passes amount (suc n) mark line e =
           skip ∙ first_passes amount n (mark + 1) line rest ∙ ap (λ (z : ℕ). line ∷ calls_from amount (line.period + 1) (z - (line.period + 1))) count
     ]
 
-calls_left : (amount : ℕ → ℕ) (horizon mark : ℕ) → IsNextLine (by_period_from amount horizon) mark (option_map call_line (find has_pieces (map (delivery_in amount) (range_with_len mark (horizon - mark)))))
+calls_left : (amount : ℕ → ℕ) (horizon mark : ℕ) → IsNextLine (by_period_from amount horizon) mark
+    (option_map call_line (find has_pieces (map (delivery_in amount) (range_with_len mark (horizon - mark)))))
 calls_left amount horizon mark = by (find has_pieces (map (delivery_in amount) (range_with_len mark (horizon - mark)))) refl
   where
-    by : (o : Option Delivery) → find has_pieces (map (delivery_in amount) (range_with_len mark (horizon - mark))) ≡ o → IsNextLine (by_period_from amount horizon) mark (option_map call_line o)
+    by : (o : Option Delivery) → find has_pieces (map (delivery_in amount) (range_with_len mark (horizon - mark))) ≡ o
+        → IsNextLine (by_period_from amount horizon) mark (option_map call_line o)
     by None e = none_passes has_pieces (map (delivery_in amount) (range_with_len mark (horizon - mark))) e
     by (Some line) e =
         let within : mark + (horizon - mark) ≡ horizon = some_within (horizon - mark) refl e in
         first_passes amount (horizon - mark) mark line e ∙ ap (λ (z : ℕ). line ∷ calls_from amount (line.period + 1) (z - (line.period + 1))) within
       where
-        some_within : (n : ℕ) → horizon - mark ≡ n → find has_pieces (map (delivery_in amount) (range_with_len mark (horizon - mark))) ≡ Some line → mark + (horizon - mark) ≡ horizon
-        some_within zero z f = let bad : find has_pieces (map (delivery_in amount) (range_with_len mark 0)) ≡ Some line = subst (λ (n : ℕ). find has_pieces (map (delivery_in amount) (range_with_len mark n)) ≡ Some line) z f in absurd (cc bad)
+        some_within : (n : ℕ) → horizon - mark ≡ n → find has_pieces (map (delivery_in amount) (range_with_len mark (horizon - mark))) ≡ Some line
+            → mark + (horizon - mark) ≡ horizon
+        some_within zero z f = let bad : find has_pieces (map (delivery_in amount) (range_with_len mark 0)) ≡ Some line =
+            subst (λ (n : ℕ). find has_pieces (map (delivery_in amount) (range_with_len mark n)) ≡ Some line) z f in absurd (cc bad)
         some_within (suc n) z f = omega (arith, z)
 
 -- ---- opening figures
@@ -134,7 +140,8 @@ item_found items j once within =
 module _ (A : AgentState) (taken : ℕ → List Record) (view : IsView A.view) (books : BooksShow A taken) where
   -- the despatch lane before a schedule lane comes in
   pub place_before : (lane : OutgoingLane) → IsScheduleLane A.view lane
-      → (incoming_place A.view (lane.number.0 - 1) < length A.view.incoming) × (incoming_at A.view (incoming_place A.view (lane.number.0 - 1)) ≡ lane_before lane)
+      → (incoming_place A.view (lane.number.0 - 1) < length A.view.incoming)
+      × (incoming_at A.view (incoming_place A.view (lane.number.0 - 1)) ≡ lane_before lane)
   place_before lane sched =
       let l : ℕ = lane.number.0 - 1 in
       let before : IncomingLane = lane_before lane in
@@ -144,11 +151,13 @@ module _ (A : AgentState) (taken : ℕ → List Record) (view : IsView A.view) (
       by sched.before
     where
       by : (k : ℕ) × (k < length A.view.incoming) × (get_or A.view.incoming k (lane_before lane) ≡ lane_before lane)
-          → (incoming_place A.view (lane.number.0 - 1) < length A.view.incoming) × (incoming_at A.view (incoming_place A.view (lane.number.0 - 1)) ≡ lane_before lane)
+          → (incoming_place A.view (lane.number.0 - 1) < length A.view.incoming)
+          × (incoming_at A.view (incoming_place A.view (lane.number.0 - 1)) ≡ lane_before lane)
       by (k, low, is) =
           let l : ℕ = lane.number.0 - 1 in
           let p : IncomingLane → Bool = λ z. eqb z.number.0 l in
-          let same : incoming_place A.view l ≡ k = place_is_only p A.view.incoming k (lane_before lane) (view.incoming_once l) low (ap p is ∙ eq-eqb l l refl) in (
+          let same : incoming_place A.view l ≡ k = place_is_only p A.view.incoming k (lane_before lane) (view.incoming_once l) low (ap p is ∙ eq-eqb l l refl)
+          in (
             subst (λ (n : ℕ). n < length A.view.incoming) (sym same) low,
             ap (incoming_at A.view) same ∙ get_or_default A.view.incoming k no_incoming (lane_before lane) low ∙ is,
           )
@@ -174,7 +183,8 @@ module _ (A : AgentState) (taken : ℕ → List Record) (view : IsView A.view) (
   IsOf kind lane mark j =
       IsRemainder (goods_by kind A.view taken (plans_of A) lane.number.0 (load_at lane.items j)) mark (remainder_by kind A lane (load_at lane.items j) mark)
 
-  remains : (kind : LaneKind) (lane : OutgoingLane) (mark j : ℕ) → (kind ≡ Schedule → IsScheduleLane A.view lane) → IsOutgoingLane A.view lane → j < length lane.items
+  remains : (kind : LaneKind) (lane : OutgoingLane) (mark j : ℕ) → (kind ≡ Schedule → IsScheduleLane A.view lane) → IsOutgoingLane A.view lane
+      → j < length lane.items
       → (kind ≡ Schedule → length (plans_of A (call_of (load_at lane.items j)).customer.0).release ≡ A.view.horizon) → IsOf kind lane mark j
   remains Despatch lane mark j sched out within periods =
       record { item = refl; opening = refl; reset = refl; line = shipments_left (load_at lane.items j).shipments mark }
@@ -185,17 +195,21 @@ module _ (A : AgentState) (taken : ℕ → List Record) (view : IsView A.view) (
         item = refl;
         opening = opening_is lane (sched refl) out j within;
         reset = refl;
-        line = subst (λ (n : ℕ). IsNextLine (by_period_from amount A.view.horizon) mark (option_map call_line (find has_pieces (map (delivery_in amount) (range_with_len mark (n - mark))))))
+        line = subst (λ (n : ℕ). IsNextLine (by_period_from amount A.view.horizon) mark
+            (option_map call_line (find has_pieces (map (delivery_in amount) (range_with_len mark (n - mark))))))
             (sym (periods refl)) (calls_left amount A.view.horizon mark);
       }
 
-  pub left_is_left : (k : ℕ) → k < length A.view.outgoing → ((j : ℕ) → slice_get (out_at A k).queue (out_at A k).head ≡ Some j → j < length (outgoing_at A.view k).items)
-      → ((j : ℕ) → j < length (outgoing_at A.view k).items → (outgoing_at A.view k).kind ≡ Schedule → length (plans_of A (call_of (load_at (outgoing_at A.view k).items j)).customer.0).release ≡ A.view.horizon)
+  pub left_is_left : (k : ℕ) → k < length A.view.outgoing → ((j : ℕ) → slice_get (out_at A k).queue (out_at A k).head ≡ Some j
+      → j < length (outgoing_at A.view k).items)
+      → ((j : ℕ) → j < length (outgoing_at A.view k).items → (outgoing_at A.view k).kind ≡ Schedule
+      → length (plans_of A (call_of (load_at (outgoing_at A.view k).items j)).customer.0).release ≡ A.view.horizon)
       → IsWhatIsLeft (goods_of A.view taken (plans_of A) (outgoing_at A.view k)) (out_at A k) (left_at A k)
   left_is_left k within places periods = by (slice_get (out_at A k).queue (out_at A k).head) refl
     where
       by : (o : Option ℕ) → slice_get (out_at A k).queue (out_at A k).head ≡ o
-          → IsWhatIsLeft (goods_of A.view taken (plans_of A) (outgoing_at A.view k)) (out_at A k) (option_map (remainder A (outgoing_at A.view k) (out_at A k).mark) o)
+          → IsWhatIsLeft (goods_of A.view taken (plans_of A) (outgoing_at A.view k)) (out_at A k)
+          (option_map (remainder A (outgoing_at A.view k) (out_at A k).mark) o)
       by None e = e
       by (Some j) e =
           let lane : OutgoingLane = outgoing_at A.view k in

@@ -42,7 +42,8 @@ record IsOfItem (N : Table) (lane : Lane) (e : Entry) : Type 0 where
   of : is_of item.0 e ≡ true
 
 -- a record that continues a legal beginning closes the lane or is of one of its items
-continues_of : (N : Table) (lane : Lane) (sent : List Record) (r : Record) → IsBeginning (loads N lane) (sent ++ r ∷ []) → (content r ≡ Closing) ⊎ IsOfItem N lane (content r)
+continues_of : (N : Table) (lane : Lane) (sent : List Record) (r : Record) → IsBeginning (loads N lane) (sent ++ r ∷ [])
+    → (content r ≡ Closing) ⊎ IsOfItem N lane (content r)
 continues_of N lane sent r begins =
     let order : List Load = begins.text.order in
     let rest : List Entry = begins.rest in
@@ -62,7 +63,8 @@ continues_of N lane sent r begins =
     in_block order once w =
         let same : content r ≡ w.next = cc (w.rest_is) in
         let of : AllOf w.load.item (w.part ++ w.next ∷ w.more) = subst (AllOf w.load.item) w.block_is (AllOf-block w.load) in
-        let its : is_of w.load.item (content r) ≡ true = ap (is_of w.load.item) same ∙ AllOf_at w.load.item w.part w.more w.next of w.load.item ∙ eq-eqb w.load.item w.load.item refl in
+        let its : is_of w.load.item (content r) ≡ true = ap (is_of w.load.item) same ∙ AllOf_at w.load.item w.part w.more w.next of w.load.item
+        ∙ eq-eqb w.load.item w.load.item refl in
         let among : In order w.load = subst (λ (z : List Load). In z w.load) (sym w.order_is) (In-append_right w.done (w.load ∷ w.todo) w.load (inl refl)) in
         let at = item_of_load N lane w.load (from_order N lane order once w.load among) in
         record { item = at.0; there = at.1; of = ap (λ (z : Load). is_of z.item (content r)) at.2 ∙ its }
@@ -80,11 +82,13 @@ closing_may goods o e is = subst (MaySend goods o) (sym is) tt
 
 -- each is a lane of the network as its sender sees it
 pub lanes_are_seen : (N : Table) (plant : ℕ) → All (λ lane. lane ≡ outgoing_lane N lane.number.0) (outgoing_lanes N plant)
-lanes_are_seen N plant = All-map (λ (lane : OutgoingLane). lane ≡ outgoing_lane N lane.number.0) (outgoing_lane N) (filter (goes_from N plant) (lane_numbers N)) (λ k d h. refl)
+lanes_are_seen N plant = All-map (λ (lane : OutgoingLane). lane ≡ outgoing_lane N lane.number.0) (outgoing_lane N) (filter (goes_from N plant) (lane_numbers N))
+    (λ k d h. refl)
 
 module _ (N : Table) (is : IsTable N) (planned : ℕ → Bool) (l : ℕ) where
   -- an item that is decided may be sent
-  decided_is_sendable : (item : ItemNo) (there : Contains (lane_items N (lane_at N l)) item) → ((lane_at N l).kind ≡ Schedule → planned (pair_on N (lane_at N l) item) ≡ true)
+  decided_is_sendable : (item : ItemNo) (there : Contains (lane_items N (lane_at N l)) item)
+      → ((lane_at N l).kind ≡ Schedule → planned (pair_on N (lane_at N l) item) ≡ true)
       → IsSendable planned (outgoing_lane N l) there.0
   decided_is_sendable item there decided =
       let lane : Lane = lane_at N l in
@@ -101,7 +105,8 @@ module _ (N : Table) (is : IsTable N) (planned : ℕ → Bool) (l : ℕ) where
 
   module _ (goods : ℕ → Goods) (o : OutFigures) (has : HasGoods N planned (outgoing_lane N l) goods)
       (queued : (place : ℕ) → IsSendable planned (outgoing_lane N l) place → Contains o.queue place) where
-    item_is_queued : (item : ItemNo) → Contains (lane_items N (lane_at N l)) item → ((lane_at N l).kind ≡ Schedule → planned (pair_on N (lane_at N l) item) ≡ true) → IsQueued goods o item.0
+    item_is_queued : (item : ItemNo) → Contains (lane_items N (lane_at N l)) item
+        → ((lane_at N l).kind ≡ Schedule → planned (pair_on N (lane_at N l) item) ≡ true) → IsQueued goods o item.0
     item_is_queued item there decided =
         let lane : Lane = lane_at N l in
         let items : List ItemNo = lane_items N lane in
@@ -114,7 +119,8 @@ module _ (N : Table) (is : IsTable N) (planned : ℕ → Bool) (l : ℕ) where
         let same : load_of N lane item ≡ cursor.goods_load (goods there.0) = cc some in
         record { place = there.0; there = queued there.0 sendable; is = sym (ap (λ (z : Load). z.item) same) }
 
-    pub decided_may_be_sent : (sent : List Record) (r : Record) → IsDecided N planned (lane_at N l) (content r) → IsBeginning (loads N (lane_at N l)) (sent ++ r ∷ []) → MaySend goods o (content r)
+    pub decided_may_be_sent : (sent : List Record) (r : Record) → IsDecided N planned (lane_at N l) (content r)
+        → IsBeginning (loads N (lane_at N l)) (sent ++ r ∷ []) → MaySend goods o (content r)
     decided_may_be_sent sent r decided begins =
         elim (continues_of N (lane_at N l) sent r begins) [
           | inl closing ↦ closing_may goods o (content r) closing

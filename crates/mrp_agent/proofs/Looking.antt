@@ -1,5 +1,6 @@
 -- Places that are looked for.
-use Rattle.std.proofs.Common.{◌≡◌, ℕ, zero, suc, ◌+◌, ◌<◌, ◌≤◌, ltb, Bool, true, false, cond, Some, None, List, [], ◌∷◌, inl, inr, length, get_or, position, unwrap_or, refl, sym, ap, ◌∙◌, arith}
+use Rattle.std.proofs.Common.{◌≡◌, ℕ, zero, suc, ◌+◌, ◌<◌, ◌≤◌, ltb, Bool, true, false, cond, Some, None, List, [], ◌∷◌, inl, inr, length, get_or, position}
+use Rattle.std.proofs.Common.{unwrap_or, refl, sym, ap, ◌∙◌, arith}
 use Rattle.std.specs.List.{Contains, count_by, position_or_len}
 use Rattle.std.proofs.lemmas.Bool.{cases_Bool, cases_lt, lt-ltb, ltb-true}
 use Rattle.std.proofs.lemmas.Bool.Decides.{nat_tests}
@@ -50,7 +51,8 @@ place_found {X} p xs x (k, within, is) passes =
     ]
 
 -- the only one that passes
-pub place_is_only : {X : Type 0} (p : X → Bool) (xs : List X) (k : ℕ) (d : X) → count_by p xs ≤ 1 → k < length xs → p (get_or xs k d) ≡ true → position_or_len p xs ≡ k
+pub place_is_only : {X : Type 0} (p : X → Bool) (xs : List X) (k : ℕ) (d : X) → count_by p xs ≤ 1 → k < length xs → p (get_or xs k d) ≡ true
+    → position_or_len p xs ≡ k
 place_is_only p [] k d few within passes = absurd (omega arith)
 place_is_only p (x ∷ xs) zero d few within passes = rw passes refl
 place_is_only {X} p (x ∷ xs) (suc k) d few within passes =
@@ -66,5 +68,6 @@ place_is_only {X} p (x ∷ xs) (suc k) d few within passes =
           omega (arith, z, rest)
     ]
 
-pub only_place : {X : Type 0} (p : X → Bool) (xs : List X) (j k : ℕ) (d : X) → count_by p xs ≤ 1 → j < length xs → k < length xs → p (get_or xs j d) ≡ true → p (get_or xs k d) ≡ true → j ≡ k
+pub only_place : {X : Type 0} (p : X → Bool) (xs : List X) (j k : ℕ) (d : X) → count_by p xs ≤ 1 → j < length xs → k < length xs → p (get_or xs j d) ≡ true
+    → p (get_or xs k d) ≡ true → j ≡ k
 only_place p xs j k d few inj ink here there = sym (place_is_only p xs j d few inj here) ∙ place_is_only p xs k d few ink there

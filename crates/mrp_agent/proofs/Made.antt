@@ -1,5 +1,6 @@
 -- What an agent is made of.
-use Rattle.std.proofs.Common.{◌≡◌, ℕ, zero, suc, ◌+◌, ◌<◌, ◌≤◌, ◌==◌, eqb, cond, Bool, true, false, List, [], ◌∷◌, ◌++◌, inl, inr, length, get_or, map, take, refl, sym, ap, ◌∙◌, subst, arith, rules, append_assoc}
+use Rattle.std.proofs.Common.{◌≡◌, ℕ, zero, suc, ◌+◌, ◌<◌, ◌≤◌, ◌==◌, eqb, cond, Bool, true, false, List, [], ◌∷◌, ◌++◌, inl, inr, length, get_or, map, take}
+use Rattle.std.proofs.Common.{refl, sym, ap, ◌∙◌, subst, arith, rules, append_assoc}
 use Rattle.std.specs.List.{All, AllByRecursion, IsDistinct, count_by, flat_map, list_any}
 use Rattle.std.proofs.lemmas.List.Elements.{All-map}
 use Rattle.std.proofs.lemmas.Bool.{cases_eq, cases_lt, eq-eqb, ne_eqb, or_from}
@@ -42,11 +43,13 @@ none_before {X} key (x ∷ xs) (suc k) d few within =
     (none_before key xs k d (omega (arith, all, none (eqb (key x) n) first)) inside)
 
 -- an item more isn't among those before it
-pub item_is_new : {X : Type 0} (item : X → ItemNo) (xs : List X) (k : ℕ) (d x : X) (names : List ItemNo) → count_by (λ y. eqb (item y).0 (item x).0) xs ≤ 1 → k < length xs → x ≡ get_or xs k d
+pub item_is_new : {X : Type 0} (item : X → ItemNo) (xs : List X) (k : ℕ) (d x : X) (names : List ItemNo) → count_by (λ y. eqb (item y).0 (item x).0) xs ≤ 1
+    → k < length xs → x ≡ get_or xs k d
     → names ≡ map item (take k xs) → list_any (eq-value.it (item x)) names ≡ false
 item_is_new {X} item xs k d x names few within is so_far =
     let n : ℕ = (item x).0 in
-    let once : count_by (λ y. eqb (item y).0 (item (get_or xs k d)).0) xs ≤ 1 = subst (λ (z : X). count_by (λ (y : X). eqb (item y).0 (item z).0) xs ≤ 1) is few in
+    let once : count_by (λ y. eqb (item y).0 (item (get_or xs k d)).0) xs ≤ 1 =
+    subst (λ (z : X). count_by (λ (y : X). eqb (item y).0 (item z).0) xs ≤ 1) is few in
     let new : list_any (λ (y : X). eqb (item y).0 n) (take k xs) ≡ false =
     ap (λ (z : X). list_any (λ (y : X). eqb (item y).0 (item z).0) (take k xs)) is ∙ none_before (λ (y : X). (item y).0) xs k d once within in
     let test : list_any (eq-value.it (item x)) (map item (take k xs)) ≡ list_any (λ (y : X). eqb (item y).0 n) (take k xs) =
@@ -54,7 +57,8 @@ item_is_new {X} item xs k d x names few within is so_far =
     ap (list_any (eq-value.it (item x))) so_far ∙ test ∙ new
 
 -- items that each stand once
-none_same : (i : IncomingItem) (rest : List IncomingItem) → count_by (λ z. eqb z.item.0 i.item.0) rest ≡ 0 → AllByRecursion (λ y. is_same_book_item (book_item i) y ≡ false) (map book_item rest)
+none_same : (i : IncomingItem) (rest : List IncomingItem) → count_by (λ z. eqb z.item.0 i.item.0) rest ≡ 0
+    → AllByRecursion (λ y. is_same_book_item (book_item i) y ≡ false) (map book_item rest)
 none_same i [] h = search rules
 none_same i (x ∷ rest) h =
     let all = sum_by-cons (λ (z : IncomingItem). cond (eqb z.item.0 i.item.0) 1 0) x rest in
@@ -92,21 +96,25 @@ flat_more {X} {A} f xs k d x so_far next within is e grown =
     grown ∙ ap (λ (z : List A). z ++ f x) e ∙ flat_map_more f [] (take k xs) x ∙ sym (ap (flat_map f) more)
 
 -- the same behind what was there
-pub map_more_after : {X Y : Type 0} (f : X → Y) (before : List Y) (xs : List X) (k : ℕ) (d x : X) (y : Y) (so_far next : List Y) → k < length xs → x ≡ get_or xs k d → y ≡ f x
+pub map_more_after : {X Y : Type 0} (f : X → Y) (before : List Y) (xs : List X) (k : ℕ) (d x : X) (y : Y) (so_far next : List Y) → k < length xs
+    → x ≡ get_or xs k d → y ≡ f x
     → so_far ≡ before ++ map f (take k xs) → next ≡ so_far ++ y ∷ [] → next ≡ before ++ map f (take (k + 1) xs)
 map_more_after {X} {Y} f before xs k d x y so_far next within is value e grown =
-    let more : map f (take k xs) ++ y ∷ [] ≡ map f (take (k + 1) xs) = map_more f xs k d x y (map f (take k xs)) (map f (take k xs) ++ y ∷ []) within is value refl refl in
+    let more : map f (take k xs) ++ y ∷ [] ≡ map f (take (k + 1) xs) =
+    map_more f xs k d x y (map f (take k xs)) (map f (take k xs) ++ y ∷ []) within is value refl refl in
     grown
     ∙ ap (λ (z : List Y). z ++ y ∷ []) e
     ∙ append_assoc before (map f (take k xs)) (y ∷ [])
     ∙ ap (λ (z : List Y). before ++ z) more
 
 -- one more cursor
-pub idle_more : (lanes : List OutgoingLane) (k : ℕ) (lane : OutgoingLane) (outs next : List OutFigures) (o : OutFigures) → k < length lanes → lane ≡ get_or lanes k lane
+pub idle_more : (lanes : List OutgoingLane) (k : ℕ) (lane : OutgoingLane) (outs next : List OutFigures) (o : OutFigures) → k < length lanes
+    → lane ≡ get_or lanes k lane
     → AreIdleOuts (take k lanes) outs → IsIdleLane lane o → next ≡ outs ++ o ∷ [] → AreIdleOuts (take (k + 1) lanes) next
 idle_more lanes k lane outs next o within is h idle grown =
     let more : take (k + 1) lanes ≡ take k lanes ++ lane ∷ [] = take_more lanes k lane within ∙ ap (λ (z : OutgoingLane). take k lanes ++ z ∷ []) (sym is) in
-    subst (λ (z : List OutgoingLane). AreIdleOuts z next) (sym more) (subst (λ (z : List OutFigures). AreIdleOuts (take k lanes ++ lane ∷ []) z) (sym grown) (grow (take k lanes) outs h))
+    subst (λ (z : List OutgoingLane). AreIdleOuts z next) (sym more)
+    (subst (λ (z : List OutFigures). AreIdleOuts (take k lanes ++ lane ∷ []) z) (sym grown) (grow (take k lanes) outs h))
   where
     last : {X : Type 0} (xs : List X) (x d : X) (j : ℕ) → j ≡ length xs → get_or (xs ++ x ∷ []) j d ≡ x
     last [] x d j e = subst (λ (n : ℕ). get_or (x ∷ []) n d ≡ x) (sym e) refl
@@ -125,19 +133,23 @@ idle_more lanes k lane outs next o within is h idle grown =
           elim (cases_lt j (length outs)) as (λ _. IsIdleLane (get_or (before ++ lane ∷ []) j no_outgoing) (get_or (outs ++ o ∷ []) j no_out)) [
             | inl low ↦
                 let here = h.idle j low in
-                let left : get_or (before ++ lane ∷ []) j no_outgoing ≡ get_or before j no_outgoing = front before lane no_outgoing j (omega (arith, low, h.size)) in
+                let left : get_or (before ++ lane ∷ []) j no_outgoing ≡ get_or before j no_outgoing =
+                front before lane no_outgoing j (omega (arith, low, h.size)) in
                 let right : get_or (outs ++ o ∷ []) j no_out ≡ get_or outs j no_out = front outs o no_out j low in
-                subst (λ (z : OutgoingLane). IsIdleLane z (get_or (outs ++ o ∷ []) j no_out)) (sym left) (subst (λ (z : OutFigures). IsIdleLane (get_or before j no_outgoing) z) (sym right) here)
+                subst (λ (z : OutgoingLane). IsIdleLane z (get_or (outs ++ o ∷ []) j no_out)) (sym left)
+                (subst (λ (z : OutFigures). IsIdleLane (get_or before j no_outgoing) z) (sym right) here)
             | inr past ↦
                 let at : j ≡ length outs = omega (arith, past, inside, length-append outs (o ∷ [])) in
                 let left : get_or (before ++ lane ∷ []) j no_outgoing ≡ lane = last before lane no_outgoing j (omega (arith, at, h.size)) in
                 let right : get_or (outs ++ o ∷ []) j no_out ≡ o = last outs o no_out j at in
-                subst (λ (z : OutgoingLane). IsIdleLane z (get_or (outs ++ o ∷ []) j no_out)) (sym left) (subst (λ (z : OutFigures). IsIdleLane lane z) (sym right) idle)
+                subst (λ (z : OutgoingLane). IsIdleLane z (get_or (outs ++ o ∷ []) j no_out)) (sym left)
+                (subst (λ (z : OutFigures). IsIdleLane lane z) (sym right) idle)
           ];
     }
 
 -- each awaited block is of a pair of the plant
-pub awaited_known : (V : PlantRows) (lanes : List IncomingLane) → All (IsIncomingLane V) lanes → All (λ y. y < length V.pairs) (flat_map (λ lane. map (place_awaited V) lane.items) lanes)
+pub awaited_known : (V : PlantRows) (lanes : List IncomingLane) → All (IsIncomingLane V) lanes
+    → All (λ y. y < length V.pairs) (flat_map (λ lane. map (place_awaited V) lane.items) lanes)
 awaited_known V lanes h =
     All-flat_map (λ (y : ℕ). y < length V.pairs) (λ (lane : IncomingLane). map (place_awaited V) lane.items) lanes
     (λ k d within. All-map (λ (y : ℕ). y < length V.pairs) (place_awaited V) (get_or lanes k d).items

@@ -1,5 +1,6 @@
 -- A pair is counted as planned.
-use Rattle.std.proofs.Common.{◌≡◌, ℕ, ◌+◌, ◌<◌, ◌≤◌, ◌==◌, ◌&&◌, nat_lt, if◌then◌else◌, Bool, true, false, [], ◌∷◌, ◌++◌, Option, Some, None, List, length, get_or, map, slice_index, slice_range, slice_get, refl, sym, ap, ◌∙◌, subst, arith}
+use Rattle.std.proofs.Common.{◌≡◌, ℕ, ◌+◌, ◌<◌, ◌≤◌, ◌==◌, ◌&&◌, nat_lt, if◌then◌else◌, Bool, true, false, [], ◌∷◌, ◌++◌, Option, Some, None, List, length}
+use Rattle.std.proofs.Common.{get_or, map, slice_index, slice_range, slice_get, refl, sym, ap, ◌∙◌, subst, arith}
 use Rattle.std.specs.List.{All, filter, fold}
 use Rattle.std.proofs.lemmas.List.{length-set}
 use Rattle.std.proofs.lemmas.List.Elements.{All-filter, All-map}
@@ -53,17 +54,20 @@ module _ (A : AgentState) (I : Indexes) (kept : IsKept A I) (place : ℕ) (free 
   pub components_within : (components : List ℕ) → slice_get I.components place ≡ Some components → All (λ y. y < length A.progress.waits) components
   components_within components found =
       let P : ℕ → Type 0 = λ y. y < length A.progress.waits in
-      let each : (e : PlantEdge) → IsPlantEdge A.view e → P (join_of A.view e).component = λ e edge. omega (arith, own_within A.view e.component edge.component, kept.rooms.progress.waits) in
+      let each : (e : PlantEdge) → IsPlantEdge A.view e → P (join_of A.view e).component =
+      λ e edge. omega (arith, own_within A.view e.component edge.component, kept.rooms.progress.waits) in
       let joins : All (λ (j : Join). P j.component) (joins_of A.view) =
       All-map (λ (j : Join). P j.component) (join_of A.view) A.view.edges (λ k d h. each (get_or A.view.edges k d) (kept.view.edges k d h)) in
       subst (All P) (sym (components_are components found))
-      (All-map P (λ (j : Join). j.component) (filter (λ j. j.demander == place) (joins_of A.view)) (All-filter (λ (j : Join). j.demander == place) (λ (j : Join). P j.component) (joins_of A.view) joins))
+      (All-map P (λ (j : Join). j.component) (filter (λ j. j.demander == place) (joins_of A.view))
+      (All-filter (λ (j : Join). j.demander == place) (λ (j : Join). P j.component) (joins_of A.view) joins))
 
   pub components_are_waiting : (components : List ℕ) → slice_get I.components place ≡ Some components
       → (y : ℕ) → y < length A.progress.waits → times y components ≤ slice_index A.progress.waits y
   components_are_waiting components found y low =
       subst (λ (z : List ℕ). times y z ≤ slice_index A.progress.waits y) (sym (components_are components found))
-      (components_wait A.progress.waits (joins_of A.view) A.progress.planned (open_blocks (awaited A.view kept.taken.taken)) kept.taken.waits place free.unplanned y low)
+      (components_wait A.progress.waits (joins_of A.view) A.progress.planned
+      (open_blocks (awaited A.view kept.taken.taken)) kept.taken.waits place free.unplanned y low)
 
   -- ---- where it is queued
 
@@ -71,9 +75,11 @@ module _ (A : AgentState) (I : Indexes) (kept : IsKept A I) (place : ℕ) (free 
   queues_begin = omega (arith, within, kept.indexes.queues.size)
 
   pub queues_rise : (slice_index I.queue_starts place ≤ slice_index I.queue_starts (place + 1)) × (slice_index I.queue_starts (place + 1) ≤ length I.queues)
-  queues_rise = IsGrouped-within (λ (q : QueuePlace). q.pair) (length A.view.pairs) (queue_places (items_of A.view) A.view.outgoing) I.queues I.queue_starts place kept.indexes.queues within
+  queues_rise = IsGrouped-within (λ (q : QueuePlace). q.pair) (length A.view.pairs)
+      (queue_places (items_of A.view) A.view.outgoing) I.queues I.queue_starts place kept.indexes.queues within
 
-  pub queues_are : {places : List QueuePlace} → places ≡ slice_range I.queues (slice_index I.queue_starts place) (slice_index I.queue_starts (place + 1)) → places ≡ queues_at A.view place
+  pub queues_are : {places : List QueuePlace} → places ≡ slice_range I.queues (slice_index I.queue_starts place) (slice_index I.queue_starts (place + 1))
+      → places ≡ queues_at A.view place
   queues_are is = is ∙ kept.indexes.queues.slices place within
 
   pub lanes_known : {places : List QueuePlace} → places ≡ queues_at A.view place → All (λ q. q.lane < length A.outs) places
@@ -101,7 +107,8 @@ settled_size Schedule items o item = queued_size o (place_of items item)
 
 -- ---- what is kept
 
-pub kept_marked : (A : AgentState) (I : Indexes) (place : ℕ) (item : ItemNo) (progress : Progress) (outs : List OutFigures) → IsKept A I → PairSettled (joins_of A.view) place A.progress progress
+pub kept_marked : (A : AgentState) (I : Indexes) (place : ℕ) (item : ItemNo) (progress : Progress) (outs : List OutFigures) → IsKept A I
+    → PairSettled (joins_of A.view) place A.progress progress
     → AreOutsSettled A.view.outgoing item A.outs outs → IsKept (record A { progress = progress; outs = outs }) I
 kept_marked A I place item progress outs kept settled queued = record {
   view = kept.view;
@@ -125,5 +132,9 @@ kept_marked A I place item progress outs kept settled queued = record {
           ∙ kept.rooms.cursors.sizes k low;
     };
   };
-  taken = record { taken = kept.taken.taken; books = kept.taken.books; waits = settled.counts (open_blocks (awaited A.view kept.taken.taken)) kept.taken.waits };
+  taken = record {
+    taken = kept.taken.taken;
+    books = kept.taken.books;
+    waits = settled.counts (open_blocks (awaited A.view kept.taken.taken)) kept.taken.waits;
+  };
 }

@@ -20,7 +20,8 @@ use Rattle.mrp_agent.specs.Laws.{WorksIn, NothingLegalIsLeft, PlannedPairsHaveTh
 use Rattle.mrp_agent.specs.Sending.{goods_at}
 use Rattle.mrp_agent.proofs.Left.{decided_may_be_sent, lanes_are_seen}
 
-pub works : (N : Table) (plant : ℕ) (A : AgentState) (sent taken : ℕ → List Record) (planned : ℕ → Bool) → WorksIn N plant A sent taken planned → PlansLocally N plant taken planned (plans_of A)
+pub works : (N : Table) (plant : ℕ) (A : AgentState) (sent taken : ℕ → List Record) (planned : ℕ → Bool) → WorksIn N plant A sent taken planned
+    → PlansLocally N plant taken planned (plans_of A)
 works N plant A sent taken planned w =
     record { legal = w.legal; local = subst (λ (V : PlantRows). IsLocal V taken planned (plans_of A)) w.view w.shows.local }
 
@@ -38,20 +39,25 @@ pub sent_is_within_64 : SentIsWithin64
 sent_is_within_64 N sized plant A sent taken planned w k within =
     let P : PlantRows → Type 0 = λ V. All (λ lane. HasSmallGoods planned lane (goods_of V taken (plans_of A) lane)) V.outgoing in
     let small : P A.view = subst P (sym w.view) (local_goods_are_small N sized plant taken planned (plans_of A) (works N plant A sent taken planned w)) in
-    (small k no_outgoing within).bounded (out_at A k) (sent (outgoing_at A.view k).number.0) (queues N plant A sent taken planned w k within) (w.shows.outs k within).shows
+    (small k no_outgoing within).bounded (out_at A k) (sent (outgoing_at A.view k).number.0) (queues N plant A sent taken planned w k within)
+    (w.shows.outs k within).shows
 
 -- it has what its lanes carry in the network
-pub has_goods : (N : Table) → IsSized N → (plant : ℕ) (A : AgentState) (sent taken : ℕ → List Record) (planned : ℕ → Bool) → WorksIn N plant A sent taken planned
+pub has_goods : (N : Table) → IsSized N → (plant : ℕ) (A : AgentState) (sent taken : ℕ → List Record) (planned : ℕ → Bool)
+    → WorksIn N plant A sent taken planned
     → (k : ℕ) → k < length A.view.outgoing → HasGoods N planned (outgoing_at A.view k) (goods_at A taken k)
 has_goods N sized plant A sent taken planned w k within =
     let P : PlantRows → Type 0 = λ V. All (λ lane. HasGoods N planned lane (goods_of V taken (plans_of A) lane)) V.outgoing in
-    let has : P A.view = subst P (sym w.view) (local_goods_are_the_loads N sized.table sized.loop_free plant taken planned (plans_of A) (works N plant A sent taken planned w)) in
+    let has : P A.view = subst P (sym w.view) (local_goods_are_the_loads N sized.table sized.loop_free plant taken planned (plans_of A)
+    (works N plant A sent taken planned w)) in
     has k no_outgoing within
 
-pub agrees_at : (N : Table) → IsSized N → (plant : ℕ) (A : AgentState) (sent taken : ℕ → List Record) (planned : ℕ → Bool) → WorksIn N plant A sent taken planned
+pub agrees_at : (N : Table) → IsSized N → (plant : ℕ) (A : AgentState) (sent taken : ℕ → List Record) (planned : ℕ → Bool)
+    → WorksIn N plant A sent taken planned
     → (k : ℕ) → k < length A.view.outgoing → Agrees (goods_at A taken k) (out_at A k) (loads N (lane_at N (outgoing_at A.view k).number.0))
 agrees_at N sized plant A sent taken planned w k within =
-    local_goods_agree N planned (outgoing_at A.view k) (goods_at A taken k) (has_goods N sized plant A sent taken planned w k within) (out_at A k) (queues N plant A sent taken planned w k within)
+    local_goods_agree N planned (outgoing_at A.view k) (goods_at A taken k) (has_goods N sized plant A sent taken planned w k within) (out_at A k)
+    (queues N plant A sent taken planned w k within)
 
 pub sent_is_legal : SentIsLegal
 sent_is_legal N sized plant A sent taken planned w k within r continues =
@@ -64,8 +70,10 @@ nothing_legal_is_left N sized plant A sent taken planned w k within nothing r de
     let S : PlantRows → Type 0 = λ V. All (λ z. z ≡ outgoing_lane N z.number.0) V.outgoing in
     let seen : S A.view = subst S (sym w.view) (lanes_are_seen N plant) in
     let is : lane ≡ outgoing_lane N l = seen k no_outgoing within in
-    let has : HasGoods N planned (outgoing_lane N l) (goods_at A taken k) = subst (λ (z : OutgoingLane). HasGoods N planned z (goods_at A taken k)) is (has_goods N sized plant A sent taken planned w k within) in
+    let has : HasGoods N planned (outgoing_lane N l) (goods_at A taken k) =
+    subst (λ (z : OutgoingLane). HasGoods N planned z (goods_at A taken k)) is (has_goods N sized plant A sent taken planned w k within) in
     let queued : (place : ℕ) → IsSendable planned (outgoing_lane N l) place → Contains (out_at A k).queue place =
-    subst (λ (z : OutgoingLane). (place : ℕ) → IsSendable planned z place → Contains (out_at A k).queue place) is (λ place sendable. ((w.shows.outs k within).queued place).1 sendable) in
+    subst (λ (z : OutgoingLane). (place : ℕ) → IsSendable planned z place → Contains (out_at A k).queue place) is
+    (λ place sendable. ((w.shows.outs k within).queued place).1 sendable) in
     let may = decided_may_be_sent N sized.table planned l (goods_at A taken k) (out_at A k) has queued (sent l) r decided begins in
     nothing (loads N (lane_at N l)) (loads_stand_once N sized.table (lane_at N l)) (agrees_at N sized plant A sent taken planned w k within) r may begins

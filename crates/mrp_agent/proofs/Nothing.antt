@@ -39,7 +39,8 @@ use Rattle.mrp_agent.proofs.Ready.{ready_place}
 -- ---- the pairs of a plant, each once
 
 -- a pair is the only one with its key
-same_by : (key : PlantPair → ℕ) (pairs : List PlantPair) (p q : PlantPair) → count_by (λ r. key r == key q) pairs ≤ 1 → Contains pairs p → Contains pairs q → key p ≡ key q → p ≡ q
+same_by : (key : PlantPair → ℕ) (pairs : List PlantPair) (p q : PlantPair) → count_by (λ r. key r == key q) pairs ≤ 1 → Contains pairs p → Contains pairs q
+    → key p ≡ key q → p ≡ q
 same_by key pairs p q once (i, in_i, is_p) (j, in_j, is_q) same =
     let at : i ≡ j =
     only_place (λ (r : PlantPair). key r == key q) pairs i j p once in_i in_j
@@ -64,7 +65,8 @@ pair_is V view p there =
 
 -- ---- what is planned
 
-pub own_planned : (A : AgentState) (planned : ℕ → Bool) → ((p : PlantPair) → Contains A.view.pairs p → planned p.number.0 ≡ is_planned A.progress.planned (pair_place A.view p.number.0))
+pub own_planned : (A : AgentState) (planned : ℕ → Bool) → ((p : PlantPair) → Contains A.view.pairs p
+    → planned p.number.0 ≡ is_planned A.progress.planned (pair_place A.view p.number.0))
     → (y : PairNo) → IsOwnPair A.view y → planned y.0 ≡ is_planned A.progress.planned (pair_place A.view y.0)
 own_planned A planned are y (p, there, is) =
     subst (λ (n : PairNo). planned n.0 ≡ is_planned A.progress.planned (pair_place A.view n.0)) is (are p there)
@@ -79,10 +81,12 @@ more_planned planned x y is = by (y == x)
 -- ---- nothing is missing
 
 module _ (A : AgentState) (I : Indexes) (kept : IsKept A I) (p : PlantPair) (there : Contains A.view.pairs p) (can : CanDraft A p.number)
-    (listed : IsListed A.progress.waits A.progress.planned A.progress.ready) (sent taken : ℕ → List Record) (planned : ℕ → Bool) (shows : ShowsHistory A sent taken planned) where
+    (listed : IsListed A.progress.waits A.progress.planned A.progress.ready) (sent taken : ℕ → List Record) (planned : ℕ → Bool)
+    (shows : ShowsHistory A sent taken planned) where
   open_at : NothingIsOpen (length A.progress.waits) (joins_of A.view) A.progress.planned (awaited A.view taken) (pair_place A.view p.number.0)
   open_at =
-      (ready_where_nothing_is_open A.progress.waits A.progress.ready (joins_of A.view) A.progress.planned (awaited A.view taken) shows.waits listed (pair_place A.view p.number.0)).0
+      (ready_where_nothing_is_open A.progress.waits A.progress.ready (joins_of A.view) A.progress.planned (awaited A.view taken) shows.waits listed
+      (pair_place A.view p.number.0)).0
       (ready_place A kept.view kept.rooms p.number listed can.ready)
 
   pub is_unplanned : planned p.number.0 ≡ false
@@ -94,7 +98,8 @@ module _ (A : AgentState) (I : Indexes) (kept : IsKept A I) (p : PlantPair) (the
       let V : PlantRows = A.view in
       let e : PlantEdge = get_or V.edges k d in
       let among : In (joins_of V) (join_of V e) = In-map (join_of V) V.edges e (In-from_contains V.edges e (Contains-get_or V.edges k d h)) in
-      let planned_parent = All-in (λ (j : Join). j.component ≡ pair_place V p.number.0 → is_planned A.progress.planned j.demander ≡ true) (joins_of V) (join_of V e) open_at.demanders_are_planned among
+      let planned_parent = All-in (λ (j : Join). j.component ≡ pair_place V p.number.0 → is_planned A.progress.planned j.demander ≡ true) (joins_of V)
+      (join_of V e) open_at.demanders_are_planned among
       (ap (pair_place V) mine) in
       own_planned A planned shows.planned_are e.parent (kept.view.edges k d h).parent ∙ planned_parent
 
@@ -115,7 +120,8 @@ module _ (A : AgentState) (I : Indexes) (kept : IsKept A I) (p : PlantPair) (the
           let block : In (awaited V taken) (block_awaited V taken lane i) =
           In-flat_map (awaited_on V taken) V.incoming lane (block_awaited V taken lane i) among (In-map (block_awaited V taken lane) lane.items i known.1) in
           let ended : is_ended i.item.0 (contents (taken lane.number.0)) ≡ true =
-          All-in (λ (b : Awaited). b.pair ≡ pair_place V p.number.0 → b.ended ≡ true) (awaited V taken) (block_awaited V taken lane i) open_at.blocks_are_ended block (ap (pair_place V) number) in
+          All-in (λ (b : Awaited). b.pair ≡ pair_place V p.number.0 → b.ended ≡ true) (awaited V taken)
+          (block_awaited V taken lane i) open_at.blocks_are_ended block (ap (pair_place V) number) in
           sym (ap (λ (z : ItemNo). is_ended z.0 (contents (taken lane.number.0))) known.2) ∙ ended
 
   pub awaits_nothing : AwaitsNothing A.view taken planned p
@@ -127,7 +133,8 @@ module _ (A : AgentState) (I : Indexes) (kept : IsKept A I) (p : PlantPair) (the
 uncut : (a n : ℕ) → a ≡ up_to_last n → a ≤ MOST → a ≡ n
 uncut a n is small = omega arith
 
-pub draft_is_local : (A : AgentState) (p : PlantPair) (sent taken : ℕ → List Record) (planned : ℕ → Bool) → IsView A.view → Contains A.view.pairs p → CanDraft A p.number → ShowsHistory A sent taken planned
+pub draft_is_local : (A : AgentState) (p : PlantPair) (sent taken : ℕ → List Record) (planned : ℕ → Bool) → IsView A.view → Contains A.view.pairs p
+    → CanDraft A p.number → ShowsHistory A sent taken planned
     → drafted A p.number ≡ local_plan A.view taken (plans_of A) p
 draft_is_local A p sent taken planned view there can shows =
     let V : PlantRows = A.view in
@@ -143,7 +150,8 @@ draft_is_local A p sent taken planned view there can shows =
     (λ t h.
     let low : t < V.horizon = omega arith in
     let most : asked t ≤ MOST = omega (arith, in_row V asked t low, can.within.total) in
-    let called = uncut (amount_at V A.called p.number t) (amount_at V V.demands p.number t + booked_on Schedule V taken p.item t) (shows.called p there t low) (omega (arith, most)) in
+    let called = uncut (amount_at V A.called p.number t) (amount_at V V.demands p.number t + booked_on Schedule V taken p.item t) (shows.called p there t low)
+    (omega (arith, most)) in
     omega (arith, called)) in
     ap (λ (q : PlantPair). one q.params (local_row V came) (local_row V asked)) (pair_is V view p there)
     ∙ ap (λ (row : List ℕ). one p.params row (local_row V asked)) incoming

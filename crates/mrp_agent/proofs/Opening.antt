@@ -1,5 +1,6 @@
 -- What an agent shows at first: nothing has come, nothing was sent, and no pair is planned.
-use Rattle.std.proofs.Common.{◌≡◌, ℕ, zero, suc, ◌+◌, ◌<◌, ◌≤◌, ◌^◌, ◌==◌, ◌&&◌, eqb, cond, not, Bool, false, List, [], ◌∷◌, ◌↔◌, inl, inr, length, get_or, map, replicate, refl, sym, ap, ◌∙◌, subst, arith}
+use Rattle.std.proofs.Common.{◌≡◌, ℕ, zero, suc, ◌+◌, ◌<◌, ◌≤◌, ◌^◌, ◌==◌, ◌&&◌, eqb, cond, not, Bool, false, List, [], ◌∷◌, ◌↔◌, inl, inr, length, get_or, map}
+use Rattle.std.proofs.Common.{replicate, refl, sym, ap, ◌∙◌, subst, arith}
 use Rattle.std.specs.List.{All, Contains, count_by, flat_map, sum_by}
 use Rattle.std.proofs.Math.Bool.{and-true}
 use Rattle.std.proofs.lemmas.Bool.{cases_lt}
@@ -70,7 +71,8 @@ blocks_on V lane y (i ∷ items) =
     let rest = blocks_on V lane y items in
     let left = sum_by-cons (λ (b : Awaited). cond (p b) 1 0) (block_awaited V nothing lane i) (map (block_awaited V nothing lane) items) in
     let right = sum_by-cons (λ (c : ℕ). cond (q c) 1 0) (place_awaited V i) (map (place_awaited V) items) in
-    let here : ◌≡◌ {A = ℕ} (cond (p (block_awaited V nothing lane i)) 1 0) (cond (q (place_awaited V i)) 1 0) = ap (λ (b : Bool). cond {A = ℕ} b 1 0) (and-true (eqb (place_awaited V i) y)) in
+    let here : ◌≡◌ {A = ℕ} (cond (p (block_awaited V nothing lane i)) 1 0) (cond (q (place_awaited V i)) 1 0) =
+    ap (λ (b : Bool). cond {A = ℕ} b 1 0) (and-true (eqb (place_awaited V i) y)) in
     omega (arith, left, right, here, rest)
 
 abbrev open_on : PlantRows → List IncomingLane → ℕ → ℕ
@@ -83,10 +85,12 @@ blocks_open : (V : PlantRows) (y : ℕ) (lanes : List IncomingLane) → open_on 
 blocks_open V y [] = refl
 blocks_open V y (lane ∷ lanes) =
     let left = sum_by-append (λ (b : Awaited). cond (eqb b.pair y && not b.ended) 1 0) (awaited_on V nothing lane) (flat_map (awaited_on V nothing) lanes) in
-    let right = sum_by-append (λ (c : ℕ). cond (eqb c y) 1 0) (map (place_awaited V) lane.items) (flat_map (λ (l : IncomingLane). map (place_awaited V) l.items) lanes) in
+    let right = sum_by-append (λ (c : ℕ). cond (eqb c y) 1 0) (map (place_awaited V) lane.items)
+    (flat_map (λ (l : IncomingLane). map (place_awaited V) l.items) lanes) in
     omega (arith, left, right, blocks_on V lane y lane.items, blocks_open V y lanes)
 
-pub first_awaits : (V : PlantRows) (progress : Progress) → IsFirstProgress V progress → AreCounts progress.waits (joins_of V) progress.planned (open_blocks (awaited V nothing))
+pub first_awaits : (V : PlantRows) (progress : Progress) → IsFirstProgress V progress
+    → AreCounts progress.waits (joins_of V) progress.planned (open_blocks (awaited V nothing))
 first_awaits V progress h =
     record { counted = λ y within. omega (arith, h.waits.counted y within, blocks_open V y V.incoming) }
 
@@ -121,7 +125,8 @@ unplanned n k = elim (cases_lt k n) [
 none_there : (j : ℕ) → Contains [] j → ⊥
 none_there j (k, within, is) = omega (arith, within)
 
-sendable : (kind : LaneKind) (lane : OutgoingLane) (j : ℕ) → lane.kind ≡ kind → Contains (idle_queue kind (length lane.items)) j ↔ IsSendable none_planned lane j
+sendable : (kind : LaneKind) (lane : OutgoingLane) (j : ℕ) → lane.kind ≡ kind → Contains (idle_queue kind (length lane.items)) j
+    ↔ IsSendable none_planned lane j
 sendable Despatch lane j k = (
   λ there. record { within = range_below (length lane.items) j there; decided = λ s. let differs : Despatch ≡ Schedule = sym k ∙ s in absurd (cc differs) },
   λ s. range_has (length lane.items) j s.within,
@@ -146,7 +151,8 @@ opened V progress outs = record {
   outs = outs;
 }
 
-module _ (V : PlantRows) (progress : Progress) (outs : List OutFigures) (view : IsView V) (small : HasSmallOpenings V) (first : IsFirstProgress V progress) (idle : AreIdleOuts V.outgoing outs) where
+module _ (V : PlantRows) (progress : Progress) (outs : List OutFigures) (view : IsView V) (small : HasSmallOpenings V) (first : IsFirstProgress V progress)
+    (idle : AreIdleOuts V.outgoing outs) where
   pub books_open : BooksShow (opened V progress outs) nothing
   books_open k within =
       let lane : IncomingLane = incoming_at V k in
@@ -168,9 +174,12 @@ module _ (V : PlantRows) (progress : Progress) (outs : List OutFigures) (view : 
   opening_shows receipts demands = record {
     books = books_open;
     waits = first_awaits V progress first;
-    came = λ p there t within. amount_shown (amount_at V V.receipts p.number t) (booked_on Despatch V nothing p.item t) (receipts _) (nothing_booked Despatch V p t);
-    called = λ p there t within. amount_shown (amount_at V V.demands p.number t) (booked_on Schedule V nothing p.item t) (demands _) (nothing_booked Schedule V p t);
-    planned_are = λ p there. sym (ap (λ (z : List Bool). is_planned z (pair_place V p.number.0)) first.planned ∙ unplanned (length V.pairs) (pair_place V p.number.0));
+    came = λ p there t within. amount_shown (amount_at V V.receipts p.number t) (booked_on Despatch V nothing p.item t) (receipts _)
+        (nothing_booked Despatch V p t);
+    called = λ p there t within. amount_shown (amount_at V V.demands p.number t) (booked_on Schedule V nothing p.item t) (demands _)
+        (nothing_booked Schedule V p t);
+    planned_are = λ p there. sym (ap (λ (z : List Bool). is_planned z (pair_place V p.number.0)) first.planned
+        ∙ unplanned (length V.pairs) (pair_place V p.number.0));
     local = λ k d within done. absurd (cc done);
     outs = cursors_open;
   }
@@ -205,18 +214,22 @@ module _ (V : PlantRows) (progress : Progress) (outs : List OutFigures) (view : 
 
 -- ---- as it is made
 
-joins_mapped : (V : PlantRows) (edges : List PlantEdge) → map (λ e. record { component = e.component; demander = e.parent }) (map (parent_edge V) edges) ≡ map (join_of V) edges
+joins_mapped : (V : PlantRows) (edges : List PlantEdge) → map (λ e. record { component = e.component; demander = e.parent }) (map (parent_edge V) edges)
+    ≡ map (join_of V) edges
 joins_mapped V [] = refl
 joins_mapped V (e ∷ edges) = ap (λ (z : List Join). join_of V e ∷ z) (joins_mapped V edges)
 
-pub joins_made : (V : PlantRows) {edges : List PlantEdge} {parents seen : List ParentEdge} {joins : List Join} → edges ≡ V.edges → parents ≡ map (parent_edge V) edges → seen ≡ parents
+pub joins_made : (V : PlantRows) {edges : List PlantEdge} {parents seen : List ParentEdge} {joins : List Join} → edges ≡ V.edges
+    → parents ≡ map (parent_edge V) edges → seen ≡ parents
     → joins ≡ map (λ e. record { component = e.component; demander = e.parent }) seen → joins ≡ joins_of V
 joins_made V {edges} {parents} {seen} {joins} edges_are are same e =
     e
-    ∙ ap (λ (z : List ParentEdge). map (λ e. record { component = e.component; demander = e.parent }) z) (same ∙ are ∙ ap (λ (z : List PlantEdge). map (parent_edge V) z) edges_are)
+    ∙ ap (λ (z : List ParentEdge). map (λ e. record { component = e.component; demander = e.parent }) z)
+    (same ∙ are ∙ ap (λ (z : List PlantEdge). map (parent_edge V) z) edges_are)
     ∙ joins_mapped V V.edges
 
-pub components_known : (V : PlantRows) {pairs : List PlantPair} {edges : List PlantEdge} {parents seen : List ParentEdge} → All (IsPlantEdge V) V.edges → pairs ≡ V.pairs → edges ≡ V.edges
+pub components_known : (V : PlantRows) {pairs : List PlantPair} {edges : List PlantEdge} {parents seen : List ParentEdge} → All (IsPlantEdge V) V.edges
+    → pairs ≡ V.pairs → edges ≡ V.edges
     → parents ≡ map (parent_edge V) edges → seen ≡ parents → All (λ e. e.component < length pairs) seen
 components_known V {pairs} {edges} {parents} {seen} h pairs_are edges_are are same =
     let P : ℕ → ParentEdge → Type 0 = λ n e. e.component < n in
@@ -225,15 +238,18 @@ components_known V {pairs} {edges} {parents} {seen} h pairs_are edges_are are sa
     subst (λ (z : List PlantPair). All (P (length z)) seen) (sym pairs_are)
     (subst (All (P (length V.pairs))) (sym (same ∙ are ∙ ap (λ (z : List PlantEdge). map (parent_edge V) z) edges_are)) known)
 
-pub component_joins_known : (V : PlantRows) {joins : List Join} → All (IsPlantEdge V) V.edges → joins ≡ joins_of V → All (λ j. j.component < length V.pairs) joins
+pub component_joins_known : (V : PlantRows) {joins : List Join} → All (IsPlantEdge V) V.edges → joins ≡ joins_of V
+    → All (λ j. j.component < length V.pairs) joins
 component_joins_known V {joins} h is =
     let P : Join → Type 0 = λ j. j.component < length V.pairs in
     subst (All P) (sym is) (All-map P (join_of V) V.edges (λ k d within. own_within V (get_or V.edges k d).component (h k d within).component))
 
-pub demander_joins_known : (V : PlantRows) {pairs : List PlantPair} {joins : List Join} → All (IsPlantEdge V) V.edges → pairs ≡ V.pairs → joins ≡ joins_of V → All (λ j. j.demander < length pairs) joins
+pub demander_joins_known : (V : PlantRows) {pairs : List PlantPair} {joins : List Join} → All (IsPlantEdge V) V.edges → pairs ≡ V.pairs → joins ≡ joins_of V
+    → All (λ j. j.demander < length pairs) joins
 demander_joins_known V {pairs} {joins} h pairs_are is =
     let P : ℕ → Join → Type 0 = λ n j. j.demander < n in
-    let known : All (P (length V.pairs)) (joins_of V) = All-map (P (length V.pairs)) (join_of V) V.edges (λ k d within. own_within V (get_or V.edges k d).parent (h k d within).parent) in
+    let known : All (P (length V.pairs)) (joins_of V) = All-map (P (length V.pairs)) (join_of V) V.edges
+    (λ k d within. own_within V (get_or V.edges k d).parent (h k d within).parent) in
     subst (λ (z : List PlantPair). All (P (length z)) joins) (sym pairs_are) (subst (All (P (length V.pairs))) (sym is) known)
 
 -- the books, sums and plans that are made are those of the opening
@@ -247,7 +263,8 @@ abbrev pub agent_of : PlantRows → List Figures → List ℕ → List ℕ → L
 agent_of V books came called plans progress outs =
     record { view = V; books = books; came = came; called = called; plans = plans; progress = progress; outs = outs }
 
-pub agent_opened : (V : PlantRows) (books : List Figures) (came called : List ℕ) (plans : List PlanRows) (progress : Progress) (outs : List OutFigures) → AreMade V books came called plans
+pub agent_opened : (V : PlantRows) (books : List Figures) (came called : List ℕ) (plans : List PlanRows) (progress : Progress) (outs : List OutFigures)
+    → AreMade V books came called plans
     → agent_of V books came called plans progress outs ≡ opened V progress outs
 agent_opened V books came called plans progress outs h =
     ap (λ (z : List Figures). agent_of V z came called plans progress outs) h.books_are

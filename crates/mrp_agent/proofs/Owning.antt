@@ -19,7 +19,8 @@ own_found V x own = place_known (λ (q : PlantPair). eqb q.number.0 x.0) V.pairs
 pub own_known : (V : PlantRows) (x : PairNo) (o : Option ℕ) → IsOwnPair V x → o ≡ position (λ p. p.number.0 == x.0) V.pairs → IsSome o
 own_known V x o own e = subst (λ (z : Option ℕ). IsSome z) (sym (e ∙ own_found V x own)) (search rules)
 
-pub own_place_is : (V : PlantRows) (x : PairNo) (o : Option ℕ) (k : ℕ) → IsOwnPair V x → o ≡ position (λ p. p.number.0 == x.0) V.pairs → o ≡ Some k → k ≡ pair_place V x.0
+pub own_place_is : (V : PlantRows) (x : PairNo) (o : Option ℕ) (k : ℕ) → IsOwnPair V x → o ≡ position (λ p. p.number.0 == x.0) V.pairs → o ≡ Some k
+    → k ≡ pair_place V x.0
 own_place_is V x o k own e is =
     let same : Some k ≡ Some (pair_place V x.0) = sym is ∙ e ∙ own_found V x own in
     cc same

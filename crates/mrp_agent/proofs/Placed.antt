@@ -22,7 +22,8 @@ out_placed V N p l view own =
     let within = place_found (λ (lane : OutgoingLane). lane.number.0 == l) V.outgoing (outgoing_lane N l) there (eq-eqb l l refl) in
     record {
       within = within;
-      number = eqb-true (outgoing_at V (outgoing_place V l)).number.0 l (passes_at_first (λ (lane : OutgoingLane). lane.number.0 == l) V.outgoing no_outgoing within);
+      number = eqb-true (outgoing_at V (outgoing_place V l)).number.0 l
+          (passes_at_first (λ (lane : OutgoingLane). lane.number.0 == l) V.outgoing no_outgoing within);
     }
 
 -- and of one that comes in, which is seen as it is
@@ -37,7 +38,8 @@ incoming_are_seen N p =
 pub in_placed : (V : PlantRows) (N : Table) (p l : ℕ) → V ≡ plant_rows N p → Contains (incoming_lanes N p) (incoming_lane N l) → IsTakenAt V N l
 in_placed V N p l view own =
     let there : Contains V.incoming (incoming_lane N l) = subst (λ (z : PlantRows). Contains z.incoming (incoming_lane N l)) (sym view) own in
-    let within : incoming_place V l < length V.incoming = place_found (λ (lane : IncomingLane). lane.number.0 == l) V.incoming (incoming_lane N l) there (eq-eqb l l refl) in
+    let within : incoming_place V l < length V.incoming = place_found (λ (lane : IncomingLane). lane.number.0 == l) V.incoming (incoming_lane N l) there
+    (eq-eqb l l refl) in
     let number : (incoming_at V (incoming_place V l)).number.0 ≡ l =
     eqb-true (incoming_at V (incoming_place V l)).number.0 l (passes_at_first (λ (lane : IncomingLane). lane.number.0 == l) V.incoming no_incoming within) in
     let seen_all : All (λ lane. lane ≡ incoming_lane N lane.number.0) V.incoming =

@@ -30,7 +30,8 @@ own_before {A} {S} x same own = subst (λ (a : AgentState). IsOwnPair a.view x) 
 pub placed_now : {A S : AgentState} {I : Indexes} {x : PairNo} {place : ℕ} → A ≡ S → IsAtPlace A I x place → IsAtPlace S I x place
 placed_now {A} {S} {I} {x} {place} same h = subst (λ (a : AgentState). IsAtPlace a I x place) same h
 
-pub listed_now : {A S : AgentState} → A ≡ S → IsListed A.progress.waits A.progress.planned A.progress.ready → IsListed S.progress.waits S.progress.planned S.progress.ready
+pub listed_now : {A S : AgentState} → A ≡ S → IsListed A.progress.waits A.progress.planned A.progress.ready
+    → IsListed S.progress.waits S.progress.planned S.progress.ready
 listed_now {A} {S} same listed = subst (λ (a : AgentState). IsListed a.progress.waits a.progress.planned a.progress.ready) same listed
 
 -- ---- a pair that is looked up
@@ -46,15 +47,18 @@ place_is_found {A} {S} {I} {x} {o} {place} same kept own looked_up is =
 
 -- ---- a pair that can be planned
 
-pub ready_at : {A S : AgentState} {I : Indexes} {x : PairNo} {place : ℕ} → A ≡ S → IsAtPlace A I x place → IsListed A.progress.waits A.progress.planned A.progress.ready
+pub ready_at : {A S : AgentState} {I : Indexes} {x : PairNo} {place : ℕ} → A ≡ S → IsAtPlace A I x place
+    → IsListed A.progress.waits A.progress.planned A.progress.ready
     → Contains (ready_numbers S) x → Contains A.progress.ready place
 ready_at {A} {S} {I} {x} {place} same h listed ready =
     let mine : Contains (ready_numbers A) x = subst (λ (a : AgentState). Contains (ready_numbers a) x) (sym same) ready in
     subst (Contains A.progress.ready) (sym h.at) (ready_place A h.kept.view h.kept.rooms x listed mine)
 
-pub ready_from : {A S : AgentState} {I : Indexes} {x : PairNo} {place : ℕ} → A ≡ S → IsAtPlace A I x place → Contains A.progress.ready place → Contains (ready_numbers S) x
+pub ready_from : {A S : AgentState} {I : Indexes} {x : PairNo} {place : ℕ} → A ≡ S → IsAtPlace A I x place → Contains A.progress.ready place
+    → Contains (ready_numbers S) x
 ready_from {A} {S} {I} {x} {place} same h there =
-    subst (λ (a : AgentState). Contains (ready_numbers a) x) same (ready_there A h.kept.view h.kept.rooms x h.own (subst (Contains A.progress.ready) h.at there))
+    subst (λ (a : AgentState). Contains (ready_numbers a) x) same
+    (ready_there A h.kept.view h.kept.rooms x h.own (subst (Contains A.progress.ready) h.at there))
 
 pub can_draft : {A S : AgentState} {I : Indexes} {x : PairNo} {place : ℕ} → A ≡ S → IsAtPlace A I x place → IsOwnPair S.view x → Contains A.progress.ready place
     → (Contains (ready_numbers S) x → IsWithin (pair_owned S.view x).params (drafted_incoming S x) (drafted_gross S x)) → CanDraft S x

@@ -22,7 +22,8 @@ HasReady A numbers =
     (sent taken : ℕ → List Record) (planned : ℕ → Bool) → ShowsHistory A sent taken planned
     → (p : PlantPair) → Contains A.view.pairs p → Contains numbers p.number ↔ CanBePlanned A.view taken planned p
 
-pub first_can_be_planned : (A : AgentState) (numbers : List PairNo) (r : Option PairNo) → r ≡ slice_get numbers 0 → All (IsOwnPair A.view) numbers → HasReady A numbers
+pub first_can_be_planned : (A : AgentState) (numbers : List PairNo) (r : Option PairNo) → r ≡ slice_get numbers 0 → All (IsOwnPair A.view) numbers
+    → HasReady A numbers
     → (sent taken : ℕ → List Record) (planned : ℕ → Bool) → ShowsHistory A sent taken planned → IfSome r (OwnCanBePlanned A.view taken planned)
 first_can_be_planned A [] r first own exact sent taken planned shows = rw first tt
 first_can_be_planned A (x ∷ numbers) r first own exact sent taken planned shows =

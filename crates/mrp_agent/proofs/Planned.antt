@@ -25,7 +25,8 @@ pub record HasPlanned (old : AgentState) (x : PairNo) (new : AgentState) : Type 
 
 -- the plan was written, and then the pair was counted as planned
 pub has_planned : {A S B new : AgentState} {I : Indexes} {x : PairNo} {place : ℕ} → A ≡ S → IsAtPlace A I x place → CanDraft S x
-    → IsListed A.progress.waits A.progress.planned A.progress.ready → B ≡ record S { plans = set S.plans place (drafted S x) } → IsMarked B place new → HasPlanned S x new
+    → IsListed A.progress.waits A.progress.planned A.progress.ready → B ≡ record S { plans = set S.plans place (drafted S x) } → IsMarked B place new
+    → HasPlanned S x new
 has_planned {A} {S} {B} {new} {I} {x} {place} same placed can listed written marked =
     let here : IsAtPlace S I x place = placed_now same placed in
     let ready = listed_now same listed in

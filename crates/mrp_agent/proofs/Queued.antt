@@ -1,5 +1,6 @@
 -- What the cursors of lanes show after a pair is planned.
-use Rattle.std.proofs.Common.{◌≡◌, ◌↔◌, ℕ, zero, suc, ◌-◌, ◌<◌, eqb, Bool, true, false, Option, Some, None, List, [], ◌∷◌, inl, inr, length, get_or, map, slice_index, refl, sym, ap, ◌∙◌, subst, arith}
+use Rattle.std.proofs.Common.{◌≡◌, ◌↔◌, ℕ, zero, suc, ◌-◌, ◌<◌, eqb, Bool, true, false, Option, Some, None, List, [], ◌∷◌, inl, inr, length, get_or, map}
+use Rattle.std.proofs.Common.{slice_index, refl, sym, ap, ◌∙◌, subst, arith}
 use Rattle.std.specs.List.{Contains}
 use Rattle.std.proofs.lemmas.Bool.{cases_eq, both_ways, eq-eqb, eqb-true}
 use Rattle.std.proofs.lemmas.List.{get_or-map, length-map}
@@ -32,22 +33,30 @@ only_one x y (zero, within, is) = sym is
 only_one x y (suc k, within, is) = absurd (omega arith)
 
 -- goods look at the customer's plan alone
-goods_same : (kind : LaneKind) (V : PlantRows) (taken : ℕ → List Record) (plans others : ℕ → PlanRows) (l : ℕ) (i : OutgoingLoad) → (kind ≡ Schedule → plans (call_of i).customer.0 ≡ others (call_of i).customer.0)
+goods_same : (kind : LaneKind) (V : PlantRows) (taken : ℕ → List Record) (plans others : ℕ → PlanRows) (l : ℕ) (i : OutgoingLoad)
+    → (kind ≡ Schedule → plans (call_of i).customer.0 ≡ others (call_of i).customer.0)
     → goods_by kind V taken plans l i ≡ goods_by kind V taken others l i
 goods_same Despatch V taken plans others l i same = refl
 goods_same Schedule V taken plans others l i same =
-    ap (λ (rows : PlanRows). let g : Goods = record (schedule_goods V (taken (l - 1)) plans i) { from = by_period_from (λ t. share (call_of i) (slice_index rows.release t)) V.horizon } in g) (same refl)
+    ap (λ (rows : PlanRows). let g : Goods = record (schedule_goods V (taken (l - 1)) plans i) {
+      from = by_period_from
+          (λ t. share (call_of i) (slice_index rows.release t)) V.horizon;
+    } in g) (same refl)
 
-module _ (V : PlantRows) (view : IsView V) (lane : OutgoingLane) (is_lane : IsOutgoingLane V lane) (schedule : lane.kind ≡ Schedule → IsScheduleLane V lane) (p : PlantPair) (there : Contains V.pairs p)
-    (planned : ℕ → Bool) (unplanned : planned p.number.0 ≡ false) (plans others : ℕ → PlanRows) (stay : (y : PairNo) → IsOwnPair V y → planned y.0 ≡ true → plans y.0 ≡ others y.0)
-    (taken : ℕ → List Record) (old : OutFigures) (sent : List Record) (size : old.size ≡ length lane.items) (shows : ShowsSent (goods_of V taken plans lane) old sent)
+module _ (V : PlantRows) (view : IsView V) (lane : OutgoingLane) (is_lane : IsOutgoingLane V lane) (schedule : lane.kind ≡ Schedule → IsScheduleLane V lane)
+    (p : PlantPair) (there : Contains V.pairs p)
+    (planned : ℕ → Bool) (unplanned : planned p.number.0 ≡ false) (plans others : ℕ → PlanRows) (stay : (y : PairNo) → IsOwnPair V y → planned y.0 ≡ true
+    → plans y.0 ≡ others y.0)
+    (taken : ℕ → List Record) (old : OutFigures) (sent : List Record) (size : old.size ≡ length lane.items)
+    (shows : ShowsSent (goods_of V taken plans lane) old sent)
     (queue : (j : ℕ) → Contains old.queue j ↔ IsSendable planned lane j) where
   -- the customers of a schedule lane
   own_of : lane.kind ≡ Schedule → (j : ℕ) → j < length lane.items → IsOwnOf V (call_of (load_at lane.items j)).customer (load_at lane.items j).item
   own_of kind j within = ((schedule kind).calls j no_load within).own
 
   -- the customer is the pair where the item is the pair's
-  is_its_item : lane.kind ≡ Schedule → (j : ℕ) → j < length lane.items → (call_of (load_at lane.items j)).customer.0 ≡ p.number.0 ↔ (load_at lane.items j).item.0 ≡ p.item.0
+  is_its_item : lane.kind ≡ Schedule → (j : ℕ) → j < length lane.items → (call_of (load_at lane.items j)).customer.0 ≡ p.number.0
+      ↔ (load_at lane.items j).item.0 ≡ p.item.0
   is_its_item kind j within =
       let own = own_of kind j within in
       let number : own.0.number.0 ≡ (call_of (load_at lane.items j)).customer.0 = ap (λ (n : PairNo). n.0) own.2 in
@@ -75,10 +84,15 @@ module _ (V : PlantRows) (view : IsView V) (lane : OutgoingLane) (is_lane : IsOu
     pub now_queued : (j : ℕ) → Contains o.queue j ↔ IsSendable (changed planned p.number.0 true) lane j
 
   more_sendable : (j : ℕ) → IsSendable planned lane j → IsSendable (changed planned p.number.0 true) lane j
-  more_sendable j sendable = record { within = sendable.within; decided = λ kind. more_planned planned p.number.0 (call_of (load_at lane.items j)).customer.0 (sendable.decided kind) }
+  more_sendable j sendable = record {
+    within = sendable.within;
+    decided = λ kind. more_planned planned p.number.0 (call_of (load_at lane.items j)).customer.0
+        (sendable.decided kind);
+  }
 
   -- another customer was planned before
-  before : (j : ℕ) → IsSendable (changed planned p.number.0 true) lane j → (lane.kind ≡ Schedule → (call_of (load_at lane.items j)).customer.0 ≡ p.number.0 → ⊥) → IsSendable planned lane j
+  before : (j : ℕ) → IsSendable (changed planned p.number.0 true) lane j → (lane.kind ≡ Schedule → (call_of (load_at lane.items j)).customer.0 ≡ p.number.0 → ⊥)
+      → IsSendable planned lane j
   before j sendable other = record {
     within = sendable.within;
     decided = λ kind. sym (changed_elsewhere planned p.number.0 true (call_of (load_at lane.items j)).customer.0 (other kind)) ∙ sendable.decided kind;
@@ -105,7 +119,12 @@ module _ (V : PlantRows) (view : IsView V) (lane : OutgoingLane) (is_lane : IsOu
       let test : ItemNo → Bool = λ i. eqb i.0 p.item.0 in
       let item : ItemNo = (load_at lane.items j).item in
       let passes : test item ≡ true = eq-eqb item.0 p.item.0 ((is_its_item kind j within).0 same) in
-      let among : Contains items item = (j, omega (arith, within, length-map lane.items (λ (i : OutgoingLoad). i.item)), get_or-map (λ (i : OutgoingLoad). i.item) lane.items j no_load item within) in
+      let among : Contains items item = (
+        j,
+        omega (arith, within, length-map lane.items (λ (i : OutgoingLoad). i.item)),
+        get_or-map
+            (λ (i : OutgoingLoad). i.item) lane.items j no_load item within,
+      ) in
       let found = place_known test items (place_found test items item among passes) in
       cc (none, found))
   at_place kind (Some place) found =
@@ -114,9 +133,11 @@ module _ (V : PlantRows) (view : IsView V) (lane : OutgoingLane) (is_lane : IsOu
       let first = position-Some test items place none found in
       let within : place < length lane.items = omega (arith, first.0, length-map lane.items (λ (i : OutgoingLoad). i.item)) in
       let item : (load_at lane.items place).item.0 ≡ p.item.0 =
-      sym (ap (λ (i : ItemNo). i.0) (get_or-map (λ (i : OutgoingLoad). i.item) lane.items place no_load none within)) ∙ eqb-true (get_or items place none).0 p.item.0 first.1 in
+      sym (ap (λ (i : ItemNo). i.0) (get_or-map (λ (i : OutgoingLoad). i.item) lane.items place no_load none within))
+      ∙ eqb-true (get_or items place none).0 p.item.0 first.1 in
       let mine : (call_of (load_at lane.items place)).customer.0 ≡ p.number.0 = (is_its_item kind place within).1 item in
-      let fresh : Contains old.queue place → ⊥ = λ among. both_ways (planned p.number.0) unplanned (sym (ap planned mine) ∙ ((queue place).0 among).decided kind) in
+      let fresh : Contains old.queue place → ⊥ = λ among. both_ways (planned p.number.0) unplanned
+      (sym (ap planned mine) ∙ ((queue place).0 among).decided kind) in
       let more = queues_show (goods_of V taken others lane) old sent place now_shows (omega (arith, within, size)) fresh in
       record {
         now_size = queued_size old (Some place) ∙ size;
@@ -135,7 +156,8 @@ module _ (V : PlantRows) (view : IsView V) (lane : OutgoingLane) (is_lane : IsOu
                 | inl same ↦
                     let here : j ≡ place =
                     only_place (λ (i : OutgoingLoad). eqb i.item.0 p.item.0) lane.items j place no_load (is_lane.once p.item.0) sendable.within within
-                    (eq-eqb (load_at lane.items j).item.0 p.item.0 ((is_its_item kind j sendable.within).0 same)) (eq-eqb (load_at lane.items place).item.0 p.item.0 item) in
+                    (eq-eqb (load_at lane.items j).item.0 p.item.0 ((is_its_item kind j sendable.within).0 same))
+                    (eq-eqb (load_at lane.items place).item.0 p.item.0 item) in
                     Contains-append_right old.queue (place ∷ []) j (0, omega arith, sym here)
                 | inr other ↦ Contains-append_left old.queue (place ∷ []) j ((queue j).1 (before j sendable (λ _. other)))
               ]),

@@ -1,5 +1,6 @@
 -- A pair that is planned is queued on each schedule lane that has its item.
-use Rattle.std.proofs.Common.{◌≡◌, ℕ, zero, suc, ◌+◌, ◌<◌, ◌≤◌, ◌==◌, eqb, cond, Bool, true, Option, Some, None, List, [], ◌∷◌, ◌++◌, inl, inr, length, get_or, map, set, refl, sym, ap, ◌∙◌, subst, arith, add-one, append_assoc}
+use Rattle.std.proofs.Common.{◌≡◌, ℕ, zero, suc, ◌+◌, ◌<◌, ◌≤◌, ◌==◌, eqb, cond, Bool, true, Option, Some, None, List, [], ◌∷◌, ◌++◌, inl, inr, length, get_or}
+use Rattle.std.proofs.Common.{map, set, refl, sym, ap, ◌∙◌, subst, arith, add-one, append_assoc}
 use Rattle.std.specs.List.{All, count_by, filter, flat_map, fold, position_or_len, range_with_len}
 use Rattle.std.proofs.lemmas.Bool.{cases_Bool, cases_eq, eq-eqb, eqb-true, ne_eqb}
 use Rattle.std.proofs.lemmas.List.{get_or-map, get_or-set_same, get_or-set_other, length-map, length-set}
@@ -52,7 +53,8 @@ module _ {X Y : Type 0} (F : Y → X → Y) (f : ℕ → List X) where
       ∙ same n (omega arith) o
 
   -- one of them changes something
-  pub one_changes : (m n : ℕ) → m < n → ((i : ℕ) → i < n → (i ≡ m → ⊥) → (o : Y) → fold F o (f i) ≡ o) → (o : Y) → fold F o (flat_map f (range_with_len 0 n)) ≡ fold F o (f m)
+  pub one_changes : (m n : ℕ) → m < n → ((i : ℕ) → i < n → (i ≡ m → ⊥) → (o : Y) → fold F o (f i) ≡ o) → (o : Y)
+      → fold F o (flat_map f (range_with_len 0 n)) ≡ fold F o (f m)
   one_changes m zero within same o = absurd (omega arith)
   one_changes m (suc n) within same o =
       folds_on n o
@@ -75,7 +77,8 @@ on_lane k o q = cond (eqb q.lane k) (queued o q.item) o
 abbrev on_lane_of : ℕ → ℕ → OutFigures → QueuePlace → OutFigures
 on_lane_of place k o q = cond (eqb q.pair place) (on_lane k o q) o
 
-one_queued : (k : ℕ) (outs : List OutFigures) (q : QueuePlace) → q.lane < length outs → get_or (with_queued outs q) k no_out ≡ on_lane k (get_or outs k no_out) q
+one_queued : (k : ℕ) (outs : List OutFigures) (q : QueuePlace) → q.lane < length outs
+    → get_or (with_queued outs q) k no_out ≡ on_lane k (get_or outs k no_out) q
 one_queued k outs q within =
     let new : OutFigures = queued (get_or outs q.lane no_out) q.item in
     elim (cases_eq q.lane k) as (λ _. get_or (set outs q.lane new) k no_out ≡ on_lane k (get_or outs k no_out) q) [
@@ -104,7 +107,8 @@ pub length-queued : (outs : List OutFigures) (places : List QueuePlace) → leng
 length-queued outs [] = refl
 length-queued outs (q ∷ places) = length-queued (with_queued outs q) places ∙ length-set outs q.lane (queued (get_or outs q.lane no_out) q.item)
 
-fold_filtered : (place k : ℕ) (o : OutFigures) (places : List QueuePlace) → fold (on_lane k) o (filter (λ q. q.pair == place) places) ≡ fold (on_lane_of place k) o places
+fold_filtered : (place k : ℕ) (o : OutFigures) (places : List QueuePlace)
+    → fold (on_lane k) o (filter (λ q. q.pair == place) places) ≡ fold (on_lane_of place k) o places
 fold_filtered place k o [] = refl
 fold_filtered place k o (q ∷ places) =
     elim (cases_Bool (eqb q.pair place)) as (λ _. fold (on_lane k) o (filter (λ q. q.pair == place) (q ∷ places)) ≡ fold (on_lane_of place k) o (q ∷ places)) [
@@ -132,7 +136,8 @@ other_lane place k i j (Some pair) not o =
       | inr theirs ↦ rw theirs refl
     ]
 
-lane_apart : (kind : LaneKind) (pairs : List ItemNo) (items : List OutgoingLoad) (place k i : ℕ) → (i ≡ k → ⊥) → (o : OutFigures) → fold (on_lane_of place k) o (lane_queues kind pairs i items) ≡ o
+lane_apart : (kind : LaneKind) (pairs : List ItemNo) (items : List OutgoingLoad) (place k i : ℕ) → (i ≡ k → ⊥) → (o : OutFigures)
+    → fold (on_lane_of place k) o (lane_queues kind pairs i items) ≡ o
 lane_apart Despatch pairs items place k i not o = refl
 lane_apart Schedule pairs items place k i not o =
     none_changes (on_lane_of place k) (λ (j : ℕ). queue_place (place_of pairs (load_at items j).item) i j) (length items)
@@ -140,7 +145,8 @@ lane_apart Schedule pairs items place k i not o =
 
 -- ---- where an item stands in a list that has each once
 
-item_there : {X : Type 0} (item : X → ItemNo) (xs : List X) (k : ℕ) (d : X) (i : ItemNo) → place_of (map item xs) i ≡ Some k → (k < length xs) × ((item (get_or xs k d)).0 ≡ i.0)
+item_there : {X : Type 0} (item : X → ItemNo) (xs : List X) (k : ℕ) (d : X) (i : ItemNo) → place_of (map item xs) i ≡ Some k
+    → (k < length xs) × ((item (get_or xs k d)).0 ≡ i.0)
 item_there {X} item xs k d i found =
     let at = position-Some (λ (z : ItemNo). eqb z.0 i.0) (map item xs) k i found in
     let within : k < length xs = omega (arith, at.0, length-map xs item) in (
@@ -148,7 +154,8 @@ item_there {X} item xs k d i found =
       sym (ap (λ (z : ItemNo). z.0) (get_or-map item xs k d i within)) ∙ eqb-true (get_or (map item xs) k i).0 i.0 at.1,
     )
 
-item_found : {X : Type 0} (item : X → ItemNo) (xs : List X) (k : ℕ) (d : X) (i : ItemNo) → ((n : ℕ) → count_by (λ x. (item x).0 == n) xs ≤ 1) → k < length xs → (item (get_or xs k d)).0 ≡ i.0
+item_found : {X : Type 0} (item : X → ItemNo) (xs : List X) (k : ℕ) (d : X) (i : ItemNo) → ((n : ℕ) → count_by (λ x. (item x).0 == n) xs ≤ 1) → k < length xs
+    → (item (get_or xs k d)).0 ≡ i.0
     → place_of (map item xs) i ≡ Some k
 item_found {X} item xs k d i once within same =
     let test : ItemNo → Bool = λ z. eqb z.0 i.0 in
@@ -169,7 +176,8 @@ module _ (V : PlantRows) (view : IsView V) (place : ℕ) (within : place < lengt
   is_other i not found = not (sym (item_there (λ (p : PlantPair). p.item) V.pairs place no_plant_pair i found).1)
 
   -- the items of a schedule lane
-  items_queued : (items : List OutgoingLoad) → ((i : ℕ) → count_by (λ z. z.item.0 == i) items ≤ 1) → (k : ℕ) (m : Option ℕ) → place_of (map (λ z. z.item) items) (plant_pair_at V place).item ≡ m
+  items_queued : (items : List OutgoingLoad) → ((i : ℕ) → count_by (λ z. z.item.0 == i) items ≤ 1) → (k : ℕ) (m : Option ℕ)
+      → place_of (map (λ z. z.item) items) (plant_pair_at V place).item ≡ m
       → (o : OutFigures) → fold (on_lane_of place k) o (item_queues (items_of V) k items) ≡ queued_at o m
   items_queued items once k None none o =
       none_changes (on_lane_of place k) (λ (j : ℕ). queue_place (place_of (items_of V) (load_at items j).item) k j) (length items)
@@ -196,7 +204,8 @@ module _ (V : PlantRows) (view : IsView V) (place : ℕ) (within : place < lengt
   kind_queued Schedule items once k o = items_queued items once k (place_of (map (λ z. z.item) items) (plant_pair_at V place).item) refl o
 
   -- the cursor of a lane after the queue places of the pair
-  cursor_queued : (k : ℕ) → k < length V.outgoing → (o : OutFigures) → fold (on_lane k) o (filter (λ q. q.pair == place) (queue_places (items_of V) V.outgoing)) ≡ settled_out (outgoing_at V k) o (plant_pair_at V place).item
+  cursor_queued : (k : ℕ) → k < length V.outgoing → (o : OutFigures)
+      → fold (on_lane k) o (filter (λ q. q.pair == place) (queue_places (items_of V) V.outgoing)) ≡ settled_out (outgoing_at V k) o (plant_pair_at V place).item
   cursor_queued k low o =
       fold_filtered place k o (queue_places (items_of V) V.outgoing)
       ∙ one_changes (on_lane_of place k) (lane_queues_at (items_of V) V.outgoing) k (length V.outgoing) low
@@ -209,13 +218,15 @@ module _ (V : PlantRows) (view : IsView V) (place : ℕ) (within : place < lengt
 abbrev Names : ℕ → ℕ → QueuePlace → Type 0
 Names pairs lanes q = (q.pair < pairs) × (q.lane < lanes)
 
-place_names : (pairs : List ItemNo) (i : ItemNo) (k j n : ℕ) → k < n → (found : Option ℕ) → place_of pairs i ≡ found → All (Names (length pairs) n) (queue_place found k j)
+place_names : (pairs : List ItemNo) (i : ItemNo) (k j n : ℕ) → k < n → (found : Option ℕ) → place_of pairs i ≡ found
+    → All (Names (length pairs) n) (queue_place found k j)
 place_names pairs i k j n low None e = All-nil (Names (length pairs) n)
 place_names pairs i k j n low (Some pair) e =
     let at = position-Some (λ (p : ItemNo). eqb p.0 i.0) pairs pair i e in
     All-cons (Names (length pairs) n) (record { pair = pair; lane = k; item = j }) [] (at.0, low) (All-nil (Names (length pairs) n))
 
-lane_names : (pairs : List ItemNo) (kind : LaneKind) (items : List OutgoingLoad) (k n : ℕ) → k < n → All (Names (length pairs) n) (lane_queues kind pairs k items)
+lane_names : (pairs : List ItemNo) (kind : LaneKind) (items : List OutgoingLoad) (k n : ℕ) → k < n
+    → All (Names (length pairs) n) (lane_queues kind pairs k items)
 lane_names pairs Despatch items k n low = All-nil (Names (length pairs) n)
 lane_names pairs Schedule items k n low =
     All-flat_map-range (Names (length pairs) n) (λ (j : ℕ). queue_place (place_of pairs (load_at items j).item) k j) (length items)
@@ -227,7 +238,8 @@ all_name pairs lanes =
     All-flat_map-range (Names (length pairs) (length lanes)) (lane_queues_at pairs lanes) (length lanes)
     (λ k low. lane_names pairs (get_or lanes k no_outgoing).kind (get_or lanes k no_outgoing).items k (length lanes) low)
 
-pub pairs_known : (pairs : List ItemNo) (lanes : List OutgoingLane) {n : ℕ} {places : List QueuePlace} → length pairs ≡ n → places ≡ queue_places pairs lanes → All (λ q. q.pair < n) places
+pub pairs_known : (pairs : List ItemNo) (lanes : List OutgoingLane) {n : ℕ} {places : List QueuePlace} → length pairs ≡ n → places ≡ queue_places pairs lanes
+    → All (λ q. q.pair < n) places
 pairs_known pairs lanes {n} {places} size is =
     subst (All (λ (q : QueuePlace). q.pair < n)) (sym is) (λ i d low. omega (arith, (all_name pairs lanes i d low).0, size))
 

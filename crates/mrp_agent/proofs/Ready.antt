@@ -28,7 +28,8 @@ module _ (A : AgentState) (view : IsView A.view) (rooms : HasRooms A) where
   number_of x own =
       let within : pair_place A.view x.0 < length A.view.pairs = own_within A.view x own in
       let found : (get_or A.view.pairs (pair_place A.view x.0) no_plant_pair).number.0 ≡ x.0 =
-      eqb-true (get_or A.view.pairs (pair_place A.view x.0) no_plant_pair).number.0 x.0 (passes_at_first (λ (p : PlantPair). p.number.0 == x.0) A.view.pairs no_plant_pair within) in
+      eqb-true (get_or A.view.pairs (pair_place A.view x.0) no_plant_pair).number.0 x.0
+      (passes_at_first (λ (p : PlantPair). p.number.0 == x.0) A.view.pairs no_plant_pair within) in
       number_there (pair_place A.view x.0) within ∙ ap (λ (n : ℕ). let z : PairNo = record { 0 = n } in z) found
 
   pub ready_there : (x : PairNo) → IsOwnPair A.view x → Contains A.progress.ready (pair_place A.view x.0) → Contains (ready_numbers A) x
@@ -39,7 +40,8 @@ module _ (A : AgentState) (view : IsView A.view) (rooms : HasRooms A) where
         get_or-map f A.progress.ready k (pair_place A.view x.0) x within ∙ ap f is ∙ number_of x own,
       )
 
-  pub ready_place : (x : PairNo) → IsListed A.progress.waits A.progress.planned A.progress.ready → Contains (ready_numbers A) x → Contains A.progress.ready (pair_place A.view x.0)
+  pub ready_place : (x : PairNo) → IsListed A.progress.waits A.progress.planned A.progress.ready → Contains (ready_numbers A) x
+      → Contains A.progress.ready (pair_place A.view x.0)
   ready_place x listed (k, within, is) =
       let f : ℕ → PairNo = number_at A.progress.numbers in
       let low : k < length A.progress.ready = omega (arith, within, length-map A.progress.ready f) in
@@ -54,7 +56,8 @@ module _ (A : AgentState) (view : IsView A.view) (rooms : HasRooms A) where
       subst (Contains A.progress.ready) (sym same) there
 
 -- after one pair is planned the others can be planned as before
-pub ready_stays : (A : AgentState) → IsView A.view → HasRooms A → (x : PairNo) → IsOwnPair A.view x → (joins : List Join) (new : Progress) → PairSettled joins (pair_place A.view x.0) A.progress new
+pub ready_stays : (A : AgentState) → IsView A.view → HasRooms A → (x : PairNo) → IsOwnPair A.view x → (joins : List Join) (new : Progress)
+    → PairSettled joins (pair_place A.view x.0) A.progress new
     → (y : PairNo) → Contains (ready_numbers A) y → (y.0 ≡ x.0 → ⊥) → Contains (map (number_at new.numbers) new.ready) y
 ready_stays A view rooms x own joins new settled y (k, within, is) other =
     let f : ℕ → PairNo = number_at A.progress.numbers in

@@ -1,5 +1,6 @@
 -- The plans of an agent after one more pair is planned.
-use Rattle.std.proofs.Common.{◌≡◌, ℕ, ◌+◌, ◌*◌, ◌==◌, eqb, cond, if◌then◌else◌, Bool, true, false, List, [], ◌∷◌, inl, inr, set, sum_by, slice_index, refl, sym, ap, ◌∙◌, arith}
+use Rattle.std.proofs.Common.{◌≡◌, ℕ, ◌+◌, ◌*◌, ◌==◌, eqb, cond, if◌then◌else◌, Bool, true, false, List, [], ◌∷◌, inl, inr, set, sum_by, slice_index, refl, sym}
+use Rattle.std.proofs.Common.{ap, ◌∙◌, arith}
 use Rattle.std.specs.List.{All, Contains}
 use Rattle.std.proofs.lemmas.Bool.{cases_eq, cases_Bool, eqb-true}
 use Rattle.std.proofs.lemmas.List.{get_or-set_same, get_or-set_other}
@@ -33,7 +34,8 @@ module _ (A : AgentState) (rooms : HasRooms A) (x : PairNo) (own : IsOwnPair A.v
   pub plan_there : plans_of (after_settled A (pair_place A.view x.0) plan progress outs) x.0 ≡ plan
   plan_there = get_or-set_same A.plans (pair_place A.view x.0) plan no_plan (omega (arith, own_within A.view x own, rooms.plans.count))
 
-  pub plan_elsewhere : (y : PairNo) → IsOwnPair A.view y → (y.0 ≡ x.0 → ⊥) → plans_of (after_settled A (pair_place A.view x.0) plan progress outs) y.0 ≡ plans_of A y.0
+  pub plan_elsewhere : (y : PairNo) → IsOwnPair A.view y → (y.0 ≡ x.0 → ⊥)
+      → plans_of (after_settled A (pair_place A.view x.0) plan progress outs) y.0 ≡ plans_of A y.0
   plan_elsewhere y own_y other =
       get_or-set_other A.plans (pair_place A.view x.0) (pair_place A.view y.0) plan no_plan (λ e. other (places_apart A.view y x own_y own e))
 

@@ -26,22 +26,31 @@ drafted_periods A x =
     }
 
 -- the plan at a place has as many periods as a draft
-pub old_periods : {A : AgentState} {I : Indexes} {x : PairNo} {place : ℕ} {old : PlanRows} → IsAtPlace A I x place → old ≡ get_or A.plans place old → length old.gross ≡ A.view.horizon
+pub old_periods : {A : AgentState} {I : Indexes} {x : PairNo} {place : ℕ} {old : PlanRows} → IsAtPlace A I x place → old ≡ get_or A.plans place old
+    → length old.gross ≡ A.view.horizon
 old_periods {A} {I} {x} {place} {old} h at =
     let within : place < length A.plans = omega (arith, place_within h, h.kept.rooms.plans.count) in
     (subst (HasPlanRows A.view) (sym at) (h.kept.rooms.plans.periods place old within)).gross
 
-pub same_periods : {A : AgentState} {I : Indexes} {x : PairNo} {place : ℕ} {old new : PlanRows} → IsAtPlace A I x place → old ≡ get_or A.plans place old → new ≡ drafted A x
+pub same_periods : {A : AgentState} {I : Indexes} {x : PairNo} {place : ℕ} {old new : PlanRows} → IsAtPlace A I x place → old ≡ get_or A.plans place old
+    → new ≡ drafted A x
     → length old.gross ≡ length new.gross
 same_periods {A} {I} {x} {place} {old} {new} h at is = old_periods h at ∙ sym (ap (λ (z : PlanRows). length z.gross) is ∙ (drafted_periods A x).gross)
 
-pub kept_written : {A : AgentState} {I : Indexes} {x : PairNo} {place room : ℕ} {plan : PlanRows} → IsAtPlace A I x place → plan ≡ drafted A x → room ≡ A.view.horizon
+pub kept_written : {A : AgentState} {I : Indexes} {x : PairNo} {place room : ℕ} {plan : PlanRows} → IsAtPlace A I x place → plan ≡ drafted A x
+    → room ≡ A.view.horizon
     → IsKept (record A { plans = set A.plans place plan }) (record I { room = room })
 kept_written {A} {I} {x} {place} {room} {plan} h is same =
     let kept : IsKept A I = h.kept in
     record {
       view = kept.view;
-      indexes = record { items = kept.indexes.items; edges = kept.indexes.edges; components = kept.indexes.components; queues = kept.indexes.queues; room = same };
+      indexes = record {
+        items = kept.indexes.items;
+        edges = kept.indexes.edges;
+        components = kept.indexes.components;
+        queues = kept.indexes.queues;
+        room = same;
+      };
       rooms = record {
         books = kept.rooms.books;
         came = kept.rooms.came;

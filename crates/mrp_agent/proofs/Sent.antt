@@ -56,7 +56,8 @@ pub periods_kept : (A : AgentState) → HasRooms A → (x : PairNo) → IsOwnPai
 periods_kept A rooms x own =
     rooms.plans.periods (pair_place A.view x.0) no_plan (omega (arith, own_place A x own, rooms.plans.count))
 
-pub own_of : (A : AgentState) (lane : OutgoingLane) (j : ℕ) → IsScheduleLane A.view lane → j < length lane.items → IsOwnPair A.view (call_of (load_at lane.items j)).customer
+pub own_of : (A : AgentState) (lane : OutgoingLane) (j : ℕ) → IsScheduleLane A.view lane → j < length lane.items
+    → IsOwnPair A.view (call_of (load_at lane.items j)).customer
 own_of A lane j sched within = by (sched.calls j _ within).own
   where
     by : IsOwnOf A.view (call_of (load_at lane.items j)).customer (load_at lane.items j).item → IsOwnPair A.view (call_of (load_at lane.items j)).customer
@@ -70,15 +71,18 @@ module _ (A : AgentState) (view : IsView A.view) (rooms : HasRooms A) where
   lane_there k within = Contains-get_or A.view.outgoing k no_outgoing within
 
   pub is_schedule : (k : ℕ) → k < length A.view.outgoing → (outgoing_at A.view k).kind ≡ Schedule → IsScheduleLane A.view (outgoing_at A.view k)
-  is_schedule k within = All-contains (λ (z : OutgoingLane). z.kind ≡ Schedule → IsScheduleLane A.view z) A.view.outgoing (outgoing_at A.view k) view.schedules (lane_there k within)
+  is_schedule k within = All-contains (λ (z : OutgoingLane). z.kind ≡ Schedule → IsScheduleLane A.view z) A.view.outgoing (outgoing_at A.view k) view.schedules
+      (lane_there k within)
 
   pub customer_periods : (k : ℕ) → k < length A.view.outgoing → (j : ℕ) → j < length (outgoing_at A.view k).items → (outgoing_at A.view k).kind ≡ Schedule
       → length (plans_of A (call_of (load_at (outgoing_at A.view k).items j)).customer.0).release ≡ A.view.horizon
   customer_periods k within j inside kind =
-      (periods_kept A rooms (call_of (load_at (outgoing_at A.view k).items j)).customer (own_of A (outgoing_at A.view k) j (is_schedule k within kind) inside)).release
+      (periods_kept A rooms (call_of (load_at (outgoing_at A.view k).items j)).customer
+      (own_of A (outgoing_at A.view k) j (is_schedule k within kind) inside)).release
 
   -- lanes that go out have numbers of their own
-  pub lanes_apart : (i k : ℕ) → i < length A.view.outgoing → k < length A.view.outgoing → (i ≡ k → ⊥) → (outgoing_at A.view i).number.0 ≡ (outgoing_at A.view k).number.0 → ⊥
+  pub lanes_apart : (i k : ℕ) → i < length A.view.outgoing → k < length A.view.outgoing → (i ≡ k → ⊥)
+      → (outgoing_at A.view i).number.0 ≡ (outgoing_at A.view k).number.0 → ⊥
   lanes_apart i k ini ink apart same =
       let l : ℕ = (outgoing_at A.view k).number.0 in
       apart (only_place (λ (z : OutgoingLane). eqb z.number.0 l) A.view.outgoing i k no_outgoing (view.outgoing_once l) ini ink
@@ -89,21 +93,25 @@ module _ (A : AgentState) (view : IsView A.view) (rooms : HasRooms A) where
     is_left =
         let out = shows.outs k within in
         left_is_left A taken view shows.books k within
-        (λ j there. let low = queued_are_places (goods_at A taken k) (out_at A k) (sent (outgoing_at A.view k).number.0) j out.shows (contains_there (out_at A k).queue (out_at A k).head j there) in
+        (λ j there. let low = queued_are_places (goods_at A taken k) (out_at A k) (sent (outgoing_at A.view k).number.0) j out.shows
+        (contains_there (out_at A k).queue (out_at A k).head j there) in
         omega (arith, low, out.size))
         (λ j inside kind. customer_periods k within j inside kind)
 
     pub given_is_legal : (r : Record) → IsWithin64 A taken k → next_out A k ≡ Some r → ContinuesSent A sent taken k r
     given_is_legal r bounded given =
-        given_continues (goods_at A taken k) (out_at A k) (sent (outgoing_at A.view k).number.0) (left_at A k) r (shows.outs k within).shows bounded is_left given
+        given_continues (goods_at A taken k) (out_at A k) (sent (outgoing_at A.view k).number.0) (left_at A k) r
+        (shows.outs k within).shows bounded is_left given
 
     pub none_can_be_sent : next_out A k ≡ None → NothingContinues A sent taken k
     none_can_be_sent none =
         none_is_left (goods_at A taken k) (out_at A k) (sent (outgoing_at A.view k).number.0) (left_at A k) (shows.outs k within).shows is_left none
 
     -- a lane's cursor and what was sent on it, as they are afterwards
-    shown_after : (r : Record) (i : ℕ) {o : OutFigures} {list : List Record} → out_at (after_sent A k) i ≡ o → with_sent A sent k r (outgoing_at A.view i).number.0 ≡ list
-        → o.size ≡ length (outgoing_at A.view i).items → ShowsSent (goods_at A taken i) o list → ((j : ℕ) → Contains o.queue j ↔ IsSendable planned (outgoing_at A.view i) j)
+    shown_after : (r : Record) (i : ℕ) {o : OutFigures} {list : List Record} → out_at (after_sent A k) i ≡ o
+        → with_sent A sent k r (outgoing_at A.view i).number.0 ≡ list
+        → o.size ≡ length (outgoing_at A.view i).items → ShowsSent (goods_at A taken i) o list
+        → ((j : ℕ) → Contains o.queue j ↔ IsSendable planned (outgoing_at A.view i) j)
         → OutShows (after_sent A k) (with_sent A sent k r) taken planned i
     shown_after r i {o} {list} is list_is size shows queued = record {
       size = ap (λ (z : OutFigures). z.size) is ∙ size;
@@ -118,10 +126,12 @@ module _ (A : AgentState) (view : IsView A.view) (rooms : HasRooms A) where
     here r bounded given =
         let l : ℕ = (outgoing_at A.view k).number.0 in
         let out = shows.outs k within in
-        shown_after r k (get_or-set_same A.outs k (stepped (out_at A k) (left_at A k)) no_out (omega (arith, within, rooms.cursors.count))) (changed_there sent l (sent l ++ r ∷ []))
+        shown_after r k (get_or-set_same A.outs k (stepped (out_at A k) (left_at A k)) no_out (omega (arith, within, rooms.cursors.count)))
+        (changed_there sent l (sent l ++ r ∷ []))
         (stepped_size (out_at A k) (left_at A k) ∙ out.size)
         (steps_show (goods_at A taken k) (out_at A k) (sent l) (left_at A k) r out.shows bounded is_left given)
-        (subst (λ (z : List ℕ). (j : ℕ) → Contains z j ↔ IsSendable planned (outgoing_at A.view k) j) (sym (stepped_queue (out_at A k) (left_at A k))) out.queued)
+        (subst (λ (z : List ℕ). (j : ℕ) → Contains z j ↔ IsSendable planned (outgoing_at A.view k) j)
+        (sym (stepped_queue (out_at A k) (left_at A k))) out.queued)
 
     elsewhere : (r : Record) (i : ℕ) → i < length A.view.outgoing → (i ≡ k → ⊥) → OutShows (after_sent A k) (with_sent A sent k r) taken planned i
     elsewhere r i ini other =
@@ -157,14 +167,22 @@ sent_cursors A k within cursors =
           elim (cases_eq i k) as (λ _. (out_at (after_sent A k) i).size ≡ length (outgoing_at A.view i).items) [
             | inl e ↦
                 subst (λ (z : ℕ). (out_at (after_sent A k) z).size ≡ length (outgoing_at A.view z).items) (sym e)
-                (ap (λ (o : OutFigures). o.size) (get_or-set_same A.outs k new no_out inside) ∙ stepped_size (out_at A k) (left_at A k) ∙ cursors.sizes k within)
+                (ap (λ (o : OutFigures). o.size) (get_or-set_same A.outs k new no_out inside) ∙ stepped_size (out_at A k) (left_at A k)
+                ∙ cursors.sizes k within)
             | inr other ↦ ap (λ (o : OutFigures). o.size) (get_or-set_other A.outs k i new no_out other) ∙ cursors.sizes i ini
           ];
     }
 
 sent_rooms : (A : AgentState) (k : ℕ) → k < length A.view.outgoing → HasRooms A → HasRooms (after_sent A k)
 sent_rooms A k within rooms =
-    record { books = rooms.books; came = rooms.came; called = rooms.called; plans = rooms.plans; progress = rooms.progress; cursors = sent_cursors A k within rooms.cursors }
+    record {
+      books = rooms.books;
+      came = rooms.came;
+      called = rooms.called;
+      plans = rooms.plans;
+      progress = rooms.progress;
+      cursors = sent_cursors A k within rooms.cursors;
+    }
 
 pub sent_taken : (A : AgentState) (k : ℕ) → HasTaken A → HasTaken (after_sent A k)
 sent_taken A k has = record { taken = has.taken; books = has.books; waits = has.waits }

@@ -28,7 +28,8 @@ use Rattle.mrp_agent.proofs.Ready.{ready_stays}
 use Rattle.mrp_agent.proofs.Replanned.{local_same, planned_after, plan_there, plan_elsewhere, SameParents}
 
 module _ (A : AgentState) (I : Indexes) (kept : IsKept A I) (p : PlantPair) (there : Contains A.view.pairs p) (can : CanDraft A p.number)
-    (listed : IsListed A.progress.waits A.progress.planned A.progress.ready) (sent taken : ℕ → List Record) (planned : ℕ → Bool) (shows : ShowsHistory A sent taken planned)
+    (listed : IsListed A.progress.waits A.progress.planned A.progress.ready) (sent taken : ℕ → List Record) (planned : ℕ → Bool)
+    (shows : ShowsHistory A sent taken planned)
     (progress : Progress) (outs : List OutFigures) where
   abbrev After : AgentState
   After = after_settled A (pair_place A.view p.number.0) (drafted A p.number) progress outs
@@ -81,19 +82,23 @@ module _ (A : AgentState) (I : Indexes) (kept : IsKept A I) (p : PlantPair) (the
   local_after k d h =
       let q : PlantPair = get_or A.view.pairs k d in
       let known : Contains A.view.pairs q = Contains-get_or A.view.pairs k d h in
-      elim (cases_eq q.number.0 p.number.0) as (λ _. changed planned p.number.0 true q.number.0 ≡ true → IsPlannedLocally A.view taken (changed planned p.number.0 true) (plans_of After) q) [
-        | inl same ↦ λ _. subst (IsPlannedLocally A.view taken (changed planned p.number.0 true) (plans_of After)) (sym (same_number A.view kept.view q p known there same)) local_now
+      elim (cases_eq q.number.0 p.number.0) as (λ _. changed planned p.number.0 true q.number.0 ≡ true
+      → IsPlannedLocally A.view taken (changed planned p.number.0 true) (plans_of After) q) [
+        | inl same ↦ λ _. subst (IsPlannedLocally A.view taken (changed planned p.number.0 true) (plans_of After))
+            (sym (same_number A.view kept.view q p known there same)) local_now
         | inr other ↦ λ is.
             let before : planned q.number.0 ≡ true = sym (changed_elsewhere planned p.number.0 true q.number.0 other) ∙ is in
             local_before q known (shows.local k d h before) before
       ]
 
-  out_after : AreOutsSettled A.view.outgoing p.item A.outs outs → (k : ℕ) → k < length A.view.outgoing → OutShows After sent taken (changed planned p.number.0 true) k
+  out_after : AreOutsSettled A.view.outgoing p.item A.outs outs → (k : ℕ) → k < length A.view.outgoing
+      → OutShows After sent taken (changed planned p.number.0 true) k
   out_after queued k low =
       let lane : OutgoingLane = outgoing_at A.view k in
       let out = shows.outs k low in
       let now =
-      shown_now A.view kept.view lane (kept.view.outgoing k no_outgoing low) (kept.view.schedules k no_outgoing low) p there planned unplanned (plans_of A) (plans_of After) plans_stay taken (out_at A k)
+      shown_now A.view kept.view lane (kept.view.outgoing k no_outgoing low) (kept.view.schedules k no_outgoing low) p there planned unplanned (plans_of A)
+      (plans_of After) plans_stay taken (out_at A k)
       (sent lane.number.0) out.size out.shows out.queued in
       let is : get_or outs k no_out ≡ settled_out lane (out_at A k) p.item = queued.each k low in
       record {
@@ -124,10 +129,12 @@ pub settling_shows : (A : AgentState) (I : Indexes) (x : PairNo) (progress : Pro
 settling_shows A I x progress outs kept can listed settled queued sent taken planned shows =
     let p : PlantPair = can.own.0 in
     let there : Contains A.view.pairs p = can.own.1 in
-    let P : PairNo → Type 0 = λ y. CanDraft A y → PairSettled (joins_of A.view) (pair_place A.view y.0) A.progress progress → AreOutsSettled A.view.outgoing (pair_owned A.view y).item A.outs outs
+    let P : PairNo → Type 0 = λ y. CanDraft A y → PairSettled (joins_of A.view) (pair_place A.view y.0) A.progress progress
+    → AreOutsSettled A.view.outgoing (pair_owned A.view y).item A.outs outs
     → ShowsHistory (after_settled A (pair_place A.view y.0) (drafted A y) progress outs) sent taken (changed planned y.0 true) in
     let own : P p.number = λ can settled queued.
-    shows_after A I kept p there can listed sent taken planned shows progress outs settled (subst (λ (q : PlantPair). AreOutsSettled A.view.outgoing q.item A.outs outs) (pair_is A.view kept.view p there) queued) in
+    shows_after A I kept p there can listed sent taken planned shows progress outs settled
+    (subst (λ (q : PlantPair). AreOutsSettled A.view.outgoing q.item A.outs outs) (pair_is A.view kept.view p there) queued) in
     subst P can.own.2 own can settled queued
 
 -- the plan was written, and then the pair was counted as planned
@@ -135,7 +142,8 @@ abbrev Written : AgentState → PairNo → ℕ → AgentState
 Written A x place = record A { plans = set A.plans place (drafted A x) }
 
 pub planning_shows : (A B new : AgentState) (I : Indexes) (x : PairNo) (place : ℕ) → IsKept A I → CanDraft A x
-    → IsListed A.progress.waits A.progress.planned A.progress.ready → place ≡ pair_place A.view x.0 → B ≡ record A { plans = set A.plans place (drafted A x) } → IsMarked B place new
+    → IsListed A.progress.waits A.progress.planned A.progress.ready → place ≡ pair_place A.view x.0 → B ≡ record A { plans = set A.plans place (drafted A x) }
+    → IsMarked B place new
     → (sent taken : ℕ → List Record) (planned : ℕ → Bool) → ShowsHistory A sent taken planned → ShowsHistory new sent taken (changed planned x.0 true)
 planning_shows A B new I x place kept can listed at written marked sent taken planned shows =
     let here : B ≡ Written A x (pair_place A.view x.0) = written ∙ ap (Written A x) at in
@@ -145,7 +153,8 @@ planning_shows A B new I x place kept can listed at written marked sent taken pl
     (settling_shows A I x new.progress new.outs kept can listed now.settled now.queued sent taken planned shows)
 
 -- the other pairs that can be planned still can
-pub others_stay : (A B new : AgentState) (I : Indexes) (x : PairNo) (place : ℕ) → IsKept A I → IsOwnPair A.view x → place ≡ pair_place A.view x.0 → B ≡ record A { plans = set A.plans place (drafted A x) }
+pub others_stay : (A B new : AgentState) (I : Indexes) (x : PairNo) (place : ℕ) → IsKept A I → IsOwnPair A.view x → place ≡ pair_place A.view x.0
+    → B ≡ record A { plans = set A.plans place (drafted A x) }
     → IsMarked B place new
     → (y : PairNo) → Contains (ready_numbers A) y → (y.0 ≡ x.0 → ⊥) → Contains (ready_numbers new) y
 others_stay A B new I x place kept own at written marked =

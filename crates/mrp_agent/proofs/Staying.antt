@@ -24,20 +24,24 @@ use Rattle.mrp_agent.proofs.Drafts.{map_same}
 use Rattle.mrp_agent.proofs.Ready.{ready_place}
 use Rattle.mrp_agent.proofs.Replanned.{asked_same, SameParents}
 
-module _ (A : AgentState) (I : Indexes) (x : PairNo) (kept : IsKept A I) (can : CanDraft A x) (listed : IsListed A.progress.waits A.progress.planned A.progress.ready) (plan : PlanRows)
+module _ (A : AgentState) (I : Indexes) (x : PairNo) (kept : IsKept A I) (can : CanDraft A x)
+    (listed : IsListed A.progress.waits A.progress.planned A.progress.ready) (plan : PlanRows)
     (progress : Progress) (outs : List OutFigures) where
   abbrev Next : AgentState
   Next = after_settled A (pair_place A.view x.0) plan progress outs
 
   -- the planned pair was no parent of theirs, since all of those are planned
-  parent_stays : (y : PairNo) → Contains (ready_numbers A) y → (e : PlantEdge) → In A.view.edges e → e.component.0 ≡ y.0 → plans_of A e.parent.0 ≡ plans_of Next e.parent.0
+  parent_stays : (y : PairNo) → Contains (ready_numbers A) y → (e : PlantEdge) → In A.view.edges e → e.component.0 ≡ y.0
+      → plans_of A e.parent.0 ≡ plans_of Next e.parent.0
   parent_stays y ready e among mine =
       let V : PlantRows = A.view in
       let nothing =
-      (ready_where_nothing_is_open A.progress.waits A.progress.ready (joins_of V) A.progress.planned (awaited V kept.taken.taken) kept.taken.waits listed (pair_place V y.0)).0
+      (ready_where_nothing_is_open A.progress.waits A.progress.ready (joins_of V) A.progress.planned (awaited V kept.taken.taken) kept.taken.waits listed
+      (pair_place V y.0)).0
       (ready_place A kept.view kept.rooms y listed ready) in
       let done : is_planned A.progress.planned (pair_place V e.parent.0) ≡ true =
-      All-in (λ (j : Join). j.component ≡ pair_place V y.0 → is_planned A.progress.planned j.demander ≡ true) (joins_of V) (join_of V e) nothing.demanders_are_planned
+      All-in (λ (j : Join). j.component ≡ pair_place V y.0 → is_planned A.progress.planned j.demander ≡ true) (joins_of V)
+      (join_of V e) nothing.demanders_are_planned
       (In-map (join_of V) V.edges e among) (ap (pair_place V) mine) in
       let free : is_planned A.progress.planned (pair_place V x.0) ≡ false =
       ((listed.exact (pair_place V x.0)).0 (ready_place A kept.view kept.rooms x listed can.ready)).unplanned in
@@ -52,7 +56,8 @@ module _ (A : AgentState) (I : Indexes) (x : PairNo) (kept : IsKept A I) (can : 
         same = parent_stays y ready (get_or V.edges k d) (In-from_contains V.edges (get_or V.edges k d) (Contains-get_or V.edges k d h));
       } in
       let gross : drafted_gross Next y ≡ drafted_gross A y =
-      map_same (λ (t : ℕ). amount_at V A.called y t + asked_within V (plans_of Next) y t) (λ (t : ℕ). amount_at V A.called y t + asked_within V (plans_of A) y t) 0 V.horizon
+      map_same (λ (t : ℕ). amount_at V A.called y t + asked_within V (plans_of Next) y t)
+      (λ (t : ℕ). amount_at V A.called y t + asked_within V (plans_of A) y t) 0 V.horizon
       (λ t h. ap (λ (n : ℕ). amount_at V A.called y t + n) (sym (asked_same V (plans_of A) (plans_of Next) y.0 t V.edges parents))) in
       ap (λ (row : List ℕ). one (pair_owned V y).params (drafted_incoming A y) row) gross
 
@@ -60,7 +65,8 @@ abbrev Written : AgentState → PairNo → ℕ → AgentState
 Written A x place = record A { plans = set A.plans place (drafted A x) }
 
 pub drafts_stay : (A B new : AgentState) (I : Indexes) (x : PairNo) (place : ℕ) → IsKept A I → CanDraft A x
-    → IsListed A.progress.waits A.progress.planned A.progress.ready → place ≡ pair_place A.view x.0 → B ≡ record A { plans = set A.plans place (drafted A x) } → IsMarked B place new
+    → IsListed A.progress.waits A.progress.planned A.progress.ready → place ≡ pair_place A.view x.0 → B ≡ record A { plans = set A.plans place (drafted A x) }
+    → IsMarked B place new
     → (y : PairNo) → Contains (ready_numbers A) y → drafted new y ≡ drafted A y
 drafts_stay A B new I x place kept can listed at written marked y ready =
     let here : B ≡ Written A x (pair_place A.view x.0) = written ∙ ap (Written A x) at in

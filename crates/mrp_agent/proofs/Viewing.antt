@@ -20,7 +20,8 @@ small_lane N sized l =
 
 small_openings : (N : Table) → IsSized N → (plant : ℕ) → HasSmallOpenings (plant_rows N plant)
 small_openings N sized plant =
-    All-map HasSmallItems (incoming_lane N) (filter (comes_to N plant) (lane_numbers N)) (λ k d within. small_lane N sized (get_or (filter (comes_to N plant) (lane_numbers N)) k d))
+    All-map HasSmallItems (incoming_lane N) (filter (comes_to N plant) (lane_numbers N))
+    (λ k d within. small_lane N sized (get_or (filter (comes_to N plant) (lane_numbers N)) k d))
 
 pub views_can_be_planned : ViewsCanBePlanned
 views_can_be_planned N sized plant = (views_say_enough N sized.table plant, small_openings N sized plant)

@@ -73,7 +73,8 @@ module _ (V : PlantRows) (view : IsView V) where
 
   -- ---- the numbers of some places
 
-  pub number_is : (numbers : List PairNo) (k : ℕ) → numbers ≡ map (λ p. p.number) V.pairs → k < length V.pairs → number_at numbers k ≡ (get_or V.pairs k no_plant_pair).number
+  pub number_is : (numbers : List PairNo) (k : ℕ) → numbers ≡ map (λ p. p.number) V.pairs → k < length V.pairs
+      → number_at numbers k ≡ (get_or V.pairs k no_plant_pair).number
   number_is numbers k are within =
       ap (λ (z : List PairNo). number_at z k) are ∙ get_or-map (λ (p : PlantPair). p.number) V.pairs k no_plant_pair (record { 0 = 0 }) within
 
@@ -120,8 +121,10 @@ module _ (V : PlantRows) (view : IsView V) where
         let within_a : a < length V.pairs = known a (Contains-get_or ready i 0 in_i) in
         let within_b : b < length V.pairs = known b (Contains-get_or ready j 0 in_j) in
         let numbers_same : f a ≡ f b = sym (get_or-map f ready i 0 d in_i) ∙ same ∙ get_or-map f ready j 0 d in_j in
-        let is : (get_or V.pairs a no_plant_pair).number ≡ (get_or V.pairs b no_plant_pair).number = sym (number_is numbers a are within_a) ∙ numbers_same ∙ number_is numbers b are within_b in
-        apart i j 0 before in_j (sym (place_is a (get_or V.pairs b no_plant_pair).number within_a is) ∙ place_is b (get_or V.pairs b no_plant_pair).number within_b refl)
+        let is : (get_or V.pairs a no_plant_pair).number ≡ (get_or V.pairs b no_plant_pair).number =
+        sym (number_is numbers a are within_a) ∙ numbers_same ∙ number_is numbers b are within_b in
+        apart i j 0 before in_j (sym (place_is a (get_or V.pairs b no_plant_pair).number within_a is)
+        ∙ place_is b (get_or V.pairs b no_plant_pair).number within_b refl)
 
   -- ---- what a pair waits for
 
@@ -144,7 +147,8 @@ module _ (V : PlantRows) (view : IsView V) where
       parents_planned all k d h mine =
           let e : PlantEdge = get_or V.edges k d in
           let edge : IsPlantEdge V e = view.edges k d h in
-          let join = All-in DemanderPlanned (joins_of V) (join_of V e) all (In-map (join_of V) V.edges e (In-from_contains V.edges e (Contains-get_or V.edges k d h))) in
+          let join = All-in DemanderPlanned (joins_of V) (join_of V e) all
+          (In-map (join_of V) V.edges e (In-from_contains V.edges e (Contains-get_or V.edges k d h))) in
           own_planned e.parent edge.parent ∙ join (ap (pair_place V) mine)
 
       demanders_planned : All ParentPlanned V.edges → All DemanderPlanned (joins_of V)
@@ -166,7 +170,8 @@ module _ (V : PlantRows) (view : IsView V) where
       brought_from : All BlockEnded (awaited V taken) → All (HasCome taken p.item) V.incoming
       brought_from all k d h carries =
           let lane : IncomingLane = get_or V.incoming k d in
-          let of = map_only (λ (i : IncomingItem). i.item) lane.items p.item (In-from_contains (map (λ (i : IncomingItem). i.item) lane.items) p.item carries) in
+          let of = map_only (λ (i : IncomingItem). i.item) lane.items p.item (In-from_contains (map (λ (i : IncomingItem). i.item) lane.items) p.item carries)
+          in
           let i : IncomingItem = of.0 in
           let is = All-in (IsIncomingItem V) lane.items i (view.incoming k d h).items of.1 in
           let block = In-flat_map (awaited_on V taken) V.incoming lane (block_awaited V taken lane i)
@@ -191,7 +196,8 @@ module _ (V : PlantRows) (view : IsView V) where
           (In-map (λ (i : IncomingItem). i.item) lane.items i (In-from_contains lane.items i (Contains-get_or lane.items m e g)))) in
           subst (λ (n : ItemNo). is_ended n.0 (contents (taken lane.number.0)) ≡ true) (sym item) (all k d h carries)))
 
-      pub open_is : (size : ℕ) → size ≡ length V.pairs → NothingIsOpen size (joins_of V) marks (awaited V taken) (pair_place V p.number.0) ↔ CanBePlanned V taken planned p
+      pub open_is : (size : ℕ) → size ≡ length V.pairs → NothingIsOpen size (joins_of V) marks (awaited V taken) (pair_place V p.number.0)
+          ↔ CanBePlanned V taken planned p
       open_is size e = (
         λ is. record {
           unplanned = are p there ∙ is.is_unplanned;
@@ -214,25 +220,32 @@ module _ (A : AgentState) (view : IsView A.view) (rooms : HasRooms A) (listed : 
   pub ready_is : (taken : ℕ → List Record) → Awaits A taken → (x : PairNo) → Contains (ready_numbers A) x
       → NothingIsOpen (length A.progress.waits) (joins_of A.view) A.progress.planned (awaited A.view taken) (pair_place A.view x.0)
   ready_is taken waits x there =
-      (ready_where_nothing_is_open A.progress.waits A.progress.ready (joins_of A.view) A.progress.planned (awaited A.view taken) waits listed (pair_place A.view x.0)).0
-      (ready_place A.view view A.progress.numbers A.progress.waits A.progress.planned A.progress.ready rooms.progress.numbers rooms.progress.waits listed x there).1
+      (ready_where_nothing_is_open A.progress.waits A.progress.ready (joins_of A.view) A.progress.planned (awaited A.view taken) waits listed
+      (pair_place A.view x.0)).0
+      (ready_place A.view view A.progress.numbers A.progress.waits A.progress.planned A.progress.ready rooms.progress.numbers rooms.progress.waits listed x
+      there).1
 
   pub ready_can_be_planned : (sent taken : ℕ → List Record) (planned : ℕ → Bool) → ShowsHistory A sent taken planned → (p : PlantPair) → Contains A.view.pairs p
       → Contains (ready_numbers A) p.number ↔ CanBePlanned A.view taken planned p
   ready_can_be_planned sent taken planned shows p there =
-      let law = ready_where_nothing_is_open A.progress.waits A.progress.ready (joins_of A.view) A.progress.planned (awaited A.view taken) shows.waits listed (pair_place A.view p.number.0) in
+      let law = ready_where_nothing_is_open A.progress.waits A.progress.ready (joins_of A.view) A.progress.planned (awaited A.view taken) shows.waits listed
+      (pair_place A.view p.number.0) in
       let nothing = open_is A.view view taken planned A.progress.planned shows.planned_are p there (length A.progress.waits) rooms.progress.waits in (
         λ has. nothing.0 (ready_is taken shows.waits p.number has),
         λ can.
-            place_ready A.view view A.progress.numbers A.progress.waits A.progress.planned A.progress.ready rooms.progress.numbers rooms.progress.waits listed p.number (p, there, refl)
+            place_ready A.view view A.progress.numbers A.progress.waits A.progress.planned A.progress.ready rooms.progress.numbers rooms.progress.waits listed
+            p.number (p, there, refl)
             (law.1 (nothing.1 can)),
       )
 
   pub ready_own : All (IsOwnPair A.view) (ready_numbers A)
-  ready_own = ready_are_own A.view view A.progress.numbers A.progress.waits A.progress.planned A.progress.ready rooms.progress.numbers rooms.progress.waits listed
+  ready_own = ready_are_own A.view view A.progress.numbers A.progress.waits A.progress.planned A.progress.ready rooms.progress.numbers rooms.progress.waits
+      listed
 
   pub ready_are_once : AreApart A.progress.ready → AllPairs (λ x y. x ≢ y) (ready_numbers A)
-  ready_are_once apart = ready_once A.view view A.progress.numbers A.progress.waits A.progress.planned A.progress.ready rooms.progress.numbers rooms.progress.waits listed apart
+  ready_are_once apart = ready_once A.view view A.progress.numbers A.progress.waits A.progress.planned A.progress.ready rooms.progress.numbers
+      rooms.progress.waits listed apart
 
   pub ready_at : (x : PairNo) → Contains (ready_numbers A) x → IsOwnPair A.view x × Contains A.progress.ready (pair_place A.view x.0)
-  ready_at x there = ready_place A.view view A.progress.numbers A.progress.waits A.progress.planned A.progress.ready rooms.progress.numbers rooms.progress.waits listed x there
+  ready_at x there = ready_place A.view view A.progress.numbers A.progress.waits A.progress.planned A.progress.ready rooms.progress.numbers rooms.progress.waits
+      listed x there

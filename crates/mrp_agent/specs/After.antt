@@ -117,7 +117,8 @@ settled_out lane o item = queued_by lane.kind (map (λ i. i.item) lane.items) o 
 -- each cursor by its lane
 pub record AreOutsSettled (lanes : List OutgoingLane) (item : ItemNo) (old new : List OutFigures) : Type 0 where
   pub size : length new ≡ length old
-  pub each : (k : ℕ) → k < length lanes → slice_index_or new k no_out ≡ settled_out (slice_index_or lanes k no_outgoing) (slice_index_or old k no_out) item
+  pub each : (k : ℕ) → k < length lanes → slice_index_or new k no_out
+      ≡ settled_out (slice_index_or lanes k no_outgoing) (slice_index_or old k no_out) item
 
 -- the pair is planned, and its components wait for it no more
 pub record PairSettled (joins : List Join) (place : ℕ) (old new : Progress) : Type 0 where
@@ -126,7 +127,12 @@ pub record PairSettled (joins : List Join) (place : ℕ) (old new : Progress) : 
   pub left : left_of new.planned + 1 ≡ left_of old.planned
   pub size : length new.waits ≡ length old.waits
   pub others : (y : ℕ) → Contains old.ready y → (y ≡ place → ⊥) → Contains new.ready y
-  pub counts : (blocks : ℕ → ℕ) → AreCounts old.waits joins old.planned blocks → AreCounts new.waits joins new.planned blocks
+  pub counts : (blocks : ℕ → ℕ) → AreCounts old.waits joins old.planned blocks
+      → AreCounts new.waits joins new.planned blocks
 
 abbrev pub after_settled : AgentState → ℕ → PlanRows → Progress → List OutFigures → AgentState
-after_settled A place plan progress outs = record A { plans = slice_set A.plans place plan; progress = progress; outs = outs }
+after_settled A place plan progress outs = record A {
+  plans = slice_set A.plans place plan;
+  progress = progress;
+  outs = outs;
+}

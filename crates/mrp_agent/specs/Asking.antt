@@ -28,6 +28,7 @@ abbrev pub grossed : List ℕ → List ParentEdge → List PlanRows → List ℕ
 grossed called edges plans = map (λ t. slice_index called t + asked_by plans edges t) (range_with_len 0 (length called))
 
 -- what a pair's plan is drafted from
-pub record HasDraft (params : PairParams) (came called : List ℕ) (edges : List ParentEdge) (plans : List PlanRows) : Type 0 where
+pub record HasDraft (params : PairParams) (came called : List ℕ) (edges : List ParentEdge)
+    (plans : List PlanRows) : Type 0 where
   pub within : IsWithin params came (grossed called edges plans)
   pub edges_are : All (ParentCanAsk plans (length called)) edges

@@ -23,7 +23,8 @@ use Rattle.mrp_agent.specs.Drafts.{drafted, drafted_gross, drafted_incoming}
 use Rattle.mrp_agent.specs.Shows.{ShowsHistory}
 
 -- an agent of a plant of the network, to which legal beginnings have come
-pub record WorksIn (N : Table) (plant : ℕ) (A : AgentState) (sent taken : ℕ → List Record) (planned : ℕ → Bool) : Type 0 where
+pub record WorksIn (N : Table) (plant : ℕ) (A : AgentState) (sent taken : ℕ → List Record)
+    (planned : ℕ → Bool) : Type 0 where
   pub view : A.view ≡ plant_rows N plant
   pub legal : AreLegal N plant taken
   pub shows : ShowsHistory A sent taken planned
@@ -32,7 +33,8 @@ pub record WorksIn (N : Table) (plant : ℕ) (A : AgentState) (sent taken : ℕ 
 abbrev pub PlannedPairsHaveThePlan : Type 0
 PlannedPairsHaveThePlan =
     (N : Table) → IsTable N → IsLoopFree N
-    → (plant : ℕ) (A : AgentState) (sent taken : ℕ → List Record) (planned : ℕ → Bool) → WorksIn N plant A sent taken planned
+    → (plant : ℕ) (A : AgentState) (sent taken : ℕ → List Record) (planned : ℕ → Bool)
+    → WorksIn N plant A sent taken planned
     → (x : ℕ) → IsPairAt N plant x → planned x ≡ true → plans_of A x ≡ plan_at N x
 
 -- a pair as calls name it
@@ -43,7 +45,8 @@ numbered x = record { 0 = x }
 abbrev pub AgentDraftsAreWithin : Type 0
 AgentDraftsAreWithin =
     (N : Table) → IsSized N
-    → (plant : ℕ) (A : AgentState) (sent taken : ℕ → List Record) (planned : ℕ → Bool) → WorksIn N plant A sent taken planned
+    → (plant : ℕ) (A : AgentState) (sent taken : ℕ → List Record) (planned : ℕ → Bool)
+    → WorksIn N plant A sent taken planned
     → (x : ℕ) → IsPairAt N plant x → IsReadyAt N plant taken planned x
     → IsWithin (pair_owned A.view (numbered x)).params (drafted_incoming A (numbered x)) (drafted_gross A (numbered x))
 
@@ -51,7 +54,8 @@ AgentDraftsAreWithin =
 abbrev pub AgentDraftsAreThePlan : Type 0
 AgentDraftsAreThePlan =
     (N : Table) → IsSized N
-    → (plant : ℕ) (A : AgentState) (sent taken : ℕ → List Record) (planned : ℕ → Bool) → WorksIn N plant A sent taken planned
+    → (plant : ℕ) (A : AgentState) (sent taken : ℕ → List Record) (planned : ℕ → Bool)
+    → WorksIn N plant A sent taken planned
     → (x : ℕ) → IsPairAt N plant x → IsReadyAt N plant taken planned x
     → drafted A (numbered x) ≡ plan_at N x
 
@@ -59,14 +63,16 @@ AgentDraftsAreThePlan =
 abbrev pub SentIsWithin64 : Type 0
 SentIsWithin64 =
     (N : Table) → IsSized N
-    → (plant : ℕ) (A : AgentState) (sent taken : ℕ → List Record) (planned : ℕ → Bool) → WorksIn N plant A sent taken planned
+    → (plant : ℕ) (A : AgentState) (sent taken : ℕ → List Record) (planned : ℕ → Bool)
+    → WorksIn N plant A sent taken planned
     → (k : ℕ) → k < length A.view.outgoing → IsWithin64 A taken k
 
 -- and a record that it is given to send continues what it sent to a legal beginning of the network's lane
 abbrev pub SentIsLegal : Type 0
 SentIsLegal =
     (N : Table) → IsSized N
-    → (plant : ℕ) (A : AgentState) (sent taken : ℕ → List Record) (planned : ℕ → Bool) → WorksIn N plant A sent taken planned
+    → (plant : ℕ) (A : AgentState) (sent taken : ℕ → List Record) (planned : ℕ → Bool)
+    → WorksIn N plant A sent taken planned
     → (k : ℕ) → k < length A.view.outgoing → (r : Record) → ContinuesSent A sent taken k r
     → IsBeginning (loads N (lane_at N (outgoing_at A.view k).number.0)) (sent (outgoing_at A.view k).number.0 ++ r ∷ [])
 
@@ -75,11 +81,14 @@ SentIsLegal =
 abbrev pub NothingLegalIsLeft : Type 0
 NothingLegalIsLeft =
     (N : Table) → IsSized N
-    → (plant : ℕ) (A : AgentState) (sent taken : ℕ → List Record) (planned : ℕ → Bool) → WorksIn N plant A sent taken planned
+    → (plant : ℕ) (A : AgentState) (sent taken : ℕ → List Record) (planned : ℕ → Bool)
+    → WorksIn N plant A sent taken planned
     → (k : ℕ) → k < length A.view.outgoing → NothingContinues A sent taken k
     → (r : Record) → IsDecided N planned (lane_at N (outgoing_at A.view k).number.0) (content r)
-    → IsBeginning (loads N (lane_at N (outgoing_at A.view k).number.0)) (sent (outgoing_at A.view k).number.0 ++ r ∷ []) → ⊥
+    → IsBeginning (loads N (lane_at N (outgoing_at A.view k).number.0)) (sent (outgoing_at A.view k).number.0 ++ r ∷ [])
+    → ⊥
 
 -- what a plant of a sized network sees is all that its agent needs to begin
 abbrev pub ViewsCanBePlanned : Type 0
-ViewsCanBePlanned = (N : Table) → IsSized N → (plant : ℕ) → IsView (plant_rows N plant) × HasSmallOpenings (plant_rows N plant)
+ViewsCanBePlanned = (N : Table) → IsSized N → (plant : ℕ)
+    → IsView (plant_rows N plant) × HasSmallOpenings (plant_rows N plant)

@@ -8,4 +8,5 @@ use Rattle.mrp_agent.specs.After.{AreOutsSettled, PairSettled}
 pub record IsMarked (old : AgentState) (place : ℕ) (new : AgentState) : Type 0 where
   pub same : new ≡ record old { progress = new.progress; outs = new.outs }
   pub settled : PairSettled (joins_of old.view) place old.progress new.progress
-  pub queued : AreOutsSettled old.view.outgoing (slice_index_or old.view.pairs place no_plant_pair).item old.outs new.outs
+  pub queued : AreOutsSettled old.view.outgoing (slice_index_or old.view.pairs place no_plant_pair).item old.outs
+      new.outs

@@ -1,5 +1,6 @@
 -- What the calls that read an agent say of each history that it shows.
-use Rattle.std.specs.Prelude.{◌≡◌, ◌==◌, ℕ, Bool, true, not, List, find, count_by, option_map, option_and_then, Option, Some, Contains}
+use Rattle.std.specs.Prelude.{◌≡◌, ◌==◌, ℕ, Bool, true, not, List, find, count_by, option_map, option_and_then, Option}
+use Rattle.std.specs.Prelude.{Some, Contains}
 use Rattle.mrp_rows.specs.declared.numbers.ItemNo.{ItemNo}
 use Rattle.mrp_rows.specs.declared.numbers.PairNo.{PairNo}
 use Rattle.mrp_net.specs.declared.lane.LaneNo.{LaneNo}
@@ -17,7 +18,8 @@ use Rattle.mrp_events.specs.LocalPlans.{CanBePlanned}
 
 -- the pair with a number is one of the plant's, and it can be planned
 abbrev pub OwnCanBePlanned : PlantRows → (ℕ → List Record) → (ℕ → Bool) → PairNo → Type 0
-OwnCanBePlanned V taken planned x = (p : PlantPair) × (Contains V.pairs p) × (p.number ≡ x) × CanBePlanned V taken planned p
+OwnCanBePlanned V taken planned x = (p : PlantPair) × (Contains V.pairs p) × (p.number ≡ x)
+    × CanBePlanned V taken planned p
 
 -- none of the plant's pairs can be
 abbrev pub NoneCanBePlanned : PlantRows → (ℕ → List Record) → (ℕ → Bool) → Type 0
@@ -44,7 +46,8 @@ carried_by item lane = find (λ i. i.item.0 == item.0) lane.items
 -- carries the item
 abbrev pub received_over : PlantRows → (ℕ → List Record) → LaneNo → ItemNo → Option ℕ
 received_over V taken lane item =
-    option_map (λ i. cum i.opening item.0 (contents (taken lane.0))) (option_and_then (carried_by item) (incoming_of V lane))
+    option_map (λ i. cum i.opening item.0 (contents (taken lane.0)))
+    (option_and_then (carried_by item) (incoming_of V lane))
 
 -- of an item of a lane that comes in it is the lane's figure from the opening one on
 abbrev pub ReceivedFiguresAreCumulative : Type 0

@@ -1,5 +1,6 @@
 -- What an agent sends next on a lane, by the lane's place.
-use Rattle.std.specs.Prelude.{ℕ, ◌-◌, ◌+◌, ◌≤◌, List, [], ◌∷◌, ◌++◌, length, map, find, slice_index, slice_get, Option, None, Some, option_map}
+use Rattle.std.specs.Prelude.{ℕ, ◌-◌, ◌+◌, ◌≤◌, List, [], ◌∷◌, ◌++◌, length, map, find, slice_index, slice_get, Option}
+use Rattle.std.specs.Prelude.{None, Some, option_map}
 use Rattle.std.specs.List.{range_with_len}
 use Rattle.mrp_net.specs.declared.lane.LaneKind.{LaneKind}
 use Rattle.mrp_net.specs.declared.lane.LaneKind.TheVariants.{Despatch, Schedule}
@@ -50,7 +51,8 @@ called_by release call period = share call (slice_index release period)
 
 abbrev pub next_called : List ℕ → Call → ℕ → Option NextLine
 next_called release call mark =
-    option_map call_line (find has_pieces (map (delivery_in (called_by release call)) (range_with_len mark (length release - mark))))
+    option_map call_line (find has_pieces (map (delivery_in (called_by release call))
+    (range_with_len mark (length release - mark))))
 
 -- a share of thousandths
 pub record IsCallShare (call : Call) : Type 0 where
@@ -58,24 +60,36 @@ pub record IsCallShare (call : Call) : Type 0 where
   pub ends : call.high ≤ 1000
 
 abbrev pub left_to_ship : OutgoingLoad → ℕ → Remainder
-left_to_ship load mark = record { item = load.item; opening = load.figure; reset = load.reset; line = next_shipment load.shipments mark }
+left_to_ship load mark = record {
+  item = load.item;
+  opening = load.figure;
+  reset = load.reset;
+  line = next_shipment load.shipments mark;
+}
 
 abbrev pub left_to_call : Figures → List ℕ → OutgoingItem → Call → ℕ → Remainder
 left_to_call before release item call mark =
-    record { item = item.item; opening = figure_in before item.item.0; reset = item.reset; line = next_called release call mark }
+    record {
+      item = item.item;
+      opening = figure_in before item.item.0;
+      reset = item.reset;
+      line = next_called release call mark;
+    }
 
 -- what is left of the item at a place from a mark on
 abbrev pub remainder_by : LaneKind → AgentState → OutgoingLane → OutgoingLoad → ℕ → Remainder
 remainder_by Despatch A lane load mark = left_to_ship load mark
 remainder_by Schedule A lane load mark =
-    left_to_call (book_at A (incoming_place A.view (lane.number.0 - 1))) (plans_of A (call_of load).customer.0).release (bare load) (call_of load) mark
+    left_to_call (book_at A (incoming_place A.view (lane.number.0 - 1))) (plans_of A (call_of load).customer.0).release
+    (bare load) (call_of load) mark
 
 abbrev pub remainder : AgentState → OutgoingLane → ℕ → ℕ → Remainder
 remainder A lane mark place = remainder_by lane.kind A lane (load_at lane.items place) mark
 
 -- what is left of the item at the head
 abbrev pub left_at : AgentState → ℕ → Option Remainder
-left_at A k = option_map (remainder A (outgoing_at A.view k) (out_at A k).mark) (slice_get (out_at A k).queue (out_at A k).head)
+left_at A k = option_map (remainder A (outgoing_at A.view k) (out_at A k).mark)
+    (slice_get (out_at A k).queue (out_at A k).head)
 
 -- the record that is sent next
 abbrev pub next_out : AgentState → ℕ → Option Record
@@ -95,10 +109,12 @@ IsWithin64 A taken k = IsBounded (goods_at A taken k) (out_at A k)
 abbrev pub ContinuesSent : AgentState → (ℕ → List Record) → (ℕ → List Record) → ℕ → Record → Type 0
 ContinuesSent A sent taken k r =
     (loads : List lane.Load) → Agrees (goods_at A taken k) (out_at A k) loads
-    → IsBeginning loads (sent (outgoing_at A.view k).number.0 ++ r ∷ []) × MaySend (goods_at A taken k) (out_at A k) (content r)
+    → IsBeginning loads (sent (outgoing_at A.view k).number.0 ++ r ∷ [])
+    × MaySend (goods_at A taken k) (out_at A k) (content r)
 
 -- no record that may be sent does so
 abbrev pub NothingContinues : AgentState → (ℕ → List Record) → (ℕ → List Record) → ℕ → Type 0
 NothingContinues A sent taken k =
     (loads : List lane.Load) → AreLoads loads → Agrees (goods_at A taken k) (out_at A k) loads
-    → (r : Record) → MaySend (goods_at A taken k) (out_at A k) (content r) → IsBeginning loads (sent (outgoing_at A.view k).number.0 ++ r ∷ []) → ⊥
+    → (r : Record) → MaySend (goods_at A taken k) (out_at A k) (content r)
+    → IsBeginning loads (sent (outgoing_at A.view k).number.0 ++ r ∷ []) → ⊥

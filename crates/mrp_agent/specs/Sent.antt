@@ -9,11 +9,13 @@ use Rattle.mrp_agent.specs.Shows.{ShowsHistory}
 -- the record that is given continues what was sent
 abbrev pub GivenIsLegal : AgentState → ℕ → Record → Type 0
 GivenIsLegal A k r =
-    (sent taken : ℕ → List Record) (planned : ℕ → Bool) → ShowsHistory A sent taken planned → IsWithin64 A taken k → ContinuesSent A sent taken k r
+    (sent taken : ℕ → List Record) (planned : ℕ → Bool) → ShowsHistory A sent taken planned → IsWithin64 A taken k
+    → ContinuesSent A sent taken k r
 
 -- where none is given none does
 abbrev pub NoneCanBeSent : AgentState → ℕ → Type 0
-NoneCanBeSent A k = (sent taken : ℕ → List Record) (planned : ℕ → Bool) → ShowsHistory A sent taken planned → NothingContinues A sent taken k
+NoneCanBeSent A k = (sent taken : ℕ → List Record) (planned : ℕ → Bool) → ShowsHistory A sent taken planned
+    → NothingContinues A sent taken k
 
 -- the lane's sent list with one more record
 abbrev pub with_sent : AgentState → (ℕ → List Record) → ℕ → Record → ℕ → List Record

@@ -47,7 +47,10 @@ joins_of V = map (join_of V) V.edges
 
 -- the blocks that come in, each awaited by the plant's pair of its item
 abbrev pub block_awaited : PlantRows → (ℕ → List Record) → IncomingLane → IncomingItem → Awaited
-block_awaited V taken lane i = record { pair = pair_place V i.pair.0; ended = is_ended i.item.0 (contents (taken lane.number.0)) }
+block_awaited V taken lane i = record {
+  pair = pair_place V i.pair.0;
+  ended = is_ended i.item.0 (contents (taken lane.number.0));
+}
 
 abbrev pub awaited_on : PlantRows → (ℕ → List Record) → IncomingLane → List Awaited
 awaited_on V taken lane = map (block_awaited V taken lane) lane.items
@@ -67,19 +70,22 @@ up_to_last sum = min sum (2 ^ 64 - 1)
 
 -- what comes in and what is asked for beside the parents, as far as it has come
 abbrev pub Comes : AgentState → (ℕ → List Record) → PlantPair → Type 0
-Comes A taken p = (t : ℕ) → t < A.view.horizon → amount_at A.view A.came p.number t ≡ up_to_last (local_incoming A.view taken p t)
+Comes A taken p = (t : ℕ) → t < A.view.horizon → amount_at A.view A.came p.number t
+    ≡ up_to_last (local_incoming A.view taken p t)
 
 abbrev pub IsCalled : AgentState → (ℕ → List Record) → PlantPair → Type 0
 IsCalled A taken p =
     (t : ℕ) → t < A.view.horizon
-    → amount_at A.view A.called p.number t ≡ up_to_last (amount_at A.view A.view.demands p.number t + booked_on Schedule A.view taken p.item t)
+    → amount_at A.view A.called p.number t ≡ up_to_last
+    (amount_at A.view A.view.demands p.number t + booked_on Schedule A.view taken p.item t)
 
 -- ---- cursors
 
 -- the cursor of a lane shows what was sent, and queued are the places that may be sent
 pub record OutShows (A : AgentState) (sent taken : ℕ → List Record) (planned : ℕ → Bool) (k : ℕ) : Type 0 where
   pub size : (out_at A k).size ≡ length (outgoing_at A.view k).items
-  pub shows : ShowsSent (goods_of A.view taken (plans_of A) (outgoing_at A.view k)) (out_at A k) (sent (outgoing_at A.view k).number.0)
+  pub shows : ShowsSent (goods_of A.view taken (plans_of A) (outgoing_at A.view k)) (out_at A k)
+      (sent (outgoing_at A.view k).number.0)
   pub queued : (j : ℕ) → Contains (out_at A k).queue j ↔ IsSendable planned (outgoing_at A.view k) j
 
 -- ---- all of it
@@ -89,7 +95,8 @@ pub record ShowsHistory (A : AgentState) (sent taken : ℕ → List Record) (pla
   pub waits : Awaits A taken
   pub came : (p : PlantPair) → Contains A.view.pairs p → Comes A taken p
   pub called : (p : PlantPair) → Contains A.view.pairs p → IsCalled A taken p
-  pub planned_are : (p : PlantPair) → Contains A.view.pairs p → planned p.number.0 ≡ is_planned A.progress.planned (pair_place A.view p.number.0)
+  pub planned_are : (p : PlantPair) → Contains A.view.pairs p
+      → planned p.number.0 ≡ is_planned A.progress.planned (pair_place A.view p.number.0)
   pub local : IsLocal A.view taken planned (plans_of A)
   pub outs : (k : ℕ) → k < length A.view.outgoing → OutShows A sent taken planned k
 

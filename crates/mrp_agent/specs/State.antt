@@ -36,7 +36,17 @@ abbrev pub no_book : Figures
 no_book = record { rising = false; horizon = 0; next = 0; closed = false; begun = None; items = [] }
 
 abbrev pub no_out : OutFigures
-no_out = record { next = 0; closed = false; size = 0; queue = []; head = 0; mark = 0; lines = 0; moved = 0; anew = false }
+no_out = record {
+  next = 0;
+  closed = false;
+  size = 0;
+  queue = [];
+  head = 0;
+  mark = 0;
+  lines = 0;
+  moved = 0;
+  anew = false;
+}
 
 abbrev pub no_incoming : IncomingLane
 no_incoming = record { number = record { 0 = 0 }; kind = Despatch; items = [] }

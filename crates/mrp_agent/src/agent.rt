@@ -8,10 +8,10 @@ use crate::booking::incoming_place;
 use crate::parts::{Amounts, Lanes, Structure};
 use crate::places::LastPlaces;
 use mrp_book::Book;
-use mrp_record::OutCursor;
 use mrp_net::{ItemNo, LaneNo, PairNo};
 use mrp_netting::PairPlan;
 use mrp_qty::{Memory, Qty};
+use mrp_record::OutCursor;
 use mrp_view::{PlantFrame, PlantView};
 use std::alloc::Global;
 use std::marker::Model;
@@ -43,7 +43,8 @@ impl Model for Agent {
 }
 
 impl Agent {
-    ghost use Rattle.std.specs.Prelude.{◌↔◌, ℕ, Bool, IfNone, IsSome, IsTrue, List, slice_get, ◌≢◌, AllPairs, Contains, length};
+    ghost use Rattle.std.specs.Prelude.{◌↔◌, ℕ, Bool, IfNone, IsSome, IsTrue, List, slice_get, ◌≢◌, AllPairs, Contains};
+    ghost use Rattle.std.specs.Prelude.{length};
     ghost use Rattle.mrp_events.specs.State.{opening_state};
     ghost use Rattle.mrp_ready.specs.Progress.{is_planned, left_of};
     ghost use Rattle.mrp_record.specs.declared.record.Record.{Record};
@@ -52,7 +53,8 @@ impl Agent {
     ghost use Rattle.mrp_events.specs.LocalPlans.{CanBePlanned};
     ghost use Rattle.mrp_agent.specs.Drafts.{ready_numbers};
     ghost use Rattle.mrp_agent.specs.Kept.{HasSmallOpenings};
-    ghost use Rattle.mrp_agent.specs.Reading.{HasDone, NoneCanBePlanned, OwnCanBePlanned, OwnIsPlanned, received_over, unplanned_pairs};
+    ghost use Rattle.mrp_agent.specs.Reading.{HasDone, NoneCanBePlanned, OwnCanBePlanned, OwnIsPlanned, received_over};
+    ghost use Rattle.mrp_agent.specs.Reading.{unplanned_pairs};
     ghost use Rattle.mrp_agent.specs.Shows.{ShowsHistory, is_done};
     ghost use Rattle.mrp_agent.specs.State.{pair_place, plans_of};
 
@@ -113,7 +115,8 @@ impl Agent {
         ensures own { All (IsOwnPair self.now.view) result.now }
         ensures once { AllPairs (λ x y. x ≢ y) result.now }
         ensures exact { (sent taken : ℕ → List Record) (planned : ℕ → Bool) → ShowsHistory self.now sent taken planned
-            → (p : PlantPair) → Contains self.now.view.pairs p → Contains result.now p.number ↔ CanBePlanned self.now.view taken planned p }
+            → (p : PlantPair) → Contains self.now.view.pairs p
+            → Contains result.now p.number ↔ CanBePlanned self.now.view taken planned p }
     {
         self.structure.progress.ready_pairs()
     }
@@ -132,7 +135,8 @@ impl Agent {
     /// How many pairs aren't planned.
     pub fn left(&self) -> usize
         ensures count { result ≡ left_of self.now.progress.planned }
-        ensures unplanned { (sent taken : ℕ → List Record) (planned : ℕ → Bool) → ShowsHistory self.now sent taken planned
+        ensures unplanned { (sent taken : ℕ → List Record) (planned : ℕ → Bool)
+            → ShowsHistory self.now sent taken planned
             → result ≡ unplanned_pairs self.now.view planned }
     {
         self.structure.progress.left()
@@ -189,7 +193,8 @@ impl Agent {
     /// end, and all that go out are sent to the end.
     pub fn done(&self) -> bool
         ensures exact { result ≡ is_done self.now }
-        ensures finished { (sent taken : ℕ → List Record) (planned : ℕ → Bool) → ShowsHistory self.now sent taken planned
+        ensures finished { (sent taken : ℕ → List Record) (planned : ℕ → Bool)
+            → ShowsHistory self.now sent taken planned
             → (IsTrue result ↔ HasDone self.now.view sent taken planned) }
     {
         let _ = &self.view;

@@ -2,7 +2,8 @@
 
 ghost use Rattle.std.specs.Prelude.{◌≡◌, ◌==◌, ◌*◌, ◌<◌, ◌≤◌, count_by, length, position, IfSome};
 ghost use Rattle.std.specs.List.{position_or_len};
-ghost use Rattle.mrp_agent.specs.After.{came_by, called_after, items_of, with_line, added_at, ended_place, BlockEnded, IsAwaited};
+ghost use Rattle.mrp_agent.specs.After.{came_by, called_after, items_of, with_line, added_at, ended_place, BlockEnded};
+ghost use Rattle.mrp_agent.specs.After.{IsAwaited};
 
 use crate::Agent;
 use crate::places::ItemPlaces;
@@ -30,12 +31,15 @@ impl Agent {
     pub fn book(&mut self, lane: LaneNo, entry: &Record) -> Result<(), BookFault>
         requires incoming { incoming_place self.old.view lane.0 < length self.old.view.incoming }
         ensures view { self.new.view ≡ self.old.view }
-        ensures booked { OnOk result ((sent taken : ℕ → List Record) (planned : ℕ → Bool) → ShowsHistory self.old sent taken planned
+        ensures booked { OnOk result ((sent taken : ℕ → List Record) (planned : ℕ → Bool)
+            → ShowsHistory self.old sent taken planned
             → ShowsHistory self.new sent (changed taken lane.0 (taken lane.0 ++ entry.now ∷ [])) planned) }
         ensures refused { IfErr result (λ fault. (taken : ℕ → List Record) → BooksShow self.old taken
-            → (first_fault (figures (form_of self.old.view (incoming_at self.old.view (incoming_place self.old.view lane.0)))
+            → (first_fault (figures (form_of self.old.view
+            (incoming_at self.old.view (incoming_place self.old.view lane.0)))
             (taken lane.0)) entry.now ≡ Some fault)
-            × (IsInForm (form_of self.old.view (incoming_at self.old.view (incoming_place self.old.view lane.0))) (taken lane.0 ++ entry.now ∷ []) → ⊥)) }
+            × (IsInForm (form_of self.old.view (incoming_at self.old.view (incoming_place self.old.view lane.0)))
+            (taken lane.0 ++ entry.now ∷ []) → ⊥)) }
         ensures unchanged { OnErr result (self.new ≡ self.old) }
     {
         let k = incoming_near(self.view.incoming(), lane, self.last.booked);

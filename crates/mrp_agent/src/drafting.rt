@@ -107,7 +107,8 @@ pub(crate) fn draft_from(
     requires incoming { length incoming.old ≡ length rows.now.came.now }
     requires gross { length gross.old ≡ length rows.now.called.now }
     requires into { length into.old.gross ≡ length rows.now.called.now }
-    ensures plan { into.new ≡ one rows.now.params rows.now.came.now (grossed rows.now.called.now rows.now.edges.now plans.now) }
+    ensures plan { into.new ≡ one rows.now.params rows.now.came.now
+        (grossed rows.now.called.now rows.now.edges.now plans.now) }
     ensures incoming { length incoming.new ≡ length incoming.old }
     ensures gross { length gross.new ≡ length gross.old }
 {
@@ -121,7 +122,8 @@ pub(crate) fn draft_from(
 fn add_asked(edges: &[ParentEdge], plans: &[PairPlan], gross: &mut Row)
     requires edges { All (ParentCanAsk plans.now (length gross.old)) edges.now }
     requires within { (t : ℕ) → t < length gross.old → slice_index gross.old t + asked_by plans.now edges.now t ≤ MOST }
-    ensures each { (t : ℕ) → t < length gross.old → slice_index gross.new t ≡ slice_index gross.old t + asked_by plans.now edges.now t }
+    ensures each { (t : ℕ) → t < length gross.old
+        → slice_index gross.new t ≡ slice_index gross.old t + asked_by plans.now edges.now t }
     ensures size { length gross.new ≡ length gross.old }
 {
     for edge in edges {
@@ -133,7 +135,8 @@ fn add_asked(edges: &[ParentEdge], plans: &[PairPlan], gross: &mut Row)
 fn add_edge(edge: &ParentEdge, plans: &[PairPlan], gross: &mut Row)
     requires edge { ParentCanAsk plans.now (length gross.old) edge.now }
     requires within { (t : ℕ) → t < length gross.old → slice_index gross.old t + asked_on plans.now t edge.now ≤ MOST }
-    ensures each { (t : ℕ) → t < length gross.old → slice_index gross.new t ≡ slice_index gross.old t + asked_on plans.now t edge.now }
+    ensures each { (t : ℕ) → t < length gross.old
+        → slice_index gross.new t ≡ slice_index gross.old t + asked_on plans.now t edge.now }
     ensures size { length gross.new ≡ length gross.old }
 {
     let plan = &plans[edge.parent as usize];

@@ -78,7 +78,8 @@ fn short_place(view: &PlantFrame, x: PairNo) -> u32
 
 /// The joins of edges.
 pub(crate) fn joins(alloc: Global, edges: &[ParentEdge]) -> Result<Vec<Join>, AllocError>
-    ensures { IfOk result (λ v. v.items ≡ map (λ e. record { component = e.component; demander = e.parent }) edges.now) }
+    ensures { IfOk result (λ v. v.items ≡ map (λ e. record { component = e.component; demander = e.parent })
+        edges.now) }
 {
     edges
         .iter()

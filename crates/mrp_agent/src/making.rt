@@ -12,10 +12,10 @@ ghost use Rattle.mrp_agent.specs.Making.{AreFit, AreIdleOuts, new_figures, IsIdl
 ghost use Rattle.mrp_agent.specs.Shows.{book_item, form_of};
 
 use mrp_book::{Book, BookItem};
-use mrp_record::OutCursor;
 use mrp_net::LaneKind;
 use mrp_qty::{Memory, Qty};
 use mrp_ready::{Join, PairNo, Readiness, first_waits};
+use mrp_record::OutCursor;
 use mrp_view::{IncomingItem, IncomingLane, OutgoingLane, PlantFrame};
 use std::alloc::{AllocError, Global};
 

@@ -14,11 +14,11 @@ use crate::places::ItemPlaces;
 use crate::queues::{QueuePlace, queues};
 use crate::room::Room;
 use mrp_book::Book;
-use mrp_record::OutCursor;
 use mrp_group::{Groups, group};
 use mrp_netting::{PairPlan, blank_plans};
 use mrp_qty::Memory;
 use mrp_ready::{Components, Join, Readiness};
+use mrp_record::OutCursor;
 use mrp_view::PlantFrame;
 use std::alloc::Global;
 
@@ -38,7 +38,8 @@ impl Structure {
     pub(crate) fn new(alloc: Global, view: &PlantFrame) -> Result<Structure, Memory>
         requires seen { IsView view.now }
         ensures items { IfOk result (λ s. s.items ≡ map (λ p. p.item) view.now.pairs) }
-        ensures edges { IfOk result (λ s. IsGrouped (λ e. e.component) (length view.now.pairs) (map (parent_edge view.now) view.now.edges)
+        ensures edges { IfOk result (λ s. IsGrouped (λ e. e.component) (length view.now.pairs)
+            (map (parent_edge view.now) view.now.edges)
             s.edges.rows.items s.edges.starts.items) }
         ensures components { IfOk result
             (λ s. s.components ≡ map (components_of (joins_of view.now)) (range_with_len 0 (length view.now.pairs))) }
@@ -57,7 +58,8 @@ impl Structure {
         requires seen { IsView view.now }
         requires parents { parents.now ≡ map (parent_edge view.now) view.now.edges }
         ensures items { IfOk result (λ s. s.items ≡ map (λ p. p.item) view.now.pairs) }
-        ensures edges { IfOk result (λ s. IsGrouped (λ e. e.component) (length view.now.pairs) (map (parent_edge view.now) view.now.edges)
+        ensures edges { IfOk result (λ s. IsGrouped (λ e. e.component) (length view.now.pairs)
+            (map (parent_edge view.now) view.now.edges)
             s.edges.rows.items s.edges.starts.items) }
         ensures components { IfOk result
             (λ s. s.components ≡ map (components_of (joins_of view.now)) (range_with_len 0 (length view.now.pairs))) }
@@ -170,7 +172,8 @@ impl Amounts {
         requires called { called.items ≡ view.now.demands }
         ensures came { IfOk result (λ a. a.came.items ≡ view.now.receipts) }
         ensures called { IfOk result (λ a. a.called.items ≡ view.now.demands) }
-        ensures plans { IfOk result (λ a. a.plans.items ≡ replicate (length view.now.pairs) (nothing_planned view.now.horizon)) }
+        ensures plans { IfOk result (λ a. a.plans.items
+            ≡ replicate (length view.now.pairs) (nothing_planned view.now.horizon)) }
         ensures room { IfOk result (λ a. length a.room.gross ≡ view.now.horizon) }
         ensures receipts { IfOk result (λ _. AreFit view.now.receipts) }
         ensures demands { IfOk result (λ _. AreFit view.now.demands) }

@@ -30,12 +30,15 @@ impl Agent {
         ensures can { IsTrue result ↔ Contains (ready_numbers self.old) x }
         ensures exact { (sent taken : ℕ → List Record) (planned : ℕ → Bool) → ShowsHistory self.old sent taken planned
             → IsTrue result ↔ OwnCanBePlanned self.old.view taken planned x }
-        ensures planned { OnTrue result ((sent taken : ℕ → List Record) (planned : ℕ → Bool) → ShowsHistory self.old sent taken planned
+        ensures planned { OnTrue result ((sent taken : ℕ → List Record) (planned : ℕ → Bool)
+            → ShowsHistory self.old sent taken planned
             → ShowsHistory self.new sent taken (changed planned x.0 true)) }
         ensures kept { OnTrue result (plans_of self.new x.0 ≡ drafted self.old x) }
         ensures left { OnTrue result (left_of self.new.progress.planned + 1 ≡ left_of self.old.progress.planned) }
-        ensures others { OnTrue result ((y : PairNo) → Contains (ready_numbers self.old) y → (y.0 ≡ x.0 → ⊥) → Contains (ready_numbers self.new) y) }
-        ensures drafts { OnTrue result ((y : PairNo) → Contains (ready_numbers self.old) y → drafted self.new y ≡ drafted self.old y) }
+        ensures others { OnTrue result ((y : PairNo) → Contains (ready_numbers self.old) y → (y.0 ≡ x.0 → ⊥)
+            → Contains (ready_numbers self.new) y) }
+        ensures drafts { OnTrue result ((y : PairNo) → Contains (ready_numbers self.old) y
+            → drafted self.new y ≡ drafted self.old y) }
         ensures unchanged { OnFalse result (self.new ≡ self.old) }
     {
         let Some(place) = self.view.place(x) else {

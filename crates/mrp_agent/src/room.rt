@@ -74,7 +74,8 @@ impl Room {
     pub(crate) fn draft_rows(&mut self, rows: &PairRows<'_>, plans: &[PairPlan])
         requires draft { HasDraft rows.now.params rows.now.came.now rows.now.called.now rows.now.edges.now plans.now }
         requires periods { length self.old.gross ≡ length rows.now.called.now }
-        ensures { self.new ≡ one rows.now.params rows.now.came.now (grossed rows.now.called.now rows.now.edges.now plans.now) }
+        ensures { self.new ≡ one rows.now.params rows.now.came.now
+            (grossed rows.now.called.now rows.now.edges.now plans.now) }
     {
         draft_from(
             rows,

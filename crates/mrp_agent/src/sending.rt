@@ -3,7 +3,8 @@
 ghost use Rattle.std.specs.Prelude.{◌≡◌, ◌==◌, ◌<◌, ◌≤◌, count_by, length, position};
 ghost use Rattle.std.specs.List.{position_or_len};
 ghost use Rattle.mrp_view.specs.Loads.{load_at};
-ghost use Rattle.mrp_agent.specs.Sending.{next_shipment, next_called, left_to_ship, left_to_call, figure_in, IsCallShare};
+ghost use Rattle.mrp_agent.specs.Sending.{next_shipment, next_called, left_to_ship, left_to_call, figure_in};
+ghost use Rattle.mrp_agent.specs.Sending.{IsCallShare};
 ghost use Rattle.mrp_agent.specs.After.{gone_on};
 ghost use Rattle.mrp_agent.specs.Kept.{IsShowing};
 ghost use Rattle.mrp_record.specs.Next.{next_record};
@@ -11,10 +12,10 @@ ghost use Rattle.mrp_record.specs.Next.{next_record};
 use crate::Agent;
 use crate::booking::incoming_near;
 use mrp_book::Book;
-use mrp_record::{NextLine, OutCursor, Record, Remainder};
 use mrp_net::{LaneKind, LaneNo, Shipment, share_of};
 use mrp_netting::PairPlan;
 use mrp_qty::Row;
+use mrp_record::{NextLine, OutCursor, Record, Remainder};
 use mrp_rows::ItemNo;
 use mrp_view::{Call, OutgoingItem, OutgoingItems, OutgoingLane};
 

@@ -5,9 +5,9 @@ ghost use Rattle.mrp_agent.specs.Queues.{with_queued};
 
 use crate::Agent;
 use crate::queues::QueuePlace;
-use mrp_record::OutCursor;
 use mrp_net::PairNo;
 use mrp_netting::PairPlan;
+use mrp_record::OutCursor;
 
 impl Agent {
     ghost use Rattle.std.specs.Prelude.{ℕ, Bool, true, List, Contains, ◌+◌};
@@ -28,7 +28,8 @@ impl Agent {
             → ShowsHistory self.new sent taken (changed planned x.0 true) }
         ensures kept { plans_of self.new x.0 ≡ plan.now }
         ensures left { left_of self.new.progress.planned + 1 ≡ left_of self.old.progress.planned }
-        ensures others { (y : PairNo) → Contains (ready_numbers self.old) y → (y.0 ≡ x.0 → ⊥) → Contains (ready_numbers self.new) y }
+        ensures others { (y : PairNo) → Contains (ready_numbers self.old) y → (y.0 ≡ x.0 → ⊥)
+            → Contains (ready_numbers self.new) y }
         ensures drafts { (y : PairNo) → Contains (ready_numbers self.old) y → drafted self.new y ≡ drafted self.old y }
     {
         let Some(place) = self.view.place(x) else {

@@ -1,5 +1,6 @@
 -- The figures of a list with one record more.
-use Rattle.std.proofs.Common.{◌≡◌, ℕ, ◌+◌, ◌==◌, Bool, true, false, cond, ◌||◌, Some, None, Option, List, [], ◌∷◌, ◌++◌, inl, inr, refl, sym, ◌∙◌, ap, subst, length, map, arith}
+use Rattle.std.proofs.Common.{◌≡◌, ℕ, ◌+◌, ◌==◌, Bool, true, false, cond, ◌||◌, Some, None, Option, List, [], ◌∷◌, ◌++◌, inl, inr, refl, sym, ◌∙◌, ap, subst}
+use Rattle.std.proofs.Common.{length, map, arith}
 use Rattle.std.specs.Prelude.{IsSomeAnd}
 use Rattle.std.specs.List.{IsDistinct, AllByRecursion, find, fold, list_any, sum_by, count_by}
 use Rattle.std.proofs.lemmas.Bool.{cases_Bool, eq-eqb, eqb-true, eqb-false, ne_eqb, or_right}
@@ -7,7 +8,8 @@ use Rattle.std.proofs.lemmas.List.{map-append, length-append}
 use Rattle.std.proofs.lemmas.List.Sums.{fold_push, sum_by_push}
 use Rattle.mrp_record.specs.declared.record.Record.{Record}
 use Rattle.mrp_record.specs.declared.record.Record.TheVariants.{Line, ItemEnd, Reset, Close}
-use Rattle.mrp_record.specs.Entries.{Entry, LineOf, EndOf, ResetOf, Closing, content, contents, is_of, is_end, is_closing, entries_of, is_closed, figure_after, closed_of, in_force}
+use Rattle.mrp_record.specs.Entries.{Entry, LineOf, EndOf, ResetOf, Closing, content, contents, is_of, is_end, is_closing, entries_of, is_closed, figure_after}
+use Rattle.mrp_record.specs.Entries.{closed_of, in_force}
 use Rattle.mrp_record.specs.Blocks.{is_line, is_reset, next_after}
 use Rattle.mrp_record.specs.Form.{FormItem, LaneForm, item_on, GoesOn, ResetFits, EntryFits}
 use Rattle.mrp_record.proofs.Growing.{own_pushed, other_pushed}
@@ -40,7 +42,8 @@ figure_with i figure closed lines next was_reset ended = record {
   ended = ended;
 }
 
-same_figure : (i : FormItem) (f f' c c' l l' n n' : ℕ) (w w' e e' : Bool) → f ≡ f' → c ≡ c' → l ≡ l' → n ≡ n' → w ≡ w' → e ≡ e' → figure_with i f c l n w e ≡ figure_with i f' c' l' n' w' e'
+same_figure : (i : FormItem) (f f' c c' l l' n n' : ℕ) (w w' e e' : Bool) → f ≡ f' → c ≡ c' → l ≡ l' → n ≡ n' → w ≡ w' → e ≡ e'
+    → figure_with i f c l n w e ≡ figure_with i f' c' l' n' w' e'
 same_figure i f f' c c' l l' n n' w w' e e' pf pc pl pn pw pe =
     ap (λ (z : ℕ). figure_with i z c l n w e) pf
     ∙ ap (λ (z : ℕ). figure_with i f' z l n w e) pc
@@ -81,7 +84,8 @@ after_end i own item n c =
     (any_pushed is_reset own e refl)
     (any_now is_end own e refl)
 
-after_reset : (i : FormItem) (own : List Entry) (item c : ℕ) → c ≡ fold figure_after i.opening own → figure_from i (own ++ ResetOf item c ∷ []) ≡ figure_after_reset (figure_from i own)
+after_reset : (i : FormItem) (own : List Entry) (item c : ℕ) → c ≡ fold figure_after i.opening own
+    → figure_from i (own ++ ResetOf item c ∷ []) ≡ figure_after_reset (figure_from i own)
 after_reset i own item c is =
     let e = ResetOf item c in
     same_figure i _ _ _ _ _ _ _ _ _ _ _ _
@@ -94,12 +98,14 @@ after_reset i own item c is =
 
 -- ---- all items of the lane
 
-unchanged : (es : List Entry) (e : Entry) (item : ℕ) → ((other : ℕ) → is_of other e ≡ (item == other)) → (i : FormItem) → (i.item == item) ≡ false → figure_of (es ++ e ∷ []) i ≡ figure_of es i
+unchanged : (es : List Entry) (e : Entry) (item : ℕ) → ((other : ℕ) → is_of other e ≡ (item == other)) → (i : FormItem) → (i.item == item) ≡ false
+    → figure_of (es ++ e ∷ []) i ≡ figure_of es i
 unchanged es e item is i apart =
     let back : (item == i.item) ≡ false = ne_eqb item i.item (λ z. eqb-false i.item item apart (sym z)) in
     ap (figure_from i) (other_pushed i.item es e (is i.item ∙ back))
 
-rest_unchanged : (es : List Entry) (e : Entry) (item : ℕ) → ((other : ℕ) → is_of other e ≡ (item == other)) → (i : FormItem) → i.item ≡ item → (items : List FormItem)
+rest_unchanged : (es : List Entry) (e : Entry) (item : ℕ) → ((other : ℕ) → is_of other e ≡ (item == other)) → (i : FormItem) → i.item ≡ item
+    → (items : List FormItem)
     → AllByRecursion (λ o. is_same_in_form i o ≡ false) items → map (figure_of (es ++ e ∷ [])) items ≡ map (figure_of es) items
 rest_unchanged es e item is i own [] h = refl
 rest_unchanged es e item is i own (o ∷ items) h =
@@ -107,7 +113,8 @@ rest_unchanged es e item is i own (o ∷ items) h =
     ap (λ (g : ItemFigure). g ∷ map (figure_of (es ++ e ∷ [])) items) (unchanged es e item is o apart)
     ∙ ap (λ (z : List ItemFigure). figure_of es o ∷ z) (rest_unchanged es e item is i own items h.1)
 
-changed : (es : List Entry) (e : Entry) (item : ℕ) (change : ItemFigure → ItemFigure) → ((other : ℕ) → is_of other e ≡ (item == other)) → (items : List FormItem) → IsDistinct is_same_in_form items
+changed : (es : List Entry) (e : Entry) (item : ℕ) (change : ItemFigure → ItemFigure) → ((other : ℕ) → is_of other e ≡ (item == other))
+    → (items : List FormItem) → IsDistinct is_same_in_form items
     → ((i : FormItem) → find (λ j. j.item == item) items ≡ Some i → figure_from i (entries_of i.item es ++ e ∷ []) ≡ change (figure_of es i))
     → map (figure_of (es ++ e ∷ [])) items ≡ at_item item change (map (figure_of es) items)
 unfolding IsDistinct
@@ -127,7 +134,8 @@ changed es e item change is (i ∷ items) once step =
           let later : map (figure_of (es ++ e ∷ [])) items ≡ at_item item change (map (figure_of es) items) =
           changed es e item change is items once.1 (λ j found. step j (rw apart found)) in
           let all : map (figure_of (es ++ e ∷ [])) (i ∷ items) ≡ figure_of es i ∷ at_item item change (map (figure_of es) items) =
-          ap (λ (g : ItemFigure). g ∷ map (figure_of (es ++ e ∷ [])) items) (unchanged es e item is i apart) ∙ ap (λ (z : List ItemFigure). figure_of es i ∷ z) later in
+          ap (λ (g : ItemFigure). g ∷ map (figure_of (es ++ e ∷ [])) items) (unchanged es e item is i apart)
+          ∙ ap (λ (z : List ItemFigure). figure_of es i ∷ z) later in
           rw apart all
     ]
 
@@ -136,7 +144,8 @@ changed es e item change is (i ∷ items) once step =
 abbrev figures_with : LaneForm → ℕ → Bool → Option ℕ → List ItemFigure → Figures
 figures_with form next closed begun items = record { rising = form.rising; horizon = form.horizon; next = next; closed = closed; begun = begun; items = items }
 
-same_figures : (form : LaneForm) (n n' : ℕ) (c c' : Bool) (b b' : Option ℕ) (gs gs' : List ItemFigure) → n ≡ n' → c ≡ c' → b ≡ b' → gs ≡ gs' → figures_with form n c b gs ≡ figures_with form n' c' b' gs'
+same_figures : (form : LaneForm) (n n' : ℕ) (c c' : Bool) (b b' : Option ℕ) (gs gs' : List ItemFigure) → n ≡ n' → c ≡ c' → b ≡ b' → gs ≡ gs'
+    → figures_with form n c b gs ≡ figures_with form n' c' b' gs'
 same_figures form n n' c c' b b' gs gs' pn pc pb pg =
     ap (λ (z : ℕ). figures_with form z c b gs) pn
     ∙ ap (λ (z : Bool). figures_with form n' z b gs) pc
@@ -155,7 +164,8 @@ nobody es (i ∷ items) =
     ap (λ (g : ItemFigure). g ∷ map (figure_of (es ++ Closing ∷ [])) items) (ap (figure_from i) (other_pushed i.item es Closing refl))
     ∙ ap (λ (z : List ItemFigure). figure_of es i ∷ z) (nobody es items)
 
-pub figures_after : (form : LaneForm) (records : List Record) (r : Record) → IsDistinct is_same_in_form form.items → EntryFits form (contents records) (content r)
+pub figures_after : (form : LaneForm) (records : List Record) (r : Record) → IsDistinct is_same_in_form form.items
+    → EntryFits form (contents records) (content r)
     → figures form (records ++ r ∷ []) ≡ after (figures form records) r
 figures_after form records (Line number item p q c) once fits =
     let r = Line number item p q c in
@@ -189,7 +199,8 @@ figures_after form records (Reset number item c) once fits =
     ∙ changed es e item.0 figure_after_reset (λ other. refl) form.items once
     (λ i found. after_reset i (entries_of i.item es) item.0 c (closes i found fits)))
   where
-    closes : (i : FormItem) → item_on form item.0 ≡ Some i → EntryFits form (contents records) (ResetOf item.0 c) → c ≡ in_force i.opening i.item (contents records)
+    closes : (i : FormItem) → item_on form item.0 ≡ Some i → EntryFits form (contents records) (ResetOf item.0 c)
+        → c ≡ in_force i.opening i.item (contents records)
     closes i found h =
         let at : IsSomeAnd (Some i) (λ (i : FormItem). GoesOn form i (contents records) × ResetFits i (contents records) c) =
         subst (λ (o : Option FormItem). IsSomeAnd o (λ i. GoesOn form i (contents records) × ResetFits i (contents records) c)) found h in

@@ -1,8 +1,10 @@
 -- No test of a record holds exactly where it continues the list.
-use Rattle.std.proofs.Common.{◌≡◌, ◌≢◌, ℕ, ◌+◌, ◌≤◌, ◌==◌, Bool, true, false, cond, not, ◌||◌, ◌&&◌, Some, None, Option, List, [], ◌∷◌, ◌++◌, inl, inr, refl, sym, ◌∙◌, ap, subst, length, map, arith}
+use Rattle.std.proofs.Common.{◌≡◌, ◌≢◌, ℕ, ◌+◌, ◌≤◌, ◌==◌, Bool, true, false, cond, not, ◌||◌, ◌&&◌, Some, None, Option, List, [], ◌∷◌, ◌++◌, inl, inr, refl}
+use Rattle.std.proofs.Common.{sym, ◌∙◌, ap, subst, length, map, arith}
 use Rattle.std.specs.Prelude.{nat_lt, nat_le, is_some, option_map, IsSomeAnd}
 use Rattle.std.specs.List.{All, find, list_all}
-use Rattle.std.proofs.lemmas.Bool.{cases_Bool, eq-eqb, eqb-true, eqb-false, ne_eqb, and_left, and_right, and_cases, and_from, and_parts, not_from_true, not-false, or_from, or_parts, both_ways, false≢true, true≢false, ltb-false, le-ltb, leb-false, lt-leb}
+use Rattle.std.proofs.lemmas.Bool.{cases_Bool, eq-eqb, eqb-true, eqb-false, ne_eqb, and_left, and_right, and_cases, and_from, and_parts, not_from_true}
+use Rattle.std.proofs.lemmas.Bool.{not-false, or_from, or_parts, both_ways, false≢true, true≢false, ltb-false, le-ltb, leb-false, lt-leb}
 use Rattle.std.proofs.lemmas.List.Elements.{All-head, All-tail, All-nil, All-cons}
 use Rattle.mrp_qty.specs.declared.quantity.TheConstants.{MOST}
 use Rattle.mrp_record.specs.declared.record.Record.{Record}
@@ -11,7 +13,8 @@ use Rattle.mrp_record.specs.Entries.{Entry, number_of, content, contents, is_end
 use Rattle.mrp_record.specs.Form.{FormItem, LaneForm, item_on, is_other_open, is_anew, GoesOn, LineFits, EndFits, ResetFits, EntryFits, Continues, IsInForm}
 use Rattle.mrp_record.proofs.FormItems.{item_is}
 use Rattle.mrp_book.specs.declared.item.ItemFigure.{ItemFigure}
-use Rattle.mrp_book.specs.Faults.{Test, first_of, number_tests, tests_of_item, find_item, is_other_begun, line_tests, end_tests, reset_tests, own_tests, first_fault}
+use Rattle.mrp_book.specs.Faults.{Test, first_of, number_tests, tests_of_item, find_item, is_other_begun, line_tests, end_tests, reset_tests, own_tests}
+use Rattle.mrp_book.specs.Faults.{first_fault}
 use Rattle.mrp_book.specs.Figures.{figures, figure_of, begun}
 use Rattle.mrp_book.specs.Laws.{NoFaultIsInForm}
 use Rattle.mrp_book.proofs.Following.{begun_agrees, in_form_push, in_form_last}
@@ -33,7 +36,8 @@ none_append (x ∷ xs) ys h g = (h.0, none_append xs ys h.1 g)
 
 -- ---- one item
 
-pub find_figure : (es : List Entry) (items : List FormItem) (item : ℕ) → find_item (map (figure_of es) items) item ≡ option_map (figure_of es) (find (λ i. i.item == item) items)
+pub find_figure : (es : List Entry) (items : List FormItem) (item : ℕ)
+    → find_item (map (figure_of es) items) item ≡ option_map (figure_of es) (find (λ i. i.item == item) items)
 find_figure es [] item = refl
 find_figure es (i ∷ items) item =
     elim (cases_Bool (i.item == item)) [
@@ -48,12 +52,14 @@ record IsFree (form : LaneForm) (es : List Entry) (item : ℕ) (tests : ItemFigu
   own : NoneHolds (tests (figure_of es i))
 
 free_item : (form : LaneForm) (records : List Record) → IsInForm form records → (item : ℕ) (tests : ItemFigure → List Test)
-    → NoneHolds (tests_of_item (find_item (map (figure_of (contents records)) form.items) item) (begun (contents records)) item tests) → IsFree form (contents records) item tests
+    → NoneHolds (tests_of_item (find_item (map (figure_of (contents records)) form.items) item) (begun (contents records)) item tests)
+    → IsFree form (contents records) item tests
 free_item form records h item tests none =
     let es = contents records in
     by (item_on form item) refl (subst (λ (o : Option ItemFigure). NoneHolds (tests_of_item o (begun es) item tests)) (find_figure es form.items item) none)
   where
-    by : (o : Option FormItem) → item_on form item ≡ o → NoneHolds (tests_of_item (option_map (figure_of (contents records)) o) (begun (contents records)) item tests) → IsFree form (contents records) item tests
+    by : (o : Option FormItem) → item_on form item ≡ o → NoneHolds
+        (tests_of_item (option_map (figure_of (contents records)) o) (begun (contents records)) item tests) → IsFree form (contents records) item tests
     by None e n = absurd (true≢false n.0)
     by (Some i) e n =
         let es = contents records in
@@ -70,7 +76,8 @@ item_free form records h item tests i e goes own =
     let same : i.item ≡ item = item_is form.items item i e in
     let figure : find_item (map (figure_of es) form.items) item ≡ Some (figure_of es i) = find_figure es form.items item ∙ ap (option_map (figure_of es)) e in
     let alone : is_other_begun (begun es) item ≡ false = begun_agrees form records h item ∙ ap (λ (k : ℕ). is_other_open form k es) (sym same) ∙ goes.alone in
-    let turn : (is_ended i.item es || is_other_begun (begun es) item) ≡ false = or_from (is_ended i.item es) (is_other_begun (begun es) item) goes.unended alone in
+    let turn : (is_ended i.item es || is_other_begun (begun es) item) ≡ false =
+    or_from (is_ended i.item es) (is_other_begun (begun es) item) goes.unended alone in
     subst (λ (o : Option ItemFigure). NoneHolds (tests_of_item o (begun es) item tests)) (sym figure) (turn, own)
 
 -- ---- lines
@@ -87,7 +94,8 @@ side_from true false e = absurd (true≢false e)
 side_from false true e = absurd (false≢true e)
 side_from false false e = refl
 
-line_fits : (form : LaneForm) (i : FormItem) (es : List Entry) (number p q c : ℕ) → NoneHolds (line_tests form.rising form.horizon number p q c (figure_of es i)) → LineFits form i es p q c × number ≤ MOST
+line_fits : (form : LaneForm) (i : FormItem) (es : List Entry) (number p q c : ℕ)
+    → NoneHolds (line_tests form.rising form.horizon number p q c (figure_of es i)) → LineFits form i es p q c × number ≤ MOST
 line_fits form i es number p q c n =
     let g = figure_of es i in
     let period = or_parts (nat_le form.horizon p) (form.rising && nat_lt p g.next_period) n.0 in
@@ -106,7 +114,8 @@ line_fits form i es number p q c n =
     } in
     (fits, ltb-false MOST number sizes.0)
 
-line_free : (form : LaneForm) (i : FormItem) (es : List Entry) (number p q c : ℕ) → LineFits form i es p q c → number ≤ MOST → NoneHolds (line_tests form.rising form.horizon number p q c (figure_of es i))
+line_free : (form : LaneForm) (i : FormItem) (es : List Entry) (number p q c : ℕ) → LineFits form i es p q c → number ≤ MOST
+    → NoneHolds (line_tests form.rising form.horizon number p q c (figure_of es i))
 line_free form i es number p q c f small =
     let g = figure_of es i in
     let rises : (form.rising && nat_lt p g.next_period) ≡ false =
@@ -155,7 +164,8 @@ end_free i es number n c f small =
     let g = figure_of es i in (
       le-ltb MOST number small,
       (
-        or_from (not (n == g.lines)) (not (c == g.figure)) (not_from_true (n == g.lines) (eq-eqb n g.lines f.count)) (not_from_true (c == g.figure) (eq-eqb c g.figure f.figure)),
+        or_from (not (n == g.lines)) (not (c == g.figure)) (not_from_true (n == g.lines) (eq-eqb n g.lines f.count))
+            (not_from_true (c == g.figure) (eq-eqb c g.figure f.figure)),
         (missing_from (is_some i.reset) g.was_reset f.side, tt),
       ),
     )
@@ -194,7 +204,8 @@ all_ended es (i ∷ items) h =
 ended_all : (es : List Entry) (items : List FormItem) → All (λ i. is_ended i.item es ≡ true) items → list_all (λ g. g.ended) (map (figure_of es) items) ≡ true
 ended_all es [] h = refl
 ended_all es (i ∷ items) h =
-    and_from (is_ended i.item es) (list_all (λ (g : ItemFigure). g.ended) (map (figure_of es) items)) (All-head (λ (i : FormItem). is_ended i.item es ≡ true) i items h)
+    and_from (is_ended i.item es) (list_all (λ (g : ItemFigure). g.ended) (map (figure_of es) items))
+    (All-head (λ (i : FormItem). is_ended i.item es ≡ true) i items h)
     (ended_all es items (All-tail (λ (i : FormItem). is_ended i.item es ≡ true) i items h))
 
 -- ---- all records
@@ -245,7 +256,8 @@ own_free form records h (Close number) fits small =
     let es = contents records in
     (le-ltb MOST number small, (not_from_true (list_all (λ (g : ItemFigure). g.ended) (map (figure_of es) form.items)) (ended_all es form.items fits), tt))
 
-pub continues : (form : LaneForm) (records : List Record) → IsInForm form records → (r : Record) → first_fault (figures form records) r ≡ None → Continues form records r
+pub continues : (form : LaneForm) (records : List Record) → IsInForm form records → (r : Record) → first_fault (figures form records) r ≡ None
+    → Continues form records r
 continues form records h r e =
     let book = figures form records in
     let tests = number_tests book (number_of r) in
@@ -258,12 +270,15 @@ continues form records h r e =
       fits = fits.0;
     }
 
-pub no_fault : (form : LaneForm) (records : List Record) → IsInForm form records → (r : Record) → Continues form records r → first_fault (figures form records) r ≡ None
+pub no_fault : (form : LaneForm) (records : List Record) → IsInForm form records → (r : Record) → Continues form records r
+    → first_fault (figures form records) r ≡ None
 no_fault form records h r c =
     let book = figures form records in
     let tests = number_tests book (number_of r) in
-    let number : NoneHolds tests =
-    (le-ltb (number_of r) (length records + 1) (omega (arith, c.number)), (le-ltb (length records + 1) (number_of r) (omega (arith, c.number)), (c.unclosed, tt))) in
+    let number : NoneHolds tests = (
+      le-ltb (number_of r) (length records + 1) (omega (arith, c.number)),
+      (le-ltb (length records + 1) (number_of r) (omega (arith, c.number)), (c.unclosed, tt)),
+    ) in
     none_from (tests ++ own_tests book r) (none_append tests (own_tests book r) number (own_free form records h r c.fits c.small))
 
 pub no_fault_is_in_form : NoFaultIsInForm

@@ -1,8 +1,10 @@
 -- A list in form, record by record, and which block is open in it.
-use Rattle.std.proofs.Common.{◌≡◌, ℕ, ◌==◌, Bool, true, false, not, ◌&&◌, Some, None, Option, List, [], ◌∷◌, ◌++◌, inl, inr, refl, sym, ◌∙◌, ap, subst, length, get_or, arith}
+use Rattle.std.proofs.Common.{◌≡◌, ℕ, ◌==◌, Bool, true, false, not, ◌&&◌, Some, None, Option, List, [], ◌∷◌, ◌++◌, inl, inr, refl, sym, ◌∙◌, ap, subst, length}
+use Rattle.std.proofs.Common.{get_or, arith}
 use Rattle.std.specs.Prelude.{nat_lt, IsSomeAnd}
 use Rattle.std.specs.List.{All, find, list_any}
-use Rattle.std.proofs.lemmas.Bool.{cases_Bool, eq-eqb, eqb-true, eqb-false, ne_eqb, and_left, and_right, and_cases, and_from, not_from_true, not_from_false, or_from, or_left, or_right, both_ways, true≢false, lt-ltb}
+use Rattle.std.proofs.lemmas.Bool.{cases_Bool, eq-eqb, eqb-true, eqb-false, ne_eqb, and_left, and_right, and_cases, and_from, not_from_true, not_from_false}
+use Rattle.std.proofs.lemmas.Bool.{or_from, or_left, or_right, both_ways, true≢false, lt-ltb}
 use Rattle.std.proofs.lemmas.List.{append-nil, map-append, length-append}
 use Rattle.std.proofs.lemmas.List.Elements.{All-head, All-tail}
 use Rattle.std.proofs.lemmas.List.Sums.{fold_push}
@@ -82,7 +84,8 @@ others_shut : (form : LaneForm) (es : List Entry) (e : Entry) (i : FormItem) →
     → (item : ℕ) → ((other : ℕ) → (other == i.item) ≡ true → (not (other == item) && is_open other (es ++ e ∷ [])) ≡ false)
     → is_other_open form item (es ++ e ∷ []) ≡ false
 others_shut form es e i goes is item mine =
-    any_false (λ (o : FormItem). not (o.item == i.item) && is_open o.item es) (λ (o : FormItem). not (o.item == item) && is_open o.item (es ++ e ∷ [])) form.items goes.alone
+    any_false (λ (o : FormItem). not (o.item == i.item) && is_open o.item es) (λ (o : FormItem). not (o.item == item)
+    && is_open o.item (es ++ e ∷ [])) form.items goes.alone
     (λ o shut. elim (cases_Bool (o.item == i.item)) [
       | inl same ↦ mine o.item same
       | inr apart ↦
@@ -99,7 +102,8 @@ pub still_unended : (own : List Entry) (e : Entry) → list_any is_end own ≡ f
 still_unended own e h g = list_any-append is_end own (e ∷ []) h (or_from (is_end e) false g refl)
 
 -- after a line or a reset the item's block is open
-going_on : (form : LaneForm) (es : List Entry) (e : Entry) (i : FormItem) (i' : ℕ) → item_on form i' ≡ Some i → GoesOn form i es → ((other : ℕ) → is_of other e ≡ (i' == other)) → is_end e ≡ false
+going_on : (form : LaneForm) (es : List Entry) (e : Entry) (i : FormItem) (i' : ℕ) → item_on form i' ≡ Some i → GoesOn form i es
+    → ((other : ℕ) → is_of other e ≡ (i' == other)) → is_end e ≡ false
     → (item : ℕ) → not (i' == item) ≡ is_other_open form item (es ++ e ∷ [])
 going_on form es e i i' found goes is more item =
     let same : i.item ≡ i' = item_is form.items i' i found in
@@ -113,7 +117,8 @@ going_on form es e i i' found goes is more item =
           not_from_true (i' == item) here ∙ sym (others_shut form es e i goes is_i item mine)
       | inr apart ↦
           let own : entries_of i.item (es ++ e ∷ []) ≡ entries_of i.item es ++ e ∷ [] = own_pushed i.item es e (is_i i.item ∙ eq-eqb i.item i.item refl) in
-          let some : nat_lt 0 (length (entries_of i.item es ++ e ∷ [])) ≡ true = lt-ltb 0 (length (entries_of i.item es ++ e ∷ [])) (omega (arith, length-append (entries_of i.item es) (e ∷ []))) in
+          let some : nat_lt 0 (length (entries_of i.item es ++ e ∷ [])) ≡ true =
+          lt-ltb 0 (length (entries_of i.item es ++ e ∷ [])) (omega (arith, length-append (entries_of i.item es) (e ∷ []))) in
           let unended : list_any is_end (entries_of i.item es ++ e ∷ []) ≡ false = still_unended (entries_of i.item es) e goes.unended more in
           let open_now : is_open i.item (es ++ e ∷ []) ≡ true =
           ap opens own ∙ and_from (nat_lt 0 (length (entries_of i.item es ++ e ∷ []))) (not (list_any is_end (entries_of i.item es ++ e ∷ []))) some
@@ -131,20 +136,24 @@ has_end : (xs : List Entry) (item lines cumulative : ℕ) → list_any is_end (x
 has_end [] item lines cumulative = refl
 has_end (x ∷ xs) item lines cumulative = or_right (is_end x) (list_any is_end (xs ++ EndOf item lines cumulative ∷ [])) (has_end xs item lines cumulative)
 
-agrees_pushed : (form : LaneForm) (es : List Entry) (e : Entry) → EntryFits form es e → (item : ℕ) → is_other_begun (begun_by e) item ≡ is_other_open form item (es ++ e ∷ [])
+agrees_pushed : (form : LaneForm) (es : List Entry) (e : Entry) → EntryFits form es e → (item : ℕ)
+    → is_other_begun (begun_by e) item ≡ is_other_open form item (es ++ e ∷ [])
 agrees_pushed form es (LineOf i' p q c) fits item = by (item_on form i') refl fits
   where
-    by : (o : Option FormItem) → item_on form i' ≡ o → IsSomeAnd o (λ i. GoesOn form i es × LineFits form i es p q c) → not (i' == item) ≡ is_other_open form item (es ++ LineOf i' p q c ∷ [])
+    by : (o : Option FormItem) → item_on form i' ≡ o → IsSomeAnd o (λ i. GoesOn form i es × LineFits form i es p q c)
+        → not (i' == item) ≡ is_other_open form item (es ++ LineOf i' p q c ∷ [])
     by None found h = absurd h
     by (Some i) found h = going_on form es (LineOf i' p q c) i i' found h.0 (λ other. refl) refl item
 agrees_pushed form es (ResetOf i' c) fits item = by (item_on form i') refl fits
   where
-    by : (o : Option FormItem) → item_on form i' ≡ o → IsSomeAnd o (λ i. GoesOn form i es × ResetFits i es c) → not (i' == item) ≡ is_other_open form item (es ++ ResetOf i' c ∷ [])
+    by : (o : Option FormItem) → item_on form i' ≡ o → IsSomeAnd o (λ i. GoesOn form i es × ResetFits i es c)
+        → not (i' == item) ≡ is_other_open form item (es ++ ResetOf i' c ∷ [])
     by None found h = absurd h
     by (Some i) found h = going_on form es (ResetOf i' c) i i' found h.0 (λ other. refl) refl item
 agrees_pushed form es (EndOf i' n c) fits item = by (item_on form i') refl fits
   where
-    by : (o : Option FormItem) → item_on form i' ≡ o → IsSomeAnd o (λ i. GoesOn form i es × EndFits i es n c) → false ≡ is_other_open form item (es ++ EndOf i' n c ∷ [])
+    by : (o : Option FormItem) → item_on form i' ≡ o → IsSomeAnd o (λ i. GoesOn form i es × EndFits i es n c)
+        → false ≡ is_other_open form item (es ++ EndOf i' n c ∷ [])
     by None found h = absurd h
     by (Some i) found h =
         let e = EndOf i' n c in
@@ -171,11 +180,13 @@ agrees_pushed form es Closing fits item =
     and_right (not (o.item == item)) (is_open o.item (es ++ Closing ∷ [])) shut))
 
 -- the item that a list in form leaves open is the one whose block is open
-pub begun_agrees : (form : LaneForm) (records : List Record) → IsInForm form records → (item : ℕ) → is_other_begun (begun (contents records)) item ≡ is_other_open form item (contents records)
+pub begun_agrees : (form : LaneForm) (records : List Record) → IsInForm form records → (item : ℕ)
+    → is_other_begun (begun (contents records)) item ≡ is_other_open form item (contents records)
 begun_agrees form records h item = elim (last_of records) [
   | inl none ↦
       subst (λ (z : List Record). is_other_begun (begun (contents z)) item ≡ is_other_open form item (contents z)) (sym none)
-      (sym (all_false (λ (o : FormItem). not (o.item == item) && is_open o.item []) form.items (λ k d l. and_right (not ((get_or form.items k d).item == item)) false refl)))
+      (sym (all_false (λ (o : FormItem). not (o.item == item) && is_open o.item []) form.items
+      (λ k d l. and_right (not ((get_or form.items k d).item == item)) false refl)))
   | inr p ↦
       let es = contents p.front in
       let e = content p.last in

@@ -1,5 +1,6 @@
 -- The first test of a record over the figures is the first of the faults that it has over the list.
-use Rattle.std.proofs.Common.{◌≡◌, ℕ, ◌+◌, ◌==◌, Bool, true, false, cond, not, ◌||◌, ◌&&◌, Some, None, Option, List, [], ◌∷◌, ◌++◌, inl, inr, refl, sym, ◌∙◌, ap, length, map, arith}
+use Rattle.std.proofs.Common.{◌≡◌, ℕ, ◌+◌, ◌==◌, Bool, true, false, cond, not, ◌||◌, ◌&&◌, Some, None, Option, List, [], ◌∷◌, ◌++◌, inl, inr, refl, sym, ◌∙◌}
+use Rattle.std.proofs.Common.{ap, length, map, arith}
 use Rattle.std.specs.Prelude.{nat_lt, nat_le, is_some, option_map, unwrap_or, Result, Ok, Err, IfErr}
 use Rattle.std.specs.List.{list_all, list_any}
 use Rattle.std.proofs.lemmas.Bool.{cases_lt, le-ltb, lt-ltb, le-leb, lt-leb}
@@ -59,7 +60,8 @@ or_grouped : (a b c : Bool) → (a || (b || c)) ≡ (a || b || c)
 or_grouped true b c = refl
 or_grouped false b c = refl
 
-some_unended : (es : List Entry) (items : List FormItem) → not (list_all (λ g. g.ended) (map (figure_of es) items)) ≡ list_any (λ i. not (is_ended i.item es)) items
+some_unended : (es : List Entry) (items : List FormItem) → not (list_all (λ g. g.ended) (map (figure_of es) items))
+    ≡ list_any (λ i. not (is_ended i.item es)) items
 some_unended es [] = refl
 some_unended es (i ∷ items) = by (is_ended i.item es) (some_unended es items)
   where
@@ -77,7 +79,8 @@ record IsKnown (form : LaneForm) (es : List Entry) (item : ℕ) (i : FormItem) :
   reset : reset_of form item ≡ i.reset
   turn : is_other_begun (begun es) item ≡ is_other_open form item es
 
-known : (form : LaneForm) (records : List Record) → IsInForm form records → (item : ℕ) (i : FormItem) → item_on form item ≡ Some i → IsKnown form (contents records) item i
+known : (form : LaneForm) (records : List Record) → IsInForm form records → (item : ℕ) (i : FormItem) → item_on form item ≡ Some i
+    → IsKnown form (contents records) item i
 known form records h item i found = record {
   found = found;
   same = item_is form.items item i found;
@@ -94,14 +97,16 @@ in_turn : (form : LaneForm) (es : List Entry) (item : ℕ) (i : FormItem) → Is
 in_turn form es item i k =
     ap (λ (n : ℕ). is_ended n es || is_other_begun (begun es) item) k.same ∙ ap (λ (b : Bool). is_ended item es || b) k.turn
 
-force : (form : LaneForm) (es : List Entry) (item : ℕ) (i : FormItem) → IsKnown form es item i → in_force i.opening i.item es ≡ in_force (opening_of form item) item es
+force : (form : LaneForm) (es : List Entry) (item : ℕ) (i : FormItem) → IsKnown form es item i
+    → in_force i.opening i.item es ≡ in_force (opening_of form item) item es
 force form es item i k =
     ap (λ (n : ℕ). in_force i.opening n es) k.same ∙ ap (λ (n : ℕ). in_force n item es) (sym k.opening)
 
 -- the tests that each record of the item has before its own
 item_asked : (form : LaneForm) (records : List Record) (number n : ℕ) (i : FormItem) → IsKnown form (contents records) n i → (x y : Option BookFault) → x ≡ y
     → cond (nat_lt number (length records + 1)) (Some fault.Repeated) (cond (nat_lt (length records + 1) number) (Some fault.Gap)
-    (cond (is_closed (contents records)) (Some fault.AfterClose) (cond (is_ended i.item (contents records) || is_other_begun (begun (contents records)) n) (Some fault.AfterItemEnd) x)))
+    (cond (is_closed (contents records)) (Some fault.AfterClose)
+    (cond (is_ended i.item (contents records) || is_other_begun (begun (contents records)) n) (Some fault.AfterItemEnd) x)))
     ≡ cond (nat_le number (length records)) (Some fault.Repeated) (cond (nat_lt (length records + 1) number) (Some fault.Gap)
     (cond (is_closed (contents records)) (Some fault.AfterClose) (cond (not (is_some (item_on form n))) (Some fault.NotOnLane)
     (cond (is_ended n (contents records) || is_other_open form n (contents records)) (Some fault.AfterItemEnd) y))))
@@ -116,12 +121,14 @@ item_asked form records number n i k x y same =
 -- ---- records of each kind
 
 line_first : (form : LaneForm) (records : List Record) (number : ℕ) (item : ItemNo) (p q c : ℕ) (i : FormItem) → IsKnown form (contents records) item.0 i
-    → first_of (number_tests (figures form records) number ++ tests_of_item (Some (figure_of (contents records) i)) (begun (contents records)) item.0 (line_tests form.rising form.horizon number p q c))
+    → first_of (number_tests (figures form records) number ++ tests_of_item (Some (figure_of (contents records) i)) (begun (contents records)) item.0
+    (line_tests form.rising form.horizon number p q c))
     ≡ first_had form records (Line number item p q c)
 line_first form records number item p q c i k =
     let es = contents records in
     let n = item.0 in
-    let period : (nat_le form.horizon p || (form.rising && nat_lt p (next_period i.item es))) ≡ (not (nat_lt p form.horizon) || (form.rising && nat_lt p (next_period n es))) =
+    let period : (nat_le form.horizon p || (form.rising && nat_lt p (next_period i.item es)))
+    ≡ (not (nat_lt p form.horizon) || (form.rising && nat_lt p (next_period n es))) =
     ap (λ (m : ℕ). nat_le form.horizon p || (form.rising && nat_lt p (next_period m es))) k.same
     ∙ ap (λ (b : Bool). b || (form.rising && nat_lt p (next_period n es))) (not_below form.horizon p) in
     let cum : not (c == in_force i.opening i.item es + q) ≡ not (c == in_force (opening_of form n) n es + q) =
@@ -141,12 +148,14 @@ line_first form records number item p q c i k =
     (asked _ _ fault.ResetWrong _ _ side refl)))))
 
 end_first : (form : LaneForm) (records : List Record) (number : ℕ) (item : ItemNo) (m c : ℕ) (i : FormItem) → IsKnown form (contents records) item.0 i
-    → first_of (number_tests (figures form records) number ++ tests_of_item (Some (figure_of (contents records) i)) (begun (contents records)) item.0 (end_tests number m c))
+    → first_of (number_tests (figures form records) number ++ tests_of_item (Some (figure_of (contents records) i)) (begun (contents records)) item.0
+    (end_tests number m c))
     ≡ first_had form records (ItemEnd number item m c)
 end_first form records number item m c i k =
     let es = contents records in
     let n = item.0 in
-    let end : (not (m == line_count i.item es) || not (c == in_force i.opening i.item es)) ≡ (not (m == line_count n es) || not (c == in_force (opening_of form n) n es)) =
+    let end : (not (m == line_count i.item es) || not (c == in_force i.opening i.item es))
+    ≡ (not (m == line_count n es) || not (c == in_force (opening_of form n) n es)) =
     ap (λ (j : ℕ). not (m == line_count j es) || not (c == in_force i.opening i.item es)) k.same
     ∙ ap (λ (j : ℕ). not (m == line_count n es) || not (c == j)) (force form es n i k) in
     let missing : (is_some i.reset && not (was_reset i.item es)) ≡ (is_some (reset_of form n) && not (was_reset n es)) =
@@ -157,7 +166,8 @@ end_first form records number item m c i k =
     (asked _ _ fault.ResetWrong _ _ missing refl)))
 
 reset_first : (form : LaneForm) (records : List Record) (number : ℕ) (item : ItemNo) (c : ℕ) (i : FormItem) → IsKnown form (contents records) item.0 i
-    → first_of (number_tests (figures form records) number ++ tests_of_item (Some (figure_of (contents records) i)) (begun (contents records)) item.0 (reset_tests number c))
+    → first_of (number_tests (figures form records) number ++ tests_of_item (Some (figure_of (contents records) i)) (begun (contents records)) item.0
+    (reset_tests number c))
     ≡ first_had form records (Reset number item c)
 reset_first form records number item c i k =
     let es = contents records in
@@ -183,8 +193,10 @@ close_first form records number =
 
 -- a record of an item that isn't on the lane: of the own faults of such a record only this one is answered
 off_lane : (number n : ℕ) (closed : Bool) (o : Option FormItem) (rest : Option BookFault) → o ≡ None
-    → first_of (record { holds = nat_lt number (n + 1); fault = fault.Repeated } ∷ record { holds = nat_lt (n + 1) number; fault = fault.Gap } ∷ record { holds = closed; fault = fault.AfterClose } ∷ record { holds = true; fault = fault.NotOnLane } ∷ [])
-    ≡ cond (nat_le number n) (Some fault.Repeated) (cond (nat_lt (n + 1) number) (Some fault.Gap) (cond closed (Some fault.AfterClose) (cond (not (is_some o)) (Some fault.NotOnLane) rest)))
+    → first_of (record { holds = nat_lt number (n + 1); fault = fault.Repeated } ∷ record { holds = nat_lt (n + 1) number; fault = fault.Gap }
+    ∷ record { holds = closed; fault = fault.AfterClose } ∷ record { holds = true; fault = fault.NotOnLane } ∷ [])
+    ≡ cond (nat_le number n) (Some fault.Repeated) (cond (nat_lt (n + 1) number) (Some fault.Gap)
+    (cond closed (Some fault.AfterClose) (cond (not (is_some o)) (Some fault.NotOnLane) rest)))
 off_lane number n closed o rest none =
     asked _ _ fault.Repeated _ _ (before_next number n)
     (asked _ _ fault.Gap _ _ refl
@@ -194,7 +206,8 @@ off_lane number n closed o rest none =
 
 -- the tests of a record of an item, by what the lane knows of the item
 with_known : (form : LaneForm) (records : List Record) (number item : ℕ) (tests : ItemFigure → List Test) (o : Option FormItem) → item_on form item ≡ o
-    → first_of (number_tests (figures form records) number ++ tests_of_item (find_item (map (figure_of (contents records)) form.items) item) (begun (contents records)) item tests)
+    → first_of (number_tests (figures form records) number ++ tests_of_item (find_item (map (figure_of (contents records)) form.items) item)
+    (begun (contents records)) item tests)
     ≡ first_of (number_tests (figures form records) number ++ tests_of_item (option_map (figure_of (contents records)) o) (begun (contents records)) item tests)
 with_known form records number item tests o e =
     let es = contents records in
@@ -204,7 +217,8 @@ with_known form records number item tests o e =
 pub faults_are_first : FaultsAreFirst
 faults_are_first form records h (Line number item p q c) = by (item_on form item.0) refl
   where
-    by : (o : Option FormItem) → item_on form item.0 ≡ o → first_fault (figures form records) (Line number item p q c) ≡ first_had form records (Line number item p q c)
+    by : (o : Option FormItem) → item_on form item.0 ≡ o → first_fault (figures form records) (Line number item p q c)
+        ≡ first_had form records (Line number item p q c)
     by None e =
         with_known form records number item.0 (line_tests form.rising form.horizon number p q c) None e
         ∙ off_lane number (length records) (is_closed (contents records)) (item_on form item.0) _ e
@@ -213,7 +227,8 @@ faults_are_first form records h (Line number item p q c) = by (item_on form item
         ∙ line_first form records number item p q c i (known form records h item.0 i e)
 faults_are_first form records h (ItemEnd number item m c) = by (item_on form item.0) refl
   where
-    by : (o : Option FormItem) → item_on form item.0 ≡ o → first_fault (figures form records) (ItemEnd number item m c) ≡ first_had form records (ItemEnd number item m c)
+    by : (o : Option FormItem) → item_on form item.0 ≡ o → first_fault (figures form records) (ItemEnd number item m c)
+        ≡ first_had form records (ItemEnd number item m c)
     by None e =
         with_known form records number item.0 (end_tests number m c) None e
         ∙ off_lane number (length records) (is_closed (contents records)) (item_on form item.0) _ e
@@ -222,7 +237,8 @@ faults_are_first form records h (ItemEnd number item m c) = by (item_on form ite
         ∙ end_first form records number item m c i (known form records h item.0 i e)
 faults_are_first form records h (Reset number item c) = by (item_on form item.0) refl
   where
-    by : (o : Option FormItem) → item_on form item.0 ≡ o → first_fault (figures form records) (Reset number item c) ≡ first_had form records (Reset number item c)
+    by : (o : Option FormItem) → item_on form item.0 ≡ o → first_fault (figures form records) (Reset number item c)
+        ≡ first_had form records (Reset number item c)
     by None e =
         with_known form records number item.0 (reset_tests number c) None e
         ∙ off_lane number (length records) (is_closed (contents records)) (item_on form item.0) _ e

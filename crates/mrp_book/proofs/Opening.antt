@@ -1,5 +1,6 @@
 -- A new book shows the empty list.
-use Rattle.std.proofs.Common.{◌≡◌, ℕ, ◌+◌, ◌<◌, ◌≤◌, ◌==◌, Bool, false, List, [], ◌∷◌, ◌++◌, refl, sym, ◌∙◌, ap, subst, length, map, take, get_or, zero, suc, arith, None}
+use Rattle.std.proofs.Common.{◌≡◌, ℕ, ◌+◌, ◌<◌, ◌≤◌, ◌==◌, Bool, false, List, [], ◌∷◌, ◌++◌, refl, sym, ◌∙◌, ap, subst, length, map, take, get_or, zero, suc}
+use Rattle.std.proofs.Common.{arith, None}
 use Rattle.std.specs.List.{All, AllByRecursion, IsDistinct, list_any}
 use Rattle.std.proofs.lemmas.Bool.{or_from}
 use Rattle.std.proofs.lemmas.List.{map-append, take_more}
@@ -19,13 +20,15 @@ use Rattle.mrp_net.specs.declared.lane.LaneKind.{LaneKind}
 use Rattle.mrp_book.specs.Figures.{Figures, figure_of, figures, book_form, rises_on, book_form_item, is_same_in_form, is_same_book_item, BookShows}
 
 -- no item stands among those before it
-pub is_new : (xs : List BookItem) (k : ℕ) (d : BookItem) → IsDistinct is_same_book_item xs → k < length xs → list_any (λ j. j.item.0 == (get_or xs k d).item.0) (take k xs) ≡ false
+pub is_new : (xs : List BookItem) (k : ℕ) (d : BookItem) → IsDistinct is_same_book_item xs → k < length xs
+    → list_any (λ j. j.item.0 == (get_or xs k d).item.0) (take k xs) ≡ false
 unfolding IsDistinct
 is_new [] k d once l = absurd (omega arith)
 is_new (x ∷ xs) zero d once l = refl
 is_new (x ∷ xs) (suc k) d once l =
     let x' = get_or xs k d in
-    let apart : (x.item.0 == x'.item.0) ≡ false = All-get_or (λ (y : BookItem). is_same_book_item x y ≡ false) xs k d (omega arith) (All-from_recursion (λ (y : BookItem). is_same_book_item x y ≡ false) xs once.0) in
+    let apart : (x.item.0 == x'.item.0) ≡ false = All-get_or (λ (y : BookItem). is_same_book_item x y ≡ false) xs k d (omega arith)
+    (All-from_recursion (λ (y : BookItem). is_same_book_item x y ≡ false) xs once.0) in
     or_from (x.item.0 == x'.item.0) (list_any (λ j. j.item.0 == x'.item.0) (take k xs)) apart (is_new xs k d once.1 (omega arith))
 
 pub items_once : (items : List BookItem) → IsDistinct is_same_book_item items → IsDistinct is_same_in_form (map book_form_item items)
@@ -33,7 +36,8 @@ unfolding IsDistinct
 items_once [] h = h
 items_once (i ∷ items) h = (by items h.0, items_once items h.1)
   where
-    by : (rest : List BookItem) → AllByRecursion (λ y. is_same_book_item i y ≡ false) rest → AllByRecursion (λ y. is_same_in_form (book_form_item i) y ≡ false) (map book_form_item rest)
+    by : (rest : List BookItem) → AllByRecursion (λ y. is_same_book_item i y ≡ false) rest
+        → AllByRecursion (λ y. is_same_in_form (book_form_item i) y ≡ false) (map book_form_item rest)
     by [] h = h
     by (x ∷ rest) h = (h.0, by rest h.1)
 
@@ -69,11 +73,13 @@ pub item_is_new : (k : ℕ) (items : List BookItem) (names : List ItemNo) (figur
 item_is_new k items names figures x h once l is =
     let new : list_any (λ (j : BookItem). j.item.0 == x.item.0) (take k items) ≡ false =
     ap (λ (z : BookItem). list_any (λ j. j.item.0 == z.item.0) (take k items)) is ∙ is_new items k x once l in
-    let test : list_any (eq-value.it x.item) (map (λ (i : BookItem). i.item) (take k items)) ≡ list_any (λ (j : BookItem). j.item.0 == x.item.0) (take k items) =
+    let test : list_any (eq-value.it x.item) (map (λ (i : BookItem). i.item) (take k items))
+    ≡ list_any (λ (j : BookItem). j.item.0 == x.item.0) (take k items) =
     list_any_keys (λ (i : BookItem). i.item) _ (λ (j : BookItem). j.item.0 == x.item.0) (λ j. same_test x.item.0 j.item.0) (take k items) in
     ap (list_any (eq-value.it x.item)) h.names_are ∙ test ∙ new
 
-pub opened_more : (k : ℕ) (items : List BookItem) (names names' : List ItemNo) (figures figures' : List ItemFigure) (x : BookItem) (g : ItemFigure) → AreOpened k items names figures
+pub opened_more : (k : ℕ) (items : List BookItem) (names names' : List ItemNo) (figures figures' : List ItemFigure) (x : BookItem) (g : ItemFigure)
+    → AreOpened k items names figures
     → k < length items → x ≡ get_or items k x → names' ≡ names ++ x.item ∷ [] → figures' ≡ figures ++ g ∷ [] → g ≡ opened x → g.figure ≤ MOST
     → AreOpened (k + 1) items names' figures'
 opened_more k items names names' figures figures' x g h l is n f o small =
@@ -84,17 +90,23 @@ opened_more k items names names' figures figures' x g h l is n f o small =
           ∙ sym (ap (map (λ (i : BookItem). i.item)) more ∙ map-append (λ (i : BookItem). i.item) (take k items) (x ∷ []));
       figures_are = f ∙ ap (λ (z : ItemFigure). figures ++ z ∷ []) o ∙ ap (λ (z : List ItemFigure). z ++ opened x ∷ []) h.figures_are
           ∙ sym (ap (map opened) more ∙ map-append opened (take k items) (x ∷ []));
-      small = subst (λ (z : List BookItem). All (λ i. i.opening ≤ MOST) z) (sym more) (All-push (λ (i : BookItem). i.opening ≤ MOST) (take k items) x h.small opening);
+      small = subst (λ (z : List BookItem). All (λ i. i.opening ≤ MOST) z) (sym more)
+          (All-push (λ (i : BookItem). i.opening ≤ MOST) (take k items) x h.small opening);
     }
 
 -- all of them
 whole : (k : ℕ) (items : List BookItem) (names : List ItemNo) (figures : List ItemFigure) → AreOpened k items names figures → length items ≤ k
     → (names ≡ map (λ i. i.item) items) × (figures ≡ map opened items) × All (λ i. i.opening ≤ MOST) items
 whole k items names figures h l =
-    let all : take k items ≡ items = take_all k items l in
-    (h.names_are ∙ ap (map (λ (i : BookItem). i.item)) all, h.figures_are ∙ ap (map opened) all, subst (λ (z : List BookItem). All (λ i. i.opening ≤ MOST) z) all h.small)
+    let all : take k items ≡ items = take_all k items l in (
+      h.names_are ∙ ap (map (λ (i : BookItem). i.item)) all,
+      h.figures_are
+          ∙ ap (map opened) all,
+      subst (λ (z : List BookItem). All (λ i. i.opening ≤ MOST) z) all h.small,
+    )
 
-pub opened_book : (k : ℕ) (items : List BookItem) (names : List ItemNo) (figures : List ItemFigure) → AreOpened k items names figures → length items ≤ k → IsBook 1 names figures
+pub opened_book : (k : ℕ) (items : List BookItem) (names : List ItemNo) (figures : List ItemFigure) → AreOpened k items names figures → length items ≤ k
+    → IsBook 1 names figures
 opened_book k items names figures h l =
     let all = whole k items names figures h l in
     record {
@@ -106,9 +118,11 @@ opened_book k items names figures h l =
 openings_small : (items : List BookItem) → All (λ i. i.opening ≤ MOST) items → All (λ i. i.opening ≤ MOST) (map book_form_item items)
 openings_small [] h = All-nil (λ (i : FormItem). i.opening ≤ MOST)
 openings_small (i ∷ items) h =
-    All-cons (λ (i : FormItem). i.opening ≤ MOST) (book_form_item i) (map book_form_item items) (h 0 i (omega arith)) (openings_small items (λ k d l. h (suc k) d (omega arith)))
+    All-cons (λ (i : FormItem). i.opening ≤ MOST) (book_form_item i) (map book_form_item items) (h 0 i (omega arith))
+    (openings_small items (λ k d l. h (suc k) d (omega arith)))
 
-pub opened_shows : (k : ℕ) (items : List BookItem) (names : List ItemNo) (gs : List ItemFigure) (kind : LaneKind) (horizon : ℕ) (rising : Bool) → AreOpened k items names gs → length items ≤ k
+pub opened_shows : (k : ℕ) (items : List BookItem) (names : List ItemNo) (gs : List ItemFigure) (kind : LaneKind) (horizon : ℕ) (rising : Bool)
+    → AreOpened k items names gs → length items ≤ k
     → IsDistinct is_same_book_item items → rising ≡ rises_on kind
     → BookShows (book_form kind horizon items) (record { rising = rising; horizon = horizon; next = 1; closed = false; begun = None; items = gs }) []
 opened_shows k items names gs kind horizon rising h l once is =

@@ -1,5 +1,6 @@
 -- The place of an item among those of a book.
-use Rattle.std.proofs.Common.{◌≡◌, ℕ, ◌<◌, ◌==◌, Bool, true, false, cond, ltb, ◌||◌, Some, None, Option, List, [], ◌∷◌, ◌++◌, inl, inr, ◌+◌, refl, sym, ◌∙◌, ap, subst, length, map, get_or, set, zero, suc, arith}
+use Rattle.std.proofs.Common.{◌≡◌, ℕ, ◌<◌, ◌==◌, Bool, true, false, cond, ltb, ◌||◌, Some, None, Option, List, [], ◌∷◌, ◌++◌, inl, inr, ◌+◌, refl, sym, ◌∙◌, ap}
+use Rattle.std.proofs.Common.{subst, length, map, get_or, set, zero, suc, arith}
 use Rattle.std.specs.Prelude.{slice_get, position}
 use Rattle.std.specs.List.{find, position_or_len}
 use Rattle.std.proofs.lemmas.Bool.{cases_Bool, ltb-true, ltb-false}
@@ -80,27 +81,33 @@ pub not_on_lane : (items : List ItemFigure) (begun : Option ℕ) (item : ℕ) �
 not_on_lane items begun item e tests =
     ap (λ (o : Option ItemFigure). first_of (tests_of_item o begun item tests)) (found_nowhere (λ (g : ItemFigure). g.item.0 == item) items e)
 
-pub found_figure : (items : List ItemFigure) (item k : ℕ) (g : ItemFigure) → position (λ g. g.item.0 == item) items ≡ Some k → slice_get items k ≡ Some g → find_item items item ≡ Some g
+pub found_figure : (items : List ItemFigure) (item k : ℕ) (g : ItemFigure) → position (λ g. g.item.0 == item) items ≡ Some k → slice_get items k ≡ Some g
+    → find_item items item ≡ Some g
 found_figure items item k g e at = (found_at (λ (g : ItemFigure). g.item.0 == item) items k e).1 ∙ at
 
-pub out_of_turn : (items : List ItemFigure) (begun : Option ℕ) (item k : ℕ) (g : ItemFigure) → position (λ g. g.item.0 == item) items ≡ Some k → slice_get items k ≡ Some g
+pub out_of_turn : (items : List ItemFigure) (begun : Option ℕ) (item k : ℕ) (g : ItemFigure) → position (λ g. g.item.0 == item) items ≡ Some k
+    → slice_get items k ≡ Some g
     → (g.ended || is_other_begun begun item) ≡ true
     → (tests : ItemFigure → List Test) → first_of (tests_of_item (find_item items item) begun item tests) ≡ Some fault.AfterItemEnd
 out_of_turn items begun item k g e at wrong tests =
     let parts : first_of (tests_of_item (Some g) begun item tests) ≡ Some fault.AfterItemEnd = rw wrong refl in
     ap (λ (o : Option ItemFigure). first_of (tests_of_item o begun item tests)) (found_figure items item k g e at) ∙ parts
 
-pub in_turn : (items : List ItemFigure) (begun : Option ℕ) (item k : ℕ) (g : ItemFigure) → position (λ g. g.item.0 == item) items ≡ Some k → slice_get items k ≡ Some g
+pub in_turn : (items : List ItemFigure) (begun : Option ℕ) (item k : ℕ) (g : ItemFigure) → position (λ g. g.item.0 == item) items ≡ Some k
+    → slice_get items k ≡ Some g
     → (g.ended || is_other_begun begun item) ≡ false
-    → (tests : ItemFigure → List Test) (h : ItemFigure) → slice_get items k ≡ Some h → first_of (tests_of_item (find_item items item) begun item tests) ≡ first_of (tests h)
+    → (tests : ItemFigure → List Test) (h : ItemFigure) → slice_get items k ≡ Some h
+    → first_of (tests_of_item (find_item items item) begun item tests) ≡ first_of (tests h)
 in_turn items begun item k g e at right tests h here =
     let same : g ≡ h = cc in
     let parts : first_of (tests_of_item (Some g) begun item tests) ≡ first_of (tests g) = rw right refl in
-    ap (λ (o : Option ItemFigure). first_of (tests_of_item o begun item tests)) (found_figure items item k g e at) ∙ parts ∙ ap (λ (i : ItemFigure). first_of (tests i)) same
+    ap (λ (o : Option ItemFigure). first_of (tests_of_item o begun item tests)) (found_figure items item k g e at) ∙ parts
+    ∙ ap (λ (i : ItemFigure). first_of (tests i)) same
 
 -- ---- a figure changed at its place
 
-pub changed_at : (item : ℕ) (change : ItemFigure → ItemFigure) (items : List ItemFigure) (k : ℕ) (g : ItemFigure) → position (λ g. g.item.0 == item) items ≡ Some k → slice_get items k ≡ Some g
+pub changed_at : (item : ℕ) (change : ItemFigure → ItemFigure) (items : List ItemFigure) (k : ℕ) (g : ItemFigure)
+    → position (λ g. g.item.0 == item) items ≡ Some k → slice_get items k ≡ Some g
     → set items k (change g) ≡ at_item item change items
 changed_at item change items k g e at =
     let some = found_at (λ (g : ItemFigure). g.item.0 == item) items k e in
@@ -115,7 +122,8 @@ changed_at item change items k g e at =
           | inr past ↦ absurd (cc (rw past at e))
         ]
 
-    by : (items : List ItemFigure) (k : ℕ) (g : ItemFigure) → position_or_len (λ g. g.item.0 == item) items ≡ k → slice_get items k ≡ Some g → set items k (change g) ≡ at_item item change items
+    by : (items : List ItemFigure) (k : ℕ) (g : ItemFigure) → position_or_len (λ g. g.item.0 == item) items ≡ k → slice_get items k ≡ Some g
+        → set items k (change g) ≡ at_item item change items
     by [] k g e at = refl
     by (x ∷ items) zero g e at =
         elim (cases_Bool (x.item.0 == item)) [
@@ -137,7 +145,8 @@ changed_at item change items k g e at =
         ]
 
 -- the figures of an item as a book shows them
-pub shown_at : (mine book : Figures) (k : ℕ) (g : ItemFigure) → mine ≡ book → k < length book.items → g ≡ get_or mine.items k g → slice_get book.items k ≡ Some g
+pub shown_at : (mine book : Figures) (k : ℕ) (g : ItemFigure) → mine ≡ book → k < length book.items → g ≡ get_or mine.items k g
+    → slice_get book.items k ≡ Some g
 shown_at mine book k g same within read =
     let items : mine.items ≡ book.items = ap (λ (f : Figures). f.items) same in
     let inside : k < length mine.items = omega (arith, ap length items, within) in

@@ -26,7 +26,8 @@ booked old new r free is form records s =
     }
 
 pub refused : (old : Figures) (r : Record) (f : BookFault) → first_fault old r ≡ Some f
-    → (form : LaneForm) (records : List Record) → BookShows form old records → (first_fault (figures form records) r ≡ Some f) × (IsInForm form (records ++ r ∷ []) → ⊥)
+    → (form : LaneForm) (records : List Record) → BookShows form old records
+    → (first_fault (figures form records) r ≡ Some f) × (IsInForm form (records ++ r ∷ []) → ⊥)
 refused old r f e form records s =
     let fault : first_fault (figures form records) r ≡ Some f = ap (λ (g : Figures). first_fault g r) (sym s.is) ∙ e in
     (fault, λ h. let none = no_fault form records s.in_form r (in_form_last form records r h) in differ f (sym fault ∙ none))
@@ -35,7 +36,8 @@ refused old r f e form records s =
     differ f e = cc (e)
 
 -- what a book knows of an item is what each shown list gives
-pub shown : {A : Type 0} (f : ItemFigure → A) (form : LaneForm) (records : List Record) (book : Figures) (item : ℕ) (o : Option ItemFigure) → find_item book.items item ≡ o → BookShows form book records
+pub shown : {A : Type 0} (f : ItemFigure → A) (form : LaneForm) (records : List Record) (book : Figures) (item : ℕ) (o : Option ItemFigure)
+    → find_item book.items item ≡ o → BookShows form book records
     → option_map f o ≡ option_map (λ i. f (figure_of (contents records) i)) (item_on form item)
 shown {A} f form records book item o e s =
     let all : o ≡ option_map (figure_of (contents records)) (item_on form item) =
@@ -46,12 +48,15 @@ shown {A} f form records book item o e s =
     twice None = refl
     twice (Some i) = refl
 
-pub shown_none : {A : Type 0} (f : ItemFigure → A) (form : LaneForm) (records : List Record) (book : Figures) (item : ℕ) → None ≡ position (λ g. g.item.0 == item) book.items → BookShows form book records
+pub shown_none : {A : Type 0} (f : ItemFigure → A) (form : LaneForm) (records : List Record) (book : Figures) (item : ℕ)
+    → None ≡ position (λ g. g.item.0 == item) book.items → BookShows form book records
     → None ≡ option_map (λ i. f (figure_of (contents records) i)) (item_on form item)
 shown_none f form records book item e s = shown f form records book item None (found_nowhere (λ (g : ItemFigure). g.item.0 == item) book.items (sym e)) s
 
-pub shown_some : {A : Type 0} (f : ItemFigure → A) (form : LaneForm) (records : List Record) (mine book : Figures) (item k : ℕ) (g : ItemFigure) → mine ≡ book → Some k ≡ position (λ g. g.item.0 == item) book.items
-    → k < length book.items → g ≡ slice_index_or mine.items k g → BookShows form book records → Some (f g) ≡ option_map (λ i. f (figure_of (contents records) i)) (item_on form item)
+pub shown_some : {A : Type 0} (f : ItemFigure → A) (form : LaneForm) (records : List Record) (mine book : Figures) (item k : ℕ) (g : ItemFigure) → mine ≡ book
+    → Some k ≡ position (λ g. g.item.0 == item) book.items
+    → k < length book.items → g ≡ slice_index_or mine.items k g → BookShows form book records
+    → Some (f g) ≡ option_map (λ i. f (figure_of (contents records) i)) (item_on form item)
 shown_some f form records mine book item k g same e within is s =
     shown f form records book item (Some g) (found_figure book.items item k g (sym e) (shown_at mine book k g same within is)) s
 
@@ -61,6 +66,7 @@ books_booked old new r (Ok u) h = booked old new r h.0 h.1
 books_booked old new r (Err f) h = tt
 
 pub books_refused : (old new : Figures) (r : Record) (result : Result (Unit {0}) BookFault) → Books old new r result
-    → IfErr result (λ fault. (form : LaneForm) (records : List Record) → BookShows form old records → (first_fault (figures form records) r ≡ Some fault) × (IsInForm form (records ++ r ∷ []) → ⊥))
+    → IfErr result (λ fault. (form : LaneForm) (records : List Record) → BookShows form old records
+    → (first_fault (figures form records) r ≡ Some fault) × (IsInForm form (records ++ r ∷ []) → ⊥))
 books_refused old new r (Ok u) h = tt
 books_refused old new r (Err f) h = refused old r f h.0

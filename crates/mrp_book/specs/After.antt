@@ -1,5 +1,6 @@
 -- The figures after one more record.
-use Rattle.std.specs.Prelude.{◌≡◌, ℕ, ◌+◌, ◌≤◌, ◌<◌, ◌==◌, if◌then◌else◌, true, false, List, [], ◌∷◌, map, All, Some, None, Result, MatchResult}
+use Rattle.std.specs.Prelude.{◌≡◌, ℕ, ◌+◌, ◌≤◌, ◌<◌, ◌==◌, if◌then◌else◌, true, false, List, [], ◌∷◌, map, All, Some}
+use Rattle.std.specs.Prelude.{None, Result, MatchResult}
 use Rattle.mrp_qty.specs.declared.quantity.TheConstants.{MOST}
 use Rattle.mrp_rows.specs.declared.numbers.ItemNo.{ItemNo}
 use Rattle.mrp_record.specs.declared.record.Record.{Record}
@@ -12,7 +13,12 @@ use Rattle.mrp_book.specs.Figures.{Figures}
 
 -- the figures of an item after a line, its end or a reset
 abbrev pub figure_after_line : ℕ → ℕ → ItemFigure → ItemFigure
-figure_after_line period quantity g = record g { figure = g.figure + quantity; lines = g.lines + 1; next_period = period + 1 }
+figure_after_line period quantity g = record g {
+  figure = g.figure + quantity;
+  lines = g.lines + 1;
+  next_period =
+      period + 1;
+}
 
 abbrev pub with_end : ItemFigure → ItemFigure
 with_end g = record g { ended = true }
@@ -27,14 +33,26 @@ at_item item change (g ∷ gs) = if g.item.0 == item then change g ∷ gs else g
 
 abbrev pub after : Figures → Record → Figures
 after book (Line number item period quantity cumulative) =
-    record book { next = book.next + 1; begun = Some item.0; items = at_item item.0 (figure_after_line period quantity) book.items }
-after book (ItemEnd number item lines cumulative) = record book { next = book.next + 1; begun = None; items = at_item item.0 with_end book.items }
-after book (Reset number item closed) = record book { next = book.next + 1; begun = Some item.0; items = at_item item.0 figure_after_reset book.items }
+    record book {
+      next = book.next + 1;
+      begun = Some item.0;
+      items =
+          at_item item.0 (figure_after_line period quantity) book.items;
+    }
+after book (ItemEnd number item lines cumulative) =
+    record book { next = book.next + 1; begun = None; items = at_item item.0 with_end book.items }
+after book (Reset number item closed) = record book {
+  next = book.next + 1;
+  begun = Some item.0;
+  items =
+      at_item item.0 figure_after_reset book.items;
+}
 after book (Close number) = record book { next = book.next + 1; closed = true; begun = None }
 
 -- a record is booked where no fault holds; else the first fault is answered and nothing changes
 abbrev pub Books : Figures → Figures → Record → Result (Unit {0}) BookFault → Type 0
-Books old new r result = MatchResult result (λ _. (first_fault old r ≡ None) × (new ≡ after old r)) (λ f. (first_fault old r ≡ Some f) × (new ≡ old))
+Books old new r result = MatchResult result (λ _. (first_fault old r ≡ None) × (new ≡ after old r))
+    (λ f. (first_fault old r ≡ Some f) × (new ≡ old))
 
 -- what stays true of the figures: nothing is above 10^15, and an item has no more lines than there are records
 pub record IsFigureWithin (next : ℕ) (g : ItemFigure) : Type 0 where

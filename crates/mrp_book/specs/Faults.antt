@@ -1,5 +1,6 @@
 -- The faults of a record, as a table of tests: the first that holds is answered.
-use Rattle.std.specs.Prelude.{◌≡◌, ℕ, ◌+◌, ◌==◌, ◌&&◌, ◌||◌, nat_lt, nat_le, not, if◌then◌else◌, Bool, true, false, List, [], ◌∷◌, ◌++◌, find, length}
+use Rattle.std.specs.Prelude.{◌≡◌, ℕ, ◌+◌, ◌==◌, ◌&&◌, ◌||◌, nat_lt, nat_le, not, if◌then◌else◌, Bool, true, false}
+use Rattle.std.specs.Prelude.{List, [], ◌∷◌, ◌++◌, find, length}
 use Rattle.std.specs.Prelude.{position, slice_get, ◌<◌, Option, Some, None, is_some, Result, MatchResult}
 use Rattle.std.specs.List.{list_all}
 use Rattle.mrp_qty.specs.declared.quantity.TheConstants.{MOST}
@@ -107,10 +108,12 @@ close_tests book number =
 
 abbrev pub own_tests : Figures → Record → List Test
 own_tests book (Line number item period quantity cumulative) =
-    tests_of_item (find_item book.items item.0) book.begun item.0 (line_tests book.rising book.horizon number period quantity cumulative)
+    tests_of_item (find_item book.items item.0) book.begun item.0
+    (line_tests book.rising book.horizon number period quantity cumulative)
 own_tests book (ItemEnd number item lines cumulative) =
     tests_of_item (find_item book.items item.0) book.begun item.0 (end_tests number lines cumulative)
-own_tests book (Reset number item closed) = tests_of_item (find_item book.items item.0) book.begun item.0 (reset_tests number closed)
+own_tests book (Reset number item closed) = tests_of_item (find_item book.items item.0) book.begun item.0
+    (reset_tests number closed)
 own_tests book (Close number) = close_tests book number
 
 abbrev pub first_fault : Figures → Record → Option BookFault
@@ -129,4 +132,5 @@ IsInTurn result book item =
     × (place < length book.items)
     × ((tests : ItemFigure → List Test) (g : ItemFigure) → slice_get book.items place ≡ Some g
     → first_of (tests_of_item (find_item book.items item) book.begun item tests) ≡ first_of (tests g)))
-    (λ f. (tests : ItemFigure → List Test) → first_of (tests_of_item (find_item book.items item) book.begun item tests) ≡ Some f)
+    (λ f. (tests : ItemFigure → List Test) → first_of (tests_of_item (find_item book.items item) book.begun item tests)
+    ≡ Some f)

@@ -1,5 +1,6 @@
 -- What a book keeps of a list of records, and which lists a book shows.
-use Rattle.std.specs.Prelude.{◌≡◌, ℕ, ◌+◌, ◌≤◌, ◌==◌, Bool, true, false, List, length, map, fold, All, Option, Some, None}
+use Rattle.std.specs.Prelude.{◌≡◌, ℕ, ◌+◌, ◌≤◌, ◌==◌, Bool, true, false, List, length, map, fold, All, Option, Some}
+use Rattle.std.specs.Prelude.{None}
 use Rattle.std.specs.List.{IsDistinct}
 use Rattle.mrp_qty.specs.declared.quantity.TheConstants.{MOST}
 use Rattle.mrp_net.specs.declared.lane.LaneKind.{LaneKind}

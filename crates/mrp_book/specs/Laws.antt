@@ -12,7 +12,9 @@ NoFaultIsInForm =
     (form : LaneForm) → IsForm form → (records : List Record) → IsInForm form records → (r : Record)
     → (first_fault (figures form records) r ≡ None) ↔ IsInForm form (records ++ r ∷ [])
 
--- after a list in form a record is refused for the first of the twelve faults that it has, and for none where it has none
+-- after a list in form a record is refused for the first of the twelve faults that it has, and for none where it has
+-- none
 abbrev pub FaultsAreFirst : Type 0
 FaultsAreFirst =
-    (form : LaneForm) (records : List Record) → IsInForm form records → (r : Record) → first_fault (figures form records) r ≡ first_had form records r
+    (form : LaneForm) (records : List Record) → IsInForm form records → (r : Record)
+    → first_fault (figures form records) r ≡ first_had form records r

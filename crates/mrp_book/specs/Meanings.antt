@@ -1,5 +1,6 @@
--- What each of the twelve faults says of a record, after a list of records on a lane of a known form. Each stands alone,
--- whatever the others say; of an item that isn't on the lane one says anything, since an earlier one says that it isn't.
+-- What each of the twelve faults says of a record, after a list of records on a lane of a known form. Each stands
+-- alone, whatever the others say; of an item that isn't on the lane one says anything, since an earlier one says that
+-- it isn't.
 use Rattle.std.specs.Prelude.{ℕ, ◌+◌, ◌==◌, ◌&&◌, ◌||◌, nat_lt, nat_le, not, Bool, false, List, [], ◌∷◌, length, find}
 use Rattle.std.specs.Prelude.{Option, None, is_some, option_map, unwrap_or}
 use Rattle.std.specs.List.{list_any}
@@ -56,7 +57,8 @@ is_of_nothing other = false
 
 -- the figure isn't the one in force and the line's pieces
 abbrev pub is_cum_wrong : LaneForm → List Entry → Entry → Bool
-is_cum_wrong form before (LineOf item period quantity cumulative) = not (cumulative == figure_in_force form item before + quantity)
+is_cum_wrong form before (LineOf item period quantity cumulative) =
+    not (cumulative == figure_in_force form item before + quantity)
 is_cum_wrong form before other = false
 
 -- with the closed years added the figure is above 10^15
@@ -81,7 +83,8 @@ is_close_early form before other = false
 -- awaited, or a reset that isn't awaited, has come or closes another figure than the one in force
 abbrev pub is_reset_wrong : LaneForm → List Entry → Entry → Bool
 is_reset_wrong form before (LineOf item period quantity cumulative) =
-    (was_reset item before && not (is_anew (reset_of form item) period)) || (is_anew (reset_of form item) period && not (was_reset item before))
+    (was_reset item before && not (is_anew (reset_of form item) period))
+    || (is_anew (reset_of form item) period && not (was_reset item before))
 is_reset_wrong form before (EndOf item lines cumulative) = is_some (reset_of form item) && not (was_reset item before)
 is_reset_wrong form before (ResetOf item closed) =
     not (is_some (reset_of form item)) || was_reset item before || not (closed == figure_in_force form item before)

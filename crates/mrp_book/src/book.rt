@@ -49,7 +49,8 @@ impl Model for Book {
 }
 
 impl Book {
-    ghost use Rattle.std.specs.Prelude.{◌≤◌, ◌==◌, ◌+◌, [], ◌∷◌, ◌++◌, List, false, length, position, slice_get, option_map, unwrap_or, IfErr, MatchResult};
+    ghost use Rattle.std.specs.Prelude.{◌≤◌, ◌==◌, ◌+◌, [], ◌∷◌, ◌++◌, List, false, length, position, slice_get};
+    ghost use Rattle.std.specs.Prelude.{option_map, unwrap_or, IfErr, MatchResult};
     ghost use Rattle.std.specs.Prelude.{None, OnErr, OnOk, Some};
     ghost use Rattle.std.specs.List.{IsDistinct};
     ghost use Rattle.mrp_record.specs.declared.record.Record.TheVariants.{Line, ItemEnd, Reset, Close};
@@ -166,7 +167,8 @@ impl Book {
 
     /// Whether the closing record is booked.
     pub fn closed(&self) -> bool
-        ensures { (F : LaneForm) (records : List Record) → BookShows F self.now records → result ≡ is_closed (contents records) }
+        ensures { (F : LaneForm) (records : List Record) → BookShows F self.now records
+            → result ≡ is_closed (contents records) }
     {
         self.closed
     }

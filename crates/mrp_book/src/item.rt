@@ -42,7 +42,8 @@ pub struct ItemFigure {
 impl ItemFigure {
     ghost use Rattle.mrp_record.specs.Form.{is_anew};
     ghost use Rattle.mrp_book.specs.After.{opened, figure_after_line, with_end, figure_after_reset};
-    ghost use Rattle.mrp_book.specs.Faults.{period_is_wrong, cum_is_wrong, is_too_large, is_side_wrong, end_is_wrong, is_reset_missing, reset_is_wrong};
+    ghost use Rattle.mrp_book.specs.Faults.{period_is_wrong, cum_is_wrong, is_too_large, is_side_wrong, end_is_wrong};
+    ghost use Rattle.mrp_book.specs.Faults.{is_reset_missing, reset_is_wrong};
     ghost use Rattle.mrp_book.specs.Faults.{Answers, line_tests, end_tests, reset_tests};
 
     /// The figures of an item before its first record.

@@ -1,5 +1,6 @@
 -- The dates that the calendar has day by day are those of the day numbers.
-use Rattle.std.proofs.Common.{◌≡◌, ℕ, zero, suc, ◌+◌, ◌<◌, ◌≤◌, nat_lt, cond, List, Bool, true, false, inl, ℤ, pos, ◌+ℤ◌, ◌≤ℤ◌, ◌<ℤ◌, unsigned_abs, refl, subst, sym, ap, ◌∙◌, arith}
+use Rattle.std.proofs.Common.{◌≡◌, ℕ, zero, suc, ◌+◌, ◌<◌, ◌≤◌, nat_lt, cond, List, Bool, true, false, inl, ℤ, pos, ◌+ℤ◌, ◌≤ℤ◌, ◌<ℤ◌, unsigned_abs, refl, subst}
+use Rattle.std.proofs.Common.{sym, ap, ◌∙◌, arith}
 use Rattle.std.proofs.lemmas.Bool.{ltb-true, ltb-false}
 use Rattle.std.proofs.lemmas.Int.{by_lt_z}
 use Rattle.jiff.specs.Types.{Date}
@@ -40,28 +41,74 @@ record IsNext (date next : Date) (y : ℤ) (m d : ℕ) : Type 0 where
 
 in_month : (date : Date) → date.day < days_in_month date.year date.month → (next : Date) × IsNext date next date.year date.month (date.day + 1)
 in_month date more =
-    let next : Date = record { year = date.year; month = date.month; day = date.day + 1; year_in = date.year_in; month_in = date.month_in; day_in = (omega arith, omega arith) } in
-    (next, record { year = refl; month = refl; day = refl; number = omega (arith, signed_arith, days_from_civil-day date.year date.month date.day (date.day + 1) date.day_in.0 (omega arith)) })
+    let next : Date = record {
+      year = date.year;
+      month = date.month;
+      day = date.day + 1;
+      year_in = date.year_in;
+      month_in = date.month_in;
+      day_in =
+          (omega arith, omega arith);
+    } in (
+      next,
+      record {
+        year = refl;
+        month = refl;
+        day = refl;
+        number =
+            omega (arith, signed_arith, days_from_civil-day date.year date.month date.day (date.day + 1) date.day_in.0 (omega arith));
+      },
+    )
 
 in_year : (date : Date) → days_in_month date.year date.month ≤ date.day → date.month < 12 → (next : Date) × IsNext date next date.year (date.month + 1) 1
 in_year date last more =
-    let next : Date = record { year = date.year; month = date.month + 1; day = 1; year_in = date.year_in; month_in = (omega arith, omega arith); day_in = (omega arith, omega (arith, (short date.year (date.month + 1)).0)) } in
+    let next : Date = record {
+      year = date.year;
+      month = date.month + 1;
+      day = 1;
+      year_in = date.year_in;
+      month_in = (omega arith, omega arith);
+      day_in =
+          (omega arith, omega (arith, (short date.year (date.month + 1)).0));
+    } in
     let whole : date.day ≡ days_in_month date.year date.month = omega (arith, last, date.day_in.1) in
     (next, record { year = refl; month = refl; day = refl; number = days_from_civil-next_month date.year date.month date.day date.month_in.0 whole })
 
-after_year : (date : Date) → date.year ≤ℤ pos 2199 → days_in_month date.year date.month ≤ date.day → 12 ≤ date.month → (next : Date) × IsNext date next (date.year +ℤ pos 1) 1 1
+after_year : (date : Date) → date.year ≤ℤ pos 2199 → days_in_month date.year date.month ≤ date.day → 12 ≤ date.month
+    → (next : Date) × IsNext date next (date.year +ℤ pos 1) 1 1
 after_year date by last end =
-    let next : Date = record { year = date.year +ℤ pos 1; month = 1; day = 1; year_in = (omega (arith, signed_arith, date.year_in.0), omega (arith, signed_arith, by)); month_in = (omega arith, omega arith); day_in = (omega arith, omega (arith, (short (date.year +ℤ pos 1) 1).0)) } in
+    let next : Date = record {
+      year = date.year +ℤ pos 1;
+      month = 1;
+      day = 1;
+      year_in =
+          (omega (arith, signed_arith, date.year_in.0), omega (arith, signed_arith, by));
+      month_in = (omega arith, omega arith);
+      day_in =
+          (omega arith, omega (arith, (short (date.year +ℤ pos 1) 1).0));
+    } in
     let december : date.month ≡ 12 = omega (arith, end, date.month_in.1) in
     let whole : date.day ≡ days_in_month date.year date.month = omega (arith, last, date.day_in.1) in
-    let day : date.day ≡ 31 = rw december at whole in
-    (next, record { year = refl; month = refl; day = refl; number = rw (december, day) (days_from_civil-next_year date.year (date.year +ℤ pos 1) (omega (arith, signed_arith, date.year_in.0)) refl) })
+    let day : date.day ≡ 31 = rw december at whole in (
+      next,
+      record {
+        year = refl;
+        month = refl;
+        day = refl;
+        number =
+            rw (december, day) (days_from_civil-next_year date.year (date.year +ℤ pos 1) (omega (arith, signed_arith, date.year_in.0)) refl);
+      },
+    )
 
-has_next : (date next : Date) (p q : Parts) (n : ℕ) (y : ℤ) (m d : ℕ) → HasParts date p n → IsNext date next y m d → y ≡ pos q.year → m ≡ q.month → d ≡ q.day → HasParts next q (suc n)
+has_next : (date next : Date) (p q : Parts) (n : ℕ) (y : ℤ) (m d : ℕ) → HasParts date p n → IsNext date next y m d → y ≡ pos q.year → m ≡ q.month → d ≡ q.day
+    → HasParts next q (suc n)
 has_next date next p q n y m d h k year month day =
     record { year = k.year ∙ year; month = k.month ∙ month; day = k.day ∙ day; number = omega (arith, signed_arith, k.number, h.number) }
 
-next_by : (date : Date) (p : Parts) (n : ℕ) → HasParts date p n → n < 84005 → (in_month in_year : Bool) → nat_lt p.day (days_in_month (pos p.year) p.month) ≡ in_month → nat_lt p.month 12 ≡ in_year → (next : Date) × HasParts next (cond in_month (record { year = p.year; month = p.month; day = p.day + 1 }) (cond in_year (record { year = p.year; month = p.month + 1; day = 1 }) (record { year = p.year + 1; month = 1; day = 1 }))) (suc n)
+next_by : (date : Date) (p : Parts) (n : ℕ) → HasParts date p n → n < 84005 → (in_month in_year : Bool)
+    → nat_lt p.day (days_in_month (pos p.year) p.month) ≡ in_month → nat_lt p.month 12 ≡ in_year
+    → (next : Date) × HasParts next (cond in_month (record { year = p.year; month = p.month; day = p.day + 1 })
+    (cond in_year (record { year = p.year; month = p.month + 1; day = 1 }) (record { year = p.year + 1; month = 1; day = 1 }))) (suc n)
 next_by date p n h by true _ e e₂ =
     let more : p.day < days_in_month (pos p.year) p.month = ltb-true _ _ e in
     let next = in_month date (rw (h.day, h.year, h.month) more) in
@@ -99,7 +146,8 @@ same_text : (y₁ y₂ m₁ m₂ d₁ d₂ : ℕ) → y₁ ≡ y₂ → m₁ ≡
 same_text y₁ y₂ m₁ m₂ d₁ d₂ y m d = rw (y, m, d) refl
 
 -- so the text of a date is that of its day
-pub date_text-day_text : (date : Date) (day : ℤ) → epoch_day date ≡ day → pos 0 ≤ℤ epoch_day date → epoch_day date ≤ℤ last_date → date_text (unsigned_abs date.year) date.month date.day ≡ day_text day
+pub date_text-day_text : (date : Date) (day : ℤ) → epoch_day date ≡ day → pos 0 ≤ℤ epoch_day date → epoch_day date ≤ℤ last_date
+    → date_text (unsigned_abs date.year) date.month date.day ≡ day_text day
 date_text-day_text date day number since until =
     let last = rw last_date-is at until in
     let whole : epoch_day date ≡ pos (unsigned_abs day) = number ∙ not_negative day (subst from_zero number since) in

@@ -37,8 +37,10 @@ ten_same a b c d e f g h i j a' b' c' d' e' f' g' h' i' j' ea eb ec ed ee ef eg 
 shaped : (text : List ℕ) → HasDateShape text → text ≡ date_text (year_of text) (month_of text) (day_of text)
 shaped (a ∷ b ∷ c ∷ d ∷ e ∷ f ∷ g ∷ h ∷ i ∷ j ∷ []) s =
     let y = s.year in
-    ten_same _ _ _ _ _ _ _ _ _ _ _ _ _ _ _ _ _ _ _ _ (first_of_four a b c d y.0 y.1 y.2 y.3) (second_of_four a b c d y.0 y.1 y.2 y.3) (third_of_four a b c d y.0 y.1 y.2 y.3) (last_of_four a b c d y.0 y.1 y.2 y.3)
-    s.dash (first_of_two f g s.month.0 s.month.1) (last_of_two f g s.month.0 s.month.1) s.second_dash (first_of_two i j s.day.0 s.day.1) (last_of_two i j s.day.0 s.day.1)
+    ten_same _ _ _ _ _ _ _ _ _ _ _ _ _ _ _ _ _ _ _ _ (first_of_four a b c d y.0 y.1 y.2 y.3) (second_of_four a b c d y.0 y.1 y.2 y.3)
+    (third_of_four a b c d y.0 y.1 y.2 y.3) (last_of_four a b c d y.0 y.1 y.2 y.3)
+    s.dash (first_of_two f g s.month.0 s.month.1) (last_of_two f g s.month.0 s.month.1) s.second_dash (first_of_two i j s.day.0 s.day.1)
+    (last_of_two i j s.day.0 s.day.1)
 shaped (a ∷ b ∷ c ∷ d ∷ e ∷ f ∷ g ∷ h ∷ i ∷ j ∷ k ∷ rest) s = absurd (omega (arith, s.ten))
 shaped (a ∷ b ∷ c ∷ d ∷ e ∷ f ∷ g ∷ h ∷ i ∷ []) s = absurd (omega (arith, s.ten))
 shaped (a ∷ b ∷ c ∷ d ∷ e ∷ f ∷ g ∷ h ∷ []) s = absurd (omega (arith, s.ten))

@@ -24,7 +24,8 @@ day_of text = 10 * digit text 8 + digit text 9
 -- the shape dddd-dd-dd, d being any digit
 pub record HasDateShape (text : List ℕ) : Type 0 where
   pub ten : length text ≡ 10
-  pub year : IsDigit (slice_index text 0) × IsDigit (slice_index text 1) × IsDigit (slice_index text 2) × IsDigit (slice_index text 3)
+  pub year : IsDigit (slice_index text 0) × IsDigit (slice_index text 1) × IsDigit (slice_index text 2)
+      × IsDigit (slice_index text 3)
   pub dash : slice_index text 4 ≡ 45
   pub month : IsDigit (slice_index text 5) × IsDigit (slice_index text 6)
   pub second_dash : slice_index text 7 ≡ 45

@@ -1,6 +1,7 @@
 //! The text of a day, yyyy-mm-dd, read and written.
 
-ghost use Rattle.std.specs.Prelude.{◌≡◌, ◌*◌, ◌+◌, ◌-◌, ◌≤◌, ◌↔◌, pos, ◌≤ℤ◌, unsigned_abs, length, slice_index, IsTrue, MatchOption};
+ghost use Rattle.std.specs.Prelude.{◌≡◌, ◌*◌, ◌+◌, ◌-◌, ◌≤◌, ◌↔◌, pos, ◌≤ℤ◌, unsigned_abs, length, slice_index, IsTrue};
+ghost use Rattle.std.specs.Prelude.{MatchOption};
 ghost use Rattle.jiff.specs.Types.{Date as Plain};
 ghost use Rattle.jiff.specs.Words.{epoch_day};
 ghost use Rattle.mrp_cal.specs.DateText.{IsDigit, HasDateShape, IsDateText};

@@ -6,7 +6,8 @@ use Rattle.mrp_choice.specs.declared.choice.TheConstants.{MOST_WORKERS, MOST_CAP
 
 -- the numbers of a choice are in their ranges
 abbrev pub IsInRange : Choice → Type 0
-IsInRange (Plan workers capacity single) = (1 ≤ workers) × (workers ≤ MOST_WORKERS) × (1 ≤ capacity) × (capacity ≤ MOST_CAPACITY)
+IsInRange (Plan workers capacity single) = (1 ≤ workers) × (workers ≤ MOST_WORKERS) × (1 ≤ capacity)
+    × (capacity ≤ MOST_CAPACITY)
 IsInRange (Check heading) = Unit {0}
 IsInRange (Peg plant item period heading) = period ≤ LAST_PERIOD
 IsInRange (Cums heading) = Unit {0}

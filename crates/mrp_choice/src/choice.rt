@@ -1,12 +1,12 @@
 //! What a program over the planner may be asked to do, and the limits of what it may be asked.
 
-/// The most workers of a plant.
+/// The most workers of a plant: 64.
 pub const MOST_WORKERS: u64 = mrp_qty::MOST_WORKERS;
 
-/// The most records that a mailbox between two plants may hold.
+/// The most records that a mailbox between two plants may hold: 65,536.
 pub const MOST_CAPACITY: u64 = mrp_qty::MOST_ROOM;
 
-/// The last period that may be asked about: that of the longest horizon, counted from 0.
+/// The last period that may be asked about: 103, that of the longest horizon, counted from 0.
 pub const LAST_PERIOD: u64 = mrp_qty::LONGEST - 1;
 
 /// Whether a report begins with a row that names its columns.

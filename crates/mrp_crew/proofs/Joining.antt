@@ -20,18 +20,21 @@ Worker G = PromisedHandle Work (Order G)
 ordered-push : {G : Type 0} (workers more : List (Worker G)) (h : Worker G) → more ≡ workers ++ h ∷ [] → ordered more ≡ ordered workers ++ h.promise.pair ∷ []
 ordered-push {G} workers more h is = ap ordered is ∙ map-append (λ (w : Worker G). w.promise.pair) workers (h ∷ [])
 
-pub started_next : {G : Type 0} (pairs : List PairNo) (i : ℕ) (d : PairNo) (workers more : List (Worker G)) (h : Worker G) → i < length pairs → take i pairs ≡ ordered workers
+pub started_next : {G : Type 0} (pairs : List PairNo) (i : ℕ) (d : PairNo) (workers more : List (Worker G)) (h : Worker G) → i < length pairs
+    → take i pairs ≡ ordered workers
     → more ≡ workers ++ h ∷ [] → h.promise.pair ≡ get_or pairs i d → take (i + 1) pairs ≡ ordered more
 started_next pairs i d workers more h within so_far pushed its =
     ap (λ (n : ℕ). take n pairs) (add-one i) ∙ take-suc pairs i d within ∙ ap (λ (z : List PairNo). z ++ get_or pairs i d ∷ []) so_far
     ∙ ap (λ (x : PairNo). ordered workers ++ x ∷ []) (sym its) ∙ sym (ordered-push workers more h pushed)
 
 -- no pair is left to start one for
-pub started_all : {G : Type 0} (pairs : List PairNo) (i : ℕ) (workers : List (Worker G)) → length pairs ≤ i → take i pairs ≡ ordered workers → pairs ≡ ordered workers ++ []
+pub started_all : {G : Type 0} (pairs : List PairNo) (i : ℕ) (workers : List (Worker G)) → length pairs ≤ i → take i pairs ≡ ordered workers
+    → pairs ≡ ordered workers ++ []
 started_all pairs i workers none so_far = sym (take_all i pairs none) ∙ so_far ∙ sym (append-nil (ordered workers))
 
 -- one is joined
-pub joined_pairs : {G : Type 0} (workers rest : List (Worker G)) (h : Worker G) (works more : List Work) (w : Work) (pairs : List PairNo) → workers ≡ rest ++ h ∷ [] → more ≡ works ++ w ∷ []
+pub joined_pairs : {G : Type 0} (workers rest : List (Worker G)) (h : Worker G) (works more : List Work) (w : Work) (pairs : List PairNo)
+    → workers ≡ rest ++ h ∷ [] → more ≡ works ++ w ∷ []
     → w.pair ≡ h.promise.pair → ordered workers ++ pairs_worked (reverse works) ≡ pairs → ordered rest ++ pairs_worked (reverse more) ≡ pairs
 joined_pairs workers rest h works more w pairs popped pushed its so_far =
     ap (λ (z : List Work). ordered rest ++ pairs_worked z) (ap (λ (z : List Work). reverse z) pushed ∙ reverse-push works w)
@@ -41,12 +44,14 @@ joined_pairs workers rest h works more w pairs popped pushed its so_far =
     ∙ so_far
 
 -- the only result so far
-pub only_pair : (before works : List Work) (w : Work) (own : PairNo) → before ≡ [] → works ≡ before ++ w ∷ [] → w.pair ≡ own → pairs_worked (reverse works) ≡ own ∷ []
+pub only_pair : (before works : List Work) (w : Work) (own : PairNo) → before ≡ [] → works ≡ before ++ w ∷ [] → w.pair ≡ own
+    → pairs_worked (reverse works) ≡ own ∷ []
 only_pair before works w own none pushed its =
     ap (λ (z : List Work). pairs_worked (reverse z)) (pushed ∙ ap (λ (z : List Work). z ++ w ∷ []) none) ∙ ap (λ (x : PairNo). x ∷ []) its
 
 -- a thread was refused
-pub refused_drafts : {G : Type 0} (A : AgentState) (others : List PairNo) (own : PairNo) (workers : List (Worker G)) (rest : List PairNo) (drafts : Drafts) → drafts.all ≡ false
+pub refused_drafts : {G : Type 0} (A : AgentState) (others : List PairNo) (own : PairNo) (workers : List (Worker G)) (rest : List PairNo) (drafts : Drafts)
+    → drafts.all ≡ false
     → others ≡ ordered workers ++ rest → pairs_worked (reverse drafts.works.items) ≡ ordered workers ++ [] → All (WorkedFor A) drafts.works.items
     → All (IsRoom A.view.horizon) drafts.rooms.items → AreDrafts A (others ++ own ∷ []) drafts
 refused_drafts A others own workers rest drafts refused started pairs worked rooms = record {
@@ -59,7 +64,8 @@ refused_drafts A others own workers rest drafts refused started pairs worked roo
 }
 
 -- all threads were started
-pub whole_drafts : {G : Type 0} (A : AgentState) (others : List PairNo) (own : PairNo) (workers : List (Worker G)) (rest : List PairNo) (drafts : Drafts) → rest ≡ []
+pub whole_drafts : {G : Type 0} (A : AgentState) (others : List PairNo) (own : PairNo) (workers : List (Worker G)) (rest : List PairNo) (drafts : Drafts)
+    → rest ≡ []
     → others ≡ ordered workers ++ rest → pairs_worked (reverse drafts.works.items) ≡ ordered workers ++ own ∷ [] → All (WorkedFor A) drafts.works.items
     → All (IsRoom A.view.horizon) drafts.rooms.items → AreDrafts A (others ++ own ∷ []) drafts
 whole_drafts A others own workers rest drafts none started pairs worked rooms =

@@ -1,7 +1,8 @@
 -- The agent keeps the results of a wave one by one, and those that are left still fit it.
 use Rattle.std.specs.Option.{is_some}
 use Rattle.std.specs.Result.{IfErr, OnOk}
-use Rattle.std.proofs.Common.{◌≡◌, ◌≢◌, ℕ, ◌<◌, Bool, true, false, Option, None, Some, Result, Ok, Err, slice_get, List, [], ◌∷◌, ◌++◌, length, get_or, reverse, refl, sym, ap, ◌∙◌, subst, arith, All, Contains}
+use Rattle.std.proofs.Common.{◌≡◌, ◌≢◌, ℕ, ◌<◌, Bool, true, false, Option, None, Some, Result, Ok, Err, slice_get, List, [], ◌∷◌, ◌++◌, length, get_or, reverse}
+use Rattle.std.proofs.Common.{refl, sym, ap, ◌∙◌, subst, arith, All, Contains}
 use Rattle.std.specs.Bool.{OnTrue}
 use Rattle.std.proofs.lemmas.Bool.{false≢true}
 use Rattle.std.proofs.lemmas.List.Elements.{All-head, All-tail}
@@ -39,7 +40,8 @@ still_to_settle A B work works are view stays =
     }
 
 -- the last result that came is the first to be kept
-pub popped_first : (A : AgentState) (works rest : List Work) (work : Work) → works ≡ rest ++ work ∷ [] → AreToSettle A (reverse works) → AreToSettle A (work ∷ reverse rest)
+pub popped_first : (A : AgentState) (works rest : List Work) (work : Work) → works ≡ rest ++ work ∷ [] → AreToSettle A (reverse works)
+    → AreToSettle A (work ∷ reverse rest)
 popped_first A works rest work popped are = subst (AreToSettle A) (ap (λ (z : List Work). reverse z) popped ∙ reverse-push rest work) are
 
 -- a pair by its number

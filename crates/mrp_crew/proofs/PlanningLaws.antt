@@ -79,5 +79,6 @@ plans_append A B C xs ys first then_ = record {
       (All-weaker (λ (y : PairNo). all_planned planned xs y.0 ≡ false) (λ (y : PairNo). planned y.0 ≡ false) (λ y is. unplanned_before planned xs y.0 is) ys
       (then_.unplanned sent taken (all_planned planned xs) (first.shows sent taken planned shown)));
   shows = λ sent taken planned shown.
-      subst (ShowsHistory C sent taken) (sym (all_planned-append planned xs ys)) (then_.shows sent taken (all_planned planned xs) (first.shows sent taken planned shown));
+      subst (ShowsHistory C sent taken) (sym (all_planned-append planned xs ys))
+      (then_.shows sent taken (all_planned planned xs) (first.shows sent taken planned shown));
 }

@@ -23,7 +23,8 @@ AreReady A numbers =
 
 -- ---- ready pairs
 
-module _ (A : AgentState) (can : IsPlannable A) (numbers : List PairNo) (same : numbers ≡ ready_numbers A) (own : All (IsOwnPair A.view) numbers) (exact : AreReady A numbers) where
+module _ (A : AgentState) (can : IsPlannable A) (numbers : List PairNo) (same : numbers ≡ ready_numbers A) (own : All (IsOwnPair A.view) numbers)
+    (exact : AreReady A numbers) where
   exact_ready : AreReady A (ready_numbers A)
   exact_ready = subst (AreReady A) same exact
 

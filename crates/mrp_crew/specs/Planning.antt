@@ -34,5 +34,7 @@ AreUnplanned planned xs = All (λ x. planned x.0 ≡ false) xs
 pub record PlansAll (old new : AgentState) (xs : List PairNo) : Type 0 where
   pub view : new.view ≡ old.view
   pub left : length xs + left_of new.progress.planned ≡ left_of old.progress.planned
-  pub unplanned : (sent taken : ℕ → List Record) (planned : ℕ → Bool) → ShowsHistory old sent taken planned → AreUnplanned planned xs
-  pub shows : (sent taken : ℕ → List Record) (planned : ℕ → Bool) → ShowsHistory old sent taken planned → ShowsHistory new sent taken (all_planned planned xs)
+  pub unplanned : (sent taken : ℕ → List Record) (planned : ℕ → Bool) → ShowsHistory old sent taken planned
+      → AreUnplanned planned xs
+  pub shows : (sent taken : ℕ → List Record) (planned : ℕ → Bool) → ShowsHistory old sent taken planned
+      → ShowsHistory new sent taken (all_planned planned xs)

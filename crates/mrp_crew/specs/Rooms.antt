@@ -15,8 +15,8 @@ use Rattle.mrp_crew.specs.Shut.{IsLetIn}
 abbrev pub IsRoom : ℕ → PlanRows → Type 0
 IsRoom horizon room = length room.gross ≡ horizon
 
--- What a wave begins with: pairs that can be drafted, fewer than a crew may have workers beside the one that the calling
--- thread drafts, a room for each, and no thread and no result yet, but room for all.
+-- What a wave begins with: pairs that can be drafted, fewer than a crew may have workers beside the one that the
+-- calling thread drafts, a room for each, and no thread and no result yet, but room for all.
 pub record IsWave {Thread : Type 0} (A : AgentState) (beside : List PairNo) (here : PairNo) (free : List PlanRows)
     (threads : Vec Thread Global) (results : Vec Work Global) : Type 0 where
   pub others : All (CanDraft A) beside

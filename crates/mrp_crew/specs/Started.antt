@@ -21,7 +21,8 @@ pub record IsWorkerOf {G : Type 0} (plant workers : ℕ) (worker : PromisedHandl
   pub last : worker.promise.number ≤ workers
 
 -- for a worker of the plant by its number, and for a pair
-pub record IsStarted {G : Type 0} (A : AgentState) (plant number : ℕ) (pair : PairNo) (worker : PromisedHandle Work (Order G)) : Type 0 where
+pub record IsStarted {G : Type 0} (A : AgentState) (plant number : ℕ) (pair : PairNo)
+    (worker : PromisedHandle Work (Order G)) : Type 0 where
   pub agent : IsFor A worker
   pub plant_is : worker.promise.plant ≡ plant
   pub number_is : worker.promise.number ≡ number

@@ -1,6 +1,7 @@
 //! The workers of a plant, and the rooms that they draft in.
 
-ghost use Rattle.std.specs.Prelude.{◌≡◌, ◌+◌, ◌<◌, ◌≤◌, true, false, min, List, length, reverse, All, IfErr, IfOk, OnOk};
+ghost use Rattle.std.specs.Prelude.{◌≡◌, ◌+◌, ◌<◌, ◌≤◌, true, false, min, List, length, reverse, All, IfErr, IfOk};
+ghost use Rattle.std.specs.Prelude.{OnOk};
 ghost use Rattle.mrp_rows.specs.declared.numbers.PairNo.{PairNo};
 ghost use Rattle.mrp_agent.specs.Drafts.{ready_numbers};
 ghost use Rattle.mrp_crew.specs.Planning.{IsPlannable, PlansAll};
@@ -44,7 +45,8 @@ impl Model for Crew {
 
     ghost view = { λ crew. record { workers = crew.workers; horizon = crew.horizon } };
 
-    ghost invariant = { λ crew. (1 ≤ crew.workers) × (crew.workers ≤ MOST_WORKERS) × All (IsRoom crew.horizon) crew.rooms.items };
+    ghost invariant = { λ crew. (1 ≤ crew.workers) × (crew.workers ≤ MOST_WORKERS)
+        × All (IsRoom crew.horizon) crew.rooms.items };
 }
 
 impl Crew {
@@ -105,7 +107,8 @@ impl Crew {
         ensures crew { self.new ≡ self.old }
         ensures planned { (xs : List PairNo) × PlansAll agent.old agent.new xs
             × IfOk result (λ count. (count ≡ length xs) × (ready_numbers agent.new ≡ [])) }
-        ensures shut { IfErr result (λ fault. fault ≡ CrewFault.GateShut → WasShutToWorker G.worker_shut self.old.workers plant) }
+        ensures shut { IfErr result (λ fault. fault ≡ CrewFault.GateShut
+            → WasShutToWorker G.worker_shut self.old.workers plant) }
         ensures refused { IfErr result (λ fault. fault ≡ CrewFault.ThreadRefused → 2 ≤ self.old.workers) }
     {
         let before = agent.left();
@@ -129,7 +132,8 @@ impl Crew {
         requires ready { 0 < length (ready_numbers agent.old) }
         ensures crew { self.new ≡ self.old }
         ensures planned { (xs : List PairNo) × PlansAll agent.old agent.new xs × OnOk result (0 < length xs) }
-        ensures shut { IfErr result (λ fault. fault ≡ CrewFault.GateShut → WasShutToWorker G.worker_shut self.old.workers plant) }
+        ensures shut { IfErr result (λ fault. fault ≡ CrewFault.GateShut
+            → WasShutToWorker G.worker_shut self.old.workers plant) }
         ensures refused { IfErr result (λ fault. fault ≡ CrewFault.ThreadRefused → 2 ≤ self.old.workers) }
     {
         if self.workers == 1 || agent.ready_pairs().len() == 1 {
@@ -153,7 +157,8 @@ impl Crew {
         requires ready { 0 < length (ready_numbers agent.old) }
         ensures crew { self.new ≡ self.old }
         ensures planned { (xs : List PairNo) × PlansAll agent.old agent.new xs × OnOk result (0 < length xs) }
-        ensures shut { IfErr result (λ fault. fault ≡ CrewFault.GateShut → WasShutToWorker G.worker_shut self.old.workers plant) }
+        ensures shut { IfErr result (λ fault. fault ≡ CrewFault.GateShut
+            → WasShutToWorker G.worker_shut self.old.workers plant) }
         ensures refused { IfErr result (λ fault. fault ≡ CrewFault.ThreadRefused → 2 ≤ self.old.workers) }
     {
         refill(alloc, &mut self.rooms, self.horizon, self.workers)?;

@@ -26,7 +26,8 @@ pub(crate) fn refill(
 
 /// Puts a room back among the others; where there is no place for it, it is let go.
 pub(crate) fn put_back(rooms: &mut Vec<Room>, room: Room)
-    ensures { (horizon : ℕ) → All (IsRoom horizon) rooms.old.items → IsRoom horizon room → All (IsRoom horizon) rooms.new.items }
+    ensures { (horizon : ℕ) → All (IsRoom horizon) rooms.old.items → IsRoom horizon room
+        → All (IsRoom horizon) rooms.new.items }
 {
     rooms.push(room).ok();
 }

@@ -18,7 +18,8 @@ pub(crate) fn settle_all(agent: &mut Agent, mut works: Vec<Work>, rooms: &mut Ve
     requires drafts { AreToSettle agent.old (reverse works.items) }
     requires rooms { All (IsRoom agent.old.view.horizon) rooms.old.items }
     ensures rooms { All (IsRoom agent.old.view.horizon) rooms.new.items }
-    ensures planned { (xs : List PairNo) × PlansAll agent.old agent.new xs × OnTrue result (length xs ≡ length works.items) }
+    ensures planned { (xs : List PairNo) × PlansAll agent.old agent.new xs
+        × OnTrue result (length xs ≡ length works.items) }
     ensures let_in { All (λ work. work.open ≡ true) works.items → result ≡ true }
 {
     let mut all = true;
@@ -35,9 +36,11 @@ fn settle(agent: &mut Agent, work: &Work, before: bool) -> bool
     requires plannable { IsPlannable agent.old }
     requires ready { Contains (ready_numbers agent.old) work.now.pair }
     requires worked { WorkedFor agent.old work.now }
-    ensures planned { (xs : List PairNo) × PlansAll agent.old agent.new xs × OnTrue result ((before ≡ true) × (length xs ≡ 1)) }
+    ensures planned { (xs : List PairNo) × PlansAll agent.old agent.new xs
+        × OnTrue result ((before ≡ true) × (length xs ≡ 1)) }
     ensures let_in { before ≡ true → work.now.open ≡ true → result ≡ true }
-    ensures others { (y : PairNo) → Contains (ready_numbers agent.old) y → y ≢ work.now.pair → StaysReady agent.old agent.new y }
+    ensures others { (y : PairNo) → Contains (ready_numbers agent.old) y → y ≢ work.now.pair
+        → StaysReady agent.old agent.new y }
 {
     let _ready = agent.ready_pairs();
     if !work.open {

@@ -1,5 +1,6 @@
 //! The threads of a wave: started, and joined.
-ghost use Rattle.std.specs.Prelude.{◌≡◌, ◌+◌, ◌++◌, ◌<◌, ◌≤◌, false, List, [], ◌∷◌, length, reverse, All, IfSome, ℕ, vec_capacity};
+ghost use Rattle.std.specs.Prelude.{◌≡◌, ◌+◌, ◌++◌, ◌<◌, ◌≤◌, false, List, [], ◌∷◌, length, reverse, All, IfSome, ℕ};
+ghost use Rattle.std.specs.Prelude.{vec_capacity};
 ghost use Rattle.std.specs.Bool.{OnTrue};
 ghost use Rattle.mrp_rows.specs.declared.numbers.PairNo.{PairNo};
 ghost use Rattle.mrp_agent.specs.Drafts.{CanDraft};
@@ -46,7 +47,8 @@ pub(crate) fn draft_wave<R: Threads + Wait + Sync, G: Gate>(
         move |scope| -> Drafts
             requires wave { IsWave agent.now others.now own rooms.items workers works }
             ensures drafts { AreDrafts agent.entry.now (others.entry.now ++ own ∷ []) result }
-            ensures shut { AreLetIn (WasShutToWorker G.worker_shut (length others.entry.now + 1) plant) result.works.items }
+            ensures shut { AreLetIn (WasShutToWorker G.worker_shut (length others.entry.now + 1) plant)
+                result.works.items }
             ensures refused { result.all ≡ false → 0 < length others.entry.now }
         {
             draft_beside(
@@ -104,7 +106,8 @@ fn start_all<'s, E, G: Gate>(
     requires few { length pairs.now < MOST_WORKERS }
     requires workers { (workers.old.items ≡ []) × (length pairs.now ≤ vec_capacity workers.old) }
     ensures rooms { All (IsRoom agent.now.view.horizon) rooms.new.items }
-    ensures started { (rest : List PairNo) × (pairs.now ≡ ordered workers.new.items ++ rest) × OnTrue result (rest ≡ []) }
+    ensures started { (rest : List PairNo) × (pairs.now ≡ ordered workers.new.items ++ rest)
+        × OnTrue result (rest ≡ []) }
     ensures few { length workers.new.items ≤ length pairs.now }
     ensures agent { All (IsFor agent.now) workers.new.items }
     ensures plant { All (IsWorkerOf plant (length pairs.now + 1)) workers.new.items }
@@ -160,9 +163,12 @@ fn start<'s, E, G: Gate>(
 /// Joins the threads, the last first, and puts their results behind those before them.
 fn join_all<R: Threads, G: Gate>(rt: &R, mut workers: Vec<Worker<G>>, works: &mut Vec<Work>)
     requires room { length workers.items + length works.old.items ≤ vec_capacity works.old }
-    ensures pairs { pairs_worked (reverse works.new.items) ≡ ordered workers.items ++ pairs_worked (reverse works.old.items) }
-    ensures worked { (A : AgentState) → All (IsFor A) workers.items → All (WorkedFor A) works.old.items → All (WorkedFor A) works.new.items }
-    ensures shut { (plant most : ℕ) → All (IsWorkerOf plant most) workers.items → AreLetIn (WasShutToWorker G.worker_shut most plant) works.old.items
+    ensures pairs { pairs_worked (reverse works.new.items) ≡ ordered workers.items
+        ++ pairs_worked (reverse works.old.items) }
+    ensures worked { (A : AgentState) → All (IsFor A) workers.items → All (WorkedFor A) works.old.items
+        → All (WorkedFor A) works.new.items }
+    ensures shut { (plant most : ℕ) → All (IsWorkerOf plant most) workers.items
+        → AreLetIn (WasShutToWorker G.worker_shut most plant) works.old.items
         → AreLetIn (WasShutToWorker G.worker_shut most plant) works.new.items }
 {
     while let Some(worker) = workers.pop() {

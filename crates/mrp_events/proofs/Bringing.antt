@@ -1,5 +1,6 @@
 -- What taken lanes have brought to a ready pair: what its sources ship, and what its customers' releases call for.
-use Rattle.std.proofs.Common.{◌≡◌, ℕ, ◌+◌, ◌<◌, ◌==◌, ◌&&◌, not, Bool, true, false, cond, List, [], ◌∷◌, ◌++◌, inl, inr, length, map, filter, sum_by, refl, sym, ap, subst, ◌∙◌, arith, Contains}
+use Rattle.std.proofs.Common.{◌≡◌, ℕ, ◌+◌, ◌<◌, ◌==◌, ◌&&◌, not, Bool, true, false, cond, List, [], ◌∷◌, ◌++◌, inl, inr, length, map, filter, sum_by, refl, sym}
+use Rattle.std.proofs.Common.{ap, subst, ◌∙◌, arith, Contains}
 use Rattle.std.specs.List.{AllByRecursion, IsDistinct, filter_map, flat_map, list_any, range_with_len}
 use Rattle.std.proofs.lemmas.Bool.{cases_Bool, cases_eq, cond-true, cond-false, and_parts, eqb-true, eq-eqb, ne_eqb, both_ways, false≢true}
 use Rattle.std.proofs.lemmas.List.Elements.{filter-append}
@@ -63,9 +64,11 @@ there_is_item (i ∷ items) item h = elim (cases_Bool (i.0 == item.0)) [
 ]
 
 pub not_there : (N : Table) (lane : Lane) (item : ItemNo) → has_item N lane item ≡ false → ¬ Contains (lane_items N lane) item
-not_there N lane item none there = both_ways (has_item N lane item) none (there_is_item (lane_items N lane) item (In-from_contains (lane_items N lane) item there))
+not_there N lane item none there = both_ways (has_item N lane item) none
+    (there_is_item (lane_items N lane) item (In-from_contains (lane_items N lane) item there))
 
-no_load : (N : Table) (lane : Lane) (item : ItemNo) (items : List ItemNo) → list_any (λ (i : ItemNo). i.0 == item.0) items ≡ false → load_count item.0 (map (load_of N lane) items) ≡ 0
+no_load : (N : Table) (lane : Lane) (item : ItemNo) (items : List ItemNo) → list_any (λ (i : ItemNo). i.0 == item.0) items ≡ false
+    → load_count item.0 (map (load_of N lane) items) ≡ 0
 no_load N lane item [] none = refl
 no_load N lane item (i ∷ items) none =
     elim (cases_Bool (i.0 == item.0)) [
@@ -80,27 +83,33 @@ no_load N lane item (i ∷ items) none =
 
 -- ---- what a legal beginning has brought of an item
 
-nothing_brought : (all : List Load) (records : List Record) (item period : ℕ) → IsBeginning all records → load_count item all ≡ 0 → quantity_in period (deliveries item (contents records)) ≡ 0
+nothing_brought : (all : List Load) (records : List Record) (item period : ℕ) → IsBeginning all records → load_count item all ≡ 0
+    → quantity_in period (deliveries item (contents records)) ≡ 0
 nothing_brought all records item period h none =
     let order = h.text.order in
     let no_blocks : entries_of item (flat_map block order) ≡ [] = no_block item order (count_permuted item all order h.text.once ∙ none) in
     let whole : entries_of item (contents records) ++ entries_of item h.rest ≡ [] =
-    sym (filter-append (is_of item) (contents records) h.rest) ∙ ap (entries_of item) h.text.is ∙ filter-append (is_of item) (flat_map block order) (Closing ∷ [])
+    sym (filter-append (is_of item) (contents records) h.rest) ∙ ap (entries_of item) h.text.is
+    ∙ filter-append (is_of item) (flat_map block order) (Closing ∷ [])
     ∙ ap (λ (z : List Entry). z ++ []) no_blocks in
-    ap (λ (z : List Entry). quantity_in period (filter_map delivery_of_entry z)) (front_of_nothing (entries_of item (contents records)) (entries_of item h.rest) whole)
+    ap (λ (z : List Entry). quantity_in period (filter_map delivery_of_entry z))
+    (front_of_nothing (entries_of item (contents records)) (entries_of item h.rest) whole)
   where
     front_of_nothing : (xs ys : List Entry) → xs ++ ys ≡ [] → xs ≡ []
     front_of_nothing [] ys e = refl
     front_of_nothing (x ∷ xs) ys e = absurd (cc)
 
-block_brought : (N : Table) → IsTable N → (lane : Lane) (records : List Record) (item : ItemNo) (period : ℕ) → IsBeginning (loads N lane) records → Contains (lane_items N lane) item
-    → is_ended item.0 (contents records) ≡ true → quantity_in period (deliveries item.0 (contents records)) ≡ quantity_in period (lines_by N lane.kind lane item)
+block_brought : (N : Table) → IsTable N → (lane : Lane) (records : List Record) (item : ItemNo) (period : ℕ) → IsBeginning (loads N lane) records
+    → Contains (lane_items N lane) item
+    → is_ended item.0 (contents records) ≡ true → quantity_in period (deliveries item.0 (contents records))
+    ≡ quantity_in period (lines_by N lane.kind lane item)
 block_brought N table lane records item period h there ended =
     ended_blocks_bring_periods (loads N lane) (loads_stand_once N table lane) records h (load_of N lane item) (load_is_there N lane item there) ended period
 
 -- ---- one source asks, or none
 
-none_asks : (test : SourceRow → Bool) (amount : SourceRow → ℕ) (rows : List SourceRow) → ((r : SourceRow) → In rows r → test r ≡ true → ⊥) → sum_by (λ r. cond (test r) (amount r) 0) rows ≡ 0
+none_asks : (test : SourceRow → Bool) (amount : SourceRow → ℕ) (rows : List SourceRow) → ((r : SourceRow) → In rows r → test r ≡ true → ⊥)
+    → sum_by (λ r. cond (test r) (amount r) 0) rows ≡ 0
 none_asks test amount [] none = refl
 none_asks test amount (r ∷ rows) none =
     let one : cond (test r) (amount r) 0 ≡ 0 = elim (cases_Bool (test r)) [
@@ -110,15 +119,18 @@ none_asks test amount (r ∷ rows) none =
     omega (arith, one, sum_by-cons (λ r. cond (test r) (amount r) 0) r rows, none_asks test amount rows (λ s h. none s (inr h)))
 
 -- rows after one of an item are of other items
-apart_from : (key : SourceRow → ItemNo) (i : ItemNo) (rows : List SourceRow) (s : SourceRow) → AllByRecursion (λ j. is_same_item i j ≡ false) (map key rows) → In rows s → i.0 ≡ (key s).0 → ⊥
+apart_from : (key : SourceRow → ItemNo) (i : ItemNo) (rows : List SourceRow) (s : SourceRow) → AllByRecursion (λ j. is_same_item i j ≡ false) (map key rows)
+    → In rows s → i.0 ≡ (key s).0 → ⊥
 apart_from key i [] s apart h e = h
 apart_from key i (r ∷ rows) s apart h e = elim h [
   | inl same ↦ both_ways (is_same_item i (key r)) apart.0 (eq-eqb i.0 (key r).0 (e ∙ ap (λ (z : SourceRow). (key z).0) (sym same)))
   | inr g ↦ apart_from key i rows s apart.1 g e
 ]
 
-one_asks : (key : SourceRow → ItemNo) (test : SourceRow → Bool) (amount : SourceRow → ℕ) (k : ℕ) (rows : List SourceRow) → IsDistinct is_same_item (map key rows)
-    → ((r : SourceRow) → In rows r → test r ≡ true → (key r).0 ≡ k) → (s : SourceRow) → In rows s → test s ≡ true → sum_by (λ r. cond (test r) (amount r) 0) rows ≡ amount s
+one_asks : (key : SourceRow → ItemNo) (test : SourceRow → Bool) (amount : SourceRow → ℕ) (k : ℕ) (rows : List SourceRow)
+    → IsDistinct is_same_item (map key rows)
+    → ((r : SourceRow) → In rows r → test r ≡ true → (key r).0 ≡ k) → (s : SourceRow) → In rows s → test s ≡ true
+    → sum_by (λ r. cond (test r) (amount r) 0) rows ≡ amount s
 unfolding IsDistinct
 one_asks key test amount k [] once own s h t = absurd h
 one_asks key test amount k (r ∷ rows) once own s h t =
@@ -139,12 +151,14 @@ one_asks key test amount k (r ∷ rows) once own s h t =
 
 -- ---- the amount of a period
 
-of_period : (amount : ℕ → ℕ) (period : ℕ) (ks : List ℕ) → quantity_in period (filter has_pieces (map (delivery_in amount) ks)) ≡ sum_by (λ k. cond (k == period) (amount k) 0) ks
+of_period : (amount : ℕ → ℕ) (period : ℕ) (ks : List ℕ) → quantity_in period (filter has_pieces (map (delivery_in amount) ks))
+    ≡ sum_by (λ k. cond (k == period) (amount k) 0) ks
 of_period amount period [] = refl
 of_period amount period (k ∷ ks) =
     let lines = filter has_pieces (map (delivery_in amount) ks) in
     let in_it = λ (line : Delivery). cond (line.period == period) line.quantity 0 in
-    let first : quantity_in period (cond (has_pieces (delivery_in amount k)) (delivery_in amount k ∷ lines) lines) ≡ cond (k == period) (amount k) 0 + quantity_in period lines = elim (cases_Bool (amount k == 0)) [
+    let first : quantity_in period (cond (has_pieces (delivery_in amount k)) (delivery_in amount k ∷ lines) lines)
+    ≡ cond (k == period) (amount k) 0 + quantity_in period lines = elim (cases_Bool (amount k == 0)) [
       | inl none ↦
           let zero_is : amount k ≡ 0 = eqb-true (amount k) 0 none in
           let nothing : cond (k == period) (amount k) 0 ≡ 0 = ap (λ (v : ℕ). cond (k == period) v 0) zero_is ∙ nothing_either_way (k == period) in
@@ -193,7 +207,8 @@ pub same_where : (b : Bool) (m n : ℕ) → (b ≡ true → m ≡ n) → cond b 
 same_where true m n h = h refl
 same_where false m n h = refl
 
-module _ (N : Table) (table : IsTable N) (planned : ℕ → Bool) (taken : ℕ → List Record) (x : ℕ) (pair : IsPair N x) (legal : AreLegal N (pair_at N x).plant.0 taken) (ready : IsReady N planned taken x) (period : ℕ) where
+module _ (N : Table) (table : IsTable N) (planned : ℕ → Bool) (taken : ℕ
+    → List Record) (x : ℕ) (pair : IsPair N x) (legal : AreLegal N (pair_at N x).plant.0 taken) (ready : IsReady N planned taken x) (period : ℕ) where
   abbrev plant : ℕ
   plant = (pair_at N x).plant.0
 
@@ -272,7 +287,8 @@ module _ (N : Table) (table : IsTable N) (planned : ℕ → Bool) (taken : ℕ �
             lane_brought l within here there
             ∙ ap (λ (k : LaneKind). quantity_in period (lines_by N k lane item)) kind
             ∙ in_period (called_in N s) (horizon N) period inside
-            ∙ sym (one_asks (item_of_source N) asks_of (λ r. called_in N r period) item.0 over (one_source_brings_an_item N table (customer_of lane) (supplier_of lane)) own s among asked)
+            ∙ sym (one_asks (item_of_source N) asks_of (λ r. called_in N r period) item.0 over
+            (one_source_brings_an_item N table (customer_of lane) (supplier_of lane)) own s among asked)
         | inr none ↦
             lane_without l within here none
             ∙ sym (none_asks asks_of (λ r. called_in N r period) over (λ r h t.
@@ -289,20 +305,29 @@ module _ (N : Table) (table : IsTable N) (planned : ℕ → Bool) (taken : ℕ �
   abbrev schedule : ℕ → ℕ → Lane
   schedule customer supplier = record { kind = Schedule; sender = record { 0 = customer }; receiver = record { 0 = supplier } }
 
-  between_calls : (customer supplier : ℕ) → sum_by called_over (lanes_between N customer supplier) ≡ cond (plant == supplier) (over_route N asks customer plant) 0
+  between_calls : (customer supplier : ℕ) → sum_by called_over (lanes_between N customer supplier)
+      ≡ cond (plant == supplier) (over_route N asks customer plant) 0
   between_calls customer supplier =
       elim (cases_eq plant supplier) [
         | inl same ↦
-            let at : cond (plant == supplier) (over_route N asks customer plant) 0 ≡ over_route N asks customer plant = cond-true (plant == supplier) (over_route N asks customer plant) 0 (eq-eqb plant supplier same) in
+            let at : cond (plant == supplier) (over_route N asks customer plant) 0 ≡ over_route N asks customer plant =
+            cond-true (plant == supplier) (over_route N asks customer plant) 0 (eq-eqb plant supplier same) in
             here_calls customer supplier same ∙ sym at
         | inr other ↦
-            let none : cond (plant == supplier) (over_route N asks customer plant) 0 ≡ 0 = cond-false (plant == supplier) (over_route N asks customer plant) 0 (ne_eqb plant supplier other) in
+            let none : cond (plant == supplier) (over_route N asks customer plant) 0 ≡ 0 =
+            cond-false (plant == supplier) (over_route N asks customer plant) 0 (ne_eqb plant supplier other) in
             elsewhere customer supplier other ∙ sym none
       ]
     where
-      both : (customer supplier : ℕ) → sum_by called_over (despatch customer supplier ∷ schedule customer supplier ∷ []) ≡ cond (supplier == plant) (over_route N asks customer supplier) 0
+      both : (customer supplier : ℕ) → sum_by called_over (despatch customer supplier ∷ schedule customer supplier ∷ [])
+          ≡ cond (supplier == plant) (over_route N asks customer supplier) 0
       both customer supplier =
-          omega (arith, sum_by-cons called_over (despatch customer supplier) (schedule customer supplier ∷ []), sum_by-cons called_over (schedule customer supplier) [])
+          omega (
+            arith,
+            sum_by-cons called_over (despatch customer supplier) (schedule customer supplier ∷ []),
+            sum_by-cons called_over
+                (schedule customer supplier) [],
+          )
 
       here_calls : (customer supplier : ℕ) → plant ≡ supplier → sum_by called_over (lanes_between N customer supplier) ≡ over_route N asks customer plant
       here_calls customer supplier same =
@@ -329,14 +354,16 @@ module _ (N : Table) (table : IsTable N) (planned : ℕ → Bool) (taken : ℕ �
   of_customer customer =
       let n = length N.plants in
       sum-flat_map called_over (lanes_between N customer) (range_with_len 0 n)
-      ∙ sum_by-ext (λ supplier. sum_by called_over (lanes_between N customer supplier)) (λ supplier. cond (plant == supplier) (over_route N asks customer plant) 0) (range_with_len 0 n) (between_calls customer)
+      ∙ sum_by-ext (λ supplier. sum_by called_over (lanes_between N customer supplier))
+      (λ supplier. cond (plant == supplier) (over_route N asks customer plant) 0) (range_with_len 0 n) (between_calls customer)
       ∙ placed_once (over_route N asks customer plant) plant n (table.read.pairs x no_pair pair).plant
 
   schedules_brought : period < horizon N → brought N taken is_rising x period ≡ over_plants N (λ customer. over_route N asks customer plant)
   schedules_brought inside =
       let n = length N.plants in
       sum_same (λ l. cond (to_plant is_rising (lane_at N l)) (brought_by N taken x period l) 0) (λ l. called_over (lane_at N l)) 0 (length (lanes N))
-      (λ l low high. same_where (to_plant is_rising (lane_at N l)) (brought_by N taken x period l) (over_route N asks (customer_of (lane_at N l)) (supplier_of (lane_at N l))) (λ t.
+      (λ l low high. same_where (to_plant is_rising (lane_at N l)) (brought_by N taken x period l)
+      (over_route N asks (customer_of (lane_at N l)) (supplier_of (lane_at N l))) (λ t.
       let parts = and_parts (is_rising (lane_at N l).kind) ((lane_at N l).receiver.0 == plant) t in
       schedule_brought l (omega arith) inside (only_schedule (lane_at N l).kind parts.0) (eqb-true (lane_at N l).receiver.0 plant parts.1)))
       ∙ by_number N called_over

@@ -27,11 +27,13 @@ supplier_by_kind lane e = ap (λ (k : LaneKind). elim k as (λ _. ℕ) [ Despatc
 pub pair_behind : (N : Table) → IsTable N → (s : SourceRow) → In N.sources s
     → IsPair N (source_pair N s) × ((pair_at N (source_pair N s)).plant ≡ s.plant) × ((pair_at N (source_pair N s)).item ≡ item_of_source N s)
 pair_behind N table s there =
-    All-in (λ (r : SourceRow). IsPair N (source_pair N r) × ((pair_at N (source_pair N r)).plant ≡ r.plant) × ((pair_at N (source_pair N r)).item ≡ item_of_source N r)) N.sources s
+    All-in (λ (r : SourceRow). IsPair N (source_pair N r) × ((pair_at N (source_pair N r)).plant ≡ r.plant)
+    × ((pair_at N (source_pair N r)).item ≡ item_of_source N r)) N.sources s
     (source_pairs_are_there N table) there
 
 -- the source of an item of a lane is one of its route, and of the item
-pub source_over : (N : Table) (lane : Lane) (item : ItemNo) → HasSource N lane item → Contains (taken_over N (customer_of lane) (supplier_of lane)) (source_on N lane item)
+pub source_over : (N : Table) (lane : Lane) (item : ItemNo) → HasSource N lane item
+    → Contains (taken_over N (customer_of lane) (supplier_of lane)) (source_on N lane item)
 source_over N lane item has =
     let s : SourceRow = source_on N lane item in
     let test = λ (r : SourceRow). ((pair_at N r.pair.0).plant.0 == customer_of lane) && (r.plant.0 == supplier_of lane) in
@@ -43,7 +45,8 @@ pub source_item : (N : Table) (lane : Lane) (item : ItemNo) → HasSource N lane
 source_item N lane item has = ap (λ (z : ℕ). (pair_at N z).item) has.taker ∙ has.customer.of_item
 
 -- the source of a schedule lane's item takes from the pair at the other end
-pub called_pair : (N : Table) → IsTable N → (lane : Lane) (x : ℕ) → IsPair N x → lane.kind ≡ Schedule → lane.receiver.0 ≡ (pair_at N x).plant.0 → Contains (lane_items N lane) (pair_at N x).item
+pub called_pair : (N : Table) → IsTable N → (lane : Lane) (x : ℕ) → IsPair N x → lane.kind ≡ Schedule → lane.receiver.0 ≡ (pair_at N x).plant.0
+    → Contains (lane_items N lane) (pair_at N x).item
     → source_pair N (source_on N lane (pair_at N x).item) ≡ x
 called_pair N table lane x pair kind here there =
     let item : ItemNo = (pair_at N x).item in
@@ -58,12 +61,14 @@ called_pair N table lane x pair kind here there =
     sym (pairs_are_found N table y behind.0) ∙ ap (λ (p : ℕ). pair_no N p (pair_at N y).item.0) plant
     ∙ ap (λ (i : ℕ). pair_no N (pair_at N x).plant.0 i) its_item ∙ pairs_are_found N table x pair
 
-pub calls_pair : (N : Table) → IsTable N → (lane : Lane) (x : ℕ) → IsPair N x → lane.kind ≡ Schedule → lane.receiver.0 ≡ (pair_at N x).plant.0 → Contains (lane_items N lane) (pair_at N x).item
+pub calls_pair : (N : Table) → IsTable N → (lane : Lane) (x : ℕ) → IsPair N x → lane.kind ≡ Schedule → lane.receiver.0 ≡ (pair_at N x).plant.0
+    → Contains (lane_items N lane) (pair_at N x).item
     → HasEdge N (pair_on N lane (pair_at N x).item) x
 calls_pair N table lane x pair kind here there =
     let item : ItemNo = (pair_at N x).item in
     let s : SourceRow = source_on N lane item in
     let has = items_have_sources N table lane item there in
     HasEdge-from_in N (source_edge N s) (pair_on N lane item) x
-    (In-append_right (map bill_edge N.bills) (map (source_edge N) N.sources) (source_edge N s) (In-map (source_edge N) N.sources s (In-from_contains N.sources s has.source)))
+    (In-append_right (map bill_edge N.bills) (map (source_edge N) N.sources) (source_edge N s)
+    (In-map (source_edge N) N.sources s (In-from_contains N.sources s has.source)))
     has.taker (called_pair N table lane x pair kind here there)

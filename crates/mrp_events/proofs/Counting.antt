@@ -1,5 +1,6 @@
 -- How many steps are left: each event that is enabled is one, and none is left where the run is finished.
-use Rattle.std.proofs.Common.{◌≡◌, ℕ, zero, suc, ◌+◌, ◌*◌, ◌-◌, ◌<◌, ◌≤◌, ◌==◌, not, Bool, true, false, cond, List, [], ◌∷◌, ◌++◌, length, sum_by, refl, sym, ap, subst, ◌∙◌, arith, length-append}
+use Rattle.std.proofs.Common.{◌≡◌, ℕ, zero, suc, ◌+◌, ◌*◌, ◌-◌, ◌<◌, ◌≤◌, ◌==◌, not, Bool, true, false, cond, List, [], ◌∷◌, ◌++◌, length, sum_by, refl, sym}
+use Rattle.std.proofs.Common.{ap, subst, ◌∙◌, arith, length-append}
 use Rattle.std.specs.List.{flat_map, range_with_len}
 use Rattle.std.proofs.lemmas.Bool.{cond-true, eq-eqb}
 use Rattle.std.proofs.lemmas.List.{append-nil, length-map}
@@ -54,7 +55,8 @@ runs_begin_with_steps N =
 -- ---- each event is one step
 
 -- the lane of the event has one record less to go, and the other lanes stay
-lane_falls : (N : Table) (s t : State) (l : ℕ) → l < length (lanes N) → t.planned ≡ s.planned → left_on N t l + 1 ≡ left_on N s l → ((k : ℕ) → (k ≡ l → ⊥) → left_on N t k ≡ left_on N s k)
+lane_falls : (N : Table) (s t : State) (l : ℕ) → l < length (lanes N) → t.planned ≡ s.planned → left_on N t l + 1 ≡ left_on N s l
+    → ((k : ℕ) → (k ≡ l → ⊥) → left_on N t k ≡ left_on N s k)
     → steps_left N t + 1 ≡ steps_left N s
 lane_falls N s t l within pairs falls same =
     omega (arith, ap (pairs_unplanned N) pairs, sum_falls (left_on N t) (left_on N s) 0 (length (lanes N)) l (omega arith) (omega arith) falls same)
@@ -71,7 +73,8 @@ send_is_a_step N capacity s l r can =
     (ap (λ (z : List Record). left l z + 1) (changed_at s.sent l more) ∙ one)
     (λ k other. ap (left k) (changed_other s.sent l more k other))
 
-take_is_a_step : (N : Table) (capacity : ℕ) (s : State) (l : ℕ) (r : Record) → LaneKeeps N capacity l (s.sent l) (s.taken l) s.planned → CanTake N s l r → steps_left N (after_take s l r) + 1 ≡ steps_left N s
+take_is_a_step : (N : Table) (capacity : ℕ) (s : State) (l : ℕ) (r : Record) → LaneKeeps N capacity l (s.sent l) (s.taken l) s.planned → CanTake N s l r
+    → steps_left N (after_take s l r) + 1 ≡ steps_left N s
 take_is_a_step N capacity s l r kept can =
     let more = s.taken l ++ r ∷ [] in
     let left : ℕ → List Record → ℕ = λ k taken. (text_length N k - length (s.sent k)) + (text_length N k - length taken) in
@@ -105,7 +108,8 @@ events_are_steps N capacity s t event reached step = step_by_kind N capacity s t
 -- ---- the end of a run
 
 -- a legal beginning as long as the text is closed
-closed_by_length : (all : List Load) (records : List Record) → IsBeginning all records → length_of_text all ≤ length records → is_closed (contents records) ≡ true
+closed_by_length : (all : List Load) (records : List Record) → IsBeginning all records → length_of_text all ≤ length records
+    → is_closed (contents records) ≡ true
 closed_by_length all records h long =
     let text = h.text in
     let none : length h.rest ≡ 0 =
@@ -140,7 +144,8 @@ none_left_by_end N capacity s reached finished =
     let lanes_done = nothing_left (left_on N s) (length (lanes N)) (λ l within.
     let whole = closed_lanes_are_whole N capacity s reached l within (finished.closed l within) in
     omega (arith, texts_have_one_length (loads N (lane_at N l)) (contents (s.taken l)) whole.0.text, length-map (s.taken l) content, ap length whole.1)) in
-    let pairs_done = nothing_left (λ x. cond (not (s.planned x)) 1 0) (length N.pairs) (λ x pair. ap (λ (b : Bool). cond (not b) 1 0) (finished.planned x pair)) in
+    let pairs_done = nothing_left (λ x. cond (not (s.planned x)) 1 0) (length N.pairs) (λ x pair. ap (λ (b : Bool). cond (not b) 1 0) (finished.planned x pair))
+    in
     omega (arith, lanes_done, pairs_done)
 
 pub none_is_left_at_the_end : NoneIsLeftAtTheEnd

@@ -1,5 +1,6 @@
 -- Each event is enabled or isn't, so each list of events runs.
-use Rattle.std.proofs.Common.{◌≡◌, ℕ, zero, suc, ◌+◌, ◌<◌, ◌≤◌, Bool, true, false, cond, List, [], ◌∷◌, ◌++◌, ◌⊎◌, inl, inr, length, refl, sym, ap, subst, ◌∙◌, arith, length-append, All, Contains}
+use Rattle.std.proofs.Common.{◌≡◌, ℕ, zero, suc, ◌+◌, ◌<◌, ◌≤◌, Bool, true, false, cond, List, [], ◌∷◌, ◌++◌, ◌⊎◌, inl, inr, length, refl, sym, ap, subst, ◌∙◌}
+use Rattle.std.proofs.Common.{arith, length-append, All, Contains}
 use Rattle.std.specs.List.{flat_map}
 use Rattle.std.specs.List.Sorted.{IsPermutation}
 use Rattle.std.proofs.lemmas.Bool.{cases_Bool, cases_eq, both_ways, eq-eqb}
@@ -24,7 +25,8 @@ use Rattle.mrp_events.specs.declared.event.Event.{Event}
 use Rattle.mrp_events.specs.declared.event.Event.TheVariants.{Send, Receive, Plan}
 use Rattle.mrp_events.specs.Deciding.{EventsAreDecided, EveryListRuns}
 use Rattle.mrp_events.specs.Loads.{loads, load_of}
-use Rattle.mrp_events.specs.State.{State, opening_state, IsDecided, HasBrought, IsReady, CanSend, CanTake, CanPlan, after_send, after_take, after_plan, IsEnabled, Happens, Run}
+use Rattle.mrp_events.specs.State.{State, opening_state, IsDecided, HasBrought, IsReady, CanSend, CanTake, CanPlan, after_send, after_take, after_plan}
+use Rattle.mrp_events.specs.State.{IsEnabled, Happens, Run}
 use Rattle.mrp_events.proofs.Bringing.{has_item, item_there, not_there}
 use Rattle.mrp_events.proofs.Going.{AllOf_at, HasTold, MayTell, SendsOn, item_of_load, in_order, from_order, sends_or_told}
 use Rattle.mrp_events.proofs.Keeping.{LaneKeeps, Keeps, keeps, keeps_event, opening_keeps}
@@ -37,9 +39,11 @@ Decided P = P ⊎ ¬ P
 
 blocks_unclosed : (order : List Load) → is_closed (flat_map block order) ≡ false
 blocks_unclosed [] = refl
-blocks_unclosed (load ∷ order) = list_any-append is_closing (block load) (flat_map block order) (none_closing load.item (block load) (AllOf-block load)) (blocks_unclosed order)
+blocks_unclosed (load ∷ order) = list_any-append is_closing (block load) (flat_map block order) (none_closing load.item (block load) (AllOf-block load))
+    (blocks_unclosed order)
 
-module _ (N : Table) (table : IsTable N) (capacity l : ℕ) (s : State) (kept : LaneKeeps N capacity l (s.sent l) (s.taken l) s.planned) (told : HasTold N s l) (r : Record) (can : CanSend N capacity s l r) where
+module _ (N : Table) (table : IsTable N) (capacity l : ℕ) (s : State) (kept : LaneKeeps N capacity l (s.sent l) (s.taken l) s.planned) (told : HasTold N s l)
+    (r : Record) (can : CanSend N capacity s l r) where
   abbrev lane : Lane
   lane = lane_at N l
 
@@ -51,7 +55,8 @@ module _ (N : Table) (table : IsTable N) (capacity l : ℕ) (s : State) (kept : 
   no_more item there of =
       let ended = told.ended item there (can.decided item of) in
       let none : entries_of item.0 (contents (r ∷ [])) ≡ [] =
-      ended_items_are_done (loads N lane) (loads_stand_once N table lane) (s.sent l) (r ∷ []) can.legal (load_of N lane item) (load_is_there N lane item there) ended in
+      ended_items_are_done (loads N lane) (loads_stand_once N table lane) (s.sent l) (r ∷ []) can.legal (load_of N lane item)
+      (load_is_there N lane item there) ended in
       let one : entries_of item.0 (contents (r ∷ [])) ≡ content r ∷ [] = ap (λ (b : Bool). cond b (content r ∷ []) []) of in
       some_list (content r) (sym one ∙ none)
     where
@@ -62,13 +67,15 @@ module _ (N : Table) (table : IsTable N) (capacity l : ℕ) (s : State) (kept : 
   within_none order rest once w =
       let same : content r ≡ w.next = cc (w.rest_is) in
       let of : AllOf w.load.item (w.part ++ w.next ∷ w.more) = subst (AllOf w.load.item) w.block_is (AllOf-block w.load) in
-      let its : is_of w.load.item (content r) ≡ true = ap (is_of w.load.item) same ∙ AllOf_at w.load.item w.part w.more w.next of w.load.item ∙ eq-eqb w.load.item w.load.item refl in
+      let its : is_of w.load.item (content r) ≡ true = ap (is_of w.load.item) same ∙ AllOf_at w.load.item w.part w.more w.next of w.load.item
+      ∙ eq-eqb w.load.item w.load.item refl in
       let among : In order w.load = subst (λ (z : List Load). In z w.load) (sym w.order_is) (In-append_right w.done (w.load ∷ w.todo) w.load (inl refl)) in
       let at = item_of_load N lane w.load (from_order N lane order once w.load among) in
       no_more at.0 at.1 (ap (λ (z : Load). is_of z.item (content r)) at.2 ∙ its)
 
   -- with all blocks sent each item may be told
-  all_tell : (order : List Load) → IsPermutation (loads N lane) order → entries ≡ flat_map block order → (item : ItemNo) → Contains (lane_items N lane) item → MayTell N s.planned lane item
+  all_tell : (order : List Load) → IsPermutation (loads N lane) order → entries ≡ flat_map block order → (item : ItemNo) → Contains (lane_items N lane) item
+      → MayTell N s.planned lane item
   all_tell order once is item there =
       let load : Load = load_of N lane item in
       let last : Entry = EndOf load.item (length load.lines) (last_figure load.opening load.reset load.lines) in
@@ -146,7 +153,8 @@ demanders_decided N planned x (e ∷ es) = elim (demanders_decided N planned x e
   ]
 ]
   where
-    with_first : (e.pair.0 ≡ x → (pair_at N e.demander.0).plant.0 ≡ (pair_at N x).plant.0 → planned e.demander.0 ≡ true) → DemandersOf N planned x es → DemandersOf N planned x (e ∷ es)
+    with_first : (e.pair.0 ≡ x → (pair_at N e.demander.0).plant.0 ≡ (pair_at N x).plant.0 → planned e.demander.0 ≡ true) → DemandersOf N planned x es
+        → DemandersOf N planned x (e ∷ es)
     with_first first rest f h = elim h [
       | inl same ↦ subst (λ (z : Edge). z.pair.0 ≡ x → (pair_at N z.demander.0).plant.0 ≡ (pair_at N x).plant.0 → planned z.demander.0 ≡ true) same first
       | inr g ↦ rest f g

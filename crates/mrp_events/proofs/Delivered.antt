@@ -1,5 +1,6 @@
 -- The deliveries of a row of amounts, and those of shipments.
-use Rattle.std.proofs.Common.{◌≡◌, ℕ, zero, suc, ◌+◌, ◌<◌, ◌≤◌, ◌==◌, not, Bool, true, cond, leb, List, [], ◌∷◌, ◌⊎◌, inl, inr, length, get_or, map, filter, sum_by, refl, ap, subst, ◌∙◌, arith, All}
+use Rattle.std.proofs.Common.{◌≡◌, ℕ, zero, suc, ◌+◌, ◌<◌, ◌≤◌, ◌==◌, not, Bool, true, cond, leb, List, [], ◌∷◌, ◌⊎◌, inl, inr, length, get_or, map, filter}
+use Rattle.std.proofs.Common.{sum_by, refl, ap, subst, ◌∙◌, arith, All}
 use Rattle.std.specs.List.{AllPairs, range_with_len}
 use Rattle.std.specs.List.Sorted.{IsNonDecreasingBy}
 use Rattle.std.proofs.lemmas.Bool.{cases_Bool, and_parts, eqb-true, leb-true, both_ways}
@@ -62,7 +63,8 @@ all_rise amount periods i j d before h =
 
 pub by_period_rises : (amount : ℕ → ℕ) (periods : ℕ) → AllPairs (λ a b. a.period < b.period) (by_period amount periods)
 by_period_rises amount periods =
-    AllPairs-filter (λ (a : Delivery) (b : Delivery). a.period < b.period) has_pieces (map (delivery_in amount) (range_with_len 0 periods)) (all_rise amount periods)
+    AllPairs-filter (λ (a : Delivery) (b : Delivery). a.period < b.period) has_pieces (map (delivery_in amount) (range_with_len 0 periods))
+    (all_rise amount periods)
 
 pub by_period_length : (amount : ℕ → ℕ) (periods : ℕ) → length (by_period amount periods) ≤ periods
 by_period_length amount periods =
@@ -95,4 +97,5 @@ rises_in_order low [] rises i j d le h = absurd (omega arith)
 rises_in_order low (n ∷ ns) rises zero zero d le h = omega arith
 rises_in_order low (n ∷ ns) rises zero (suc j) d le h = rises_above n ns (and_parts (leb low n) (rises_from n ns) rises).1 j d (omega arith)
 rises_in_order low (n ∷ ns) rises (suc i) zero d le h = absurd (omega arith)
-rises_in_order low (n ∷ ns) rises (suc i) (suc j) d le h = rises_in_order n ns (and_parts (leb low n) (rises_from n ns) rises).1 i j d (omega arith) (omega arith)
+rises_in_order low (n ∷ ns) rises (suc i) (suc j) d le h = rises_in_order n ns (and_parts (leb low n) (rises_from n ns) rises).1 i j d (omega arith)
+    (omega arith)

@@ -49,7 +49,8 @@ module _ (N : Table) (plant : ℕ) (taken : ℕ → List Record) (x : ℕ) (at :
 
   seen_to_bring : (is_kind : LaneKind → Bool) → brought_in lanes_seen taken is_kind (pair_at N x).item.0 t ≡ brought N taken is_kind x t
   seen_to_bring is_kind =
-      sym (subst (λ (p : ℕ). brought N taken is_kind x t ≡ brought_in (plant_rows N p).incoming taken is_kind (pair_at N x).item.0 t) at.at_plant (brought_is_seen N taken is_kind x t))
+      sym (subst (λ (p : ℕ). brought N taken is_kind x t ≡ brought_in (plant_rows N p).incoming taken is_kind (pair_at N x).item.0 t) at.at_plant
+      (brought_is_seen N taken is_kind x t))
 
   despatches_brought : booked_on Despatch (plant_rows N plant) taken (pair_at N x).item t ≡ brought N taken is_despatch x t
   despatches_brought = sum_filter pieces (λ lane. is_despatch lane.kind) lanes_seen ∙ seen_to_bring is_despatch
@@ -88,13 +89,15 @@ module _ (N : Table) (is : IsTable N) (plant : ℕ) (taken : ℕ → List Record
 -- ---- plans
 
 -- rows of the same amounts have the same plan
-same_plan : (N : Table) (x : ℕ) (comes asked other_comes other_asked : ℕ → ℕ) → ((t : ℕ) → t < horizon N → comes t ≡ other_comes t) → ((t : ℕ) → t < horizon N → asked t ≡ other_asked t)
+same_plan : (N : Table) (x : ℕ) (comes asked other_comes other_asked : ℕ → ℕ) → ((t : ℕ) → t < horizon N → comes t ≡ other_comes t)
+    → ((t : ℕ) → t < horizon N → asked t ≡ other_asked t)
     → one (params_at N x) (row_of N comes) (row_of N asked) ≡ one (params_at N x) (row_of N other_comes) (row_of N other_asked)
 same_plan N x comes asked other_comes other_asked same_comes same_asked =
     ap (λ (row : List ℕ). one (params_at N x) row (row_of N asked)) (map-range-same comes other_comes (horizon N) same_comes)
     ∙ ap (one (params_at N x) (row_of N other_comes)) (map-range-same asked other_asked (horizon N) same_asked)
 
-module _ (N : Table) (is : IsTable N) (plant : ℕ) (planned : ℕ → Bool) (taken : ℕ → List Record) (legal : AreLegal N plant taken) (x : ℕ) (at : IsPairAt N plant x)
+module _ (N : Table) (is : IsTable N) (plant : ℕ) (planned : ℕ → Bool) (taken : ℕ
+    → List Record) (legal : AreLegal N plant taken) (x : ℕ) (at : IsPairAt N plant x)
     (ready : IsReady N planned taken x) where
   abbrev legal_here : AreLegal N (pair_at N x).plant.0 taken
   legal_here = subst (λ (p : ℕ). AreLegal N p taken) (sym at.at_plant) legal

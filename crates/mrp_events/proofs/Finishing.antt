@@ -23,7 +23,8 @@ up_to l n h = grind arith
 
 -- ---- all lanes rest, or one goes on
 
-lanes_rest : (N : Table) (capacity : ℕ) (s : State) → Keeps N capacity s → 1 ≤ capacity → (n : ℕ) → n ≤ length (lanes N) → GoesOn N capacity s ⊎ ((l : ℕ) → l < n → Rests N s l)
+lanes_rest : (N : Table) (capacity : ℕ) (s : State) → Keeps N capacity s → 1 ≤ capacity → (n : ℕ) → n ≤ length (lanes N)
+    → GoesOn N capacity s ⊎ ((l : ℕ) → l < n → Rests N s l)
 lanes_rest N capacity s kept holds zero few = inr (λ l h. absurd (omega arith))
 lanes_rest N capacity s kept holds (suc n) few = elim (lanes_rest N capacity s kept holds n (omega arith)) [
   | inl goes ↦ inl goes
@@ -51,7 +52,8 @@ not_false false e = absurd (cc)
 
 -- ---- lanes that rest and all pairs planned: finished
 
-finished_at_rest : (N : Table) → IsTable N → (s : State) → ((l : ℕ) → l < length (lanes N) → Rests N s l) → ((x : ℕ) → IsPair N x → s.planned x ≡ true) → IsFinished N s
+finished_at_rest : (N : Table) → IsTable N → (s : State) → ((l : ℕ) → l < length (lanes N) → Rests N s l) → ((x : ℕ) → IsPair N x → s.planned x ≡ true)
+    → IsFinished N s
 finished_at_rest N table s rest all = record {
   closed = λ l within.
       let r = rest l within in
@@ -62,7 +64,8 @@ finished_at_rest N table s rest all = record {
 
 -- ---- lanes that rest and a pair that isn't planned: a first one can be
 
-plans_at_rest : (N : Table) → IsTable N → IsLoopFree N → (capacity : ℕ) (s : State) → ((l : ℕ) → l < length (lanes N) → Rests N s l) → (x : ℕ) → IsPair N x → s.planned x ≡ false → GoesOn N capacity s
+plans_at_rest : (N : Table) → IsTable N → IsLoopFree N → (capacity : ℕ) (s : State) → ((l : ℕ) → l < length (lanes N) → Rests N s l) → (x : ℕ) → IsPair N x
+    → s.planned x ≡ false → GoesOn N capacity s
 plans_at_rest N table free capacity s rest x pair open_pair =
     let first = sets_have_a_first N table free (λ y. not (s.planned y)) x pair (ap not open_pair) in
     let y : ℕ = first.0 in
@@ -74,7 +77,8 @@ plans_at_rest N table free capacity s rest x pair open_pair =
         demanders = λ z edge local. decided z edge;
         brought = λ l within here there.
             let r = rest l within in
-            let told : MayTell N s.planned (lane_at N l) (pair_at N y).item = λ kind. decided (pair_on N (lane_at N l) (pair_at N y).item) (calls_pair N table (lane_at N l) y first.1 kind here there) in
+            let told : MayTell N s.planned (lane_at N l) (pair_at N y).item =
+            λ kind. decided (pair_on N (lane_at N l) (pair_at N y).item) (calls_pair N table (lane_at N l) y first.1 kind here there) in
             subst (λ (z : List Record). is_ended (pair_at N y).item.0 (contents z) ≡ true) r.same (r.told.ended (pair_at N y).item there told);
       };
     } in
@@ -101,7 +105,8 @@ runs : (N : Table) (capacity : ℕ) (s t : State) (events : List Event) → Goes
 runs N capacity s t [] goes = goes
 runs N capacity s t (event ∷ events) goes = (goes.0, (inl goes.1), runs N capacity goes.0 t events goes.2)
 
-steps_taken : (N : Table) (capacity : ℕ) (s t : State) (events : List Event) → IsReached N capacity s → GoesBy N capacity s events t → length events + steps_left N t ≡ steps_left N s
+steps_taken : (N : Table) (capacity : ℕ) (s t : State) (events : List Event) → IsReached N capacity s → GoesBy N capacity s events t
+    → length events + steps_left N t ≡ steps_left N s
 steps_taken N capacity s t [] reached goes = omega (arith, ap (steps_left N) goes)
 steps_taken N capacity s t (event ∷ events) reached goes =
     let next = reached_goes_on N capacity s goes.0 event reached (inl goes.1) in

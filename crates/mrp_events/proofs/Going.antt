@@ -1,5 +1,6 @@
 -- A lane goes on, or it rests: then all that may be told over it has been told, and it may be closed.
-use Rattle.std.proofs.Common.{◌≡◌, ℕ, ◌+◌, ◌<◌, ◌≤◌, ◌==◌, Bool, true, false, List, [], ◌∷◌, ◌++◌, ◌⊎◌, inl, inr, length, refl, sym, ap, subst, ◌∙◌, arith, append_assoc, All, Contains}
+use Rattle.std.proofs.Common.{◌≡◌, ℕ, ◌+◌, ◌<◌, ◌≤◌, ◌==◌, Bool, true, false, List, [], ◌∷◌, ◌++◌, ◌⊎◌, inl, inr, length, refl, sym, ap, subst, ◌∙◌, arith}
+use Rattle.std.proofs.Common.{append_assoc, All, Contains}
 use Rattle.std.specs.List.{flat_map, list_any}
 use Rattle.std.specs.List.Sorted.{IsPermutation}
 use Rattle.std.proofs.lemmas.Bool.{cases_Bool, both_ways, eqb-true, eq-eqb, false≢true}
@@ -15,7 +16,8 @@ use Rattle.mrp_net.specs.Lanes.{lanes, lane_at, lane_items, pair_on, customer_of
 use Rattle.mrp_net.proofs.Members.{In, In-append_cases, In-append_right, In-from_contains, Contains-from_in, In-map, map_only, All-in}
 use Rattle.mrp_record.specs.declared.record.Record.{Record}
 use Rattle.mrp_record.specs.declared.record.Record.TheVariants.{Line, ItemEnd, Reset, Close}
-use Rattle.mrp_record.specs.Entries.{Entry, LineOf, EndOf, ResetOf, Closing, content, contents, number_of, is_of, is_end, is_closing, entries_of, is_ended, is_closed}
+use Rattle.mrp_record.specs.Entries.{Entry, LineOf, EndOf, ResetOf, Closing, content, contents, number_of, is_of, is_end, is_closing, entries_of, is_ended}
+use Rattle.mrp_record.specs.Entries.{is_closed}
 use Rattle.mrp_record.specs.Text.{Load, block, body, last_figure, text_of, IsText, IsBeginning, NumberedFrom}
 use Rattle.mrp_record.proofs.Beginnings.{contents_parts}
 use Rattle.mrp_record.proofs.Loads as record_loads
@@ -48,7 +50,8 @@ number_numbered n (EndOf item lines cumulative) = refl
 number_numbered n (ResetOf item closed) = refl
 number_numbered n Closing = refl
 
-NumberedFrom-push : (n : ℕ) (records : List Record) (r : Record) → NumberedFrom n records → number_of r ≡ n + length records → NumberedFrom n (records ++ r ∷ [])
+NumberedFrom-push : (n : ℕ) (records : List Record) (r : Record) → NumberedFrom n records → number_of r ≡ n + length records
+    → NumberedFrom n (records ++ r ∷ [])
 NumberedFrom-push n [] r h e = (omega arith, tt)
 NumberedFrom-push n (x ∷ records) r h e = (h.0, NumberedFrom-push (n + 1) records r h.1 (omega arith))
 
@@ -88,7 +91,8 @@ planned_by_kind : (kind : LaneKind) (planned : ℕ → Bool) (x : ℕ) → may_t
 planned_by_kind kind planned x h e = subst (λ (k : LaneKind). may_tell k planned x ≡ true) e h
 
 -- a record of a block whose item may be told is decided
-decided_of : (N : Table) (planned : ℕ → Bool) (lane : Lane) (load : Load) (e : Entry) → may N planned lane load ≡ true → ((other : ℕ) → is_of other e ≡ (load.item == other))
+decided_of : (N : Table) (planned : ℕ → Bool) (lane : Lane) (load : Load) (e : Entry) → may N planned lane load ≡ true
+    → ((other : ℕ) → is_of other e ≡ (load.item == other))
     → IsDecided N planned lane e
 decided_of N planned lane load e told of item is kind =
     let same : load.item ≡ item.0 = eqb-true load.item item.0 (sym (of item.0) ∙ is) in
@@ -106,12 +110,14 @@ ends_append item xs ys = ap (list_any is_end) (filter-append (is_of item) xs ys)
 block_ends : (load : Load) → is_ended load.item (block load) ≡ true
 block_ends load =
     ap (list_any is_end) (own_kept load.item (block load) (AllOf-block load))
-    ∙ any_right is_end (body load.item load.opening load.reset load.lines) (EndOf load.item (length load.lines) (last_figure load.opening load.reset load.lines) ∷ []) refl
+    ∙ any_right is_end (body load.item load.opening load.reset load.lines)
+    (EndOf load.item (length load.lines) (last_figure load.opening load.reset load.lines) ∷ []) refl
 
 blocks_end : (load : Load) (done : List Load) (more : List Entry) → In done load → is_ended load.item (flat_map block done ++ more) ≡ true
 blocks_end load [] more h = absurd h
 blocks_end load (first ∷ done) more h =
-    let split : is_ended load.item ((block first ++ flat_map block done) ++ more) ≡ list_any is_end (entries_of load.item (block first) ++ entries_of load.item (flat_map block done ++ more)) =
+    let split : is_ended load.item ((block first ++ flat_map block done) ++ more)
+    ≡ list_any is_end (entries_of load.item (block first) ++ entries_of load.item (flat_map block done ++ more)) =
     ap (is_ended load.item) (append_assoc (block first) (flat_map block done) more) ∙ ends_append load.item (block first) (flat_map block done ++ more) in
     elim h [
       | inl e ↦
@@ -166,7 +172,8 @@ from_record (x ∷ xs) load h = elim h [ inl e ↦ inl e | inr g ↦ inr (from_r
 
 -- each item that may be told has been told whole, and where all may be told the lane is closed
 pub record HasTold (N : Table) (s : State) (l : ℕ) : Type 0 where
-  pub ended : (item : ItemNo) → Contains (lane_items N (lane_at N l)) item → MayTell N s.planned (lane_at N l) item → is_ended item.0 (contents (s.sent l)) ≡ true
+  pub ended : (item : ItemNo) → Contains (lane_items N (lane_at N l)) item → MayTell N s.planned (lane_at N l) item
+      → is_ended item.0 (contents (s.sent l)) ≡ true
   pub closed : ((item : ItemNo) → Contains (lane_items N (lane_at N l)) item → MayTell N s.planned (lane_at N l) item) → is_closed (contents (s.sent l)) ≡ true
 
 -- and all of it has been taken
@@ -184,12 +191,14 @@ GoesOn N capacity s = (event : Event) × IsEnabled N capacity s event
 -- ---- the loads of a lane and its items, in any order of the blocks
 
 -- a load among those of the lane is of one of its items
-pub item_of_load : (N : Table) (lane : Lane) (load : Load) → In (loads N lane) load → (item : ItemNo) × Contains (lane_items N lane) item × (load_of N lane item ≡ load)
+pub item_of_load : (N : Table) (lane : Lane) (load : Load) → In (loads N lane) load
+    → (item : ItemNo) × Contains (lane_items N lane) item × (load_of N lane item ≡ load)
 item_of_load N lane load h =
     let at = map_only (load_of N lane) (lane_items N lane) load h in
     (at.0, Contains-from_in (lane_items N lane) at.0 at.1, at.2)
 
-pub in_order : (N : Table) (lane : Lane) (order : List Load) → IsPermutation (loads N lane) order → (item : ItemNo) → Contains (lane_items N lane) item → In order (load_of N lane item)
+pub in_order : (N : Table) (lane : Lane) (order : List Load) → IsPermutation (loads N lane) order → (item : ItemNo) → Contains (lane_items N lane) item
+    → In order (load_of N lane item)
 in_order N lane order once item there =
     from_record order (load_of N lane item)
     (record_loads.In-permutation (load_of N lane item) (loads N lane) order once
@@ -197,11 +206,13 @@ in_order N lane order once item there =
 
 pub from_order : (N : Table) (lane : Lane) (order : List Load) → IsPermutation (loads N lane) order → (load : Load) → In order load → In (loads N lane) load
 from_order N lane order once load h =
-    from_record (loads N lane) load (record_loads.In-permutation load order (loads N lane) (IsPermutation-sym (loads N lane) order once) (to_record order load h))
+    from_record (loads N lane) load (record_loads.In-permutation load order (loads N lane) (IsPermutation-sym (loads N lane) order once)
+    (to_record order load h))
 
 -- ---- a lane whose mailbox has room
 
-module _ (N : Table) (capacity l : ℕ) (s : State) (keeps : LaneKeeps N capacity l (s.sent l) (s.taken l) s.planned) (within : l < length (lanes N)) (room : length (s.sent l) < length (s.taken l) + capacity) where
+module _ (N : Table) (capacity l : ℕ) (s : State) (keeps : LaneKeeps N capacity l (s.sent l) (s.taken l) s.planned) (within : l < length (lanes N))
+    (room : length (s.sent l) < length (s.taken l) + capacity) where
   abbrev lane : Lane
   lane = lane_at N l
 
@@ -240,7 +251,8 @@ module _ (N : Table) (capacity l : ℕ) (s : State) (keeps : LaneKeeps N capacit
       IsPermutation-trans all order turned once
       (subst (λ (z : List Load). IsPermutation z turned) (sym is)
       (IsPermutation-append_right done (before ++ load ∷ after) (load ∷ (before ++ after)) (IsPermutation-middle before load after))) in
-      let first = first_of (body load.item load.opening load.reset load.lines) (EndOf load.item (length load.lines) (last_figure load.opening load.reset load.lines)) in
+      let first = first_of (body load.item load.opening load.reset load.lines)
+      (EndOf load.item (length load.lines) (last_figure load.opening load.reset load.lines)) in
       let e : Entry = first.0 in
       let rest : List Entry = first.1 ++ text_of (before ++ after) in
       let text : entries ++ e ∷ rest ≡ text_of turned =
@@ -251,7 +263,8 @@ module _ (N : Table) (capacity l : ℕ) (s : State) (keeps : LaneKeeps N capacit
       send e rest (record { order = turned; once = permuted; is = text })
       (decided_of N s.planned lane load e tells (AllOf_at load.item [] first.1 e of))
 
-  within_block : (order : List Load) → IsPermutation all order → (rest : List Entry) → entries ++ rest ≡ text_of order → (w : IsWithin order entries rest) → SendsOn N capacity s l ⊎ HasTold N s l
+  within_block : (order : List Load) → IsPermutation all order → (rest : List Entry) → entries ++ rest ≡ text_of order → (w : IsWithin order entries rest)
+      → SendsOn N capacity s l ⊎ HasTold N s l
   within_block order once rest text w = elim (cases_Bool (told w.load)) [
     | inl tells ↦
         let more : List Entry = w.more ++ text_of w.todo in
@@ -263,7 +276,8 @@ module _ (N : Table) (capacity l : ℕ) (s : State) (keeps : LaneKeeps N capacit
         let sofar : entries ≡ flat_map block w.done = w.is ∙ ap (λ (z : List Entry). flat_map block w.done ++ z) none ∙ append-nil (flat_map block w.done) in
         elim (split_or_none told (w.load ∷ w.todo)) [
           | inl split ↦
-              inl (next_block order w.done split.before split.after split.load once (w.order_is ∙ ap (λ (z : List Load). w.done ++ z) split.is) sofar split.passes)
+              inl (next_block order w.done split.before split.after split.load once (w.order_is
+              ∙ ap (λ (z : List Load). w.done ++ z) split.is) sofar split.passes)
           | inr silent ↦
               inr (record {
                 ended = λ item there tells.
@@ -286,7 +300,8 @@ module _ (N : Table) (capacity l : ℕ) (s : State) (keeps : LaneKeeps N capacit
   ]
     where
       -- where a part of a block has been sent, its item may be told
-      no_part : (load : Load) (before part : List Entry) (next : Entry) (more : List Entry) → entries ≡ before ++ part → block load ≡ part ++ next ∷ more → told load ≡ false → part ≡ []
+      no_part : (load : Load) (before part : List Entry) (next : Entry) (more : List Entry) → entries ≡ before ++ part → block load ≡ part ++ next ∷ more
+          → told load ≡ false → part ≡ []
       no_part load before [] next more is block_is untold = refl
       no_part load before (x ∷ part) next more is block_is untold =
           let of : AllOf load.item ((x ∷ part) ++ next ∷ more) = subst (AllOf load.item) block_is (AllOf-block load) in
@@ -297,13 +312,16 @@ module _ (N : Table) (capacity l : ℕ) (s : State) (keeps : LaneKeeps N capacit
           let item : ItemNo = record { 0 = load.item } in
           absurd (both_ways (told load) untold (told_by_kind lane.kind s.planned (taker N lane load) (says item own)))
 
-  at_closing : (order : List Load) → IsPermutation all order → (rest : List Entry) → entries ++ rest ≡ text_of order → rest ≡ Closing ∷ [] → SendsOn N capacity s l
+  at_closing : (order : List Load) → IsPermutation all order → (rest : List Entry) → entries ++ rest ≡ text_of order → rest ≡ Closing ∷ []
+      → SendsOn N capacity s l
   at_closing order once rest text is =
-      send Closing [] (record { order = order; once = once; is = ap (λ (z : List Entry). entries ++ z) (sym is) ∙ text }) (λ item of kind. absurd (false≢true of))
+      send Closing [] (record { order = order; once = once; is = ap (λ (z : List Entry). entries ++ z) (sym is) ∙ text })
+      (λ item of kind. absurd (false≢true of))
 
   at_end : (order : List Load) → IsPermutation all order → entries ≡ text_of order → HasTold N s l
   at_end order once is = record {
-    ended = λ item there tells. subst (λ (z : List Entry). is_ended item.0 z ≡ true) (sym is) (blocks_end (load_of N lane item) order (Closing ∷ []) (in_order N lane order once item there));
+    ended = λ item there tells. subst (λ (z : List Entry). is_ended item.0 z ≡ true) (sym is)
+        (blocks_end (load_of N lane item) order (Closing ∷ []) (in_order N lane order once item there));
     closed = λ every. subst (λ (z : List Entry). is_closed z ≡ true) (sym is) (any_right is_closing (flat_map block order) (Closing ∷ []) refl);
   }
 

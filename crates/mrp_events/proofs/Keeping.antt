@@ -1,5 +1,6 @@
 -- What every event keeps: lanes are in order, and on schedule lanes records are of planned pairs.
-use Rattle.std.proofs.Common.{◌≡◌, ℕ, ◌≤◌, ◌==◌, Bool, true, false, List, [], ◌∷◌, ◌++◌, inl, inr, length, refl, sym, ap, subst, ◌∙◌, arith, append_assoc, length-append, All}
+use Rattle.std.proofs.Common.{◌≡◌, ℕ, ◌≤◌, ◌==◌, Bool, true, false, List, [], ◌∷◌, ◌++◌, inl, inr, length, refl, sym, ap, subst, ◌∙◌, arith, append_assoc}
+use Rattle.std.proofs.Common.{length-append, All}
 use Rattle.std.proofs.lemmas.Bool.{cond_both, eqb-true}
 use Rattle.std.proofs.lemmas.List.Elements.{All-nil, All-push, All-weaker}
 use Rattle.mrp_rows.specs.Table.{Table}
@@ -47,12 +48,21 @@ taken_more : (N : Table) (capacity l : ℕ) (s : State) (r : Record) → CanTake
 taken_more N capacity l s r can keeps = record {
   mailbox = can.rest;
   parts = can.next ∙ sym (append_assoc (s.taken l) (r ∷ []) can.rest);
-  room = omega (arith, keeps.room, ap length keeps.parts, ap length can.next, length-append (s.taken l) keeps.mailbox, length-append (s.taken l) (r ∷ can.rest));
+  room = omega (
+    arith,
+    keeps.room,
+    ap length keeps.parts,
+    ap length can.next,
+    length-append (s.taken l) keeps.mailbox,
+    length-append (s.taken l)
+        (r ∷ can.rest),
+  );
   legal = keeps.legal;
   decided = keeps.decided;
 }
 
-still_decided : (N : Table) (planned : ℕ → Bool) (x : ℕ) (lane : Lane) (entry : Entry) → IsDecided N planned lane entry → IsDecided N (changed planned x true) lane entry
+still_decided : (N : Table) (planned : ℕ → Bool) (x : ℕ) (lane : Lane) (entry : Entry) → IsDecided N planned lane entry
+    → IsDecided N (changed planned x true) lane entry
 still_decided N planned x lane entry h item of kind =
     changed_by (λ (b : Bool). b ≡ true) planned x true (pair_on N lane item) (λ _. refl) (h item of kind)
 

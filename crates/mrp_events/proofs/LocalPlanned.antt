@@ -49,7 +49,8 @@ module _ (N : Table) (is : IsTable N) (free : IsLoopFree N) (plant : ℕ) (taken
 
   pub own : (x : ℕ) → IsPairAt N plant x → planned x ≡ true → IsPlannedLocally (plant_rows N plant) taken planned plans (plant_pair N x)
   own x at done =
-      All-in (λ p. planned p.number.0 ≡ true → IsPlannedLocally (plant_rows N plant) taken planned plans p) (plant_pairs N plant) (plant_pair N x) local (sees_pair N plant x at) done
+      All-in (λ p. planned p.number.0 ≡ true → IsPlannedLocally (plant_rows N plant) taken planned plans p) (plant_pairs N plant) (plant_pair N x) local
+      (sees_pair N plant x at) done
 
   by_code : (codes : List ℕ) → AreCodes N codes → (n x : ℕ) → slice_index codes x < n → IsPairAt N plant x → planned x ≡ true → IsPlanned x
   by_code codes are zero x low at done = absurd (omega arith)
@@ -64,7 +65,8 @@ module _ (N : Table) (is : IsTable N) (free : IsLoopFree N) (plant : ℕ) (taken
       let codes = codes_exist N is free in
       by_code codes.0 codes.1 (suc (slice_index codes.0 x)) x (omega arith) at done
 
-  pub drafts_are : (x : ℕ) → IsPairAt N plant x → AwaitsNothing (plant_rows N plant) taken planned (plant_pair N x) → GetsThePlan N (plant_rows N plant) taken plans x
+  pub drafts_are : (x : ℕ) → IsPairAt N plant x → AwaitsNothing (plant_rows N plant) taken planned (plant_pair N x)
+      → GetsThePlan N (plant_rows N plant) taken plans x
   drafts_are x at ready = next x at ready (λ y edge there before. plans_are y there before)
 
 pub local_plans_are_the_plan : PlantPlansAreThePlan

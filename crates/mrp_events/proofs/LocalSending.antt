@@ -1,5 +1,6 @@
 -- What a plant has to send over its lanes is what they carry in the network.
-use Rattle.std.proofs.Common.{◌≡◌, ℕ, ◌+◌, ◌-◌, ◌^◌, ◌<◌, ◌≤◌, Bool, true, Some, List, length, get_or, refl, sym, ap, ◌∙◌, subst, arith, All, Contains, slice_index}
+use Rattle.std.proofs.Common.{◌≡◌, ℕ, ◌+◌, ◌-◌, ◌^◌, ◌<◌, ◌≤◌, Bool, true, Some, List, length, get_or, refl, sym, ap, ◌∙◌, subst, arith, All, Contains}
+use Rattle.std.proofs.Common.{slice_index}
 use Rattle.std.specs.List.{filter}
 use Rattle.std.proofs.lemmas.List.{get_or-map, length-map}
 use Rattle.std.proofs.lemmas.List.Elements.{All-map, Contains-get_or}
@@ -45,7 +46,8 @@ use Rattle.mrp_record.proofs.Texts.{small_are_bounded}
 use Rattle.mrp_events.specs.Goods.{goods_by, goods_of, IsSendable}
 use Rattle.mrp_events.specs.Local.{AreLegal}
 use Rattle.mrp_events.specs.LocalPlans.{IsLocal}
-use Rattle.mrp_events.specs.LocalLaws.{IsPairAt, PlansLocally, HasGoods, QueuesSendable, HasSmallGoods, LocalGoodsAreTheLoads, LocalGoodsAgree, LocalGoodsAreSmall}
+use Rattle.mrp_events.specs.LocalLaws.{IsPairAt, PlansLocally, HasGoods, QueuesSendable, HasSmallGoods, LocalGoodsAreTheLoads, LocalGoodsAgree}
+use Rattle.mrp_events.specs.LocalLaws.{LocalGoodsAreSmall}
 use Rattle.mrp_events.proofs.Drafting.{network_plan}
 use Rattle.mrp_events.proofs.LocalPlanned.{own, plans_are}
 use Rattle.mrp_events.proofs.Seeing.{ready_over_network}
@@ -73,28 +75,33 @@ module _ (N : Table) (is : IsTable N) (free : IsLoopFree N) (plant : ℕ) (taken
       let source : (view.call_of i).customer.0 ≡ (source_on N lane item).pair.0 = ap (λ (c : Call). c.customer.0) (call_seen N lane item kind) in
       let opening : ℕ = cum i.figure i.item.0 (contents (taken (l - 1))) in
       let mine : customer_of lane ≡ plant = customer_by_schedule lane kind ∙ here in
-      let at : IsPairAt N plant (view.call_of i).customer.0 = subst (IsPairAt N plant) (sym (source ∙ has.taker)) (record { pair = has.customer.pair; at_plant = has.customer.at_plant ∙ mine }) in
+      let at : IsPairAt N plant (view.call_of i).customer.0 = subst (IsPairAt N plant) (sym (source ∙ has.taker))
+      (record { pair = has.customer.pair; at_plant = has.customer.at_plant ∙ mine }) in
       let plan : plan_at N (view.call_of i).customer.0 ≡ plans (view.call_of i).customer.0 =
       sym (plans_are N is free plant taken legal planned plans local (view.call_of i).customer.0 at (ap planned source ∙ done)) in
       let whole : horizon N ≡ horizon N - 0 = omega arith in
-      local_loads_are_the_loads N is free plant planned taken (plan_of N) legal network_is_local l within kind here item there (subst (λ (z : ℕ). planned z ≡ true) has.taker done)
+      local_loads_are_the_loads N is free plant planned taken (plan_of N) legal network_is_local l within kind here item there
+      (subst (λ (z : ℕ). planned z ≡ true) has.taker done)
       ∙ ap (λ (rows : PlanRows). schedule_load (horizon N) opening (λ t. slice_index rows.release t) i) plan
       ∙ ap (λ (n : ℕ). schedule_load n opening (λ t. slice_index (plans (view.call_of i).customer.0).release t) i) whole
 
-  by_kind : (kind : LaneKind) → l < length (lanes N) → (lane_at N l).sender.0 ≡ plant → (lane_at N l).kind ≡ kind → (item : ItemNo) → Contains (lane_items N (lane_at N l)) item
+  by_kind : (kind : LaneKind) → l < length (lanes N) → (lane_at N l).sender.0 ≡ plant → (lane_at N l).kind ≡ kind → (item : ItemNo)
+      → Contains (lane_items N (lane_at N l)) item
       → (kind ≡ Schedule → planned (source_on N (lane_at N l) item).pair.0 ≡ true) → Carried kind (lane_at N l) item
   by_kind Despatch within here kind item there done = despatches_are_seen N (lane_at N l) item kind
   by_kind Schedule within here kind item there done = called within here kind item there (done refl)
 
   -- at each place of a lane that goes out
   pub goods_at : l < length (lanes N) → (lane_at N l).sender.0 ≡ plant → (place : ℕ) (d : ItemNo) → IsSendable planned (outgoing_lane N l) place
-      → (place < length (lane_items N (lane_at N l))) × (load_of N (lane_at N l) (get_or (lane_items N (lane_at N l)) place d) ≡ cursor.goods_load (goods_of (plant_rows N plant) taken plans (outgoing_lane N l) place))
+      → (place < length (lane_items N (lane_at N l))) × (load_of N (lane_at N l) (get_or (lane_items N (lane_at N l)) place d)
+      ≡ cursor.goods_load (goods_of (plant_rows N plant) taken plans (outgoing_lane N l) place))
   goods_at within here place d sendable =
       let lane : Lane = lane_at N l in
       let items : List ItemNo = lane_items N lane in
       let inside : place < length items = omega (arith, sendable.within, length-map items (outgoing_item N lane)) in
       let item : ItemNo = get_or items place d in
-      let read : view.load_at (outgoing_lane N l).items place ≡ outgoing_item N lane item = get_or-map (outgoing_item N lane) items place d view.no_load inside in
+      let read : view.load_at (outgoing_lane N l).items place ≡ outgoing_item N lane item =
+      get_or-map (outgoing_item N lane) items place d view.no_load inside in
       let carried = by_kind lane.kind within here refl item (Contains-get_or items place d inside)
       (λ kind. ap (λ (c : Call). planned c.customer.0) (sym (call_seen N lane item kind))
       ∙ ap (λ (i : view.OutgoingLoad). planned (view.call_of i).customer.0) (sym read) ∙ sendable.decided kind) in
@@ -103,7 +110,8 @@ module _ (N : Table) (is : IsTable N) (free : IsLoopFree N) (plant : ℕ) (taken
   no_item : ItemNo
   no_item = record { 0 = 0 }
 
-  pub has_goods : l < length (lanes N) → (lane_at N l).sender.0 ≡ plant → HasGoods N planned (outgoing_lane N l) (goods_of (plant_rows N plant) taken plans (outgoing_lane N l))
+  pub has_goods : l < length (lanes N) → (lane_at N l).sender.0 ≡ plant
+      → HasGoods N planned (outgoing_lane N l) (goods_of (plant_rows N plant) taken plans (outgoing_lane N l))
   has_goods within here =
       let lane : Lane = lane_at N l in
       let items : List ItemNo = lane_items N lane in
@@ -118,7 +126,8 @@ module _ (N : Table) (is : IsTable N) (free : IsLoopFree N) (plant : ℕ) (taken
 
 -- ---- each lane that goes out
 
-each_lane : (N : Table) (plant : ℕ) (P : OutgoingLane → Type 0) → ((l : ℕ) → l < length (lanes N) → (lane_at N l).sender.0 ≡ plant → P (outgoing_lane N l)) → All P (outgoing_lanes N plant)
+each_lane : (N : Table) (plant : ℕ) (P : OutgoingLane → Type 0) → ((l : ℕ) → l < length (lanes N) → (lane_at N l).sender.0 ≡ plant → P (outgoing_lane N l))
+    → All P (outgoing_lanes N plant)
 each_lane N plant P each =
     let numbers : List ℕ = filter (goes_from N plant) (lane_numbers N) in
     All-map P (outgoing_lane N) numbers
@@ -160,7 +169,8 @@ load_fits N sized lane item there =
       short = omega (arith, few, block_is_short N lane item sized.table);
     }
 
-module _ (N : Table) (sized : IsSized N) (plant : ℕ) (taken : ℕ → List Record) (planned : ℕ → Bool) (plans : ℕ → PlanRows) (works : PlansLocally N plant taken planned plans)
+module _ (N : Table) (sized : IsSized N) (plant : ℕ) (taken : ℕ → List Record) (planned : ℕ → Bool) (plans : ℕ
+    → PlanRows) (works : PlansLocally N plant taken planned plans)
     (l : ℕ) (within : l < length (lanes N)) (here : (lane_at N l).sender.0 ≡ plant) where
   abbrev lane : OutgoingLane
   lane = outgoing_lane N l

@@ -21,7 +21,8 @@ use Rattle.mrp_events.proofs.Small.{loads_stand_once, load_is_there}
 
 -- ---- order
 
-pub front_is_legal : (N : Table) (capacity l : ℕ) (s : State) → LaneKeeps N capacity l (s.sent l) (s.taken l) s.planned → IsBeginning (loads N (lane_at N l)) (s.taken l)
+pub front_is_legal : (N : Table) (capacity l : ℕ) (s : State) → LaneKeeps N capacity l (s.sent l) (s.taken l) s.planned
+    → IsBeginning (loads N (lane_at N l)) (s.taken l)
 front_is_legal N capacity l s h =
     fronts_are_beginnings (loads N (lane_at N l)) (s.taken l) h.mailbox (subst (IsBeginning (loads N (lane_at N l))) h.parts h.legal)
 

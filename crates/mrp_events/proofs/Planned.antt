@@ -1,5 +1,6 @@
 -- Pairs that are planned were ready, and plans made of what is at hand are those of the network.
-use Rattle.std.proofs.Common.{◌≡◌, ℕ, zero, suc, ◌+◌, ◌*◌, ◌<◌, ◌≤◌, ◌==◌, Bool, true, List, [], ◌∷◌, ◌++◌, inl, inr, get_or, map, slice_index, refl, sym, ap, subst, ◌∙◌, arith}
+use Rattle.std.proofs.Common.{◌≡◌, ℕ, zero, suc, ◌+◌, ◌*◌, ◌<◌, ◌≤◌, ◌==◌, Bool, true, List, [], ◌∷◌, ◌++◌, inl, inr, get_or, map, slice_index, refl, sym, ap}
+use Rattle.std.proofs.Common.{subst, ◌∙◌, arith}
 use Rattle.std.specs.List.{list_any, range_with_len}
 use Rattle.std.proofs.lemmas.Bool.{cases_eq, eqb-true, false≢true}
 use Rattle.std.proofs.lemmas.List.{map-append}
@@ -44,7 +45,8 @@ ended_before item records r h =
     ∙ ap (list_any is_end) (filter-append (is_of item) (contents records) (contents (r ∷ [])))
     ∙ any_left is_end (entries_of item (contents records)) (entries_of item (contents (r ∷ []))) h
 
-ready_after_take : (N : Table) (planned : ℕ → Bool) (taken : ℕ → List Record) (l x : ℕ) (r : Record) → IsReady N planned taken x → IsReady N planned (changed taken l (taken l ++ r ∷ [])) x
+ready_after_take : (N : Table) (planned : ℕ → Bool) (taken : ℕ → List Record) (l x : ℕ) (r : Record) → IsReady N planned taken x
+    → IsReady N planned (changed taken l (taken l ++ r ∷ [])) x
 ready_after_take N planned taken l x r ready = record {
   demanders = ready.demanders;
   brought = λ k within here there.
@@ -72,7 +74,8 @@ ready_step N capacity s t (Plan y) ready step =
     was_ready x pair planned = elim (cases_eq x y.0) [
       | inl same ↦ subst (IsReady N s.planned s.taken) (sym same) step.0.ready
       | inr other ↦
-          let before : s.planned x ≡ true = changed_by (λ (b : Bool). b ≡ true → s.planned x ≡ true) s.planned y.0 true x (λ e. absurd (other e)) (λ h. h) planned in
+          let before : s.planned x ≡ true = changed_by (λ (b : Bool). b ≡ true
+          → s.planned x ≡ true) s.planned y.0 true x (λ e. absurd (other e)) (λ h. h) planned in
           ready x pair before
     ]
 
@@ -91,7 +94,8 @@ planned_are_ready N capacity s reached =
 
 -- ---- what holds of a pair wherever it holds of its demanders
 
-by_demanders : (N : Table) → IsTable N → IsLoopFree N → (P : ℕ → Type 0) → ((x : ℕ) → IsPair N x → ((y : ℕ) → HasEdge N y x → P y) → P x) → (x : ℕ) → IsPair N x → P x
+by_demanders : (N : Table) → IsTable N → IsLoopFree N → (P : ℕ → Type 0) → ((x : ℕ) → IsPair N x → ((y : ℕ) → HasEdge N y x → P y) → P x) → (x : ℕ) → IsPair N x
+    → P x
 by_demanders N table free P step x pair = below (slice_index codes.0 x + 1) x pair (omega arith)
   where
     codes : (cs : List ℕ) × AreCodes N cs
@@ -116,23 +120,28 @@ same_row N f g same = from_range 0 (horizon N) (λ t low high. same t (omega ari
         ap (λ (z : ℕ). z ∷ map f (range_with_len (a + 1) n)) (same a (omega arith) (omega arith))
         ∙ ap (λ (z : List ℕ). g a ∷ z) (from_range (a + 1) n (λ t low high. same t (omega arith) (omega arith)))
 
-module _ (N : Table) (table : IsTable N) (free : IsLoopFree N) (plant : ℕ) (planned : ℕ → Bool) (taken : ℕ → List Record) (plans : List PlanRows) (legal : AreLegal N plant taken) (are : AreLocal N plant planned taken plans) where
+module _ (N : Table) (table : IsTable N) (free : IsLoopFree N) (plant : ℕ) (planned : ℕ → Bool) (taken : ℕ
+    → List Record) (plans : List PlanRows) (legal : AreLegal N plant taken) (are : AreLocal N plant planned taken plans) where
   abbrev IsRight : ℕ → Type 0
   IsRight x = IsPair N x → (pair_at N x).plant.0 ≡ plant → planned x ≡ true → rows_at plans x ≡ rows_at (plan_of N) x
 
   -- a component row asks what it does in the plan
-  bill_asks : (x period : ℕ) → (pair_at N x).plant.0 ≡ plant → IsReady N planned taken x → ((y : ℕ) → HasEdge N y x → IsRight y) → (b : BillRow) → In N.bills b → asked_by_bill plans x period b ≡ asked_by_bill (plan_of N) x period b
+  bill_asks : (x period : ℕ) → (pair_at N x).plant.0 ≡ plant → IsReady N planned taken x → ((y : ℕ) → HasEdge N y x → IsRight y) → (b : BillRow) → In N.bills b
+      → asked_by_bill plans x period b ≡ asked_by_bill (plan_of N) x period b
   bill_asks x period here ready right b there =
       let row = All-in (IsBillRow N) N.bills b table.read.bills there in
       same_where (b.component.0 == x) (b.per * release_at plans b.parent.0 period) (b.per * release_at (plan_of N) b.parent.0 period) (λ t.
       let component : b.component.0 ≡ x = eqb-true b.component.0 x t in
-      let edge : HasEdge N b.parent.0 x = HasEdge-from_in N (bill_edge b) b.parent.0 x (In-append_left (map bill_edge N.bills) (map (source_edge N) N.sources) (bill_edge b) (In-map bill_edge N.bills b there)) refl component in
+      let edge : HasEdge N b.parent.0 x = HasEdge-from_in N (bill_edge b) b.parent.0 x
+      (In-append_left (map bill_edge N.bills) (map (source_edge N) N.sources) (bill_edge b) (In-map bill_edge N.bills b there)) refl component in
       let plants = All-in (λ (z : BillRow). plant_at N z.parent.0 ≡ plant_at N z.component.0) N.bills b table.sourced.plants there in
       let local : (pair_at N b.parent.0).plant.0 ≡ (pair_at N x).plant.0 =
       sym (plant_is N b.parent.0 row.parent) ∙ plants ∙ plant_is N b.component.0 row.component ∙ ap (λ (z : ℕ). (pair_at N z).plant.0) component in
-      ap (λ (rows : PlanRows). b.per * slice_index rows.release period) (right b.parent.0 edge row.parent (local ∙ here) (ready.demanders b.parent.0 edge local)))
+      ap (λ (rows : PlanRows). b.per * slice_index rows.release period)
+      (right b.parent.0 edge row.parent (local ∙ here) (ready.demanders b.parent.0 edge local)))
 
-  local_gross_is : (x : ℕ) → IsPair N x → (pair_at N x).plant.0 ≡ plant → IsReady N planned taken x → ((y : ℕ) → HasEdge N y x → IsRight y) → (period : ℕ) → period < horizon N
+  local_gross_is : (x : ℕ) → IsPair N x → (pair_at N x).plant.0 ≡ plant → IsReady N planned taken x → ((y : ℕ) → HasEdge N y x → IsRight y) → (period : ℕ)
+      → period < horizon N
       → gross_brought N taken plans x period ≡ gross N (plan_of N) x period
   local_gross_is x pair here ready right period inside =
       let bills = sum_by-same (asked_by_bill plans x period) (asked_by_bill (plan_of N) x period) N.bills

@@ -28,11 +28,13 @@ use Rattle.mrp_events.specs.Seen.{schedule_load, LocalLoadsAreTheLoads}
 use Rattle.mrp_events.proofs.Planned.{local_plans_are_the_plan}
 use Rattle.mrp_events.proofs.Sending.{schedules_are_seen, schedules_open_after_shipments, customers_are_one, suppliers_are_one, customer_by_schedule}
 
-module _ (N : Table) (table : IsTable N) (free : IsLoopFree N) (plant : ℕ) (planned : ℕ → Bool) (taken : ℕ → List Record) (plans : List PlanRows) (legal : AreLegal N plant taken) (are : AreLocal N plant planned taken plans) (item : ItemNo) where
+module _ (N : Table) (table : IsTable N) (free : IsLoopFree N) (plant : ℕ) (planned : ℕ → Bool) (taken : ℕ
+    → List Record) (plans : List PlanRows) (legal : AreLegal N plant taken) (are : AreLocal N plant planned taken plans) (item : ItemNo) where
   -- by a despatch lane and the schedule lane of the same two plants
   by_lanes : (before : ℕ) → before < length (lanes N) → (schedule : Lane) → AreBothLanes (lane_at N before) schedule → schedule.sender.0 ≡ plant
       → Contains (lane_items N schedule) item → planned (pair_on N schedule item) ≡ true
-      → load_of N schedule item ≡ schedule_load (horizon N) (cum (figure N (pair_on N schedule item) (supplier_of schedule)) item.0 (contents (taken before))) (release_at plans (source_on N schedule item).pair.0) (outgoing_item N schedule item)
+      → load_of N schedule item ≡ schedule_load (horizon N) (cum (figure N (pair_on N schedule item) (supplier_of schedule)) item.0 (contents (taken before)))
+      (release_at plans (source_on N schedule item).pair.0) (outgoing_item N schedule item)
   by_lanes before within schedule both here there is_planned =
       let despatch : Lane = lane_at N before in
       let x : ℕ = pair_on N schedule item in
@@ -42,18 +44,21 @@ module _ (N : Table) (table : IsTable N) (free : IsLoopFree N) (plant : ℕ) (pl
       let at_plant : (pair_at N x).plant.0 ≡ plant = has.customer.at_plant ∙ customer_by_schedule schedule both.second ∙ here in
       let arrives : despatch.receiver.0 ≡ plant = sym (ap (λ (p : PlantNo). p.0) both.customer) ∙ here in
       let items : lane_items N schedule ≡ lane_items N despatch =
-      ap (λ (c : ℕ). map (item_of_source N) (taken_over N c (supplier_of schedule))) customer ∙ ap (λ (p : ℕ). map (item_of_source N) (taken_over N (customer_of despatch) p)) supplier in
+      ap (λ (c : ℕ). map (item_of_source N) (taken_over N c (supplier_of schedule))) customer
+      ∙ ap (λ (p : ℕ). map (item_of_source N) (taken_over N (customer_of despatch) p)) supplier in
       let there_too : Contains (lane_items N despatch) item = subst (λ (z : List ItemNo). Contains z item) items there in
       let local = are x has.customer.pair at_plant is_planned in
       let its : Contains (lane_items N despatch) (pair_at N x).item = subst (Contains (lane_items N despatch)) (sym has.customer.of_item) there_too in
       let ended : is_ended item.0 (contents (taken before)) ≡ true =
       subst (λ (i : ItemNo). is_ended i.0 (contents (taken before)) ≡ true) has.customer.of_item (local.0.brought before within (arrives ∙ sym at_plant) its) in
       let start : figure N x (supplier_of schedule) ≡ opening N despatch item =
-      ap (λ (c : ℕ). figure N (pair_no N c item.0) (supplier_of schedule)) customer ∙ ap (figure N (pair_on N despatch item)) supplier ∙ sym (opening_despatch N despatch item both.first) in
+      ap (λ (c : ℕ). figure N (pair_no N c item.0) (supplier_of schedule)) customer ∙ ap (figure N (pair_on N despatch item)) supplier
+      ∙ sym (opening_despatch N despatch item both.first) in
       let reached : cum (figure N x (supplier_of schedule)) item.0 (contents (taken before)) ≡ opening N schedule item =
       ap (λ (z : ℕ). cum z item.0 (contents (taken before))) start
       ∙ schedules_open_after_shipments N table despatch schedule both (taken before) (legal before within arrives) item there_too ended in
-      let rows : rows_at plans x ≡ rows_at (plan_of N) x = local_plans_are_the_plan N table free plant planned taken plans legal are x has.customer.pair at_plant is_planned in
+      let rows : rows_at plans x ≡ rows_at (plan_of N) x = local_plans_are_the_plan N table free plant planned taken plans legal are x has.customer.pair
+      at_plant is_planned in
       let source : (source_on N schedule item).pair.0 ≡ x = has.taker in
       let plan_there : rows_at (plan_of N) (source_on N schedule item).pair.0 ≡ rows_at plans (source_on N schedule item).pair.0 =
       ap (rows_at (plan_of N)) source ∙ sym rows ∙ sym (ap (rows_at plans) source) in
@@ -81,5 +86,6 @@ local_loads_are_the_loads N table free plant planned taken plans legal are l wit
           (subst (λ (z : ℕ). AreBothLanes (lane_at N (2 * k)) (lane_at N z)) (sym odd) (lanes_come_in_twos N k (omega arith)).1) in
           let i : seen.OutgoingLoad = outgoing_item N (lane_at N l) item in
           by_lanes N table free plant planned taken plans legal are item (l - 1) (omega arith) (lane_at N l) both here there is_planned
-          ∙ sym (ap (λ (c : Call). schedule_load (horizon N) (cum i.figure i.item.0 (contents (taken (l - 1)))) (release_at plans c.customer.0) i) (call_seen N (lane_at N l) item kind))
+          ∙ sym (ap (λ (c : Call). schedule_load (horizon N) (cum i.figure i.item.0 (contents (taken (l - 1)))) (release_at plans c.customer.0) i)
+          (call_seen N (lane_at N l) item kind))
     ]

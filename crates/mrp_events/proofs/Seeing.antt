@@ -1,5 +1,6 @@
 -- What a plant sees of the network: amounts, parents, and what has come over its lanes.
-use Rattle.std.proofs.Common.{◌≡◌, ℕ, suc, zero, ◌+◌, ◌*◌, ◌<◌, ◌==◌, Bool, true, inl, inr, List, [], ◌∷◌, length, get_or, map, refl, sym, ap, ◌∙◌, subst, arith, All, Contains, slice_index}
+use Rattle.std.proofs.Common.{◌≡◌, ℕ, suc, zero, ◌+◌, ◌*◌, ◌<◌, ◌==◌, Bool, true, inl, inr, List, [], ◌∷◌, length, get_or, map, refl, sym, ap, ◌∙◌, subst}
+use Rattle.std.proofs.Common.{arith, All, Contains, slice_index}
 use Rattle.std.specs.List.{filter, flat_map, position_or_len, range_with_len}
 use Rattle.std.proofs.lemmas.Bool.{cases_lt, eqb-true, eq-eqb, both_ways}
 use Rattle.std.proofs.lemmas.List.{get_or_append_left, get_or-append-add, map-id}
@@ -16,12 +17,14 @@ use Rattle.mrp_net.specs.Edges.{demanders}
 use Rattle.mrp_net.specs.Lanes.{lanes, lane_at, lane_items}
 use Rattle.mrp_net.specs.EdgeLaws.{is_local}
 use Rattle.mrp_net.specs.Sums.{pair_at, row_of}
-use Rattle.mrp_net.proofs.Members.{In, In-from_contains, Contains-from_in, In-filter, filter_only, In-map, map_only, In-flat_map, flat_map_only, In-range, All-in}
+use Rattle.mrp_net.proofs.Members.{In, In-from_contains, Contains-from_in, In-filter, filter_only, In-map, map_only, In-flat_map, flat_map_only, In-range}
+use Rattle.mrp_net.proofs.Members.{All-in}
 use Rattle.mrp_net.proofs.Routing.{map-map}
 use Rattle.mrp_view.specs.declared.view.IncomingItem.{IncomingItem}
 use Rattle.mrp_view.specs.declared.view.PlantEdge.{PlantEdge}
 use Rattle.mrp_view.specs.declared.view.PlantPair.{PlantPair}
-use Rattle.mrp_view.specs.View.{PlantRows, is_of_plant, plant_pair, plant_pairs, plant_edge, plant_edges, edges_to, plant_amounts, plant_rows, comes_to, lane_numbers, incoming_item, incoming_lane, incoming_lanes}
+use Rattle.mrp_view.specs.View.{PlantRows, is_of_plant, plant_pair, plant_pairs, plant_edge, plant_edges, edges_to, plant_amounts, plant_rows, comes_to}
+use Rattle.mrp_view.specs.View.{lane_numbers, incoming_item, incoming_lane, incoming_lanes}
 use Rattle.mrp_view.specs.Seen.{IsOwnPair}
 use Rattle.mrp_view.proofs.Seeing.{owned, owned_there}
 use Rattle.mrp_loops.specs.Loop.{HasEdge}
@@ -47,7 +50,8 @@ pairs_are_at N plant =
 -- the pairs that a view has are those of its plant
 pub own_at : (V : PlantRows) (N : Table) (plant : ℕ) (x : PairNo) → V ≡ plant_rows N plant → IsOwnPair V x → IsPairAt N plant x.0
 own_at V N plant x view (q, there, is) =
-    let all : All (λ z. IsPairAt N plant z.number.0) V.pairs = subst (λ (z : PlantRows). All (λ q. IsPairAt N plant q.number.0) z.pairs) (sym view) (pairs_are_at N plant) in
+    let all : All (λ z. IsPairAt N plant z.number.0) V.pairs = subst (λ (z : PlantRows). All (λ q. IsPairAt N plant q.number.0) z.pairs) (sym view)
+    (pairs_are_at N plant) in
     subst (λ (n : PairNo). IsPairAt N plant n.0) is (All-contains (λ (z : PlantPair). IsPairAt N plant z.number.0) V.pairs q all there)
 
 pub seen_there : (V : PlantRows) (N : Table) (plant x : ℕ) → V ≡ plant_rows N plant → IsPairAt N plant x → Contains V.pairs (plant_pair N x)
@@ -84,7 +88,8 @@ amount_is N plant x amount t at within =
     let k : ℕ = position_or_len test pairs in
     let there : k < length pairs = first_there test pairs d (Contains-from_in pairs d (sees_pair N plant x at)) (eq-eqb x x refl) in
     let number : (get_or pairs k d).number.0 ≡ x = eqb-true (get_or pairs k d).number.0 x (passes_at_first test pairs d there) in
-    piece_at (λ (p : PlantPair). row_of N (amount p.number.0)) (horizon N) pairs (λ p. length-map-range_with_len (amount p.number.0) 0 (horizon N)) k t d there within
+    piece_at (λ (p : PlantPair). row_of N (amount p.number.0)) (horizon N) pairs
+    (λ p. length-map-range_with_len (amount p.number.0) 0 (horizon N)) k t d there within
     ∙ get_or-map-range_with_len (amount (get_or pairs k d).number.0) 0 (horizon N) t t 0 within (omega arith)
     ∙ ap (λ (z : ℕ). amount z t) number
 
@@ -100,7 +105,8 @@ sees_edge N is plant x y at edge here =
     let demander : (pair_at N e.demander.0).plant.0 ≡ plant = ap (λ (z : ℕ). (pair_at N z).plant.0) among.2 ∙ here in
     let component : (pair_at N e.pair.0).plant.0 ≡ plant = ap (λ (z : ℕ). (pair_at N z).plant.0) only.1 ∙ at.at_plant in
     let local : is_local N e ≡ true = eq-eqb (pair_at N e.demander.0).plant.0 (pair_at N e.pair.0).plant.0 (demander ∙ sym component) in
-    let own : In (edges_to N x) (plant_edge e) = In-map plant_edge (filter (is_local N) (demanders N x)) e (In-filter (is_local N) (demanders N x) e among.1 local) in (
+    let own : In (edges_to N x) (plant_edge e) = In-map plant_edge (filter (is_local N) (demanders N x)) e
+    (In-filter (is_local N) (demanders N x) e among.1 local) in (
       plant_edge e,
       In-flat_map (λ (p : PlantPair). edges_to N p.number.0) (plant_pairs N plant) (plant_pair N x) (plant_edge e) (sees_pair N plant x at) own,
       only.1,
@@ -108,10 +114,12 @@ sees_edge N is plant x y at edge here =
     )
 
 -- and each edge that it sees is one of the network within the plant
-pub seen_edges : (N : Table) (plant : ℕ) → All (λ e. HasEdge N e.parent.0 e.component.0 × ((pair_at N e.parent.0).plant.0 ≡ (pair_at N e.component.0).plant.0)) (plant_edges N plant)
+pub seen_edges : (N : Table) (plant : ℕ) → All (λ e. HasEdge N e.parent.0 e.component.0 × ((pair_at N e.parent.0).plant.0 ≡ (pair_at N e.component.0).plant.0))
+    (plant_edges N plant)
 seen_edges N plant k d h =
     let e : PlantEdge = get_or (plant_edges N plant) k d in
-    let of = flat_map_only (λ (p : PlantPair). edges_to N p.number.0) (plant_pairs N plant) e (In-from_contains (plant_edges N plant) e (Contains-get_or (plant_edges N plant) k d h)) in
+    let of = flat_map_only (λ (p : PlantPair). edges_to N p.number.0) (plant_pairs N plant) e
+    (In-from_contains (plant_edges N plant) e (Contains-get_or (plant_edges N plant) k d h)) in
     let x : ℕ = of.0.number.0 in
     let shown = map_only plant_edge (filter (is_local N) (demanders N x)) e of.2 in
     let f : Edge = shown.0 in

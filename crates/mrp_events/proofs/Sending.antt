@@ -54,7 +54,8 @@ pub schedules_are_seen : SchedulesAreSeen
 schedules_are_seen N lane item kind =
     let release : ℕ → ℕ = release_at (plan_of N) (source_on N lane item).pair.0 in
     ap (λ (k : LaneKind). load_with N lane item (opening N lane item) (lines_by N k lane item)) kind
-    ∙ sym (ap (λ (c : Call). load_with N lane item (opening N lane item) (by_period (λ period. share_of c.low c.high (release period)) (horizon N))) (call_seen N lane item kind))
+    ∙ sym (ap (λ (c : Call). load_with N lane item (opening N lane item) (by_period (λ period. share_of c.low c.high (release period)) (horizon N)))
+    (call_seen N lane item kind))
 
 -- ---- where schedules begin
 
@@ -88,7 +89,16 @@ schedules_open_after_shipments N table despatch schedule both records h item the
     let after : ℕ → ℕ → ℕ = λ c p. figure N (pair_no N c item.0) p + shipped_from N (pair_no N c item.0) p in
     let same : after (customer_of schedule) (supplier_of schedule) ≡ after (customer_of despatch) (supplier_of despatch) =
     ap (λ (c : ℕ). after c (supplier_of schedule)) customer ∙ ap (after (customer_of despatch)) supplier in
-    omega (arith, reached, all, lines, shipped_total N despatch item, opening_despatch N despatch item both.first, opening_schedule N schedule item both.second, same)
+    omega (
+      arith,
+      reached,
+      all,
+      lines,
+      shipped_total N despatch item,
+      opening_despatch N despatch item both.first,
+      opening_schedule N schedule item both.second,
+      same,
+    )
 
 -- ---- lanes that come in
 
@@ -108,10 +118,13 @@ either_order false false v = refl
 pub brought_is_seen : BroughtIsSeen
 brought_is_seen N taken is_kind x period =
     let plant : ℕ = (pair_at N x).plant.0 in
-    let by_lane : IncomingLane → ℕ = λ lane. cond (is_kind lane.kind) (quantity_in period (deliveries (pair_at N x).item.0 (contents (taken lane.number.0)))) 0 in
+    let by_lane : IncomingLane → ℕ = λ lane. cond (is_kind lane.kind) (quantity_in period (deliveries (pair_at N x).item.0 (contents (taken lane.number.0)))) 0
+    in
     let numbers : List ℕ = lane_numbers N in
-    let alike : (l : ℕ) → cond (is_kind (lane_at N l).kind && ((lane_at N l).receiver.0 == plant)) (brought_by N taken x period l) 0 ≡ cond (comes_to N plant l) (by_lane (incoming_lane N l)) 0 =
+    let alike : (l : ℕ) → cond (is_kind (lane_at N l).kind && ((lane_at N l).receiver.0 == plant)) (brought_by N taken x period l) 0
+    ≡ cond (comes_to N plant l) (by_lane (incoming_lane N l)) 0 =
     λ l. either_order (is_kind (lane_at N l).kind) ((lane_at N l).receiver.0 == plant) (brought_by N taken x period l) in
-    sum_by-ext (λ l. cond (is_kind (lane_at N l).kind && ((lane_at N l).receiver.0 == plant)) (brought_by N taken x period l) 0) (λ l. cond (comes_to N plant l) (by_lane (incoming_lane N l)) 0) numbers alike
+    sum_by-ext (λ l. cond (is_kind (lane_at N l).kind && ((lane_at N l).receiver.0 == plant)) (brought_by N taken x period l) 0)
+    (λ l. cond (comes_to N plant l) (by_lane (incoming_lane N l)) 0) numbers alike
     ∙ sym (sum_filter (λ l. by_lane (incoming_lane N l)) (comes_to N plant) numbers)
     ∙ sym (sum_map by_lane (incoming_lane N) (filter (comes_to N plant) numbers))

@@ -1,5 +1,6 @@
 -- What lanes carry: each item once, within the bound, and no longer than the table says.
-use Rattle.std.proofs.Common.{◌≡◌, ℕ, ◌+◌, ◌*◌, ◌<◌, ◌≤◌, ◌==◌, ◌&&◌, Bool, true, false, cond, Some, inl, inr, List, [], ◌∷◌, length, get_or, map, refl, sym, ap, subst, ◌∙◌, arith, All, Contains}
+use Rattle.std.proofs.Common.{◌≡◌, ℕ, ◌+◌, ◌*◌, ◌<◌, ◌≤◌, ◌==◌, ◌&&◌, Bool, true, false, cond, Some, inl, inr, List, [], ◌∷◌, length, get_or, map, refl, sym}
+use Rattle.std.proofs.Common.{ap, subst, ◌∙◌, arith, All, Contains}
 use Rattle.std.specs.Prelude.{is_some, option_map}
 use Rattle.std.specs.List.{AllByRecursion, IsDistinct, find, flat_map, range_with_len}
 use Rattle.std.specs.List.Sorted.{IsNonDecreasingBy}
@@ -19,7 +20,8 @@ use Rattle.mrp_net.specs.declared.lane.Lane.{Lane}
 use Rattle.mrp_net.specs.declared.lane.LaneKind.{LaneKind}
 use Rattle.mrp_net.specs.declared.lane.LaneKind.TheVariants.{Despatch, Schedule}
 use Rattle.mrp_net.specs.declared.lane.Shipment.{Shipment}
-use Rattle.mrp_net.specs.Lanes.{lanes, lanes_of, lanes_between, taken_over, lane_items, supplier_of, figure, shipped_from, ships_from, shipment_of, shipments, opening, reset, pair_on, is_reset_of}
+use Rattle.mrp_net.specs.Lanes.{lanes, lanes_of, lanes_between, taken_over, lane_items, supplier_of, figure, shipped_from, ships_from, shipment_of, shipments}
+use Rattle.mrp_net.specs.Lanes.{opening, reset, pair_on, is_reset_of}
 use Rattle.mrp_net.specs.LaneLaws.{HasSource}
 use Rattle.mrp_net.specs.Plan.{plan_of}
 use Rattle.mrp_net.specs.Sources.{source_on}
@@ -44,7 +46,8 @@ use Rattle.mrp_record.proofs.Beginnings as beginnings
 use Rattle.mrp_record.proofs.Forming as forming
 use Rattle.mrp_events.specs.Loads.{delivery_of, despatched, called_in, called, lines_by, load_of, loads}
 use Rattle.mrp_events.specs.Steps.{is_rising}
-use Rattle.mrp_events.specs.LoadLaws.{LoadsStandOnce, LoadsAreSmall, OpeningsAreSmall, LegalIsInForm, LegalFiguresAreSmall, LegalCumsAreSmall, TextsAreNoLonger, LaneBeginningsAreNoLonger, StepsAreFew}
+use Rattle.mrp_events.specs.LoadLaws.{LoadsStandOnce, LoadsAreSmall, OpeningsAreSmall, LegalIsInForm, LegalFiguresAreSmall, LegalCumsAreSmall, TextsAreNoLonger}
+use Rattle.mrp_events.specs.LoadLaws.{LaneBeginningsAreNoLonger, StepsAreFew}
 use Rattle.mrp_events.proofs.Calling.{source_over, source_item}
 use Rattle.mrp_events.proofs.Delivered.{by_period_total, by_period_some, by_period_inside, by_period_rises, by_period_length, in_order, rises_in_order}
 
@@ -55,7 +58,8 @@ none_alike : (N : Table) (lane : Lane) (item : ItemNo) (items : List ItemNo) →
 none_alike N lane item [] h = tt
 none_alike N lane item (i ∷ items) h = (h.0, none_alike N lane item items h.1)
 
-loads_distinct : (N : Table) (lane : Lane) (items : List ItemNo) → IsDistinct (λ i j. i.0 == j.0) items → IsDistinct record_laws.is_same_load (map (load_of N lane) items)
+loads_distinct : (N : Table) (lane : Lane) (items : List ItemNo) → IsDistinct (λ i j. i.0 == j.0) items
+    → IsDistinct record_laws.is_same_load (map (load_of N lane) items)
 unfolding IsDistinct
 loads_distinct N lane [] h = tt
 loads_distinct N lane (item ∷ items) h = (none_alike N lane item items h.0, loads_distinct N lane items h.1)
@@ -64,11 +68,13 @@ pub loads_stand_once : LoadsStandOnce
 loads_stand_once N is lane = loads_distinct N lane (lane_items N lane) (lane_items_stand_once N is lane)
 
 pub load_is_there : (N : Table) (lane : Lane) (item : ItemNo) → Contains (lane_items N lane) item → Contains (loads N lane) (load_of N lane item)
-load_is_there N lane item h = Contains-from_in (loads N lane) (load_of N lane item) (In-map (load_of N lane) (lane_items N lane) item (In-from_contains (lane_items N lane) item h))
+load_is_there N lane item h = Contains-from_in (loads N lane) (load_of N lane item)
+    (In-map (load_of N lane) (lane_items N lane) item (In-from_contains (lane_items N lane) item h))
 
 -- ---- lengths
 
-lines_are_few : (N : Table) (lane : Lane) (item : ItemNo) (kind : LaneKind) → lane.kind ≡ kind → length (lines_by N kind lane item) ≤ elim kind as (λ _. ℕ) [ Despatch ↦ length (shipments N lane item) | Schedule ↦ horizon N ]
+lines_are_few : (N : Table) (lane : Lane) (item : ItemNo) (kind : LaneKind) → lane.kind ≡ kind
+    → length (lines_by N kind lane item) ≤ elim kind as (λ _. ℕ) [ Despatch ↦ length (shipments N lane item) | Schedule ↦ horizon N ]
 lines_are_few N lane item Despatch e = omega (arith, length-map (shipments N lane item) delivery_of)
 lines_are_few N lane item Schedule e = by_period_length (called_in N (source_on N lane item)) (horizon N)
 
@@ -77,7 +83,12 @@ block_is_no_longer N lane item = omega (arith, lines_are_few N lane item lane.ki
 
 pub texts_are_no_longer : TextsAreNoLonger
 texts_are_no_longer N lane =
-    omega (arith, sum_map block_length (load_of N lane) (lane_items N lane), sum_by-le-sum_by (λ item. block_length (load_of N lane item)) (longest_block N lane) (lane_items N lane) (block_is_no_longer N lane))
+    omega (
+      arith,
+      sum_map block_length (load_of N lane) (lane_items N lane),
+      sum_by-le-sum_by (λ item. block_length (load_of N lane item))
+          (longest_block N lane) (lane_items N lane) (block_is_no_longer N lane),
+    )
 
 pub beginnings_are_no_longer : LaneBeginningsAreNoLonger
 beginnings_are_no_longer N lane records h =
@@ -195,7 +206,8 @@ module _ (N : Table) (sized : IsSized N) (lane : Lane) (item : ItemNo) (has : Ha
       let same : map (λ (l : Delivery). l.period) (despatched N lane item) ≡ arrivals N p x =
       map-map (λ (l : Delivery). l.period) delivery_of (shipments N lane item)
       ∙ map-map (λ (s : Shipment). s.period) shipment_of (ships_from N x p)
-      ∙ ap (map (λ (s : ShipRow). s.period)) (filter_agree is_sent (λ (s : ShipRow). (s.from.0 == p) && (s.pair.0 == x)) (λ s. either_way (s.pair.0 == x) (s.from.0 == p)) N.ships) in
+      ∙ ap (map (λ (s : ShipRow). s.period)) (filter_agree is_sent (λ (s : ShipRow). (s.from.0 == p) && (s.pair.0 == x))
+      (λ s. either_way (s.pair.0 == x) (s.from.0 == p)) N.ships) in
       in_order_by (λ (l : Delivery). l.period) (despatched N lane item) (subst (λ (ns : List ℕ). rises_from 0 ns ≡ true) (sym same) at_x)
 
   -- ---- both kinds of lanes
@@ -221,7 +233,8 @@ module _ (N : Table) (sized : IsSized N) (lane : Lane) (item : ItemNo) (has : Ha
         figures = called_within;
       }
 
-pub load_is_small : (N : Table) → IsSized N → (lane : Lane) (item : ItemNo) → Contains (lane_items N lane) item → IsSmall (is_rising lane.kind) (horizon N) (load_of N lane item)
+pub load_is_small : (N : Table) → IsSized N → (lane : Lane) (item : ItemNo) → Contains (lane_items N lane) item
+    → IsSmall (is_rising lane.kind) (horizon N) (load_of N lane item)
 load_is_small N sized lane item there = small_by N sized lane item (items_have_sources N sized.table lane item there) lane.kind refl
 
 pub loads_are_small : LoadsAreSmall
@@ -238,7 +251,8 @@ openings_are_small N sized lane item there = omega (arith, (load_is_small N size
 
 pub legal_is_in_form : LegalIsInForm
 legal_is_in_form N sized lane records h =
-    forming.beginnings_are_in_form (is_rising lane.kind) (horizon N) (loads N lane) (loads_stand_once N sized.table lane) (loads_are_small N sized lane) records h
+    forming.beginnings_are_in_form (is_rising lane.kind) (horizon N) (loads N lane) (loads_stand_once N sized.table lane)
+    (loads_are_small N sized lane) records h
 
 pub legal_figures_are_small : LegalFiguresAreSmall
 legal_figures_are_small N sized lane records h =

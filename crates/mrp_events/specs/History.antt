@@ -44,7 +44,8 @@ pub record IsHistory (N : Table) (p : ℕ) (history : ℕ → State) : Type 0 wh
 
 -- ---- all plants: a state for each plant's number
 
--- what has been sent over a lane by its sender, what has been taken by its receiver, and what is planned by a pair's plant
+-- what has been sent over a lane by its sender, what has been taken by its receiver, and what is planned by a pair's
+-- plant
 abbrev pub sent_by : Table → (ℕ → State) → ℕ → List Record
 sent_by N states l = (states (lane_at N l).sender.0).sent l
 

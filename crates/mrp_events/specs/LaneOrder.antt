@@ -18,7 +18,8 @@ pub record KeepsOrder (N : Table) (capacity : ℕ) (s : State) (l : ℕ) : Type 
   pub room : length mailbox ≤ capacity
   pub sent : IsBeginning (loads N (lane_at N l)) (s.sent l)
   pub taken : IsBeginning (loads N (lane_at N l)) (s.taken l)
-  pub last : (before after : List Record) (r : Record) → content r ≡ Closing → s.sent l ≡ before ++ r ∷ after → after ≡ []
+  pub last : (before after : List Record) (r : Record) → content r ≡ Closing → s.sent l ≡ before ++ r ∷ after
+      → after ≡ []
 
 -- the cumulative figure of an item in a list of a lane's records, closed years added
 abbrev pub cum_on : Table → ℕ → ItemNo → List Record → ℕ

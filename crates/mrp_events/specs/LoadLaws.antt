@@ -59,7 +59,8 @@ TextsAreNoLonger = (N : Table) (lane : Lane) → length_of_text (loads N lane) �
 -- and so is each legal beginning
 abbrev pub LaneBeginningsAreNoLonger : Type 0
 LaneBeginningsAreNoLonger =
-    (N : Table) (lane : Lane) (records : List Record) → IsBeginning (loads N lane) records → length records ≤ longest_text N lane
+    (N : Table) (lane : Lane) (records : List Record) → IsBeginning (loads N lane) records
+    → length records ≤ longest_text N lane
 
 -- a run has at most 2 * 10^15 events
 abbrev pub StepsAreFew : Type 0

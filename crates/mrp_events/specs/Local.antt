@@ -91,6 +91,7 @@ LocalPlansAreThePlan =
 -- so in each state that events lead to, plans that are made so are those of the plan, at every plant
 abbrev pub ReachedPlansAreThePlan : Type 0
 ReachedPlansAreThePlan =
-    (N : Table) → IsTable N → IsLoopFree N → (capacity : ℕ) (s : State) → IsReached N capacity s → (plans : List PlanRows)
+    (N : Table) → IsTable N → IsLoopFree N → (capacity : ℕ) (s : State) → IsReached N capacity s
+    → (plans : List PlanRows)
     → ((x : ℕ) → IsPair N x → s.planned x ≡ true → rows_at plans x ≡ plan_brought N s.taken plans x)
     → (x : ℕ) → IsPair N x → s.planned x ≡ true → rows_at plans x ≡ rows_at (plan_of N) x

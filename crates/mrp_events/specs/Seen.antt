@@ -69,7 +69,8 @@ SchedulesOpenAfterShipments =
 -- a schedule lane's load by the plans and the taken lists of its sender
 abbrev pub local_load : Table → (ℕ → List Record) → List PlanRows → ℕ → seen.OutgoingLoad → Load
 local_load N taken plans l i =
-    schedule_load (horizon N) (cum i.figure i.item.0 (contents (taken (l - 1)))) (release_at plans (seen.call_of i).customer.0) i
+    schedule_load (horizon N) (cum i.figure i.item.0 (contents (taken (l - 1))))
+    (release_at plans (seen.call_of i).customer.0) i
 
 -- so what a plant sends by its own plans is what its lanes carry: of a planned pair each schedule lane has
 -- the load by the pair's local plan, from the figure that the despatch lane before it has reached

@@ -42,9 +42,10 @@ ticks e = sum_by (λ stamp. stamp + 1) e.stamps
 abbrev pub clock_of : List Passage → List Passage → ℕ
 clock_of sends takes = 1 + sum_by ticks sends + sum_by ticks takes
 
--- a history of the plant explains the state that it is in and what went over its lanes: by that clock it has come to the
--- state, and the stamps are those of this history
-pub record IsExplainedBy (N : Table) (p : ℕ) (s : State) (sends takes : List Passage) (history : ℕ → State) : Type 0 where
+-- a history of the plant explains the state that it is in and what went over its lanes: by that clock it has come to
+-- the state, and the stamps are those of this history
+pub record IsExplainedBy (N : Table) (p : ℕ) (s : State) (sends takes : List Passage) (history : ℕ
+    → State) : Type 0 where
   pub timed : IsTimed N p history (clock_of sends takes) s
   pub sent_at : All (λ e. SentAt history e.lane e.list e.stamps) sends
   pub taken_at : All (λ e. TakenAt history e.lane e.list e.stamps) takes
@@ -54,8 +55,8 @@ IsExplained N p s sends takes = (history : ℕ → State) × IsExplainedBy N p s
 
 -- ---- all plants
 
--- of the ends of a lane one is its sender's and one its receiver's: what the one sent is a legal beginning, and it is what
--- the other has taken and then what waits, stamps too
+-- of the ends of a lane one is its sender's and one its receiver's: what the one sent is a legal beginning, and it is
+-- what the other has taken and then what waits, stamps too
 pub record IsJoined (N : Table) (l : ℕ) (sends takes : List Passage) : Type 0 where
   pub send : Passage
   pub take : Passage
@@ -69,7 +70,8 @@ pub record IsJoined (N : Table) (l : ℕ) (sends takes : List Passage) : Type 0 
   pub stamps : send.stamps ≡ take.stamps ++ waits_at
   pub legal : IsBeginning (loads N (lane_at N l)) send.list
 
--- the states of the plants and what went over their lanes: each plant is explained by some history, and each lane is joined
+-- the states of the plants and what went over their lanes: each plant is explained by some history, and each lane is
+-- joined
 pub record AreExplained (N : Table) (states : ℕ → State) (sends takes : ℕ → List Passage) : Type 0 where
   pub each : (p : ℕ) → p < length N.plants → IsExplained N p (states p) (sends p) (takes p)
   pub joined : (l : ℕ) → l < length (lanes N)

@@ -1,5 +1,6 @@
 -- The states between the plants of a network, and the events that lead from one to another.
-use Rattle.std.specs.Prelude.{◌≡◌, ℕ, ◌+◌, ◌<◌, ◌==◌, Bool, true, false, if◌then◌else◌, List, [], ◌∷◌, ◌++◌, length, Contains, ◌⊎◌}
+use Rattle.std.specs.Prelude.{◌≡◌, ℕ, ◌+◌, ◌<◌, ◌==◌, Bool, true, false, if◌then◌else◌, List, [], ◌∷◌, ◌++◌, length}
+use Rattle.std.specs.Prelude.{Contains, ◌⊎◌}
 use Rattle.mrp_rows.specs.declared.numbers.ItemNo.{ItemNo}
 use Rattle.mrp_rows.specs.Table.{Table, IsPair}
 use Rattle.mrp_net.specs.declared.lane.Lane.{Lane}

@@ -1,5 +1,6 @@
 -- A cursor over all that a lane carries gives legal records to the lane's end, and shows what it has sent.
-use Rattle.std.proofs.Common.{◌≡◌, ℕ, suc, ◌+◌, ◌-◌, ◌<◌, ◌≤◌, true, Some, Option, List, [], ◌∷◌, ◌++◌, length, get_or, map, drop, refl, sym, ap, subst, ◌∙◌, arith, Contains, not}
+use Rattle.std.proofs.Common.{◌≡◌, ℕ, suc, ◌+◌, ◌-◌, ◌<◌, ◌≤◌, true, Some, Option, List, [], ◌∷◌, ◌++◌, length, get_or, map, drop, refl, sym, ap, subst, ◌∙◌}
+use Rattle.std.proofs.Common.{arith, Contains, not}
 use Rattle.std.specs.List.{filter, range_with_len}
 use Rattle.std.proofs.lemmas.Bool.{ne_eqb}
 use Rattle.std.proofs.lemmas.List.{get_or-map, length-map, drop_all}
@@ -44,7 +45,8 @@ use Rattle.mrp_firm_cases.specs.Feeding.{amounts_from, lines_from, item_goods, l
 
 pub shipment_there : (ships : List Shipment) (mark : ℕ) (d : Shipment) → mark < length ships
     → map delivery_of (drop mark ships) ≡ delivery_of (get_or ships mark d) ∷ map delivery_of (drop (suc mark) ships)
-shipment_there ships mark d within = ap (λ (z : List Shipment). map delivery_of z) (drop_there ships mark (get_or ships mark d) (slice_get-get_or ships mark d within))
+shipment_there ships mark d within = ap (λ (z : List Shipment). map delivery_of z)
+    (drop_there ships mark (get_or ships mark d) (slice_get-get_or ships mark d within))
 
 pub no_shipment : (ships : List Shipment) (mark : ℕ) → length ships ≤ mark → map delivery_of (drop mark ships) ≡ []
 no_shipment ships mark past = ap (λ (z : List Shipment). map delivery_of z) (drop_all mark ships past)
@@ -60,12 +62,14 @@ amount_first amount n mark some =
 amount_skipped : (amount : ℕ → ℕ) (n mark : ℕ) → amount mark ≡ 0 → amounts amount mark (suc n) ≡ amounts amount (mark + 1) n
 amount_skipped amount n mark none = rw none refl
 
-pub amount_there : (amount : ℕ → ℕ) (periods mark : ℕ) → mark < periods → 0 < amount mark → amounts_from amount periods mark ≡ delivery_in amount mark ∷ amounts_from amount periods (mark + 1)
+pub amount_there : (amount : ℕ → ℕ) (periods mark : ℕ) → mark < periods → 0 < amount mark
+    → amounts_from amount periods mark ≡ delivery_in amount mark ∷ amounts_from amount periods (mark + 1)
 amount_there amount periods mark within some =
     let more : periods - mark ≡ suc (periods - (mark + 1)) = omega (arith, within) in
     ap (amounts amount mark) more ∙ amount_first amount (periods - (mark + 1)) mark some
 
-pub amount_none : (amount : ℕ → ℕ) (periods mark : ℕ) → mark < periods → amount mark ≡ 0 → amounts_from amount periods mark ≡ amounts_from amount periods (mark + 1)
+pub amount_none : (amount : ℕ → ℕ) (periods mark : ℕ) → mark < periods → amount mark ≡ 0
+    → amounts_from amount periods mark ≡ amounts_from amount periods (mark + 1)
 amount_none amount periods mark within none =
     let more : periods - mark ≡ suc (periods - (mark + 1)) = omega (arith, within) in
     ap (amounts amount mark) more ∙ amount_skipped amount (periods - (mark + 1)) mark none
@@ -82,12 +86,18 @@ pub record IsCalledBy (N : Table) (table : List PlanRows) (s : SourceRow) : Type
   pub rises : s.low ≤ s.high
   pub ends : s.high ≤ 1000
 
-pub is_called : (N : Table) (table : List PlanRows) (lane : Lane) (item : ItemNo) → IsTable N → Fits N table → Contains (lane_items N lane) item → IsCalledBy N table (source_on N lane item)
+pub is_called : (N : Table) (table : List PlanRows) (lane : Lane) (item : ItemNo) → IsTable N → Fits N table → Contains (lane_items N lane) item
+    → IsCalledBy N table (source_on N lane item)
 is_called N table lane item is fits there =
     let has = items_have_sources N is lane item there in
     let s : SourceRow = source_on N lane item in
     let row : IsSourceRow N s = All-contains (IsSourceRow N) N.sources s is.read.sources has.source in
-    record { pair = omega (arith, row.pair, fits.size); row = fitting_release N table s.pair.0 fits row.pair; rises = omega (arith, row.rises); ends = row.ends }
+    record {
+      pair = omega (arith, row.pair, fits.size);
+      row = fitting_release N table s.pair.0 fits row.pair;
+      rises = omega (arith, row.rises);
+      ends = row.ends;
+    }
 
 -- ---- a cursor over a lane
 
@@ -138,19 +148,22 @@ module _ (N : Table) (l : ℕ) where
     head = λ place at. small place sized (there_at o place over (contains_there o.queue o.head place at));
   }
 
-module _ (N : Table) (o : OutFigures) (end : End) (left : Option Remainder) (r : Record) (feeds : Feeds N o end) (is : IsWhatIsLeft (goods N end.name.lane) o left) (next : next_record o left ≡ Some r) where
+module _ (N : Table) (o : OutFigures) (end : End) (left : Option Remainder) (r : Record) (feeds : Feeds N o end)
+    (is : IsWhatIsLeft (goods N end.name.lane) o left) (next : next_record o left ≡ Some r) where
   -- the record that the cursor gives may be offered
   pub may_be_offered : IsNextRecord end r
   may_be_offered =
       let l : ℕ = end.name.lane in
       subst (λ (M : Table). IsLegal M l (end.list ++ r ∷ [])) (sym feeds.network)
-      (given_continues (goods N l) o end.list left r feeds.shows (bounded N l o end.list feeds.sized feeds.over feeds.shows) is next (loads N (lane_at N l)) (agrees N l o feeds.over)).0
+      (given_continues (goods N l) o end.list left r feeds.shows (bounded N l o end.list feeds.sized feeds.over feeds.shows) is next (loads N (lane_at N l))
+      (agrees N l o feeds.over)).0
 
   -- and once it is sent, the cursor goes on
   pub goes_on : (end' : End) → end'.name ≡ end.name → end'.list ≡ end.list ++ r ∷ [] → Feeds N (stepped o left) end'
   goes_on end' same list =
       let l : ℕ = end.name.lane in
-      let shows : ShowsSent (goods N l) (stepped o left) (end.list ++ r ∷ []) = steps_show (goods N l) o end.list left r feeds.shows (bounded N l o end.list feeds.sized feeds.over feeds.shows) is next in
+      let shows : ShowsSent (goods N l) (stepped o left) (end.list ++ r ∷ []) =
+      steps_show (goods N l) o end.list left r feeds.shows (bounded N l o end.list feeds.sized feeds.over feeds.shows) is next in
       let kept = steps_keep_places o left in
       let size = kept.0 in
       let over : IsOver N l (stepped o left) = record { size = size ∙ feeds.over.size; queue = kept.1 ∙ feeds.over.queue ∙ ap (range_with_len 0) (sym size) } in

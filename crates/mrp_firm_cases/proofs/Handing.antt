@@ -1,5 +1,6 @@
 -- What an agent does when it stands alone is a step of the run.
-use Rattle.std.proofs.Common.{◌≡◌, ℕ, ◌<◌, ◌≤◌, ◌==◌, min, List, [], ◌∷◌, ◌++◌, ◌⊎◌, inl, inr, Bool, true, false, length, get_or, set, drop, slice_get, refl, sym, ap, subst, ◌∙◌, arith, length-append}
+use Rattle.std.proofs.Common.{◌≡◌, ℕ, ◌<◌, ◌≤◌, ◌==◌, min, List, [], ◌∷◌, ◌++◌, ◌⊎◌, inl, inr, Bool, true, false, length, get_or, set, drop, slice_get, refl}
+use Rattle.std.proofs.Common.{sym, ap, subst, ◌∙◌, arith, length-append}
 use Rattle.std.specs.Prelude.{map}
 use Rattle.std.specs.List.{range_with_len}
 use Rattle.std.proofs.lemmas.Bool.{cases_Bool, eqb-true, eq-eqb, false≢true}
@@ -85,14 +86,17 @@ pub somewhere : {N : Table} {agents : List AgentState} {boxes : List Held} → A
 somewhere run = (run.capacity, run.state, run.shown)
 
 -- an event leads on
-led : {N : Table} {agents new_agents : List AgentState} {boxes new_boxes : List Held} (event : Event) → AreInRun N agents boxes → Lead ShowsAgent N agents boxes event new_agents new_boxes
+led : {N : Table} {agents new_agents : List AgentState} {boxes new_boxes : List Held} (event : Event) → AreInRun N agents boxes
+    → Lead ShowsAgent N agents boxes event new_agents new_boxes
     → AreInRun N new_agents new_boxes
-led event run leads = let after = leads run.capacity run.state run.shown in record { capacity = run.capacity; holds = run.holds; state = after.0; shown = after.2 }
+led event run leads = let after = leads run.capacity run.state run.shown
+    in record { capacity = run.capacity; holds = run.holds; state = after.0; shown = after.2 }
 
 -- ---- sending
 
 -- there is room for a record that is next
-has_room : (N : Table) (agents : List AgentState) (alone : AreAlone N agents) (l : ℕ) (r : Record) → l < length (lanes N) → IsNext (step.moment N alone.run.capacity alone.run.state) l r
+has_room : (N : Table) (agents : List AgentState) (alone : AreAlone N agents) (l : ℕ) (r : Record) → l < length (lanes N)
+    → IsNext (step.moment N alone.run.capacity alone.run.state) l r
     → length (box_at alone.boxes l).records < (box_at alone.boxes l).room
 has_room N agents alone l r within next =
     omega (
@@ -104,7 +108,8 @@ has_room N agents alone l r within next =
       beginnings_are_no_longer N (lane_at N l) (alone.run.state.sent l ++ r ∷ []) next.legal,
     )
 
-pub sent : (N : Table) (agents : List AgentState) (l p : ℕ) (d new : AgentState) (r : Record) → l < length (lanes N) → p < length N.plants → (lane_at N l).sender.0 ≡ p
+pub sent : (N : Table) (agents : List AgentState) (l p : ℕ) (d new : AgentState) (r : Record) → l < length (lanes N) → p < length N.plants
+    → (lane_at N l).sender.0 ≡ p
     → AreAlone N agents → step.SendsNext ShowsAgent (get_or agents p d) l r
     → ((m : Moment) (q : ℕ) → IsAt ShowsAgent m q (get_or agents p d) → IsOut m.network q l → ShowsAgent m.network q (after_send m.state l r) new)
     → IsHanded N (set agents p new) l r
@@ -115,14 +120,17 @@ sent N agents l p d new r within known e alone next goes_on =
     let room = has_room N agents alone l r within (next (step.moment N alone.run.capacity alone.run.state) p here (record { lane = within; plant = e })) in
     record {
       boxes = set alone.boxes l box;
-      run = led (Send (record { 0 = l })) alone.run (step.send_leads ShowsAgent agent_stays N agents alone.boxes l p d new old box r within known e refl room refl next goes_on);
-      here = ap (λ (b : Held). b.records) (get_or-set_same alone.boxes l box nothing_held (omega (arith, within, alone.run.shown.held.all))) ∙ ap (λ (rs : List Record). rs ++ r ∷ []) (alone.empty l);
+      run = led (Send (record { 0 = l })) alone.run (step.send_leads ShowsAgent agent_stays N agents alone.boxes l p d new old box r within known e refl room
+          refl next goes_on);
+      here = ap (λ (b : Held). b.records) (get_or-set_same alone.boxes l box nothing_held (omega (arith, within, alone.run.shown.held.all)))
+          ∙ ap (λ (rs : List Record). rs ++ r ∷ []) (alone.empty l);
       elsewhere = λ k other. ap (λ (b : Held). b.records) (get_or-set_other alone.boxes l k box nothing_held other) ∙ alone.empty k;
     }
 
 -- ---- booking
 
-pub booked : (N : Table) (agents : List AgentState) (l p : ℕ) (d new : AgentState) (r : Record) → l < length (lanes N) → p < length N.plants → (lane_at N l).receiver.0 ≡ p
+pub booked : (N : Table) (agents : List AgentState) (l p : ℕ) (d new : AgentState) (r : Record) → l < length (lanes N) → p < length N.plants
+    → (lane_at N l).receiver.0 ≡ p
     → IsHanded N agents l r
     → ((m : Moment) (q : ℕ) → IsAt ShowsAgent m q (get_or agents p d) → IsIn m.network q l → ShowsAgent m.network q (after_take m.state l r) new)
     → AreAlone N (set agents p new)
@@ -132,25 +140,30 @@ booked N agents l p d new r within known e handed goes_on =
     let first = ap (λ (rs : List Record). slice_get rs 0) handed.here in
     record {
       boxes = set handed.boxes l box;
-      run = led (Receive (record { 0 = l })) handed.run (step.receive_leads ShowsAgent agent_stays N agents handed.boxes l p d new old box r within known e refl first refl goes_on);
+      run = led (Receive (record { 0 = l })) handed.run (step.receive_leads ShowsAgent agent_stays N agents handed.boxes l p d new old box r within known e refl
+          first refl goes_on);
       empty = λ k. elim (is_or_not k l) [
         | inl same ↦ subst (λ (z : ℕ). (box_at (set handed.boxes l box) z).records ≡ []) (sym same)
-            (ap (λ (b : Held). b.records) (get_or-set_same handed.boxes l box nothing_held (omega (arith, within, handed.run.shown.held.all))) ∙ ap (λ (rs : List Record). drop 1 rs) handed.here)
+            (ap (λ (b : Held). b.records) (get_or-set_same handed.boxes l box nothing_held (omega (arith, within, handed.run.shown.held.all)))
+            ∙ ap (λ (rs : List Record). drop 1 rs) handed.here)
         | inr other ↦ ap (λ (b : Held). b.records) (get_or-set_other handed.boxes l k box nothing_held other) ∙ handed.elsewhere k other
       ];
     }
 
 -- what is under way isn't refused
-pub not_refused : (N : Table) (agents : List AgentState) (l p : ℕ) (d : AgentState) (r : Record) → l < length (lanes N) → p < length N.plants → (lane_at N l).receiver.0 ≡ p
+pub not_refused : (N : Table) (agents : List AgentState) (l p : ℕ) (d : AgentState) (r : Record) → l < length (lanes N) → p < length N.plants
+    → (lane_at N l).receiver.0 ≡ p
     → IsHanded N agents l r
     → ((m : Moment) (q : ℕ) → IsAt ShowsAgent m q (get_or agents p d) → IsIn m.network q l → ¬ CanTake m.network m.state l r) → ⊥
 not_refused N agents l p d r within known e handed refused =
-    refused (step.moment N handed.run.capacity handed.run.state) p (step.plant_is_at ShowsAgent N handed.run.capacity agents handed.boxes handed.run.state handed.run.shown p d known)
+    refused (step.moment N handed.run.capacity handed.run.state) p
+    (step.plant_is_at ShowsAgent N handed.run.capacity agents handed.boxes handed.run.state handed.run.shown p d known)
     (record { lane = within; plant = e }) (step.first_can N handed.run.capacity handed.boxes handed.run.state l r [] handed.run.shown.held within handed.here)
 
 -- ---- planning
 
-pub planned : (N : Table) (agents : List AgentState) (x p : ℕ) (d new : AgentState) → IsPair N x → p < length N.plants → (pair_at N x).plant.0 ≡ p → AreAlone N agents
+pub planned : (N : Table) (agents : List AgentState) (x p : ℕ) (d new : AgentState) → IsPair N x → p < length N.plants → (pair_at N x).plant.0 ≡ p
+    → AreAlone N agents
     → ((m : Moment) (q : ℕ) → IsAt ShowsAgent m q (get_or agents p d) → IsOwn m.network q x → CanPlan m.network m.state x)
     → ((m : Moment) (q : ℕ) → IsAt ShowsAgent m q (get_or agents p d) → IsOwn m.network q x → ShowsAgent m.network q (after_plan m.state x) new)
     → AreAlone N (set agents p new)
@@ -161,7 +174,8 @@ planned N agents x p d new pair known e alone can goes_on =
       empty = alone.empty;
     }
 
-pub planned_or_not : (N : Table) (agents : List AgentState) (x p : ℕ) (d new : AgentState) (result : Bool) → IsPair N x → p < length N.plants → (pair_at N x).plant.0 ≡ p → AreAlone N agents
+pub planned_or_not : (N : Table) (agents : List AgentState) (x p : ℕ) (d new : AgentState) (result : Bool) → IsPair N x → p < length N.plants
+    → (pair_at N x).plant.0 ≡ p → AreAlone N agents
     → (result ≡ true → (m : Moment) (q : ℕ) → IsAt ShowsAgent m q (get_or agents p d) → IsOwn m.network q x → CanPlan m.network m.state x)
     → (result ≡ true → (m : Moment) (q : ℕ) → IsAt ShowsAgent m q (get_or agents p d) → IsOwn m.network q x → ShowsAgent m.network q (after_plan m.state x) new)
     → (result ≡ false → new ≡ get_or agents p d) → AreAlone N (set agents p new)

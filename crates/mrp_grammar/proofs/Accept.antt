@@ -1,5 +1,6 @@
 -- What every accepted table says, and that what is read is one.
-use Rattle.std.proofs.Common.{◌≡◌, ℕ, ◌+◌, ◌<◌, Bool, true, false, not, ltb, List, [], ◌∷◌, position, if◌then◌else◌, Option, Some, None, Result, Ok, Err, refl, ap, sym, subst, arith}
+use Rattle.std.proofs.Common.{◌≡◌, ℕ, ◌+◌, ◌<◌, Bool, true, false, not, ltb, List, [], ◌∷◌, position, if◌then◌else◌, Option, Some, None, Result, Ok, Err, refl}
+use Rattle.std.proofs.Common.{ap, sym, subst, arith}
 use Rattle.std.specs.List.{All}
 use Rattle.std.proofs.lemmas.Bool.Decides.{nat_tests}
 use Rattle.std.proofs.lemmas.List.Elements.{All-cons, All-nil}
@@ -41,7 +42,8 @@ was_read number (Ok y) x e = let same : y ≡ x = cc in ap (λ z. Ok z) same
 was_read number (Err g) x e = absurd (cc)
 
 -- the rows after the first
-rows_keep : (rows : List (List (List ℕ))) (number : ℕ) (s : Table × Kind) (M : Table) → IsReadSoFar s.0 s.1 → rows_after number s rows ≡ Ok M → (last : Kind) × IsReadSoFar M last
+rows_keep : (rows : List (List (List ℕ))) (number : ℕ) (s : Table × Kind) (M : Table) → IsReadSoFar s.0 s.1 → rows_after number s rows ≡ Ok M
+    → (last : Kind) × IsReadSoFar M last
 unfolding rows_after
 rows_keep [] number s M so_far e =
     let same : s.0 ≡ M = cc in
@@ -65,7 +67,8 @@ pub waited : (N M : Table) (o : Option ℕ) → unless_lacking N o ≡ Ok M → 
 waited N M None e = (refl, cc)
 waited N M (Some x) e = absurd (cc)
 
-read_is_table : (start : Result Table TableFaultKind) (row : List (List ℕ)) (rows : List (List (List ℕ))) (N : Table) → Starts row start → Ok N ≡ read_from start rows → IsTable N
+read_is_table : (start : Result Table TableFaultKind) (row : List (List ℕ)) (rows : List (List (List ℕ))) (N : Table) → Starts row start
+    → Ok N ≡ read_from start rows → IsTable N
 read_is_table (Ok first) row rows N starts e =
     let a = went_on (rows_after 2 (first, kind.Run) rows) waiting N (sym e) in
     let kept = rows_keep rows 2 (first, kind.Run) a.0 (first_keeps first row starts) a.1 in

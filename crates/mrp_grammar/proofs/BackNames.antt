@@ -1,5 +1,6 @@
 -- What stands at a place of a table is found there by its names.
-use Rattle.std.proofs.Common.{◌≡◌, ◌<◌, ℕ, ◌==◌, ◌&&◌, Bool, false, get_or, List, [], ◌∷◌, ◌++◌, length, Some, option_map, position, slice_get, unwrap_or, refl, ap, sym, ◌∙◌, subst, arith}
+use Rattle.std.proofs.Common.{◌≡◌, ◌<◌, ℕ, ◌==◌, ◌&&◌, Bool, false, get_or, List, [], ◌∷◌, ◌++◌, length, Some, option_map, position, slice_get, unwrap_or, refl}
+use Rattle.std.proofs.Common.{ap, sym, ◌∙◌, subst, arith}
 use Rattle.std.specs.List.{All, IsDistinct, list_any}
 use Rattle.std.specs.Str.{bytes_eq}
 use Rattle.std.proofs.lemmas.Bool.{eq-eqb}
@@ -25,7 +26,8 @@ at_place P before x after all e h =
     subst P at (h (length before) x here)
 
 -- none before it is the same
-pub none_before : {X : Type 0} (same : X → X → Bool) (before : List X) (x : X) (after all : List X) → before ++ x ∷ after ≡ all → IsDistinct same all → list_any (λ y. same y x) before ≡ false
+pub none_before : {X : Type 0} (same : X → X → Bool) (before : List X) (x : X) (after all : List X) → before ++ x ∷ after ≡ all → IsDistinct same all
+    → list_any (λ y. same y x) before ≡ false
 none_before same before x after all e d = list_any_none (λ y. same y x) before (All-from_get_or (λ y. same y x ≡ false) before x one)
   where
     one : (k : ℕ) → k < length before → same (get_or before k x) x ≡ false
@@ -49,7 +51,8 @@ pair_is : (pairs : List PairRow) (x : ℕ) (d : PairRow) → IsDistinct is_same_
     → position (λ p. (p.plant.0 == (get_or pairs x d).plant.0) && (p.item.0 == (get_or pairs x d).item.0)) pairs ≡ Some x
 pair_is pairs x d distinct lt =
     let p = get_or pairs x d in
-    position_is (λ q. is_same_pair q p) pairs x d lt (λ k before. apart_from_distinct is_same_pair pairs k x d distinct before lt) (rw (eq-eqb p.plant.0 p.plant.0 refl, eq-eqb p.item.0 p.item.0 refl) refl)
+    position_is (λ q. is_same_pair q p) pairs x d lt (λ k before. apart_from_distinct is_same_pair pairs k x d distinct before lt)
+    (rw (eq-eqb p.plant.0 p.plant.0 refl, eq-eqb p.item.0 p.item.0 refl) refl)
 
 module _ (N : Table) (table : IsTable N) where
   pub plant_at_place : (p : ℕ) → p < length N.plants → plant_no N (plant_name N p) ≡ Some p

@@ -1,5 +1,7 @@
 -- A pair row that is written of a table is read as its pair, with its item and its sources.
-use Rattle.std.proofs.Common.{◌≡◌, ◌≤◌, ◌<◌, ◌^◌, ℕ, zero, suc, ◌+◌, ◌==◌, ◌&&◌, ◌⊎◌, inl, inr, ⊎_elim, Bool, true, false, ltb, if◌then◌else◌, get_or, max, List, [], ◌∷◌, ◌++◌, codes, length, map, Option, Some, None, option_map, position, slice_get, unwrap_or, Ok, refl, ap, sym, ◌∙◌, subst, append_assoc, append-nil, arith}
+use Rattle.std.proofs.Common.{◌≡◌, ◌≤◌, ◌<◌, ◌^◌, ℕ, zero, suc, ◌+◌, ◌==◌, ◌&&◌, ◌⊎◌, inl, inr, ⊎_elim, Bool, true, false, ltb, if◌then◌else◌, get_or, max}
+use Rattle.std.proofs.Common.{List, [], ◌∷◌, ◌++◌, codes, length, map, Option, Some, None, option_map, position, slice_get, unwrap_or, Ok, refl, ap, sym, ◌∙◌}
+use Rattle.std.proofs.Common.{subst, append_assoc, append-nil, arith}
 use Rattle.std.specs.List.{All, filter, IsDistinct, list_all, list_any}
 use Rattle.std.specs.List.Sorted.{IsNonDecreasingBy}
 use Rattle.std.specs.Str.{bytes_eq, is_utf8}
@@ -28,10 +30,12 @@ use Rattle.mrp_rows.specs.declared.rows.Supply.TheVariants as supply
 use Rattle.mrp_qty.specs.declared.limits.TheConstants.{MOST_IN_ROW, MOST_PAIRS}
 use Rattle.mrp_rows.specs.Growing.{add_item}
 use Rattle.mrp_rows.specs.Names.{has_plant, pair_named, pair_of_item, plant_no}
-use Rattle.mrp_rows.specs.Table.{AreShares, HasSupply, is_same_pair, is_same_source, IsName, IsPair, IsPairRow, IsSourceRow, IsTable, plant_at, sources_of_pair, Table}
+use Rattle.mrp_rows.specs.Table.{AreShares, HasSupply, is_same_pair, is_same_source, IsName, IsPair, IsPairRow, IsSourceRow, IsTable, plant_at, sources_of_pair}
+use Rattle.mrp_rows.specs.Table.{Table}
 use Rattle.mrp_grammar.specs.declared.kind.Kind.{Kind}
 use Rattle.mrp_grammar.specs.declared.kind.Kind.TheVariants as kind
-use Rattle.mrp_grammar.specs.Grammar.{knows_sources, pair_fits, pair_row, pair_terms, PairTerms, pair_with, kind_place, source_row, supply_kind, with_pair_terms}
+use Rattle.mrp_grammar.specs.Grammar.{knows_sources, pair_fits, pair_row, pair_terms, PairTerms, pair_with, kind_place, source_row, supply_kind}
+use Rattle.mrp_grammar.specs.Grammar.{with_pair_terms}
 use Rattle.mrp_grammar.specs.Reading.{row_after, row_of_kind}
 use Rattle.mrp_grammar.specs.Written.{AreNumbered, item_name, pair_fields, pair_rows, plant_name, source_said, supply_said}
 use Rattle.mrp_grammar.proofs.BackNames.{at_place, name_at, none_before, plant_at_place}
@@ -77,11 +81,13 @@ known_item items had later i distinct e lt =
       was = inl at;
     }
 
-new_item : (items had later : List (List ℕ)) (i : ℕ) → IsDistinct bytes_eq items → had ++ later ≡ items → i ≡ length had → i < length items → NextItem items had i
+new_item : (items had later : List (List ℕ)) (i : ℕ) → IsDistinct bytes_eq items → had ++ later ≡ items → i ≡ length had → i < length items
+    → NextItem items had i
 new_item items had [] i distinct e here lt = absurd (omega (arith, here, lt, ap length (sym (append-nil had) ∙ e)))
 new_item items had (n ∷ later) i distinct e here lt =
     let name : get_or items i [] ≡ n = ap (λ (l : List (List ℕ)). get_or l i []) (sym e) ∙ get_or_at had n later [] i (sym here) in
-    let fresh : list_any (bytes_eq n) had ≡ false = any_agree (bytes_eq n) (λ y. bytes_eq y n) (λ y. bytes_flip n y) had ∙ none_before bytes_eq had n later items e distinct in
+    let fresh : list_any (bytes_eq n) had ≡ false = any_agree (bytes_eq n) (λ y. bytes_eq y n) (λ y. bytes_flip n y) had
+    ∙ none_before bytes_eq had n later items e distinct in
     let absent : position (bytes_eq n) had ≡ None = no_place (bytes_eq n) had fresh in
     record {
       has = had ++ n ∷ [];
@@ -89,11 +95,13 @@ new_item items had (n ∷ later) i distinct e here lt =
       are = append_assoc had (n ∷ []) later ∙ e;
       added = ap (add_item had) name ∙ ap (λ b. if b then had else had ++ n ∷ []) fresh;
       count = omega (arith, here, length_push had n);
-      at = ap (λ m. position (bytes_eq m) (had ++ n ∷ [])) name ∙ position_last (bytes_eq n) had n absent ((bytes_eq-Decides n n).1 refl) ∙ ap (λ (k : ℕ). Some k) (sym here);
+      at = ap (λ m. position (bytes_eq m) (had ++ n ∷ [])) name ∙ position_last (bytes_eq n) had n absent ((bytes_eq-Decides n n).1 refl)
+          ∙ ap (λ (k : ℕ). Some k) (sym here);
       was = inr (ap (λ m. position (bytes_eq m) had) name ∙ absent);
     }
 
-next_item : (items had later : List (List ℕ)) (i : ℕ) → IsDistinct bytes_eq items → had ++ later ≡ items → i ≤ length had → i < length items → NextItem items had i
+next_item : (items had later : List (List ℕ)) (i : ℕ) → IsDistinct bytes_eq items → had ++ later ≡ items → i ≤ length had → i < length items
+    → NextItem items had i
 next_item items had later i distinct e le lt =
     ⊎_elim (λ h. known_item items had later i distinct e h) (λ h. new_item items had later i distinct e (omega (arith, le, h)) lt) (cases_lt i (length had))
 
@@ -142,7 +150,8 @@ below_more x (s ∷ ss) up = ⊎_elim (before (below_more x ss (rises_tail s ss 
     after le =
         let from : All (λ t. s.pair.0 ≤ t.pair.0) (s ∷ ss) = rises_head s ss up in
         let none : below x (s ∷ ss) ≡ [] = filter_nothing (λ t. ltb t.pair.0 x) (s ∷ ss) (λ k d lt. not_below x _ (omega (arith, le, from k d lt))) in
-        ap (λ l. l ++ here x (s ∷ ss)) none ∙ filter_agree (λ t. t.pair.0 == x) (λ t. ltb t.pair.0 (x + 1)) (s ∷ ss) (λ k d lt. one_more x _ (omega (arith, le, from k d lt)))
+        ap (λ l. l ++ here x (s ∷ ss)) none ∙ filter_agree (λ t. t.pair.0 == x) (λ t. ltb t.pair.0 (x + 1)) (s ∷ ss)
+        (λ k d lt. one_more x _ (omega (arith, le, from k d lt)))
       where
         not_below : (x y : ℕ) → x ≤ y → ltb y x ≡ false
         not_below x y le = grind (arith, nat_tests)
@@ -167,16 +176,19 @@ all_sources x ss low = filter_everything (λ s. ltb s.pair.0 x) ss (λ k d lt. t
 
 -- ---- what a pair row says that is in order
 
-pair_read : (N : Table) (a b c r l o s : List ℕ) (p lead on_hand safety : ℕ) (rule : Rule) (from : SupplyTerms) → is_name a ≡ true → is_name b ≡ true → number_within l 0 LONGEST_LEAD ≡ Some lead
+pair_read : (N : Table) (a b c r l o s : List ℕ) (p lead on_hand safety : ℕ) (rule : Rule) (from : SupplyTerms) → is_name a ≡ true → is_name b ≡ true
+    → number_within l 0 LONGEST_LEAD ≡ Some lead
     → number_within o 0 MOST_IN_ROW ≡ Some on_hand → number_within s 0 MOST_IN_ROW ≡ Some safety → rule_of r ≡ Some rule → supply_of c ≡ Some from
-    → plant_no N a ≡ Some p → pair_named N (Some p) b ≡ None → knows_sources N (named_sources from) ≡ true → names_plant (named_sources from) a ≡ false → ltb (length N.pairs) MOST_PAIRS ≡ true
+    → plant_no N a ≡ Some p → pair_named N (Some p) b ≡ None → knows_sources N (named_sources from) ≡ true → names_plant (named_sources from) a ≡ false
+    → ltb (length N.pairs) MOST_PAIRS ≡ true
     → pair_row N (codes "pair" ∷ a ∷ b ∷ c ∷ r ∷ l ∷ o ∷ s ∷ [])
     ≡ Ok (with_pair_terms N (record { 0 = p }) (record { plant = a; item = b; supply = from; rule = rule; lead = lead; on_hand = on_hand; safety = safety }))
 unfolding field_at pair_terms pair_fits
 pair_read N a b c r l o s p lead on_hand safety rule from na nb lead_is on_hand_is safety_is rule_is from_is plant new known other room =
     rw (na, nb, lead_is, on_hand_is, safety_is, rule_is, from_is, plant, new, known, other, room) refl
 
-pair_texts : (w a b c d e f g : List ℕ) → is_utf8 w ≡ true → is_utf8 a ≡ true → is_utf8 b ≡ true → is_utf8 c ≡ true → is_utf8 d ≡ true → is_utf8 e ≡ true → is_utf8 f ≡ true → is_utf8 g ≡ true
+pair_texts : (w a b c d e f g : List ℕ) → is_utf8 w ≡ true → is_utf8 a ≡ true → is_utf8 b ≡ true → is_utf8 c ≡ true → is_utf8 d ≡ true → is_utf8 e ≡ true
+    → is_utf8 f ≡ true → is_utf8 g ≡ true
     → list_all is_utf8 (w ∷ a ∷ b ∷ c ∷ d ∷ e ∷ f ∷ g ∷ []) ≡ true
 pair_texts w a b c d e f g uw ua ub uc ud ue uf ug = rw (uw, ua, ub, uc, ud, ue, uf, ug) refl
 
@@ -188,7 +200,18 @@ at_its_place (y ∷ before) x after = at_its_place before x after
 
 module _ (N : Table) (table : IsTable N) where
   abbrev pub of_parts : List (List ℕ) → List PairRow → List SourceRow → Table
-  of_parts items pairs sources = record N { items = items; pairs = pairs; sources = sources; bills = []; demands = []; receipts = []; ships = []; cums = []; resets = [] }
+  of_parts items pairs sources = record N {
+    items = items;
+    pairs = pairs;
+    sources = sources;
+    bills = [];
+    demands = [];
+    receipts = [];
+    ships = [];
+    cums =
+        [];
+    resets = [];
+  }
 
   same_parts : {i j : List (List ℕ)} {a b : List PairRow} {c d : List SourceRow} → i ≡ j → a ≡ b → c ≡ d → of_parts i a c ≡ of_parts j b d
   same_parts ei ea ec = rw (ei, ea, ec) refl
@@ -213,13 +236,15 @@ module _ (N : Table) (table : IsTable N) where
   said_names : (ss : List SourceRow) → All (IsSourceRow N) ss → All HasName (map (source_said N) ss)
   said_names [] are = All-nil HasName
   said_names (s ∷ ss) are =
-      All-cons HasName (source_said N s) (map (source_said N) ss) (plant_is_name N table s.plant.0 (All-head (IsSourceRow N) s ss are).plant) (said_names ss (All-tail (IsSourceRow N) s ss are))
+      All-cons HasName (source_said N s) (map (source_said N) ss) (plant_is_name N table s.plant.0 (All-head (IsSourceRow N) s ss are).plant)
+      (said_names ss (All-tail (IsSourceRow N) s ss are))
 
   said_shares : (ss : List SourceRow) → All (IsSourceRow N) ss → All IsShare (map (source_said N) ss)
   said_shares [] are = All-nil IsShare
   said_shares (s ∷ ss) are =
       let is = All-head (IsSourceRow N) s ss are in
-      All-cons IsShare (source_said N s) (map (source_said N) ss) (record { rises = is.rises; ends = is.ends }) (said_shares ss (All-tail (IsSourceRow N) s ss are))
+      All-cons IsShare (source_said N s) (map (source_said N) ss) (record { rises = is.rises; ends = is.ends })
+      (said_shares ss (All-tail (IsSourceRow N) s ss are))
 
   shares_follow : (low : ℕ) (ss : List SourceRow) → AreShares low ss → ShareFrom low (map (source_said N) ss) MOST_SHARE
   unfolding AreShares
@@ -227,10 +252,12 @@ module _ (N : Table) (table : IsTable N) where
   shares_follow low (s ∷ ss) h = (h.0, shares_follow s.high ss h.1)
 
   -- other sources of a pair are other plants
-  others_said : (x : ℕ) (s : SourceRow) (ss : List SourceRow) → IsSourceRow N s → (s.pair.0 == x) ≡ true → All (IsSourceRow N) ss → All (λ t. is_same_source s t ≡ false) ss
+  others_said : (x : ℕ) (s : SourceRow) (ss : List SourceRow) → IsSourceRow N s → (s.pair.0 == x) ≡ true → All (IsSourceRow N) ss
+      → All (λ t. is_same_source s t ≡ false) ss
       → All (λ t. is_same_plant (source_said N s) t ≡ false) (map (source_said N) (here x ss))
   others_said x s [] is at are apart = All-nil (λ t. is_same_plant (source_said N s) t ≡ false)
-  others_said x s (t ∷ ss) is at are apart = by (t.pair.0 == x) refl (others_said x s ss is at (All-tail (IsSourceRow N) t ss are) (All-tail (λ t. is_same_source s t ≡ false) t ss apart))
+  others_said x s (t ∷ ss) is at are apart = by (t.pair.0 == x) refl
+      (others_said x s ss is at (All-tail (IsSourceRow N) t ss are) (All-tail (λ t. is_same_source s t ≡ false) t ss apart))
     where
       by : (b : Bool) → (t.pair.0 == x) ≡ b → All (λ t. is_same_plant (source_said N s) t ≡ false) (map (source_said N) (here x ss))
           → All (λ t. is_same_plant (source_said N s) t ≡ false) (map (source_said N) (if b then t ∷ here x ss else here x ss))
@@ -239,22 +266,26 @@ module _ (N : Table) (table : IsTable N) where
           let one : ((s.plant.0 == t.plant.0) && (s.pair.0 == t.pair.0)) ≡ false = All-head (λ t. is_same_source s t ≡ false) t ss apart in
           let pair : (s.pair.0 == t.pair.0) ≡ true = eq-eqb s.pair.0 t.pair.0 (eqb-true s.pair.0 x at ∙ sym (eqb-true t.pair.0 x e)) in
           All-cons (λ t. is_same_plant (source_said N s) t ≡ false) (source_said N t) (map (source_said N) (here x ss))
-          (other_name s.plant.0 t.plant.0 is.plant (All-head (IsSourceRow N) t ss are).plant (first_fails (s.plant.0 == t.plant.0) (s.pair.0 == t.pair.0) pair one)) rest
+          (other_name s.plant.0 t.plant.0 is.plant (All-head (IsSourceRow N) t ss are).plant
+          (first_fails (s.plant.0 == t.plant.0) (s.pair.0 == t.pair.0) pair one)) rest
         where
           first_fails : (a b : Bool) → b ≡ true → (a && b) ≡ false → a ≡ false
           first_fails false b eb e = refl
           first_fails true b eb e = absurd (cc)
 
-  said_apart : (x : ℕ) (ss : List SourceRow) → All (IsSourceRow N) ss → IsDistinct is_same_source ss → IsDistinct is_same_plant (map (source_said N) (here x ss))
+  said_apart : (x : ℕ) (ss : List SourceRow) → All (IsSourceRow N) ss → IsDistinct is_same_source ss
+      → IsDistinct is_same_plant (map (source_said N) (here x ss))
   said_apart x [] are apart = IsDistinct-nil is_same_plant
   said_apart x (s ∷ ss) are apart = by (s.pair.0 == x) refl (said_apart x ss (All-tail (IsSourceRow N) s ss are) (IsDistinct-tail is_same_source s ss apart))
     where
-      by : (b : Bool) → (s.pair.0 == x) ≡ b → IsDistinct is_same_plant (map (source_said N) (here x ss)) → IsDistinct is_same_plant (map (source_said N) (if b then s ∷ here x ss else here x ss))
+      by : (b : Bool) → (s.pair.0 == x) ≡ b → IsDistinct is_same_plant (map (source_said N) (here x ss))
+          → IsDistinct is_same_plant (map (source_said N) (if b then s ∷ here x ss else here x ss))
       by false e rest = rest
       by true e rest =
           IsDistinct-cons is_same_plant (source_said N s) (map (source_said N) (here x ss))
           (recursion_from_All (λ t. is_same_plant (source_said N s) t ≡ false) (map (source_said N) (here x ss))
-          (others_said x s ss (All-head (IsSourceRow N) s ss are) e (All-tail (IsSourceRow N) s ss are) (All-from_recursion (λ t. is_same_source s t ≡ false) ss (IsDistinct-head is_same_source s ss apart)))) rest
+          (others_said x s ss (All-head (IsSourceRow N) s ss are) e (All-tail (IsSourceRow N) s ss are)
+          (All-from_recursion (λ t. is_same_source s t ≡ false) ss (IsDistinct-head is_same_source s ss apart)))) rest
 
   -- what is said of where a pair comes from is a supply
   whole : (x : ℕ) (s : Supply) → IsPair N x → HasSupply s (sources_of_pair N x) → IsWholeSupply (supply_said N x s)
@@ -284,7 +315,8 @@ module _ (N : Table) (table : IsTable N) where
         ∙ ap (λ (l : List (List ℕ)). made s.pair.0 (unwrap_or (position (bytes_eq (plant_name N s.plant.0)) l) 0)) plants
         ∙ ap (λ (o : Option ℕ). made s.pair.0 (unwrap_or o 0)) (plant_at_place N table s.plant.0 is.plant)
 
-    sources_again : (x : ℕ) (ss : List SourceRow) → All (IsSourceRow N) ss → All (λ s. (s.pair.0 == x) ≡ true) ss → map (source_row M x) (map (source_said N) ss) ≡ ss
+    sources_again : (x : ℕ) (ss : List SourceRow) → All (IsSourceRow N) ss → All (λ s. (s.pair.0 == x) ≡ true) ss
+        → map (source_row M x) (map (source_said N) ss) ≡ ss
     sources_again x [] are at = refl
     sources_again x (s ∷ ss) are at =
         let one = source_again x s (All-head (IsSourceRow N) s ss are) (All-head (λ s. (s.pair.0 == x) ≡ true) s ss at) in
@@ -295,13 +327,15 @@ module _ (N : Table) (table : IsTable N) where
     supply_again x supply.Make has = sym has
     supply_again x supply.Buy has = sym has
     supply_again x supply.From has =
-        sources_again x (sources_of_pair N x) (All-filter (λ s. s.pair.0 == x) (IsSourceRow N) N.sources table.read.sources) (kept_pass (λ s. s.pair.0 == x) N.sources)
+        sources_again x (sources_of_pair N x) (All-filter (λ s. s.pair.0 == x) (IsSourceRow N) N.sources table.read.sources)
+        (kept_pass (λ s. s.pair.0 == x) N.sources)
 
   -- each source is a plant of the table
   known_said : (ss : List SourceRow) → All (IsSourceRow N) ss → list_all (λ t. has_plant N t.plant) (map (source_said N) ss) ≡ true
   known_said [] are = refl
   known_said (s ∷ ss) are =
-      rw (any-from_position (bytes_eq (plant_name N s.plant.0)) N.plants s.plant.0 (plant_at_place N table s.plant.0 (All-head (IsSourceRow N) s ss are).plant)) (known_said ss (All-tail (IsSourceRow N) s ss are))
+      rw (any-from_position (bytes_eq (plant_name N s.plant.0)) N.plants s.plant.0 (plant_at_place N table s.plant.0 (All-head (IsSourceRow N) s ss are).plant))
+      (known_said ss (All-tail (IsSourceRow N) s ss are))
 
   known : (x : ℕ) (s : Supply) → list_all (λ t. has_plant N t.plant) (named_sources (supply_said N x s)) ≡ true
   known x supply.Make = refl
@@ -309,7 +343,8 @@ module _ (N : Table) (table : IsTable N) where
   known x supply.From = known_said (sources_of_pair N x) (All-filter (λ s. s.pair.0 == x) (IsSourceRow N) N.sources table.read.sources)
 
   -- none of a pair's sources is its own plant
-  others : (p : ℕ) (ss : List SourceRow) → p < length N.plants → All (IsSourceRow N) ss → All (λ s. (s.plant.0 == p) ≡ false) ss → names_plant (map (source_said N) ss) (plant_name N p) ≡ false
+  others : (p : ℕ) (ss : List SourceRow) → p < length N.plants → All (IsSourceRow N) ss → All (λ s. (s.plant.0 == p) ≡ false) ss
+      → names_plant (map (source_said N) ss) (plant_name N p) ≡ false
   others p [] lt are other = refl
   others p (s ∷ ss) lt are other =
       rw (other_name s.plant.0 p (All-head (IsSourceRow N) s ss are).plant lt (All-head (λ s. (s.plant.0 == p) ≡ false) s ss other))
@@ -331,7 +366,8 @@ module _ (N : Table) (table : IsTable N) where
 
   -- ---- the next pair
 
-  module _ (before : List PairRow) (p : PairRow) (after : List PairRow) (had later : List (List ℕ)) (last : Kind) (e : before ++ p ∷ after ≡ N.pairs) (items : had ++ later ≡ N.items)
+  module _ (before : List PairRow) (p : PairRow) (after : List PairRow) (had later : List (List ℕ)) (last : Kind) (e : before ++ p ∷ after ≡ N.pairs)
+      (items : had ++ later ≡ N.items)
       (near : p.item.0 ≤ length had) (low : kind_place last ≤ kind_place kind.Pair) where
     abbrev x : ℕ
     x = length before
@@ -352,10 +388,12 @@ module _ (N : Table) (table : IsTable N) where
     old = with_pairs before had x
 
     new_pair : pair_named old (Some p.plant.0) (item_name N p.item.0) ≡ None
-    new_pair = ⊎_elim (λ is. ap (pair_of_item old p.plant.0) is ∙ no_place (λ q. is_same_pair q p) before (none_before is_same_pair before p after N.pairs e table.once.pairs)) (λ is. ap (pair_of_item old p.plant.0) is) next.was
+    new_pair = ⊎_elim (λ is. ap (pair_of_item old p.plant.0) is ∙ no_place (λ q. is_same_pair q p) before
+        (none_before is_same_pair before p after N.pairs e table.once.pairs)) (λ is. ap (pair_of_item old p.plant.0) is) next.was
 
     has_supply : HasSupply p.supply (sources_of_pair N x)
-    has_supply = subst (λ (s : Supply). HasSupply s (sources_of_pair N x)) (ap (λ o. unwrap_or (option_map (λ p. p.supply) o) supply.Buy) stands_here) (table.sourced.supplies x is_pair)
+    has_supply = subst (λ (s : Supply). HasSupply s (sources_of_pair N x)) (ap (λ o. unwrap_or (option_map (λ p. p.supply) o) supply.Buy) stands_here)
+        (table.sourced.supplies x is_pair)
 
     abbrev from : SupplyTerms
     from = supply_said N x p.supply
@@ -364,11 +402,29 @@ module _ (N : Table) (table : IsTable N) where
     is_whole = whole x p.supply is_pair has_supply
 
     abbrev terms : PairTerms
-    terms = record { plant = plant_name N p.plant.0; item = item_name N p.item.0; supply = from; rule = p.rule; lead = p.lead; on_hand = p.on_hand; safety = p.safety }
+    terms = record {
+      plant = plant_name N p.plant.0;
+      item = item_name N p.item.0;
+      supply = from;
+      rule = p.rule;
+      lead = p.lead;
+      on_hand = p.on_hand;
+      safety =
+          p.safety;
+    }
 
     same_pair : pair_with (add_item had (item_name N p.item.0)) p.plant terms ≡ p
     same_pair =
-        let made : ℕ → Supply → PairRow = λ i s. record { plant = p.plant; item = record { 0 = i }; supply = s; rule = p.rule; lead = p.lead; on_hand = p.on_hand; safety = p.safety } in
+        let made : ℕ → Supply → PairRow = λ i s. record {
+          plant = p.plant;
+          item = record { 0 = i };
+          supply = s;
+          rule = p.rule;
+          lead = p.lead;
+          on_hand =
+              p.on_hand;
+          safety = p.safety;
+        } in
         ap (λ (l : List (List ℕ)). made (unwrap_or (position (bytes_eq (item_name N p.item.0)) l) 0) (supply_kind from)) next.added
         ∙ ap (λ (o : Option ℕ). made (unwrap_or o 0) (supply_kind from)) next.at
         ∙ ap (made p.item.0) (kind_said x p.supply)
@@ -388,11 +444,14 @@ module _ (N : Table) (table : IsTable N) where
         let on_hand : p.on_hand < 10 ^ 16 = omega (arith, is_row.on_hand) in
         let safety : p.safety < 10 ^ 16 = omega (arith, is_row.safety) in
         row_read old (with_pairs (before ++ p ∷ []) next.has (x + 1)) last kind.Pair (pair_fields N x p)
-        (kind_read (pair_fields N x p) kind.Pair (pair_texts (codes "pair") (plant_name N p.plant.0) (item_name N p.item.0) (supply_text from) (rule_text p.rule) (number_text p.lead) (number_text p.on_hand) (number_text p.safety)
-        (word_is_text (codes "pair") refl) (name_is_text _ na) (name_is_text _ nb) (supply_is_text from is_whole) (rule_is_text p.rule is_row.rule) (number_is_text p.lead lead) (number_is_text p.on_hand on_hand)
+        (kind_read (pair_fields N x p) kind.Pair (pair_texts (codes "pair") (plant_name N p.plant.0) (item_name N p.item.0) (supply_text from)
+        (rule_text p.rule) (number_text p.lead) (number_text p.on_hand) (number_text p.safety)
+        (word_is_text (codes "pair") refl) (name_is_text _ na) (name_is_text _ nb) (supply_is_text from is_whole) (rule_is_text p.rule is_row.rule)
+        (number_is_text p.lead lead) (number_is_text p.on_hand on_hand)
         (number_is_text p.safety safety)) refl refl refl)
         (may_stand kind.Pair last (omega arith) low)
-        (pair_read old (plant_name N p.plant.0) (item_name N p.item.0) (supply_text from) (rule_text p.rule) (number_text p.lead) (number_text p.on_hand) (number_text p.safety) p.plant.0 p.lead p.on_hand p.safety p.rule from na nb
+        (pair_read old (plant_name N p.plant.0) (item_name N p.item.0) (supply_text from) (rule_text p.rule) (number_text p.lead) (number_text p.on_hand)
+        (number_text p.safety) p.plant.0 p.lead p.on_hand p.safety p.rule from na nb
         (number_written 0 LONGEST_LEAD p.lead (omega arith) is_row.lead lead) (number_written 0 MOST_IN_ROW p.on_hand (omega arith) is_row.on_hand on_hand)
         (number_written 0 MOST_IN_ROW p.safety (omega arith) is_row.safety safety) (rule_written p.rule is_row.rule) (supply_written from is_whole)
         (plant_at_place N table p.plant.0 is_row.plant) new_pair (known x p.supply)
@@ -407,16 +466,22 @@ module _ (N : Table) (table : IsTable N) where
   nothing_after had (y ∷ later) items e n = absurd (omega (arith, length-append had (y ∷ later), ap length e, n))
 
   pub pairs_end : (rest : List Row) → ((last : Kind) → kind_place last ≤ kind_place kind.Pair → Ends (with_bills N table [], last) rest N)
-      → (before ps : List PairRow) (had later : List (List ℕ)) (last : Kind) → before ++ ps ≡ N.pairs → had ++ later ≡ N.items → AreNumbered (length had) ps (length N.items) → kind_place last ≤ kind_place kind.Pair
+      → (before ps : List PairRow) (had later : List (List ℕ)) (last : Kind) → before ++ ps ≡ N.pairs → had ++ later ≡ N.items
+      → AreNumbered (length had) ps (length N.items) → kind_place last ≤ kind_place kind.Pair
       → Ends (with_pairs before had (length before), last) (pair_rows N (length before) ps ++ rest) N
   pairs_end rest more before [] had later last e items numbered low =
       let all : before ≡ N.pairs = sym (append-nil before) ∙ e in
-      let sources : below (length before) N.sources ≡ N.sources = all_sources (length before) N.sources (λ k d lt. subst (λ (l : List PairRow). (get_or N.sources k d).pair.0 < length l) (sym all) (table.read.sources k d lt).pair) in
-      let same : with_bills N table [] ≡ with_pairs before had (length before) = same_parts (sym (nothing_after had later N.items items numbered)) (sym all) (sym sources) in
+      let sources : below (length before) N.sources ≡ N.sources =
+      all_sources (length before) N.sources (λ k d lt. subst (λ (l : List PairRow). (get_or N.sources k d).pair.0 < length l) (sym all)
+      (table.read.sources k d lt).pair) in
+      let same : with_bills N table [] ≡ with_pairs before had (length before) =
+      same_parts (sym (nothing_after had later N.items items numbered)) (sym all) (sym sources) in
       subst (λ (m : Table). Ends (m, last) rest N) same (more last low)
   pairs_end rest more before (p ∷ ps) had later last e items numbered low =
       let n = next before p ps had later last e items numbered.0 low in
-      let go = pairs_end rest more (before ++ p ∷ []) ps n.has n.later kind.Pair (append_assoc before (p ∷ []) ps ∙ e) n.are (subst (λ (c : ℕ). AreNumbered c ps (length N.items)) n.count numbered.1) (omega arith) in
-      ends_after (with_pairs before had (length before), last) (with_pairs (before ++ p ∷ []) n.has (length before + 1), kind.Pair) (pair_fields N (length before) p) (pair_rows N (length before + 1) ps ++ rest) N
+      let go = pairs_end rest more (before ++ p ∷ []) ps n.has n.later kind.Pair (append_assoc before (p ∷ []) ps ∙ e) n.are
+      (subst (λ (c : ℕ). AreNumbered c ps (length N.items)) n.count numbered.1) (omega arith) in
+      ends_after (with_pairs before had (length before), last) (with_pairs (before ++ p ∷ []) n.has (length before + 1), kind.Pair)
+      (pair_fields N (length before) p) (pair_rows N (length before + 1) ps ++ rest) N
       (pair_step before p ps had later last e items numbered.0 low)
       (subst (λ (c : ℕ). Ends (with_pairs (before ++ p ∷ []) n.has c, kind.Pair) (pair_rows N c ps ++ rest) N) (length_push before p) go)

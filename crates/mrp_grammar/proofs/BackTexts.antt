@@ -72,8 +72,14 @@ shares : (ss : List SourceTerms) → All HasName ss → All IsShare ss → AllAs
 shares [] names each = tt
 shares (s ∷ ss) names each =
     let share = All-head IsShare s ss each in
-    let ends = share.ends in
-    (name s.plant (All-head HasName s ss names), (number (s.high - s.low) (omega (arith, ends)), shares ss (All-tail HasName s ss names) (All-tail IsShare s ss each)))
+    let ends = share.ends in (
+      name s.plant (All-head HasName s ss names),
+      (
+        number (s.high - s.low) (omega (arith, ends)),
+        shares ss (All-tail HasName s ss names)
+            (All-tail IsShare s ss each),
+      ),
+    )
 
 sources : (ss : List SourceTerms) → All HasName ss → All IsShare ss → IsAscii (sources_text ss)
 sources [] names each = IsAscii-nil

@@ -17,7 +17,8 @@ use Rattle.mrp_grammar.specs.declared.kind.Kind.TheVariants as kind
 use Rattle.mrp_grammar.specs.Grammar.{◌>>=◌, bill_of, cum_of, demand_of, may_follow, kind_place, plant_in_row, receipt_of, reset_in_row, ship_of}
 use Rattle.mrp_rows.specs.Growing.{with_plant, with_bill, with_demand, with_receipt, with_ship, with_cum, with_reset}
 use Rattle.mrp_grammar.specs.Reading.{IsReadSoFar, kind_of_row, row_after, row_of_kind}
-use Rattle.mrp_rows.specs.Table.{Table, IsBillRow, IsCumRow, IsDemandRow, IsName, IsPairRow, IsReceiptRow, IsResetRow, IsShipRow, IsSourceRow, is_same_pair, is_same_source, is_same_bill, is_same_cum, is_same_reset}
+use Rattle.mrp_rows.specs.Table.{Table, IsBillRow, IsCumRow, IsDemandRow, IsName, IsPairRow, IsReceiptRow, IsResetRow, IsShipRow, IsSourceRow, is_same_pair}
+use Rattle.mrp_rows.specs.Table.{is_same_source, is_same_bill, is_same_cum, is_same_reset}
 use Rattle.mrp_rows.specs.Growing.{empty_table}
 use Rattle.mrp_grammar.proofs.KeepingBill.{bill_keeps}
 use Rattle.mrp_spell.proofs.Lists.{IsDistinct-nil}
@@ -34,53 +35,113 @@ module _ (N : Table) (last : Kind) (row : List (List ℕ)) (so_far : IsReadSoFar
   plant_more : (x : List ℕ) → kind_place last ≤ 1 → plant_in_row N row ≡ Ok x → IsReadSoFar (with_plant N x) kind.Plant
   plant_more x before is =
       let kept = plant_keeps N row x so_far.once so_far.sourced is in
-      record { read = plant_read N row x so_far.read is; once = kept.0; sourced = kept.1; items = so_far.items; sources = so_far.sources; resets = λ lt. so_far.resets (omega (arith, before)) }
+      record {
+        read = plant_read N row x so_far.read is;
+        once = kept.0;
+        sourced = kept.1;
+        items = so_far.items;
+        sources = so_far.sources;
+        resets =
+            λ lt. so_far.resets (omega (arith, before));
+      }
 
   bill_more : (x : BillRow) → kind_place last ≤ 3 → bill_of N row ≡ Ok x → IsReadSoFar (with_bill N x) kind.Bill
   bill_more x before is =
       let kept = bill_keeps N row x so_far.once so_far.sourced is in
-      record { read = bill_read N row x so_far.read is; once = kept.0; sourced = kept.1; items = so_far.items; sources = so_far.sources; resets = λ lt. so_far.resets (omega (arith, before)) }
+      record {
+        read = bill_read N row x so_far.read is;
+        once = kept.0;
+        sourced = kept.1;
+        items = so_far.items;
+        sources = so_far.sources;
+        resets =
+            λ lt. so_far.resets (omega (arith, before));
+      }
 
   demand_more : (x : DemandRow) → kind_place last ≤ 4 → demand_of N row ≡ Ok x → IsReadSoFar (with_demand N x) kind.Demand
   demand_more x before is =
       let kept = demand_keeps N x so_far.once so_far.sourced in
-      record { read = demand_read N row x so_far.read is; once = kept.0; sourced = kept.1; items = so_far.items; sources = so_far.sources; resets = λ lt. so_far.resets (omega (arith, before)) }
+      record {
+        read = demand_read N row x so_far.read is;
+        once = kept.0;
+        sourced = kept.1;
+        items = so_far.items;
+        sources = so_far.sources;
+        resets =
+            λ lt. so_far.resets (omega (arith, before));
+      }
 
   receipt_more : (x : ReceiptRow) → kind_place last ≤ 5 → receipt_of N row ≡ Ok x → IsReadSoFar (with_receipt N x) kind.Receipt
   receipt_more x before is =
       let kept = receipt_keeps N x so_far.once so_far.sourced in
-      record { read = receipt_read N row x so_far.read is; once = kept.0; sourced = kept.1; items = so_far.items; sources = so_far.sources; resets = λ lt. so_far.resets (omega (arith, before)) }
+      record {
+        read = receipt_read N row x so_far.read is;
+        once = kept.0;
+        sourced = kept.1;
+        items = so_far.items;
+        sources = so_far.sources;
+        resets =
+            λ lt. so_far.resets (omega (arith, before));
+      }
 
   ship_more : (x : ShipRow) → kind_place last ≤ 6 → ship_of N row ≡ Ok x → IsReadSoFar (with_ship N x) kind.Ship
   ship_more x before is =
       let kept = ship_keeps N row x so_far.once so_far.sourced (so_far.resets (omega (arith, before))) is in
-      record { read = ship_read N row x so_far.read is; once = kept.0; sourced = kept.1; items = so_far.items; sources = so_far.sources; resets = λ lt. so_far.resets (omega (arith, before)) }
+      record {
+        read = ship_read N row x so_far.read is;
+        once = kept.0;
+        sourced = kept.1;
+        items = so_far.items;
+        sources = so_far.sources;
+        resets =
+            λ lt. so_far.resets (omega (arith, before));
+      }
 
   cum_more : (x : CumRow) → kind_place last ≤ 7 → cum_of N row ≡ Ok x → IsReadSoFar (with_cum N x) kind.Cum
   cum_more x before is =
       let kept = cum_keeps N row x so_far.once so_far.sourced is in
-      record { read = cum_read N row x so_far.read is; once = kept.0; sourced = kept.1; items = so_far.items; sources = so_far.sources; resets = λ lt. so_far.resets (omega (arith, before)) }
+      record {
+        read = cum_read N row x so_far.read is;
+        once = kept.0;
+        sourced = kept.1;
+        items = so_far.items;
+        sources = so_far.sources;
+        resets =
+            λ lt. so_far.resets (omega (arith, before));
+      }
 
   reset_more : (x : ResetRow) → reset_in_row N row ≡ Ok x → IsReadSoFar (with_reset N x) kind.Reset
   reset_more x is =
       let kept = reset_keeps N row x so_far.once so_far.sourced is in
-      record { read = reset_read N row x so_far.read kept.0 kept.1 is; once = kept.0; sourced = kept.1; items = so_far.items; sources = so_far.sources; resets = λ lt. absurd (omega arith) }
+      record {
+        read = reset_read N row x so_far.read kept.0 kept.1 is;
+        once = kept.0;
+        sourced = kept.1;
+        items = so_far.items;
+        sources = so_far.sources;
+        resets =
+            λ lt. absurd (omega arith);
+      }
 
 -- what was read of a row makes the table with it
-made_keeps : {X : Type 0} (k : Kind) (read : Result X TableFaultKind) (made : X → Table) (M : Table) → ((x : X) → read ≡ Ok x → IsReadSoFar (made x) k) → (read >>= λ x. Ok (made x)) ≡ Ok M → IsReadSoFar M k
+made_keeps : {X : Type 0} (k : Kind) (read : Result X TableFaultKind) (made : X → Table) (M : Table) → ((x : X) → read ≡ Ok x → IsReadSoFar (made x) k)
+    → (read >>= λ x. Ok (made x)) ≡ Ok M → IsReadSoFar M k
 made_keeps k read made M more is =
     let a = after read (λ x. Ok (made x)) M is in
     subst (λ (m : Table). IsReadSoFar m k) (same_Ok (made a.0) M a.2) (more a.0 a.1)
 
 -- one row more of each kind
-row_keeps : (k last : Kind) (N M : Table) (row : List (List ℕ)) → IsReadSoFar N last → kind_place last ≤ kind_place k → row_of_kind k N row ≡ Ok M → IsReadSoFar M k
+row_keeps : (k last : Kind) (N M : Table) (row : List (List ℕ)) → IsReadSoFar N last → kind_place last ≤ kind_place k → row_of_kind k N row ≡ Ok M
+    → IsReadSoFar M k
 unfolding row_of_kind
 row_keeps kind.Run last N M row so_far before is = absurd (cc)
 row_keeps kind.Plant last N M row so_far before is = made_keeps kind.Plant (plant_in_row N row) (with_plant N) M (λ x. plant_more N last row so_far x before) is
 row_keeps kind.Pair last N M row so_far before is = pair_keeps N M last row so_far before is
 row_keeps kind.Bill last N M row so_far before is = made_keeps kind.Bill (bill_of N row) (with_bill N) M (λ x. bill_more N last row so_far x before) is
-row_keeps kind.Demand last N M row so_far before is = made_keeps kind.Demand (demand_of N row) (with_demand N) M (λ x. demand_more N last row so_far x before) is
-row_keeps kind.Receipt last N M row so_far before is = made_keeps kind.Receipt (receipt_of N row) (with_receipt N) M (λ x. receipt_more N last row so_far x before) is
+row_keeps kind.Demand last N M row so_far before is = made_keeps kind.Demand (demand_of N row) (with_demand N) M
+    (λ x. demand_more N last row so_far x before) is
+row_keeps kind.Receipt last N M row so_far before is = made_keeps kind.Receipt (receipt_of N row) (with_receipt N) M
+    (λ x. receipt_more N last row so_far x before) is
 row_keeps kind.Ship last N M row so_far before is = made_keeps kind.Ship (ship_of N row) (with_ship N) M (λ x. ship_more N last row so_far x before) is
 row_keeps kind.Cum last N M row so_far before is = made_keeps kind.Cum (cum_of N row) (with_cum N) M (λ x. cum_more N last row so_far x before) is
 row_keeps kind.Reset last N M row so_far before is = made_keeps kind.Reset (reset_in_row N row) (with_reset N) M (λ x. reset_more N last row so_far x) is

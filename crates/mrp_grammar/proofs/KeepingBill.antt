@@ -1,5 +1,6 @@
 -- A bill row more: its parent is made at the plant of its component, and no other has both.
-use Rattle.std.proofs.Common.{◌≡◌, ℕ, ◌==◌, ◌&&◌, true, false, List, Option, Some, None, option_map, position, slice_get, unwrap_or, Ok, refl, ap, sym, ◌∙◌, subst}
+use Rattle.std.proofs.Common.{◌≡◌, ℕ, ◌==◌, ◌&&◌, true, false, List, Option, Some, None, option_map, position, slice_get, unwrap_or, Ok, refl, ap, sym, ◌∙◌}
+use Rattle.std.proofs.Common.{subst}
 use Rattle.std.specs.List.{list_any}
 use Rattle.std.specs.Str.{bytes_eq}
 use Rattle.std.proofs.lemmas.Bool.{and_parts, eqb-true}
@@ -23,7 +24,8 @@ pair_at_plant : (N : Table) (plant : Option ℕ) (item : List ℕ) (x : ℕ) →
 pair_at_plant N None item x is = absurd (cc)
 pair_at_plant N (Some p) item x is = by (position (bytes_eq item) N.items) is
   where
-    at : (i : ℕ) (o : Option PairRow) (q : PairRow) → o ≡ Some q → ((q.plant.0 == p) && (q.item.0 == i)) ≡ true → Some p ≡ Some (unwrap_or (option_map (λ p. p.plant.0) o) 0)
+    at : (i : ℕ) (o : Option PairRow) (q : PairRow) → o ≡ Some q → ((q.plant.0 == p) && (q.item.0 == i)) ≡ true
+        → Some p ≡ Some (unwrap_or (option_map (λ p. p.plant.0) o) 0)
     at i None q e t = absurd (cc)
     at i (Some r) q e t =
         let s : r ≡ q = cc in
@@ -74,10 +76,13 @@ fits N t b is =
       plant = cc;
     })
 
-pub bill_keeps : (N : Table) (row : List (List ℕ)) (b : BillRow) → IsOnce N → IsSourced N → bill_of N row ≡ Ok b → IsOnce (with_bill N b) × IsSourced (with_bill N b)
+pub bill_keeps : (N : Table) (row : List (List ℕ)) (b : BillRow) → IsOnce N → IsSourced N → bill_of N row ≡ Ok b
+    → IsOnce (with_bill N b) × IsSourced (with_bill N b)
 bill_keeps N row b once sourced is =
     let a = after (bill_terms row) (bill_fits N) b is in
     let says = fits N a.0 b a.2 in (
       stays_once N (with_bill N b) refl once once.plants (distinct_push is_same_bill N.bills b once.bills says.new) once.cums once.resets,
-      stays_sourced N (with_bill N b) refl sourced (All-push (λ b. supply_at N b.parent.0 ≡ supply.Make) N.bills b sourced.parents says.made) (All-push (λ b. plant_at N b.parent.0 ≡ plant_at N b.component.0) N.bills b sourced.plants says.plant) sourced.ships sourced.cums sourced.resets sourced.arrive,
+      stays_sourced N (with_bill N b) refl sourced (All-push (λ b. supply_at N b.parent.0 ≡ supply.Make) N.bills b sourced.parents says.made)
+          (All-push (λ b. plant_at N b.parent.0 ≡ plant_at N b.component.0) N.bills b sourced.plants says.plant) sourced.ships sourced.cums sourced.resets
+          sourced.arrive,
     )

@@ -1,5 +1,6 @@
 -- Lists with elements more: what is distinct, ordered, found or kept.
-use Rattle.std.proofs.Common.{◌≡◌, ◌≤◌, ◌<◌, ℕ, get_or, ◌+◌, ◌-◌, Bool, true, false, List, [], ◌∷◌, ◌++◌, length, position, slice_get, Option, None, Some, refl, ap, sym, ◌∙◌, ⊎_elim, arith}
+use Rattle.std.proofs.Common.{◌≡◌, ◌≤◌, ◌<◌, ℕ, get_or, ◌+◌, ◌-◌, Bool, true, false, List, [], ◌∷◌, ◌++◌, length, position, slice_get, Option, None, Some, refl}
+use Rattle.std.proofs.Common.{ap, sym, ◌∙◌, ⊎_elim, arith}
 use Rattle.std.specs.List.{All, list_any, filter}
 use Rattle.std.specs.List.Sorted.{IsNonDecreasingBy}
 use Rattle.std.specs.Str.{bytes_eq}
@@ -15,7 +16,8 @@ use Rattle.mrp_rows.proofs.Keys.{All-from_position, any-from_no_position, positi
 -- ---- names
 
 pub bytes_flip : (a b : List ℕ) → bytes_eq a b ≡ bytes_eq b a
-bytes_flip a b = same_from_decides (bytes_eq a b) (bytes_eq b a) (bytes_eq-Decides a b) (Decides-like (bytes_eq b a) (λ e. sym e) (λ e. sym e) (bytes_eq-Decides b a))
+bytes_flip a b = same_from_decides (bytes_eq a b) (bytes_eq b a) (bytes_eq-Decides a b)
+    (Decides-like (bytes_eq b a) (λ e. sym e) (λ e. sym e) (bytes_eq-Decides b a))
 
 pub any_agree : {X : Type 0} (p q : X → Bool) → ((x : X) → p x ≡ q x) → (xs : List X) → list_any p xs ≡ list_any q xs
 any_agree p q same [] = refl
@@ -23,7 +25,8 @@ any_agree p q same (x ∷ xs) = rw (same x, any_agree p q same xs)
 
 -- ---- places
 
-pub position_there : {X : Type 0} (p : X → Bool) (xs : List X) (i : ℕ) → position p xs ≡ Some i → (x : X) × (i < length xs) × (slice_get xs i ≡ Some x) × (p x ≡ true)
+pub position_there : {X : Type 0} (p : X → Bool) (xs : List X) (i : ℕ) → position p xs ≡ Some i
+    → (x : X) × (i < length xs) × (slice_get xs i ≡ Some x) × (p x ≡ true)
 position_there p [] i e = absurd (cc)
 position_there p (y ∷ ys) i e =
     let at = position-Some p (y ∷ ys) i y e in
@@ -68,7 +71,8 @@ filter_everything p (x ∷ xs) h = rw (All-head (λ x. p x ≡ true) x xs h) (ap
 
 -- ---- order
 
-pub ordered_append : {X : Type 0} (f : X → ℕ) (c : ℕ) (xs ys : List X) → IsNonDecreasingBy f xs → All (λ x. f x ≤ c) xs → All (λ y. f y ≡ c) ys → IsNonDecreasingBy f (xs ++ ys)
+pub ordered_append : {X : Type 0} (f : X → ℕ) (c : ℕ) (xs ys : List X) → IsNonDecreasingBy f xs → All (λ x. f x ≤ c) xs → All (λ y. f y ≡ c) ys
+    → IsNonDecreasingBy f (xs ++ ys)
 ordered_append f c xs ys up low same i j d le lt = ⊎_elim left right (cases_lt j (length xs))
   where
     low_all : All (λ x. f x ≤ c) (xs ++ ys)

@@ -1,10 +1,12 @@
 -- A pair row more, with its item and its sources.
-use Rattle.std.proofs.Common.{◌≡◌, ◌≤◌, ◌<◌, ℕ, ◌+◌, ◌*◌, ◌==◌, ◌&&◌, ◌||◌, Bool, true, false, not, ltb, if◌then◌else◌, get_or, List, [], ◌∷◌, ◌++◌, map, length, Option, Some, None, is_some, option_map, position, slice_get, unwrap_or, Ok, refl, ap, sym, ◌∙◌, subst, ⊎_elim, arith}
+use Rattle.std.proofs.Common.{◌≡◌, ◌≤◌, ◌<◌, ℕ, ◌+◌, ◌*◌, ◌==◌, ◌&&◌, ◌||◌, Bool, true, false, not, ltb, if◌then◌else◌, get_or, List, [], ◌∷◌, ◌++◌, map}
+use Rattle.std.proofs.Common.{length, Option, Some, None, is_some, option_map, position, slice_get, unwrap_or, Ok, refl, ap, sym, ◌∙◌, subst, ⊎_elim, arith}
 use Rattle.std.specs.List.{All, IsDistinct, filter, list_all, list_any}
 use Rattle.std.specs.Str.{bytes_eq}
 use Rattle.std.proofs.lemmas.Bool.{and_left, and_parts, and_right, cases_lt, eq-eqb, ne_eqb, not-true}
 use Rattle.std.proofs.lemmas.List.{append-nil, length-append, length-map, length_push}
-use Rattle.std.proofs.lemmas.List.Elements.{All-append, All-cons, All-from_recursion, All-head, All-map, All-nil, All-tail, All-weaker, filter-append, recursion_from_All}
+use Rattle.std.proofs.lemmas.List.Elements.{All-append, All-cons, All-from_recursion, All-head, All-map, All-nil, All-tail, All-weaker, filter-append}
+use Rattle.std.proofs.lemmas.List.Elements.{recursion_from_All}
 use Rattle.std.proofs.lemmas.List.Folds.{list_any-append, list_any_none}
 use Rattle.std.proofs.lemmas.Map.Keys.{IsDistinct-cons, IsDistinct-head, IsDistinct-tail}
 use Rattle.std.proofs.lemmas.Slice.Eq.{bytes_eq-Decides}
@@ -19,10 +21,12 @@ use Rattle.mrp_spell.specs.SupplyParsing.{names_plant}
 use Rattle.mrp_rows.specs.Growing.{add_item}
 use Rattle.mrp_rows.specs.Names.{has_plant, pair_named, pair_of_item, plant_no}
 use Rattle.mrp_rows.proofs.Lists.{any_left, slice_get-append, slice_get-push}
-use Rattle.mrp_grammar.specs.Grammar.{knows_sources, PairTerms, pair_fits, pair_row, pair_terms, pair_with, kind_place, source_row, supply_kind, with_pair_terms}
+use Rattle.mrp_grammar.specs.Grammar.{knows_sources, PairTerms, pair_fits, pair_row, pair_terms, pair_with, kind_place, source_row, supply_kind}
+use Rattle.mrp_grammar.specs.Grammar.{with_pair_terms}
 use Rattle.mrp_spell.specs.SupplyParsing.{is_same_plant, IsShare, IsWholeSupply, named_sources}
 use Rattle.mrp_qty.specs.declared.limits.TheConstants.{MOST_SOURCES_OF_PAIR}
-use Rattle.mrp_rows.specs.Table.{Table, HasSupply, is_item_of_pair, IsName, IsRead, IsOnce, IsPair, IsPairRow, IsSourced, IsSourceRow, is_same_pair, is_same_source, plant_at, sources_of_pair, supply_at}
+use Rattle.mrp_rows.specs.Table.{Table, HasSupply, is_item_of_pair, IsName, IsRead, IsOnce, IsPair, IsPairRow, IsSourced, IsSourceRow, is_same_pair}
+use Rattle.mrp_rows.specs.Table.{is_same_source, plant_at, sources_of_pair, supply_at}
 use Rattle.mrp_grammar.specs.declared.kind.Kind.{Kind}
 use Rattle.mrp_grammar.specs.declared.kind.Kind.TheVariants as kind
 use Rattle.mrp_grammar.specs.Reading.{IsReadSoFar}
@@ -85,12 +89,14 @@ places_differ names a b differ ha hb =
     absurd (cc (sym test ∙ differ)))
 
 -- the place of an item among the items with it
-known_item : (items : List (List ℕ)) (name : List ℕ) (i : ℕ) → position (bytes_eq name) items ≡ Some i → unwrap_or (position (bytes_eq name) (add_item items name)) 0 ≡ i
+known_item : (items : List (List ℕ)) (name : List ℕ) (i : ℕ) → position (bytes_eq name) items ≡ Some i
+    → unwrap_or (position (bytes_eq name) (add_item items name)) 0 ≡ i
 known_item items name i e =
     ap (λ b. unwrap_or (position (bytes_eq name) (if b then items else items ++ name ∷ [])) 0) (any-from_position (bytes_eq name) items i e)
     ∙ ap (λ o. unwrap_or o 0) e
 
-new_item : (items : List (List ℕ)) (name : List ℕ) → position (bytes_eq name) items ≡ None → unwrap_or (position (bytes_eq name) (add_item items name)) 0 ≡ length items
+new_item : (items : List (List ℕ)) (name : List ℕ) → position (bytes_eq name) items ≡ None
+    → unwrap_or (position (bytes_eq name) (add_item items name)) 0 ≡ length items
 new_item items name e =
     ap (λ b. unwrap_or (position (bytes_eq name) (if b then items else items ++ name ∷ [])) 0) (any-from_no_position (bytes_eq name) items e)
     ∙ ap (λ o. unwrap_or o 0) (position_last (bytes_eq name) items name e ((bytes_eq-Decides name name).1 refl))
@@ -125,10 +131,12 @@ no_place p xs none = by (position p xs) refl
     by (Some i) is = absurd (let some = any-from_position p xs i is in cc)
 
 -- an item past those before is the new one
-last_item : (items : List (List ℕ)) (name : List ℕ) (i : ℕ) → i < length (add_item items name) → length items ≤ i → (i ≡ length items) × (position (bytes_eq name) items ≡ None)
+last_item : (items : List (List ℕ)) (name : List ℕ) (i : ℕ) → i < length (add_item items name) → length items ≤ i
+    → (i ≡ length items) × (position (bytes_eq name) items ≡ None)
 last_item items name i = by (list_any (bytes_eq name) items) refl
   where
-    by : (b : Bool) → list_any (bytes_eq name) items ≡ b → i < length (if b then items else items ++ name ∷ []) → length items ≤ i → (i ≡ length items) × (position (bytes_eq name) items ≡ None)
+    by : (b : Bool) → list_any (bytes_eq name) items ≡ b → i < length (if b then items else items ++ name ∷ []) → length items ≤ i
+        → (i ≡ length items) × (position (bytes_eq name) items ≡ None)
     by true e lt le = absurd (omega arith)
     by false e lt le = (omega (arith, length_push items name), no_place (bytes_eq name) items e)
 
@@ -155,7 +163,8 @@ new_pair N plant name within none = by (position (bytes_eq name) N.items) refl n
 
 -- ---- its sources are other plants each
 
-distinct_rows : (N : Table) (x : ℕ) (ss : List SourceTerms) → IsDistinct is_same_plant ss → All (λ s. has_plant N s.plant ≡ true) ss → IsDistinct is_same_source (map (source_row N x) ss)
+distinct_rows : (N : Table) (x : ℕ) (ss : List SourceTerms) → IsDistinct is_same_plant ss → All (λ s. has_plant N s.plant ≡ true) ss
+    → IsDistinct is_same_source (map (source_row N x) ss)
 distinct_rows N x [] d known = IsDistinct-nil is_same_source
 distinct_rows N x (s ∷ ss) d known =
     let apart = All-from_recursion (λ t. is_same_plant s t ≡ false) ss (IsDistinct-head is_same_plant s ss d) in
@@ -168,7 +177,8 @@ distinct_rows N x (s ∷ ss) d known =
     (recursion_from_All (λ y. is_same_source (row s) y ≡ false) (map row ss) (All-map (λ y. is_same_source (row s) y ≡ false) row ss rows))
     (distinct_rows N x ss (IsDistinct-tail is_same_plant s ss d) rest)
 
-named_rows : (N : Table) (x : ℕ) (s : SupplyTerms) → IsWholeSupply s → All (λ s. has_plant N s.plant ≡ true) (named_sources s) → IsDistinct is_same_source (map (source_row N x) (named_sources s))
+named_rows : (N : Table) (x : ℕ) (s : SupplyTerms) → IsWholeSupply s → All (λ s. has_plant N s.plant ≡ true) (named_sources s)
+    → IsDistinct is_same_source (map (source_row N x) (named_sources s))
 named_rows N x MakeTerms h known = IsDistinct-nil is_same_source
 named_rows N x BuyTerms h known = IsDistinct-nil is_same_source
 named_rows N x (FromTerms ss) h known = distinct_rows N x ss h.apart known
@@ -178,7 +188,8 @@ supply_is N x MakeTerms h = refl
 supply_is N x BuyTerms h = refl
 supply_is N x (FromTerms ss) h = shares_are N x 0 ss h.shares
 
-module _ (N : Table) (plant : PlantNo) (t : PairTerms) (read : IsRead N) (once : IsOnce N) (sourced : IsSourced N) (fit : Fitting N t plant) (says : SpellsPair t) where
+module _ (N : Table) (plant : PlantNo) (t : PairTerms) (read : IsRead N) (once : IsOnce N) (sourced : IsSourced N) (fit : Fitting N t plant)
+    (says : SpellsPair t) where
   abbrev M : Table
   M = with_pair_terms N plant t
 
@@ -214,7 +225,8 @@ module _ (N : Table) (plant : PlantNo) (t : PairTerms) (read : IsRead N) (once :
     sources = distinct_append is_same_source N.sources new_rows once.sources (named_rows N (length N.pairs) t.supply says.supply fit.known)
         (All-weaker (λ s. s.pair.0 < length N.pairs) (λ s. All (λ r. is_same_source s r ≡ false) new_rows)
         (λ s lt. All-weaker (λ r. r.pair.0 ≡ length N.pairs) (λ r. is_same_source s r ≡ false)
-        (λ r e. and_right (s.plant.0 == r.plant.0) (s.pair.0 == r.pair.0) (ne_eqb s.pair.0 r.pair.0 (λ same. absurd (omega arith)))) new_rows new_sources) N.sources old_sources);
+        (λ r e. and_right (s.plant.0 == r.plant.0) (s.pair.0 == r.pair.0) (ne_eqb s.pair.0 r.pair.0 (λ same. absurd (omega arith)))) new_rows new_sources)
+        N.sources old_sources);
     bills = once.bills;
     cums = once.cums;
     resets = once.resets;
@@ -225,7 +237,8 @@ module _ (N : Table) (plant : PlantNo) (t : PairTerms) (read : IsRead N) (once :
       let p : SourceRow → Bool = λ s. s.pair.0 == x in
       filter-append p N.sources new_rows
       ∙ ap (λ l. filter p N.sources ++ l) (filter_nothing p new_rows
-      (All-weaker (λ s. s.pair.0 ≡ length N.pairs) (λ s. (s.pair.0 == x) ≡ false) (λ s e. ne_eqb s.pair.0 x (λ same. absurd (omega arith))) new_rows new_sources))
+      (All-weaker (λ s. s.pair.0 ≡ length N.pairs) (λ s. (s.pair.0 == x) ≡ false)
+      (λ s e. ne_eqb s.pair.0 x (λ same. absurd (omega arith))) new_rows new_sources))
       ∙ append-nil (filter p N.sources)
 
   pub new_kept : sources_of_pair M (length N.pairs) ≡ new_rows
@@ -233,7 +246,8 @@ module _ (N : Table) (plant : PlantNo) (t : PairTerms) (read : IsRead N) (once :
       let p : SourceRow → Bool = λ s. s.pair.0 == length N.pairs in
       filter-append p N.sources new_rows
       ∙ ap (λ l. l ++ filter p new_rows) (filter_nothing p N.sources
-      (All-weaker (λ s. s.pair.0 < length N.pairs) (λ s. (s.pair.0 == length N.pairs) ≡ false) (λ s lt. ne_eqb s.pair.0 (length N.pairs) (λ same. absurd (omega arith))) N.sources old_sources))
+      (All-weaker (λ s. s.pair.0 < length N.pairs) (λ s. (s.pair.0 == length N.pairs) ≡ false)
+      (λ s lt. ne_eqb s.pair.0 (length N.pairs) (λ same. absurd (omega arith))) N.sources old_sources))
       ∙ filter_everything p new_rows
       (All-weaker (λ s. s.pair.0 ≡ length N.pairs) (λ s. (s.pair.0 == length N.pairs) ≡ true) (λ s e. eq-eqb s.pair.0 (length N.pairs) e) new_rows new_sources)
 
@@ -270,7 +284,8 @@ module _ (N : Table) (plant : PlantNo) (t : PairTerms) (read : IsRead N) (once :
       All-append (λ s. (s.plant.0 == plant_at M s.pair.0) ≡ false) N.sources new_rows
       (λ k d lt. old_other (get_or N.sources k d) (old_sources k d lt) (sourced.others k d lt))
       (All-map (λ s. (s.plant.0 == plant_at M s.pair.0) ≡ false) (source_row N (length N.pairs)) (named_sources t.supply)
-      (λ k d lt. new_other (get_or (named_sources t.supply) k d) (All-from_any (λ s. bytes_eq s.plant t.plant) (named_sources t.supply) fit.others k d lt) (fit.known k d lt)))
+      (λ k d lt. new_other (get_or (named_sources t.supply) k d) (All-from_any (λ s. bytes_eq s.plant t.plant) (named_sources t.supply) fit.others k d lt)
+      (fit.known k d lt)))
 
   -- ---- each item is some pair's, and a pair has few sources
 
@@ -343,7 +358,13 @@ module _ (N : Table) (plant : PlantNo) (t : PairTerms) (read : IsRead N) (once :
   }
 
   source_in : (s : SourceTerms) → IsShare s → has_plant N s.plant ≡ true → IsSourceRow M (source_row N (length N.pairs) s)
-  source_in s share known = record { pair = omega (arith, more_pairs); plant = place_within N.plants s.plant known; rises = share.rises; ends = omega (arith, share.ends) }
+  source_in s share known = record {
+    pair = omega (arith, more_pairs);
+    plant = place_within N.plants s.plant known;
+    rises = share.rises;
+    ends =
+        omega (arith, share.ends);
+  }
 
   sources_in : All (IsSourceRow M) new_rows
   sources_in =
@@ -360,7 +381,8 @@ module _ (N : Table) (plant : PlantNo) (t : PairTerms) (read : IsRead N) (once :
       read_grows N M read grows same_rows item (one_more new_row row_in fit.room) sources same_rows same_rows same_rows same_rows same_rows same_rows
 
 -- a pair row more stands after the run, the plants and other pairs
-pub pair_keeps : (N M : Table) (last : Kind) (row : List (List ℕ)) → IsReadSoFar N last → kind_place last ≤ kind_place kind.Pair → pair_row N row ≡ Ok M → IsReadSoFar M kind.Pair
+pub pair_keeps : (N M : Table) (last : Kind) (row : List (List ℕ)) → IsReadSoFar N last → kind_place last ≤ kind_place kind.Pair → pair_row N row ≡ Ok M
+    → IsReadSoFar M kind.Pair
 pair_keeps N M last row so_far before is =
     let a = after (pair_terms row) _ M is in
     let b = after (pair_fits N a.0) _ M a.2 in

@@ -12,7 +12,9 @@ use Rattle.mrp_rows.specs.Names.{pair_named, plant_no}
 use Rattle.mrp_rows.specs.Table.{Table, arrivals, horizon, rises_from}
 use Rattle.mrp_rows.specs.declared.numbers.PlantNo.{PlantNo}
 use Rattle.mrp_rows.specs.declared.numbers.PairNo.{PairNo}
-use Rattle.mrp_grammar.specs.Grammar.{AmountTerms, BillTerms, LaneTerms, amount_row, amount_terms, bill_fits, cum_of, cum_terms, demand_made, demand_of, has_bill, has_cum, has_reset, is_made, known_lane, known_pair, receipt_made, receipt_of, reset_in_row, reset_terms, ship_of, ship_terms}
+use Rattle.mrp_grammar.specs.Grammar.{AmountTerms, BillTerms, LaneTerms, amount_row, amount_terms, bill_fits, cum_of, cum_terms, demand_made, demand_of}
+use Rattle.mrp_grammar.specs.Grammar.{has_bill, has_cum, has_reset, is_made, known_lane, known_pair, receipt_made, receipt_of, reset_in_row, reset_terms}
+use Rattle.mrp_grammar.specs.Grammar.{ship_of, ship_terms}
 use Rattle.mrp_grammar.proofs.KeepingSteps.{after, after_check, after_some, same_Ok}
 
 pub record BillParts (N : Table) (t : BillTerms) (b : BillRow) : Type 0 where
@@ -37,7 +39,17 @@ bill_parts N t b is =
     let h4 = after_some component _ _ b h3.2 in
     let h5 = after_check (is_made N h3.0) _ _ b h4.2 in
     let h6 = after_check (ltb (length N.bills) MOST_BILLS) _ _ b h5.1 in
-    record { x = h3.0; y = h4.0; new = not-true (has_bill N parent component) h1.0; parent = h3.1; component = h4.1; made = h5.0; room = h6.0; same = same_Ok _ b h6.1 }
+    record {
+      x = h3.0;
+      y = h4.0;
+      new = not-true (has_bill N parent component) h1.0;
+      parent = h3.1;
+      component = h4.1;
+      made = h5.0;
+      room = h6.0;
+      same =
+          same_Ok _ b h6.1;
+    }
 
 -- ---- demands and receipts
 
@@ -50,18 +62,21 @@ pub record AmountParts {A : Type 0} (N : Table) (row : List (List ℕ)) (has_roo
   pub room : has_room ≡ true
   pub same : made found.1 terms.period terms.quantity ≡ x
 
-amount_parts : {A : Type 0} (N : Table) (row : List (List ℕ)) (has_room : Bool) (made : PairNo → ℕ → ℕ → A) (x : A) → amount_row N row has_room made ≡ Ok x → AmountParts N row has_room made x
+amount_parts : {A : Type 0} (N : Table) (row : List (List ℕ)) (has_room : Bool) (made : PairNo → ℕ → ℕ → A) (x : A) → amount_row N row has_room made ≡ Ok x
+    → AmountParts N row has_room made x
 amount_parts N row has_room made x is =
     let a = after (amount_terms row (horizon N)) _ x is in
     let b = after (known_pair N a.0.plant a.0.item) _ x a.2 in
     let c = after_check has_room _ _ x b.2 in
     record { terms = a.0; found = b.0; read = a.1; known = b.1; room = c.0; same = same_Ok _ x c.1 }
 
-pub demand_parts : (N : Table) (row : List (List ℕ)) (x : DemandRow) → demand_of N row ≡ Ok x → AmountParts N row (ltb (length N.demands) MOST_OF_A_KIND) demand_made x
+pub demand_parts : (N : Table) (row : List (List ℕ)) (x : DemandRow) → demand_of N row ≡ Ok x
+    → AmountParts N row (ltb (length N.demands) MOST_OF_A_KIND) demand_made x
 unfolding demand_of
 demand_parts N row x is = amount_parts N row (ltb (length N.demands) MOST_OF_A_KIND) demand_made x is
 
-pub receipt_parts : (N : Table) (row : List (List ℕ)) (x : ReceiptRow) → receipt_of N row ≡ Ok x → AmountParts N row (ltb (length N.receipts) MOST_OF_A_KIND) receipt_made x
+pub receipt_parts : (N : Table) (row : List (List ℕ)) (x : ReceiptRow) → receipt_of N row ≡ Ok x
+    → AmountParts N row (ltb (length N.receipts) MOST_OF_A_KIND) receipt_made x
 unfolding receipt_of
 receipt_parts N row x is = amount_parts N row (ltb (length N.receipts) MOST_OF_A_KIND) receipt_made x is
 

@@ -1,5 +1,6 @@
 -- A row more that fits is in range, and names what is there.
-use Rattle.std.proofs.Common.{◌≡◌, ◌≤◌, ◌<◌, ℕ, ◌-◌, ◌==◌, ◌&&◌, ◌||◌, Bool, true, false, not, ltb, if◌then◌else◌, List, [], ◌∷◌, map, length, Option, Some, None, position, Result, Ok, Err, ok_or, refl, ap, ◌∙◌, subst, arith}
+use Rattle.std.proofs.Common.{◌≡◌, ◌≤◌, ◌<◌, ℕ, ◌-◌, ◌==◌, ◌&&◌, ◌||◌, Bool, true, false, not, ltb, if◌then◌else◌, List, [], ◌∷◌, map, length, Option, Some}
+use Rattle.std.proofs.Common.{None, position, Result, Ok, Err, ok_or, refl, ap, ◌∙◌, subst, arith}
 use Rattle.std.specs.Cmp.{IsEquivalence}
 use Rattle.std.specs.List.{All, list_any}
 use Rattle.std.specs.Str.{bytes_eq}
@@ -21,7 +22,8 @@ use Rattle.mrp_rows.specs.declared.rows.ShipRow.{ShipRow}
 use Rattle.mrp_rows.specs.declared.rows.SourceRow.{SourceRow}
 use Rattle.mrp_rows.specs.Growing.{with_bill, with_cum, with_demand, with_plant, with_receipt, with_reset, with_ship}
 use Rattle.mrp_rows.specs.Names.{has_plant, pair_named, pair_of_item, plant_no}
-use Rattle.mrp_rows.specs.Table.{horizon, IsBillRow, IsCumRow, IsDemandRow, IsName, IsOnce, IsRead, IsReceiptRow, IsResetRow, IsShipRow, is_same_reset, IsSourced, Table}
+use Rattle.mrp_rows.specs.Table.{horizon, IsBillRow, IsCumRow, IsDemandRow, IsName, IsOnce, IsRead, IsReceiptRow, IsResetRow, IsShipRow, is_same_reset}
+use Rattle.mrp_rows.specs.Table.{IsSourced, Table}
 use Rattle.mrp_rows.proofs.Keys.{same_test}
 use Rattle.mrp_rows.proofs.Grow.{read-with_bill, read-with_cum, read-with_demand, read-with_plant, read-with_receipt, read-with_reset, read-with_ship}
 use Rattle.mrp_spell.specs.Spelling.{is_name}
@@ -30,7 +32,9 @@ use Rattle.mrp_spell.proofs.Mapped.{list_any_keys}
 use Rattle.mrp_spell.proofs.Ranges.{within_range}
 use Rattle.mrp_grammar.specs.declared.fault.TableFaultKind.{TableFaultKind}
 use Rattle.mrp_grammar.specs.declared.fault.TableFaultKind.TheVariants as fault
-use Rattle.mrp_grammar.specs.Grammar.{◌>>=◌, amount_terms, AmountTerms, bill_fits, bill_of, bill_terms, BillTerms, cum_of, cum_terms, demand_made, demand_of, field, known_lane, known_pair, lane_number, lane_terms, LaneTerms, name_field, plant_in_row, plant_terms, ranged, receipt_made, receipt_of, reset_in_row, reset_terms, ship_of, ship_terms}
+use Rattle.mrp_grammar.specs.Grammar.{◌>>=◌, amount_terms, AmountTerms, bill_fits, bill_of, bill_terms, BillTerms, cum_of, cum_terms, demand_made, demand_of}
+use Rattle.mrp_grammar.specs.Grammar.{field, known_lane, known_pair, lane_number, lane_terms, LaneTerms, name_field, plant_in_row, plant_terms, ranged}
+use Rattle.mrp_grammar.specs.Grammar.{receipt_made, receipt_of, reset_in_row, reset_terms, ship_of, ship_terms}
 use Rattle.mrp_grammar.proofs.KeepingLists.{position_there}
 use Rattle.mrp_grammar.proofs.KeepingParts.{AmountParts, bill_parts, cum_parts, demand_parts, receipt_parts, reset_parts, ship_parts}
 use Rattle.mrp_grammar.proofs.KeepingRows.{on_lane}
@@ -127,11 +131,18 @@ bill_terms_read row t is =
 per_is : (row : List (List ℕ)) (t : BillTerms) → bill_terms row ≡ Ok t → (1 ≤ t.per) × (t.per ≤ MOST_PER)
 per_is row t is = ranged_is (field row 4) 1 MOST_PER t.per (bill_terms_read row t is).per
 
-bill_within : (N : Table) (t : BillTerms) (b : BillRow) → (1 ≤ t.per) × (t.per ≤ MOST_PER) → bill_fits N t ≡ Ok b → IsBillRow N b × (length N.bills < MOST_BILLS)
+bill_within : (N : Table) (t : BillTerms) (b : BillRow) → (1 ≤ t.per) × (t.per ≤ MOST_PER) → bill_fits N t ≡ Ok b
+    → IsBillRow N b × (length N.bills < MOST_BILLS)
 bill_within N t b per is =
     let plant = plant_no N t.plant in
     let p = bill_parts N t b is in (
-      subst (IsBillRow N) p.same (record { parent = pair_within N plant t.parent p.x p.parent; component = pair_within N plant t.component p.y p.component; some = per.0; few = per.1 }),
+      subst (IsBillRow N) p.same (record {
+        parent = pair_within N plant t.parent p.x p.parent;
+        component =
+            pair_within N plant t.component p.y p.component;
+        some = per.0;
+        few = per.1;
+      }),
       lt_test (length N.bills) MOST_BILLS p.room,
     )
 
@@ -156,8 +167,10 @@ record IsAmountOf (N : Table) (t n : ℕ) : Type 0 where
   some : 1 ≤ n
   few : n ≤ MOST_IN_ROW
 
-amount_is : (N : Table) (period quantity : List ℕ) (t n : ℕ) → IsRead N → ranged period 0 (horizon N - 1) ≡ Ok t → ranged quantity 1 MOST_IN_ROW ≡ Ok n → IsAmountOf N t n
-amount_is N period quantity t n read falls is = let few = ranged_is quantity 1 MOST_IN_ROW n is in record { period = period_is N period t read falls; some = few.0; few = few.1 }
+amount_is : (N : Table) (period quantity : List ℕ) (t n : ℕ) → IsRead N → ranged period 0 (horizon N - 1) ≡ Ok t → ranged quantity 1 MOST_IN_ROW ≡ Ok n
+    → IsAmountOf N t n
+amount_is N period quantity t n read falls is = let few = ranged_is quantity 1 MOST_IN_ROW n is
+    in record { period = period_is N period t read falls; some = few.0; few = few.1 }
 
 -- each field of a demand or a receipt row is read as it stands in the terms
 pub record AmountRead (row : List (List ℕ)) (periods : ℕ) (t : AmountTerms) : Type 0 where
@@ -176,7 +189,8 @@ amount_terms_read row periods t is =
     subst (AmountRead row periods) same (record { plant = n.first_is; item = n.second_is; period = c.1; quantity = d.1 })
 
 -- what is read of such a row is there, and in its range
-amount_known : {A : Type 0} (N : Table) (row : List (List ℕ)) (has_room : Bool) (made : PairNo → ℕ → ℕ → A) (x : A) → IsRead N → (p : AmountParts N row has_room made x)
+amount_known : {A : Type 0} (N : Table) (row : List (List ℕ)) (has_room : Bool) (made : PairNo → ℕ → ℕ → A) (x : A) → IsRead N
+    → (p : AmountParts N row has_room made x)
     → (p.found.1.0 < length N.pairs) × IsAmountOf N p.terms.period p.terms.quantity
 amount_known N row has_room made x read p =
     let fields = amount_terms_read row (horizon N) p.terms p.read in
@@ -186,13 +200,15 @@ pub demand_read : (N : Table) (row : List (List ℕ)) (x : DemandRow) → IsRead
 demand_read N row x read is =
     let p = demand_parts N row x is in
     let says = amount_known N row _ demand_made x read p in
-    read-with_demand N x read (subst (IsDemandRow N) p.same (record { pair = says.0; period = says.1.period; some = says.1.some; quantity = says.1.few })) (lt_test (length N.demands) MOST_OF_A_KIND p.room)
+    read-with_demand N x read (subst (IsDemandRow N) p.same (record { pair = says.0; period = says.1.period; some = says.1.some; quantity = says.1.few }))
+    (lt_test (length N.demands) MOST_OF_A_KIND p.room)
 
 pub receipt_read : (N : Table) (row : List (List ℕ)) (x : ReceiptRow) → IsRead N → receipt_of N row ≡ Ok x → IsRead (with_receipt N x)
 receipt_read N row x read is =
     let p = receipt_parts N row x is in
     let says = amount_known N row _ receipt_made x read p in
-    read-with_receipt N x read (subst (IsReceiptRow N) p.same (record { pair = says.0; period = says.1.period; some = says.1.some; quantity = says.1.few })) (lt_test (length N.receipts) MOST_OF_A_KIND p.room)
+    read-with_receipt N x read (subst (IsReceiptRow N) p.same (record { pair = says.0; period = says.1.period; some = says.1.some; quantity = says.1.few }))
+    (lt_test (length N.receipts) MOST_OF_A_KIND p.room)
 
 -- ---- lanes
 
@@ -217,7 +233,8 @@ ship_read N row x read is =
     let fields = ship_terms_read row (horizon N) p.terms p.read in
     let says = amount_is N _ _ p.terms.1 p.terms.2 read fields.period fields.quantity in
     let lane = lane_within N p.terms.0 p.lane p.known in
-    let made : IsShipRow N x = subst (IsShipRow N) p.same (record { from = lane.0; pair = lane.1; period = says.period; some = says.some; quantity = says.few }) in
+    let made : IsShipRow N x = subst (IsShipRow N) p.same (record { from = lane.0; pair = lane.1; period = says.period; some = says.some; quantity = says.few })
+    in
     read-with_ship N x read made (lt_test (length N.ships) MOST_OF_A_KIND p.room)
 
 -- the fields of a cum or a reset row are read as they stand in the terms
@@ -266,16 +283,19 @@ same_reset_laws = record {
 }
 
 -- a new start among such as have sources has one
-among_sources : (sources : List SourceRow) (q : ResetRow) (resets : List ResetRow) → All (λ r. list_any (λ s. (s.plant.0 == r.from.0) && (s.pair.0 == r.pair.0)) sources ≡ true) resets
+among_sources : (sources : List SourceRow) (q : ResetRow) (resets : List ResetRow)
+    → All (λ r. list_any (λ s. (s.plant.0 == r.from.0) && (s.pair.0 == r.pair.0)) sources ≡ true) resets
     → list_any (is_same_reset q) resets ≡ true → list_any (is_same_reset q) (map start_of sources) ≡ true
 among_sources sources q [] all any = absurd (cc)
 among_sources sources q (r ∷ rs) all any =
-    by (is_same_reset q r) refl any (among_sources sources q rs (All-tail (λ r. list_any (λ s. (s.plant.0 == r.from.0) && (s.pair.0 == r.pair.0)) sources ≡ true) r rs all))
+    by (is_same_reset q r) refl any (among_sources sources q rs (All-tail (λ r. list_any (λ s. (s.plant.0 == r.from.0) && (s.pair.0 == r.pair.0)) sources
+    ≡ true) r rs all))
   where
     here : list_any (λ s. (s.plant.0 == r.from.0) && (s.pair.0 == r.pair.0)) sources ≡ true
     here = All-head (λ r. list_any (λ s. (s.plant.0 == r.from.0) && (s.pair.0 == r.pair.0)) sources ≡ true) r rs all
 
-    by : (b : Bool) → is_same_reset q r ≡ b → (b || list_any (is_same_reset q) rs) ≡ true → (list_any (is_same_reset q) rs ≡ true → list_any (is_same_reset q) (map start_of sources) ≡ true)
+    by : (b : Bool) → is_same_reset q r ≡ b → (b || list_any (is_same_reset q) rs) ≡ true
+        → (list_any (is_same_reset q) rs ≡ true → list_any (is_same_reset q) (map start_of sources) ≡ true)
         → list_any (is_same_reset q) (map start_of sources) ≡ true
     by true e any later =
         let same = same_ends q r e in
@@ -286,14 +306,16 @@ among_sources sources q (r ∷ rs) all any =
 -- there is at most one new start for each source
 resets_few : (N : Table) → IsOnce N → IsSourced N → length N.resets ≤ length N.sources
 resets_few N once sourced =
-    let few = length-le_from_is_member same_reset_laws N.resets (map start_of N.sources) once.resets (λ q m. among_sources N.sources q N.resets sourced.resets m) in
+    let few = length-le_from_is_member same_reset_laws N.resets (map start_of N.sources) once.resets
+    (λ q m. among_sources N.sources q N.resets sourced.resets m) in
     omega (arith, few, length-map N.sources start_of)
 
 start_is : (N : Table) (row : List (List ℕ)) (t : LaneTerms × ℕ) → IsRead N → reset_terms row (horizon N) ≡ Ok t → Falls N t.1
 unfolding reset_terms
 start_is N row t read is = period_is N (field row 4) t.1 read (lane_number_read row (horizon N - 1) t is).number
 
-pub reset_read : (N : Table) (row : List (List ℕ)) (x : ResetRow) → IsRead N → IsOnce (with_reset N x) → IsSourced (with_reset N x) → reset_in_row N row ≡ Ok x → IsRead (with_reset N x)
+pub reset_read : (N : Table) (row : List (List ℕ)) (x : ResetRow) → IsRead N → IsOnce (with_reset N x) → IsSourced (with_reset N x) → reset_in_row N row ≡ Ok x
+    → IsRead (with_reset N x)
 reset_read N row x read once sourced is =
     let p = reset_parts N row x is in
     let lane = lane_within N p.terms.0 p.lane p.known in

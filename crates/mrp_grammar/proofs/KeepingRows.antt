@@ -33,7 +33,8 @@ new_plant N row name is =
     let same : a.0 ≡ name = same_Ok a.0 name c.1 in
     not-true (has_plant N name) (ap (λ n. not (has_plant N n)) (sym same) ∙ b.0)
 
-pub plant_keeps : (N : Table) (row : List (List ℕ)) (name : List ℕ) → IsOnce N → IsSourced N → plant_in_row N row ≡ Ok name → IsOnce (with_plant N name) × IsSourced (with_plant N name)
+pub plant_keeps : (N : Table) (row : List (List ℕ)) (name : List ℕ) → IsOnce N → IsSourced N → plant_in_row N row ≡ Ok name
+    → IsOnce (with_plant N name) × IsSourced (with_plant N name)
 plant_keeps N row name once sourced is = (
   stays_once N (with_plant N name) refl once (distinct_name N.plants name once.plants (new_plant N row name is)) once.bills once.cums once.resets,
   stays_sourced N (with_plant N name) refl sourced sourced.parents sourced.plants sourced.ships sourced.cums sourced.resets sourced.arrive,
@@ -82,10 +83,13 @@ ship_lane N row x is =
     let p = ship_parts N row x is in
     subst (λ (y : ShipRow). is_taken_from N y.pair.0 y.from.0 ≡ true) p.same (on_lane N p.terms.0 p.lane p.known).taken
 
-pub ship_keeps : (N : Table) (row : List (List ℕ)) (x : ShipRow) → IsOnce N → IsSourced N → N.resets ≡ [] → ship_of N row ≡ Ok x → IsOnce (with_ship N x) × IsSourced (with_ship N x)
+pub ship_keeps : (N : Table) (row : List (List ℕ)) (x : ShipRow) → IsOnce N → IsSourced N → N.resets ≡ [] → ship_of N row ≡ Ok x
+    → IsOnce (with_ship N x) × IsSourced (with_ship N x)
 ship_keeps N row x once sourced none is = (
   stays_once N (with_ship N x) refl once once.plants once.bills once.cums once.resets,
-  stays_sourced N (with_ship N x) refl sourced sourced.parents sourced.plants (All-push (λ s. is_taken_from N s.pair.0 s.from.0 ≡ true) N.ships x sourced.ships (ship_lane N row x is)) sourced.cums sourced.resets (λ k d lt. absurd (omega (arith, ap length none, lt))),
+  stays_sourced N (with_ship N x) refl sourced sourced.parents sourced.plants
+      (All-push (λ s. is_taken_from N s.pair.0 s.from.0 ≡ true) N.ships x sourced.ships (ship_lane N row x is)) sourced.cums sourced.resets
+      (λ k d lt. absurd (omega (arith, ap length none, lt))),
 )
 
 -- ---- cumulative figures
@@ -94,40 +98,49 @@ new_cum : (N : Table) (from pair : Option ℕ) (c : CumRow) → cum_between N fr
     → list_any (λ x. is_same_cum x c) N.cums ≡ false
 new_cum N from pair c fresh ef ep = sym (ap (λ (o : Option ℕ). cum_between N o pair) ef ∙ ap (λ (o : Option ℕ). cum_between N (Some c.from.0) o) ep) ∙ fresh
 
-cum_lane : (N : Table) (row : List (List ℕ)) (x : CumRow) → cum_of N row ≡ Ok x → (is_taken_from N x.pair.0 x.from.0 ≡ true) × (list_any (λ c. is_same_cum c x) N.cums ≡ false)
+cum_lane : (N : Table) (row : List (List ℕ)) (x : CumRow) → cum_of N row ≡ Ok x
+    → (is_taken_from N x.pair.0 x.from.0 ≡ true) × (list_any (λ c. is_same_cum c x) N.cums ≡ false)
 cum_lane N row x is =
     let p = cum_parts N row x is in
     let on = on_lane N p.terms.0 p.lane p.known in (
       subst (λ (y : CumRow). is_taken_from N y.pair.0 y.from.0 ≡ true) p.same on.taken,
-      new_cum N (plant_no N p.terms.0.from) (pair_named N (plant_no N p.terms.0.to) p.terms.0.item) x p.new (on.from ∙ ap (λ (y : CumRow). Some y.from.0) p.same) (on.pair ∙ ap (λ (y : CumRow). Some y.pair.0) p.same),
+      new_cum N (plant_no N p.terms.0.from) (pair_named N (plant_no N p.terms.0.to) p.terms.0.item) x p.new (on.from
+          ∙ ap (λ (y : CumRow). Some y.from.0) p.same) (on.pair ∙ ap (λ (y : CumRow). Some y.pair.0) p.same),
     )
 
 pub cum_keeps : (N : Table) (row : List (List ℕ)) (x : CumRow) → IsOnce N → IsSourced N → cum_of N row ≡ Ok x → IsOnce (with_cum N x) × IsSourced (with_cum N x)
 cum_keeps N row x once sourced is =
     let says = cum_lane N row x is in (
       stays_once N (with_cum N x) refl once once.plants once.bills (distinct_push is_same_cum N.cums x once.cums says.1) once.resets,
-      stays_sourced N (with_cum N x) refl sourced sourced.parents sourced.plants sourced.ships (All-push (λ s. is_taken_from N s.pair.0 s.from.0 ≡ true) N.cums x sourced.cums says.0) sourced.resets sourced.arrive,
+      stays_sourced N (with_cum N x) refl sourced sourced.parents sourced.plants sourced.ships
+          (All-push (λ s. is_taken_from N s.pair.0 s.from.0 ≡ true) N.cums x sourced.cums says.0) sourced.resets sourced.arrive,
     )
 
 -- ---- new starts
 
 new_reset : (N : Table) (from pair : Option ℕ) (c : ResetRow) → reset_between N from pair ≡ false → from ≡ Some c.from.0 → pair ≡ Some c.pair.0
     → list_any (λ x. is_same_reset x c) N.resets ≡ false
-new_reset N from pair c fresh ef ep = sym (ap (λ (o : Option ℕ). reset_between N o pair) ef ∙ ap (λ (o : Option ℕ). reset_between N (Some c.from.0) o) ep) ∙ fresh
+new_reset N from pair c fresh ef ep = sym (ap (λ (o : Option ℕ). reset_between N o pair) ef ∙ ap (λ (o : Option ℕ). reset_between N (Some c.from.0) o) ep)
+    ∙ fresh
 
-reset_lane : (N : Table) (row : List (List ℕ)) (x : ResetRow) → reset_in_row N row ≡ Ok x → (is_taken_from N x.pair.0 x.from.0 ≡ true) × (list_any (λ c. is_same_reset c x) N.resets ≡ false)
+reset_lane : (N : Table) (row : List (List ℕ)) (x : ResetRow) → reset_in_row N row ≡ Ok x
+    → (is_taken_from N x.pair.0 x.from.0 ≡ true) × (list_any (λ c. is_same_reset c x) N.resets ≡ false)
     × (rises_from 0 (arrivals N x.from.0 x.pair.0) ≡ true)
 reset_lane N row x is =
     let p = reset_parts N row x is in
     let on = on_lane N p.terms.0 p.lane p.known in (
       subst (λ (y : ResetRow). is_taken_from N y.pair.0 y.from.0 ≡ true) p.same on.taken,
-      new_reset N (plant_no N p.terms.0.from) (pair_named N (plant_no N p.terms.0.to) p.terms.0.item) x p.new (on.from ∙ ap (λ (y : ResetRow). Some y.from.0) p.same) (on.pair ∙ ap (λ (y : ResetRow). Some y.pair.0) p.same),
+      new_reset N (plant_no N p.terms.0.from) (pair_named N (plant_no N p.terms.0.to) p.terms.0.item) x p.new (on.from
+          ∙ ap (λ (y : ResetRow). Some y.from.0) p.same) (on.pair ∙ ap (λ (y : ResetRow). Some y.pair.0) p.same),
       subst (λ (y : ResetRow). rises_from 0 (arrivals N y.from.0 y.pair.0) ≡ true) p.same p.rises,
     )
 
-pub reset_keeps : (N : Table) (row : List (List ℕ)) (x : ResetRow) → IsOnce N → IsSourced N → reset_in_row N row ≡ Ok x → IsOnce (with_reset N x) × IsSourced (with_reset N x)
+pub reset_keeps : (N : Table) (row : List (List ℕ)) (x : ResetRow) → IsOnce N → IsSourced N → reset_in_row N row ≡ Ok x
+    → IsOnce (with_reset N x) × IsSourced (with_reset N x)
 reset_keeps N row x once sourced is =
     let says = reset_lane N row x is in (
       stays_once N (with_reset N x) refl once once.plants once.bills once.cums (distinct_push is_same_reset N.resets x once.resets says.1),
-      stays_sourced N (with_reset N x) refl sourced sourced.parents sourced.plants sourced.ships sourced.cums (All-push (λ s. is_taken_from N s.pair.0 s.from.0 ≡ true) N.resets x sourced.resets says.0) (All-push (λ s. rises_from 0 (arrivals N s.from.0 s.pair.0) ≡ true) N.resets x sourced.arrive says.2),
+      stays_sourced N (with_reset N x) refl sourced sourced.parents sourced.plants sourced.ships sourced.cums
+          (All-push (λ s. is_taken_from N s.pair.0 s.from.0 ≡ true) N.resets x sourced.resets says.0)
+          (All-push (λ s. rises_from 0 (arrivals N s.from.0 s.pair.0) ≡ true) N.resets x sourced.arrive says.2),
     )

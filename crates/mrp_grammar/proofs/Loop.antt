@@ -1,5 +1,6 @@
 -- The rows after the first, read one after the other.
-use Rattle.std.proofs.Common.{◌≡◌, ℕ, ◌+◌, Bool, true, false, List, [], ◌∷◌, Option, Some, None, Result, Ok, Err, length, refl, sym, ap, ◌∙◌, ◌++◌, append_assoc, length-append, arith}
+use Rattle.std.proofs.Common.{◌≡◌, ℕ, ◌+◌, Bool, true, false, List, [], ◌∷◌, Option, Some, None, Result, Ok, Err, length, refl, sym, ap, ◌∙◌, ◌++◌}
+use Rattle.std.proofs.Common.{append_assoc, length-append, arith}
 use Rattle.std.proofs.lemmas.List.{append-nil}
 use Rattle.std.specs.List.{list_all}
 use Rattle.std.specs.Str.{is_utf8}
@@ -18,7 +19,8 @@ of_rows_from fault.ReadFault A B P Q f g says = f says
 of_rows_from fault.Memory A B P Q f g says = f says
 of_rows_from e A B P Q f g says = g says
 
-pub of_left_from : (left : Option (List (List (List ℕ)))) (P Q : List (List (List ℕ)) → Type 0) → ((rows : List (List (List ℕ))) → P rows → Q rows) → OfLeft left P → OfLeft left Q
+pub of_left_from : (left : Option (List (List (List ℕ)))) (P Q : List (List (List ℕ)) → Type 0) → ((rows : List (List (List ℕ))) → P rows → Q rows)
+    → OfLeft left P → OfLeft left Q
 of_left_from None P Q f says = tt
 of_left_from (Some rows) P Q f says = f rows says
 
@@ -48,7 +50,8 @@ row_goes : (number : ℕ) (s t : Table × Kind) (row : List (List ℕ)) (more : 
 unfolding rows_after
 row_goes number s t row more e = rw e refl
 
-rows_stop : (number : ℕ) (s : Table × Kind) (k : TableFaultKind) (row : List (List ℕ)) (rest rows : List (List (List ℕ))) → row_after s row ≡ Err k → rows ≡ row ∷ rest
+rows_stop : (number : ℕ) (s : Table × Kind) (k : TableFaultKind) (row : List (List ℕ)) (rest rows : List (List (List ℕ))) → row_after s row ≡ Err k
+    → rows ≡ row ∷ rest
     → rows_after number s rows ≡ Err (record { row = number; kind = k })
 unfolding rows_after
 rows_stop number s k row rest rows e same = rw (same, e) refl
@@ -58,26 +61,37 @@ unfolding rows_after
 rows_end number s rows same = rw same refl
 
 -- a good row
-pub goes_row : (before after : Option (List (List (List ℕ)))) (number : ℕ) (s t : Table × Kind) (row : List (List ℕ)) → TakesRow before after row → row_after s row ≡ Ok t
+pub goes_row : (before after : Option (List (List (List ℕ)))) (number : ℕ) (s t : Table × Kind) (row : List (List ℕ)) → TakesRow before after row
+    → row_after s row ≡ Ok t
     → ReadsOn before after number s (number + 1) t
 goes_row None after number s t row takes e = tt
 goes_row (Some rows) None number s t row takes e = absurd takes
-goes_row (Some rows) (Some rest) number s t row takes e = record { read = row ∷ []; rows_are = takes; next_is = refl; goes = λ more. row_goes number s t row more e }
+goes_row (Some rows) (Some rest) number s t row takes e = record {
+  read = row ∷ [];
+  rows_are = takes;
+  next_is = refl;
+  goes =
+      λ more. row_goes number s t row more e;
+}
 
 -- a row with a fault
-row_stops : (before after : Option (List (List (List ℕ)))) (number : ℕ) (s : Table × Kind) (k : TableFaultKind) (row : List (List ℕ)) → TakesRow before after row → row_after s row ≡ Err k
+row_stops : (before after : Option (List (List (List ℕ)))) (number : ℕ) (s : Table × Kind) (k : TableFaultKind) (row : List (List ℕ))
+    → TakesRow before after row → row_after s row ≡ Err k
     → OfLeft before (λ rows. rows_after number s rows ≡ Err (record { row = number; kind = k }))
 row_stops None after number s k row takes e = tt
 row_stops (Some rows) None number s k row takes e = absurd takes
 row_stops (Some rows) (Some rest) number s k row takes e = rows_stop number s k row rest rows e takes
 
-pub stops_row : (before after : Option (List (List (List ℕ)))) (number : ℕ) (s : Table × Kind) (k : TableFaultKind) (row : List (List ℕ)) → TakesRow before after row
+pub stops_row : (before after : Option (List (List (List ℕ)))) (number : ℕ) (s : Table × Kind) (k : TableFaultKind) (row : List (List ℕ))
+    → TakesRow before after row
     → TellsFault (row_after s row) k → OfRows k (Unit {0}) (OfLeft before (λ rows. rows_after number s rows ≡ Err (record { row = number; kind = k })))
 stops_row before after number s k row takes tells =
-    of_told k (row_after s row) (Unit {0}) (OfLeft before (λ rows. rows_after number s rows ≡ Err (record { row = number; kind = k }))) tt tells (row_stops before after number s k row takes)
+    of_told k (row_after s row) (Unit {0}) (OfLeft before (λ rows. rows_after number s rows ≡ Err (record { row = number; kind = k }))) tt tells
+    (row_stops before after number s k row takes)
 
 -- no row more
-pub ends_there : (before : Option (List (List (List ℕ)))) (number : ℕ) (s : Table × Kind) → OfLeft before (λ rows. rows ≡ []) → OfLeft before (λ rows. rows_after number s rows ≡ Ok s.0)
+pub ends_there : (before : Option (List (List (List ℕ)))) (number : ℕ) (s : Table × Kind) → OfLeft before (λ rows. rows ≡ [])
+    → OfLeft before (λ rows. rows_after number s rows ≡ Ok s.0)
 ends_there before number s = of_left_from before (λ rows. rows ≡ []) (λ rows. rows_after number s rows ≡ Ok s.0) (rows_end number s)
 
 -- a row that isn't text
@@ -85,10 +99,12 @@ bad_stops : (number : ℕ) (s : Table × Kind) (e : TableFault) (rows : List (Li
 bad_stops number s e rows bad =
     rows_stop number s fault.NotUtf8 bad.row bad.rest rows (row_no_text s bad.row bad.no_text) bad.rows_are ∙ ap (λ (f : TableFault). Err f) (sym bad.fault_is)
 
-pub bad_there : (before : Option (List (List (List ℕ)))) (number : ℕ) (s : Table × Kind) (e : TableFault) → OfRows e.kind (Unit {0}) (OfLeft before (λ rows. StartsBadly number rows e))
+pub bad_there : (before : Option (List (List (List ℕ)))) (number : ℕ) (s : Table × Kind) (e : TableFault)
+    → OfRows e.kind (Unit {0}) (OfLeft before (λ rows. StartsBadly number rows e))
     → OfRows e.kind (Unit {0}) (OfLeft before (λ rows. rows_after number s rows ≡ Err e))
 bad_there before number s e =
-    of_rows_from e.kind (Unit {0}) (Unit {0}) (OfLeft before (λ rows. StartsBadly number rows e)) (OfLeft before (λ rows. rows_after number s rows ≡ Err e)) (λ above. above)
+    of_rows_from e.kind (Unit {0}) (Unit {0}) (OfLeft before (λ rows. StartsBadly number rows e)) (OfLeft before (λ rows. rows_after number s rows ≡ Err e))
+    (λ above. above)
     (of_left_from before (λ rows. StartsBadly number rows e) (λ rows. rows_after number s rows ≡ Err e) (bad_stops number s e))
 
 -- ---- the loop
@@ -115,7 +131,8 @@ goes_to (Some xs) None n m s t answer f says = absurd f
 goes_to (Some xs) (Some ys) n m s t answer f says = ap (rows_after n s) f.rows_are ∙ f.goes ys ∙ says
 
 -- no row is left, so as many were read as there were
-pub read_all : (a b : Option (List (List (List ℕ)))) (n m : ℕ) (s t : Table × Kind) (old mid new : ℕ) → ReadsOn a b n s m t → OfLeft b (λ rows. rows ≡ []) → mid + n ≡ old + m → new ≡ mid + 1
+pub read_all : (a b : Option (List (List (List ℕ)))) (n m : ℕ) (s t : Table × Kind) (old mid new : ℕ) → ReadsOn a b n s m t → OfLeft b (λ rows. rows ≡ [])
+    → mid + n ≡ old + m → new ≡ mid + 1
     → OfLeft a (λ rows. new ≡ old + length rows + 1)
 read_all None b n m s t old mid new f none steps last = tt
 read_all (Some xs) None n m s t old mid new f none steps last = absurd f
@@ -134,29 +151,35 @@ sound_to (Some xs) (Some ys) n m s t other same f =
     record { above = f.read; rest = ys; made = t.0; rows_are = f.rows_are; other_is = same ∙ f.next_is; no_fault = read_sound n m s t xs ys f }
 
 pub goes_to_fault : (a b : Option (List (List (List ℕ)))) (n m : ℕ) (s t : Table × Kind) (e : TableFault) → e.row ≡ m → ReadsOn a b n s m t
-    → OfRows e.kind (Unit {0}) (OfLeft b (λ rows. rows_after m t rows ≡ Err e)) → OfRows e.kind (OfLeft a (IsSoundTo n s e.row)) (OfLeft a (λ rows. rows_after n s rows ≡ Err e))
+    → OfRows e.kind (Unit {0}) (OfLeft b (λ rows. rows_after m t rows ≡ Err e))
+    → OfRows e.kind (OfLeft a (IsSoundTo n s e.row)) (OfLeft a (λ rows. rows_after n s rows ≡ Err e))
 goes_to_fault a b n m s t e same f =
-    of_rows_from e.kind (Unit {0}) (OfLeft a (IsSoundTo n s e.row)) (OfLeft b (λ rows. rows_after m t rows ≡ Err e)) (OfLeft a (λ rows. rows_after n s rows ≡ Err e))
+    of_rows_from e.kind (Unit {0}) (OfLeft a (IsSoundTo n s e.row)) (OfLeft b (λ rows. rows_after m t rows ≡ Err e))
+    (OfLeft a (λ rows. rows_after n s rows ≡ Err e))
     (λ above. sound_to a b n m s t e.row same f) (goes_to a b n m s t (Err e) f)
 
 -- ---- what the steps answer
 
-pub none_there : (found : Bool) (before after : Option (List (List (List ℕ)))) (number : ℕ) (row : List (List ℕ)) → found ≡ false → TellsTaken before after number row (Ok found)
+pub none_there : (found : Bool) (before after : Option (List (List (List ℕ)))) (number : ℕ) (row : List (List ℕ)) → found ≡ false
+    → TellsTaken before after number row (Ok found)
     → OfLeft before (λ rows. rows ≡ [])
 none_there true before after number row e taken = absurd (cc)
 none_there false before after number row e taken = taken
 
-pub some_there : (found : Bool) (before after : Option (List (List (List ℕ)))) (number : ℕ) (row : List (List ℕ)) → found ≡ true → TellsTaken before after number row (Ok found)
+pub some_there : (found : Bool) (before after : Option (List (List (List ℕ)))) (number : ℕ) (row : List (List ℕ)) → found ≡ true
+    → TellsTaken before after number row (Ok found)
     → TakesRow before after row
 some_there true before after number row e taken = taken
 some_there false before after number row e taken = absurd (cc)
 
 -- one turn of the loop
-pub next_true : (found : Bool) (a b c : Option (List (List (List ℕ)))) (n m : ℕ) (s t u : Table × Kind) → found ≡ true → ReadsOn a b n s m t → TellsNext b c m t u (Ok found) → ReadsOn a c n s (m + 1) u
+pub next_true : (found : Bool) (a b c : Option (List (List (List ℕ)))) (n m : ℕ) (s t u : Table × Kind) → found ≡ true → ReadsOn a b n s m t
+    → TellsNext b c m t u (Ok found) → ReadsOn a c n s (m + 1) u
 next_true true a b c n m s t u e goes next = goes_on_on a b c n m (m + 1) s t u goes next
 next_true false a b c n m s t u e goes next = absurd (cc)
 
-pub next_false : (found : Bool) (a b c : Option (List (List (List ℕ)))) (n m : ℕ) (s t u : Table × Kind) → found ≡ false → ReadsOn a b n s m t → TellsNext b c m t u (Ok found)
+pub next_false : (found : Bool) (a b c : Option (List (List (List ℕ)))) (n m : ℕ) (s t u : Table × Kind) → found ≡ false → ReadsOn a b n s m t
+    → TellsNext b c m t u (Ok found)
     → OfLeft a (λ rows. rows_after n s rows ≡ Ok u.0)
 next_false true a b c n m s t u e goes next = absurd (cc)
 next_false false a b c n m s t u e goes next = goes_to a b n m s t (Ok u.0) goes next

@@ -20,10 +20,12 @@ unfolding first_lacking
 none_lacking N [] all = refl
 none_lacking N (s ∷ ss) all = rw (has N s (All-head (HasPair N) s ss all)) (none_lacking N ss (All-tail (HasPair N) s ss all))
 
-one_lacking : (N : Table) (above below : List SourceRow) (s : SourceRow) → All (HasPair N) above → ¬ (HasPair N s) → first_lacking N (above ++ s ∷ below) ≡ Some s.pair.0
+one_lacking : (N : Table) (above below : List SourceRow) (s : SourceRow) → All (HasPair N) above → ¬ (HasPair N s)
+    → first_lacking N (above ++ s ∷ below) ≡ Some s.pair.0
 unfolding first_lacking
 one_lacking N [] below s all other = rw (lacks N s other) refl
-one_lacking N (r ∷ above) below s all other = rw (has N r (All-head (HasPair N) r above all)) (one_lacking N above below s (All-tail (HasPair N) r above all) other)
+one_lacking N (r ∷ above) below s all other = rw (has N r (All-head (HasPair N) r above all))
+    (one_lacking N above below s (All-tail (HasPair N) r above all) other)
 
 pub missing_told : (N : Table) → TellsMissing N
 missing_told N = record {

@@ -14,13 +14,15 @@ use Rattle.mrp_grammar.specs.Reading.{first_terms, IsCalendarOf, read_from, Read
 
 -- ---- the calendar of a run
 
-same_parts : (f g : ℤ) (d e p q : ℕ) → f ≡ g → d ≡ e → p ≡ q → ◌≡◌ {A = CalendarTerms} (record { first = f; days = d; periods = p }) (record { first = g; days = e; periods = q })
+same_parts : (f g : ℤ) (d e p q : ℕ) → f ≡ g → d ≡ e → p ≡ q → ◌≡◌ {A =
+    CalendarTerms} (record { first = f; days = d; periods = p }) (record { first = g; days = e; periods = q })
 same_parts f g d e p q first days periods = rw (first, days, periods) refl
 
 -- two calendars of one text, one length and one count are one
 same_terms : (text : List ℕ) (days periods : ℕ) (a b : CalendarTerms) → IsCalendarFrom text days periods a → IsCalendarFrom text days periods b → a ≡ b
 same_terms text days periods a b h k =
-    same_parts a.first b.first a.days b.days a.periods b.periods (one_day text a.first b.first h.first k.first) (h.days ∙ sym k.days) (h.periods ∙ sym k.periods)
+    same_parts a.first b.first a.days b.days a.periods b.periods (one_day text a.first b.first h.first k.first) (h.days ∙ sym k.days) (h.periods
+    ∙ sym k.periods)
 
 -- a day can't be both by another and after it
 not_both : (day last : ℤ) → day ≤ℤ last → last <ℤ day → ⊥

@@ -1,5 +1,6 @@
 -- The records of a text: each but one at the very end eats a byte, so those that are counted are all.
-use Rattle.std.proofs.Common.{◌≡◌, ◌⊎◌, inl, inr, ℕ, zero, suc, ◌+◌, ◌<◌, Bool, true, false, if◌then◌else◌, List, [], ◌∷◌, length, Option, Some, None, refl, ap, arith, add-one}
+use Rattle.std.proofs.Common.{◌≡◌, ◌⊎◌, inl, inr, ℕ, zero, suc, ◌+◌, ◌<◌, Bool, true, false, if◌then◌else◌, List, [], ◌∷◌, length, Option, Some, None, refl, ap}
+use Rattle.std.proofs.Common.{arith, add-one}
 use Rattle.csv.specs.Machine.{Read, ends_at_end, field_after, fields_after, is_end, next_record, step}
 use Rattle.csv.specs.Reading.{AreRecords, Reached, records_from, records_next}
 use Rattle.csv.specs.declared.parser.Config.{Config}
@@ -27,7 +28,8 @@ pub eats : (cfg : Config) (s : State) (fields : List (List ℕ)) (field xs : Lis
 unfolding next_record
 eats cfg s fields field [] r e = eats_last (ends_at_end s) _ r e
 eats cfg s fields field (c ∷ rest) r e =
-    eats_end (is_end (step cfg s c).1) c rest _ _ _ r (eats cfg (step cfg s c).0 (fields_after (step cfg s c).1 fields field) (field_after (step cfg s c).1 c field) rest r) e
+    eats_end (is_end (step cfg s c).1) c rest _ _ _ r (eats cfg (step cfg s c).0 (fields_after (step cfg s c).1 fields field)
+    (field_after (step cfg s c).1 c field) rest r) e
 
 -- at the end of a text there is no record more
 at_end : (cfg : Config) (n : ℕ) → records_from cfg n st.StartRecord [] ≡ []
@@ -51,7 +53,8 @@ unfolding records_from
 enough cfg zero m s xs a b = absurd (omega arith)
 enough cfg (suc n) zero s xs a b = absurd (omega arith)
 enough cfg (suc n) (suc m) s xs a b =
-    next_same cfg n m (next_record cfg s [] [] xs) (λ r e. after_eaten cfg n m xs r (λ fewer. enough cfg n m r.1 r.2 (omega arith) (omega arith)) (eats cfg s [] [] xs r e))
+    next_same cfg n m (next_record cfg s [] [] xs) (λ r e. after_eaten cfg n m xs r (λ fewer. enough cfg n m r.1 r.2 (omega arith) (omega arith))
+    (eats cfg s [] [] xs r e))
 
 -- no record is left
 pub none_left : (cfg : Config) (s : State) (xs : List ℕ) → next_record cfg s [] [] xs ≡ None → records_from cfg (length xs + 1) s xs ≡ []
@@ -64,10 +67,12 @@ pub one_left : (cfg : Config) (s : State) (xs : List ℕ) (r : Read) → next_re
 unfolding records_from
 one_left cfg s xs r e =
     rw (add-one (length xs), e) (ap (λ (rows : List (List (List ℕ))). r.0 ∷ rows)
-    (after_eaten cfg (length xs) (length r.2 + 1) xs r (λ fewer. enough cfg (length xs) (length r.2 + 1) r.1 r.2 fewer (omega arith)) (eats cfg s [] [] xs r e)))
+    (after_eaten cfg (length xs) (length r.2 + 1) xs r (λ fewer. enough cfg (length xs) (length r.2 + 1) r.1 r.2 fewer (omega arith))
+    (eats cfg s [] [] xs r e)))
 
 -- the records that are counted are all the records of the text
-all_next : (cfg : Config) (n : ℕ) (s : State) (xs : List ℕ) (o : Option Read) → next_record cfg s [] [] xs ≡ o → ((r : Read) → o ≡ Some r → AreRecords cfg r.1 r.2 (records_from cfg n r.1 r.2))
+all_next : (cfg : Config) (n : ℕ) (s : State) (xs : List ℕ) (o : Option Read) → next_record cfg s [] [] xs ≡ o
+    → ((r : Read) → o ≡ Some r → AreRecords cfg r.1 r.2 (records_from cfg n r.1 r.2))
     → AreRecords cfg s xs (records_next (records_from cfg n) o)
 unfolding Reached
 all_next cfg n s xs None e more = (s, xs, (refl, refl), e)
@@ -77,7 +82,8 @@ all_at_end : (cfg : Config) (n : ℕ) → AreRecords cfg st.StartRecord [] (reco
 unfolding Reached next_record
 all_at_end cfg n = rw (at_end cfg n) (st.StartRecord, [], (refl, refl), refl)
 
-all_after : (cfg : Config) (n : ℕ) (xs : List ℕ) (r : Read) → (length r.2 < length xs → AreRecords cfg r.1 r.2 (records_from cfg n r.1 r.2)) → Eats xs r → AreRecords cfg r.1 r.2 (records_from cfg n r.1 r.2)
+all_after : (cfg : Config) (n : ℕ) (xs : List ℕ) (r : Read) → (length r.2 < length xs → AreRecords cfg r.1 r.2 (records_from cfg n r.1 r.2)) → Eats xs r
+    → AreRecords cfg r.1 r.2 (records_from cfg n r.1 r.2)
 all_after cfg n xs r more (inl fewer) = more fewer
 all_after cfg n xs r more (inr ends) = rw (ends.0, ends.1) (all_at_end cfg n)
 
@@ -85,4 +91,5 @@ pub records_all : (cfg : Config) (n : ℕ) (s : State) (xs : List ℕ) → lengt
 unfolding records_from
 records_all cfg zero s xs lt = absurd (omega arith)
 records_all cfg (suc n) s xs lt =
-    all_next cfg n s xs (next_record cfg s [] [] xs) refl (λ r e. all_after cfg n xs r (λ fewer. records_all cfg n r.1 r.2 (omega arith)) (eats cfg s [] [] xs r e))
+    all_next cfg n s xs (next_record cfg s [] [] xs) refl (λ r e. all_after cfg n xs r (λ fewer. records_all cfg n r.1 r.2 (omega arith))
+    (eats cfg s [] [] xs r e))

@@ -36,7 +36,8 @@ no_text row not_text =
     ]
 
 -- the records that are left after a read
-next_some : (o : Option Read) (row : List (List ℕ)) (s : State) (ys : List ℕ) → NextIs o true row s ys → (r : Read) × (o ≡ Some r) × (row ≡ r.0) × (s ≡ r.1) × (ys ≡ r.2)
+next_some : (o : Option Read) (row : List (List ℕ)) (s : State) (ys : List ℕ) → NextIs o true row s ys
+    → (r : Read) × (o ≡ Some r) × (row ≡ r.0) × (s ≡ r.1) × (ys ≡ r.2)
 next_some None row s ys n = cc n
 next_some (Some r) row s ys n = (r, refl, n.1, n.2, n.3)
 
@@ -44,7 +45,8 @@ next_none : (o : Option Read) (row : List (List ℕ)) (s : State) (ys : List ℕ
 next_none None row s ys n = refl
 next_none (Some r) row s ys n = cc n.0
 
-rows_same : (rows : List (List (List ℕ))) (row : List (List ℕ)) (t : State) (ys : List ℕ) (r : Read) → row ≡ r.0 → t ≡ r.1 → ys ≡ r.2 → rows ≡ r.0 ∷ records_in r.1 r.2
+rows_same : (rows : List (List (List ℕ))) (row : List (List ℕ)) (t : State) (ys : List ℕ) (r : Read) → row ≡ r.0 → t ≡ r.1 → ys ≡ r.2
+    → rows ≡ r.0 ∷ records_in r.1 r.2
     → rows ≡ row ∷ records_in t ys
 rows_same rows row t ys r a b c e = rw (a, b, c) e
 
@@ -78,7 +80,8 @@ pub ends_rows : {R : Type 0} (rem : R → Option (List ℕ)) (old new : Reader R
 ends_rows rem old new row gives r = ended old.state new.state (source_of rem old) (pending_of (rem new.rdr) new) row (rw gives.0 at r.0)
 
 -- a read of a row that isn't text
-bad_row : (left : Option (List (List (List ℕ)))) (row : List (List ℕ)) (number : ℕ) → list_all is_utf8 row ≡ false → OfLeft left (λ rows. (rest : List (List (List ℕ))) × (rows ≡ row ∷ rest))
+bad_row : (left : Option (List (List (List ℕ)))) (row : List (List ℕ)) (number : ℕ) → list_all is_utf8 row ≡ false
+    → OfLeft left (λ rows. (rest : List (List (List ℕ))) × (rows ≡ row ∷ rest))
     → OfLeft left (λ rows. StartsBadly number rows (record { row = number; kind = fault.NotUtf8 }))
 bad_row None row number bad s = tt
 bad_row (Some rows) row number bad s = record { row = row; rest = s.0; rows_are = s.1; no_text = bad; fault_is = refl }
@@ -89,7 +92,8 @@ pub explains : {R : Type 0} (rem : R → Option (List ℕ)) (old new : Reader R)
     → OfRows (fault_of why) (Unit {0}) (OfLeft (rows_left rem old) (λ rows. StartsBadly number rows (record { row = number; kind = fault_of why })))
 explains rem old new number (error.Io e) gives r = tt
 explains rem old new number (error.Utf8 pos e) gives r =
-    bad_row (rows_left rem old) r.1 number (no_text r.1 r.3) (starts old.state new.state (source_of rem old) (pending_of (rem new.rdr) new) r.1 (rw gives.0 at r.2))
+    bad_row (rows_left rem old) r.1 number (no_text r.1 r.3) (starts old.state new.state (source_of rem old) (pending_of (rem new.rdr) new) r.1
+    (rw gives.0 at r.2))
 explains rem old new number (error.UnequalLengths pos expected len) gives r = absurd (false≢true (sym r.0 ∙ gives.3))
 explains rem old new number (error.Serialize text) gives r = tt
 explains rem old new number (error.Deserialize pos e) gives r = tt
@@ -105,7 +109,8 @@ may_come rem old new (error.Deserialize pos e) gives r = absurd r
 may_come rem old new error.OutOfMemory gives r = tt
 
 -- a failed read stops the reader, whatever its errors are called
-stops_at : {F : Type 0} (called : ErrorKind → F) (failed : F) → ((pos : _) (e : _) → called (error.Utf8 pos e) ≡ failed → ⊥) → (why : ErrorKind) → called why ≡ failed → MayCome why → stops_reader why ≡ true
+stops_at : {F : Type 0} (called : ErrorKind → F) (failed : F) → ((pos : _) (e : _) → called (error.Utf8 pos e) ≡ failed → ⊥) → (why : ErrorKind)
+    → called why ≡ failed → MayCome why → stops_reader why ≡ true
 stops_at called failed text (error.Io e) same comes = refl
 stops_at called failed text (error.Utf8 pos e) same comes = absurd (text pos e same)
 stops_at called failed text (error.UnequalLengths pos expected len) same comes = absurd comes
@@ -114,12 +119,16 @@ stops_at called failed text (error.Deserialize pos e) same comes = absurd comes
 stops_at called failed text error.OutOfMemory same comes = refl
 
 -- what a reader that gives each record says of the error of its read, and of what it is called
-module _ {R : Type 0} (rem : R → Option (List ℕ)) (old new : Reader R) (gives : GivesAll old) (why kind : ErrorKind) (explained : reader_trim old ≡ trim.None → Ready old → ExplainsRead rem old new true why) (same : kind ≡ why) where
+module _ {R : Type 0} (rem : R → Option (List ℕ)) (old new : Reader R) (gives : GivesAll old) (why kind : ErrorKind) (explained : reader_trim old ≡ trim.None
+    → Ready old → ExplainsRead rem old new true why) (same : kind ≡ why) where
   pub came : MayCome kind
   came = subst MayCome (sym same) (may_come rem old new why gives (explained gives.1 gives.2))
 
-  pub explains_as : (number : ℕ) (told : TableFaultKind) → told ≡ fault_of kind → OfRows told (Unit {0}) (OfLeft (rows_left rem old) (λ rows. StartsBadly number rows (record { row = number; kind = told })))
+  pub explains_as : (number : ℕ) (told : TableFaultKind) → told ≡ fault_of kind
+      → OfRows told (Unit {0}) (OfLeft (rows_left rem old) (λ rows. StartsBadly number rows (record { row = number; kind = told })))
   explains_as number told is = rw (is ∙ ap fault_of same) (explains rem old new number why gives (explained gives.1 gives.2))
 
-  pub has_stopped : {F : Type 0} (called : ErrorKind → F) (failed told : F) → ((pos : _) (e : _) → called (error.Utf8 pos e) ≡ failed → ⊥) → has_failed new ≡ stops_reader why → told ≡ called kind → told ≡ failed → has_failed new ≡ true
-  has_stopped called failed told text fails is ends = fails ∙ stops_at called failed text why (sym (is ∙ ap called same) ∙ ends) (may_come rem old new why gives (explained gives.1 gives.2))
+  pub has_stopped : {F : Type 0} (called : ErrorKind → F) (failed told : F) → ((pos : _) (e : _) → called (error.Utf8 pos e) ≡ failed → ⊥)
+      → has_failed new ≡ stops_reader why → told ≡ called kind → told ≡ failed → has_failed new ≡ true
+  has_stopped called failed told text fails is ends = fails ∙ stops_at called failed text why (sym (is ∙ ap called same) ∙ ends)
+      (may_come rem old new why gives (explained gives.1 gives.2))

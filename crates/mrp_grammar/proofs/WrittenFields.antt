@@ -1,5 +1,6 @@
 -- What the fields of a row that was read spell, and the names of what it names.
-use Rattle.std.proofs.Common.{◌≡◌, ℕ, ◌==◌, ◌&&◌, Bool, true, false, if◌then◌else◌, get_or, List, [], ◌∷◌, length, codes, Option, Some, None, option_map, position, unwrap_or, Result, Ok, Err, ok_or, refl, ap, sym, ◌∙◌, subst, arith}
+use Rattle.std.proofs.Common.{◌≡◌, ℕ, ◌==◌, ◌&&◌, Bool, true, false, if◌then◌else◌, get_or, List, [], ◌∷◌, length, codes, Option, Some, None, option_map}
+use Rattle.std.proofs.Common.{position, unwrap_or, Result, Ok, Err, ok_or, refl, ap, sym, ◌∙◌, subst, arith}
 use Rattle.std.specs.List.{list_all}
 use Rattle.std.specs.Str.{bytes_eq, is_utf8}
 use Rattle.std.proofs.lemmas.Bool.{and_parts, eqb-true}
@@ -35,7 +36,8 @@ word_of kind.Ship = codes "ship"
 word_of kind.Cum = codes "cum"
 word_of kind.Reset = codes "reset"
 
-chosen : (w : List ℕ) (named : Kind) (rest : Option Kind) (k : Kind) → (if bytes_eq w (word_of named) then Some named else rest) ≡ Some k → (rest ≡ Some k → w ≡ word_of k) → w ≡ word_of k
+chosen : (w : List ℕ) (named : Kind) (rest : Option Kind) (k : Kind) → (if bytes_eq w (word_of named) then Some named else rest) ≡ Some k
+    → (rest ≡ Some k → w ≡ word_of k) → w ≡ word_of k
 chosen w named rest k is more = by (bytes_eq w (word_of named)) refl is
   where
     by : (b : Bool) → bytes_eq w (word_of named) ≡ b → (if b then Some named else rest) ≡ Some k → w ≡ word_of k
@@ -46,8 +48,10 @@ chosen w named rest k is more = by (bytes_eq w (word_of named)) refl is
 
 word_is : (w : List ℕ) (k : Kind) → kind_of w ≡ Some k → w ≡ word_of k
 word_is w k is =
-    chosen w kind.Demand _ k is (λ e1. chosen w kind.Receipt _ k e1 (λ e2. chosen w kind.Ship _ k e2 (λ e3. chosen w kind.Bill _ k e3 (λ e4. chosen w kind.Pair _ k e4
-    (λ e5. chosen w kind.Cum _ k e5 (λ e6. chosen w kind.Reset _ k e6 (λ e7. chosen w kind.Plant _ k e7 (λ e8. chosen w kind.Run None k e8 (λ e9. absurd (cc))))))))))
+    chosen w kind.Demand _ k is (λ e1. chosen w kind.Receipt _ k e1
+    (λ e2. chosen w kind.Ship _ k e2 (λ e3. chosen w kind.Bill _ k e3 (λ e4. chosen w kind.Pair _ k e4
+    (λ e5. chosen w kind.Cum _ k e5 (λ e6. chosen w kind.Reset _ k e6
+    (λ e7. chosen w kind.Plant _ k e7 (λ e8. chosen w kind.Run None k e8 (λ e9. absurd (cc))))))))))
 
 -- ---- a row has eight fields
 
@@ -87,7 +91,8 @@ pub record AreFree (row : List (List ℕ)) (n : ℕ) : Type 0 where
   pub six : is_free row n 6 ≡ true
   pub seven : is_free row n 7 ≡ true
 
-and_seven : (a b c d e f g : Bool) → (a && b && c && d && e && f && g) ≡ true → (a ≡ true) × (b ≡ true) × (c ≡ true) × (d ≡ true) × (e ≡ true) × (f ≡ true) × (g ≡ true)
+and_seven : (a b c d e f g : Bool) → (a && b && c && d && e && f && g) ≡ true → (a ≡ true) × (b ≡ true) × (c ≡ true) × (d ≡ true) × (e ≡ true) × (f ≡ true)
+    × (g ≡ true)
 and_seven true true true true true true true is = (refl, refl, refl, refl, refl, refl, refl)
 and_seven true true true true true true false is = absurd (cc)
 and_seven true true true true true false g is = absurd (cc)
@@ -116,31 +121,39 @@ of_kind row k e =
     let c = after_some (kind_of (field row 0)) _ _ k b.1 in
     by c.0 (is_empty_from row (used c.0)) refl c.2 (word_is (field row 0) c.0 c.1) (same_length (length row) 8 b.0)
   where
-    by : (l : Kind) (b : Bool) → is_empty_from row (used l) ≡ b → ◌≡◌ {A = Result Kind TableFaultKind} (if b then Ok l else Err fault.FieldCount) (Ok k) → field row 0 ≡ word_of l → length row ≡ 8 → IsOfKind row k
+    by : (l : Kind) (b : Bool) → is_empty_from row (used l) ≡ b → ◌≡◌ {A = Result Kind TableFaultKind} (if b then Ok l else Err fault.FieldCount) (Ok k)
+        → field row 0 ≡ word_of l → length row ≡ 8 → IsOfKind row k
     by l true free e word size = subst (IsOfKind row) (same_Ok l k e) (record { size = size; word = word; free = are_free row (used l) free })
     by l false free e word size = absurd (cc)
 
 -- the fields of a row of a kind, by how many it uses
-pub two_used : (row : List (List ℕ)) (word b : List ℕ) → length row ≡ 8 → field row 0 ≡ word → AreFree row 2 → field row 1 ≡ b → row ≡ word ∷ b ∷ [] ∷ [] ∷ [] ∷ [] ∷ [] ∷ [] ∷ []
+pub two_used : (row : List (List ℕ)) (word b : List ℕ) → length row ≡ 8 → field row 0 ≡ word → AreFree row 2 → field row 1 ≡ b
+    → row ≡ word ∷ b ∷ [] ∷ [] ∷ [] ∷ [] ∷ [] ∷ [] ∷ []
 two_used row word b size ew free eb =
-    eight row size ∙ fields_same _ _ _ _ _ _ _ _ word b [] [] [] [] [] [] ew eb (empty _ free.two) (empty _ free.three) (empty _ free.four) (empty _ free.five) (empty _ free.six) (empty _ free.seven)
+    eight row size ∙ fields_same _ _ _ _ _ _ _ _ word b [] [] [] [] [] [] ew eb (empty _ free.two) (empty _ free.three) (empty _ free.four) (empty _ free.five)
+    (empty _ free.six) (empty _ free.seven)
 
-pub four_used : (row : List (List ℕ)) (word b c d : List ℕ) → length row ≡ 8 → field row 0 ≡ word → AreFree row 4 → field row 1 ≡ b → field row 2 ≡ c → field row 3 ≡ d
+pub four_used : (row : List (List ℕ)) (word b c d : List ℕ) → length row ≡ 8 → field row 0 ≡ word → AreFree row 4 → field row 1 ≡ b → field row 2 ≡ c
+    → field row 3 ≡ d
     → row ≡ word ∷ b ∷ c ∷ d ∷ [] ∷ [] ∷ [] ∷ [] ∷ []
 four_used row word b c d size ew free eb ec ed =
-    eight row size ∙ fields_same _ _ _ _ _ _ _ _ word b c d [] [] [] [] ew eb ec ed (empty _ free.four) (empty _ free.five) (empty _ free.six) (empty _ free.seven)
+    eight row size ∙ fields_same _ _ _ _ _ _ _ _ word b c d [] [] [] [] ew eb ec ed (empty _ free.four) (empty _ free.five) (empty _ free.six)
+    (empty _ free.seven)
 
-pub five_used : (row : List (List ℕ)) (word b c d e : List ℕ) → length row ≡ 8 → field row 0 ≡ word → AreFree row 5 → field row 1 ≡ b → field row 2 ≡ c → field row 3 ≡ d → field row 4 ≡ e
+pub five_used : (row : List (List ℕ)) (word b c d e : List ℕ) → length row ≡ 8 → field row 0 ≡ word → AreFree row 5 → field row 1 ≡ b → field row 2 ≡ c
+    → field row 3 ≡ d → field row 4 ≡ e
     → row ≡ word ∷ b ∷ c ∷ d ∷ e ∷ [] ∷ [] ∷ [] ∷ []
 five_used row word b c d e size ew free eb ec ed ee =
     eight row size ∙ fields_same _ _ _ _ _ _ _ _ word b c d e [] [] [] ew eb ec ed ee (empty _ free.five) (empty _ free.six) (empty _ free.seven)
 
-pub six_used : (row : List (List ℕ)) (word b c d e f : List ℕ) → length row ≡ 8 → field row 0 ≡ word → AreFree row 6 → field row 1 ≡ b → field row 2 ≡ c → field row 3 ≡ d → field row 4 ≡ e → field row 5 ≡ f
+pub six_used : (row : List (List ℕ)) (word b c d e f : List ℕ) → length row ≡ 8 → field row 0 ≡ word → AreFree row 6 → field row 1 ≡ b → field row 2 ≡ c
+    → field row 3 ≡ d → field row 4 ≡ e → field row 5 ≡ f
     → row ≡ word ∷ b ∷ c ∷ d ∷ e ∷ f ∷ [] ∷ [] ∷ []
 six_used row word b c d e f size ew free eb ec ed ee ef =
     eight row size ∙ fields_same _ _ _ _ _ _ _ _ word b c d e f [] [] ew eb ec ed ee ef (empty _ free.six) (empty _ free.seven)
 
-pub all_used : (row : List (List ℕ)) (word b c d e f g h : List ℕ) → length row ≡ 8 → field row 0 ≡ word → field row 1 ≡ b → field row 2 ≡ c → field row 3 ≡ d → field row 4 ≡ e → field row 5 ≡ f
+pub all_used : (row : List (List ℕ)) (word b c d e f g h : List ℕ) → length row ≡ 8 → field row 0 ≡ word → field row 1 ≡ b → field row 2 ≡ c → field row 3 ≡ d
+    → field row 4 ≡ e → field row 5 ≡ f
     → field row 6 ≡ g → field row 7 ≡ h → row ≡ word ∷ b ∷ c ∷ d ∷ e ∷ f ∷ g ∷ h ∷ []
 all_used row word b c d e f g h size ew eb ec ed ee ef eg eh = eight row size ∙ fields_same _ _ _ _ _ _ _ _ word b c d e f g h ew eb ec ed ee ef eg eh
 

@@ -1,6 +1,7 @@
 -- A pair row is what is written of the pair that it adds, its item and its sources; and what is written of the pairs
 -- before it stays.
-use Rattle.std.proofs.Common.{◌≡◌, ◌≤◌, ◌<◌, ℕ, ◌+◌, Bool, true, false, if◌then◌else◌, get_or, max, List, [], ◌∷◌, ◌++◌, map, length, Option, position, slice_index_or, unwrap_or, Ok, refl, ap, sym, ◌∙◌, subst, arith}
+use Rattle.std.proofs.Common.{◌≡◌, ◌≤◌, ◌<◌, ℕ, ◌+◌, Bool, true, false, if◌then◌else◌, get_or, max, List, [], ◌∷◌, ◌++◌, map, length, Option, position}
+use Rattle.std.proofs.Common.{slice_index_or, unwrap_or, Ok, refl, ap, sym, ◌∙◌, subst, arith}
 use Rattle.std.specs.List.{All, list_any}
 use Rattle.std.specs.Str.{bytes_eq}
 use Rattle.std.proofs.lemmas.List.{get_or_append_left, length_push}
@@ -55,7 +56,8 @@ pair_terms_said row t is =
 -- ---- names among names
 
 -- the name at the place where it was found
-name_back : (names : List (List ℕ)) (name : List ℕ) → list_any (bytes_eq name) names ≡ true → get_or names (unwrap_or (position (bytes_eq name) names) 0) [] ≡ name
+name_back : (names : List (List ℕ)) (name : List ℕ) → list_any (bytes_eq name) names ≡ true
+    → get_or names (unwrap_or (position (bytes_eq name) names) 0) [] ≡ name
 name_back names name there =
     let at = position-from_any (bytes_eq name) names there in
     ap (λ (o : Option ℕ). get_or names (unwrap_or o 0) []) at.1 ∙ sym (named_at names name at.0 at.1)
@@ -109,7 +111,8 @@ said_by plants s = record { plant = slice_index_or plants s.plant.0 []; low = s.
 said_same : (N M : Table) → M.plants ≡ N.plants → (rows : List SourceRow) → map (source_said M) rows ≡ map (source_said N) rows
 said_same N M same rows = ap (λ (plants : List (List ℕ)). map (said_by plants) rows) same
 
-supply_back : (N M : Table) (x : ℕ) (s : SupplyTerms) → M.plants ≡ N.plants → sources_of_pair M x ≡ map (source_row N x) (named_sources s) → All (λ s. has_plant N s.plant ≡ true) (named_sources s)
+supply_back : (N M : Table) (x : ℕ) (s : SupplyTerms) → M.plants ≡ N.plants → sources_of_pair M x ≡ map (source_row N x) (named_sources s)
+    → All (λ s. has_plant N s.plant ≡ true) (named_sources s)
     → supply_said M x (supply_kind s) ≡ s
 supply_back N M x MakeTerms same kept known = refl
 supply_back N M x BuyTerms same kept known = refl
@@ -123,12 +126,15 @@ supply_stays N M x supply.From same kept = ap FromTerms (ap (map (source_said M)
 
 -- ---- the pairs before stay as they are written
 
-pair_stays : (N M : Table) (x : ℕ) (p : PairRow) → M.plants ≡ N.plants → item_name M p.item.0 ≡ item_name N p.item.0 → sources_of_pair M x ≡ sources_of_pair N x → pair_fields M x p ≡ pair_fields N x p
+pair_stays : (N M : Table) (x : ℕ) (p : PairRow) → M.plants ≡ N.plants → item_name M p.item.0 ≡ item_name N p.item.0 → sources_of_pair M x ≡ sources_of_pair N x
+    → pair_fields M x p ≡ pair_fields N x p
 pair_stays N M x p same item kept =
-    fields_same _ _ _ _ _ _ _ _ _ _ _ _ _ _ _ _ refl (ap (λ (plants : List (List ℕ)). get_or plants p.plant.0 []) same) item (ap supply_text (supply_stays N M x p.supply same kept)) refl refl refl refl
+    fields_same _ _ _ _ _ _ _ _ _ _ _ _ _ _ _ _ refl (ap (λ (plants : List (List ℕ)). get_or plants p.plant.0 []) same) item
+    (ap supply_text (supply_stays N M x p.supply same kept)) refl refl refl refl
 
 pairs_stay : (N M : Table) (x : ℕ) (ps : List PairRow) → M.plants ≡ N.plants → ((i : ℕ) → i < length N.items → item_name M i ≡ item_name N i)
-    → ((y : ℕ) → y < length N.pairs → sources_of_pair M y ≡ sources_of_pair N y) → All (λ p. p.item.0 < length N.items) ps → x + length ps ≤ length N.pairs → pair_rows M x ps ≡ pair_rows N x ps
+    → ((y : ℕ) → y < length N.pairs → sources_of_pair M y ≡ sources_of_pair N y) → All (λ p. p.item.0 < length N.items) ps → x + length ps ≤ length N.pairs
+    → pair_rows M x ps ≡ pair_rows N x ps
 pairs_stay N M x [] same items kept within room = refl
 pairs_stay N M x (p ∷ ps) same items kept within room =
     let one = pair_stays N M x p same (items p.item.0 (All-head (λ p. p.item.0 < length N.items) p ps within)) (kept x (omega (arith, room))) in
@@ -136,11 +142,13 @@ pairs_stay N M x (p ∷ ps) same items kept within room =
     ap (λ y. y ∷ pair_rows M (x + 1) ps) one ∙ ap (λ ys. pair_fields N x p ∷ ys) rest
 
 -- one pair more
-pairs_push : (N : Table) (x : ℕ) (ps : List PairRow) (p : PairRow) (y : ℕ) → y ≡ x + length ps → pair_rows N x (ps ++ p ∷ []) ≡ pair_rows N x ps ++ pair_fields N y p ∷ []
+pairs_push : (N : Table) (x : ℕ) (ps : List PairRow) (p : PairRow) (y : ℕ) → y ≡ x + length ps
+    → pair_rows N x (ps ++ p ∷ []) ≡ pair_rows N x ps ++ pair_fields N y p ∷ []
 pairs_push N x [] p y e = let here : x ≡ y = omega (arith, e) in ap (λ z. pair_fields N z p ∷ []) here
 pairs_push N x (q ∷ qs) p y e = ap (λ l. pair_fields N x q ∷ l) (pairs_push N (x + 1) qs p y (omega (arith, e)))
 
-module _ (N : Table) (plant : PlantNo) (t : PairTerms) (read : IsRead N) (once : IsOnce N) (sourced : IsSourced N) (fit : Fitting N t plant) (says : SpellsPair t) where
+module _ (N : Table) (plant : PlantNo) (t : PairTerms) (read : IsRead N) (once : IsOnce N) (sourced : IsSourced N) (fit : Fitting N t plant)
+    (says : SpellsPair t) where
   abbrev M : Table
   M = with_pair_terms N plant t
 
@@ -150,7 +158,8 @@ module _ (N : Table) (plant : PlantNo) (t : PairTerms) (read : IsRead N) (once :
   -- the row is what is written of the new pair
   new_said : (row : List (List ℕ)) → IsOfKind row kind.Pair → PairSaid row t → row ≡ pair_fields M (length N.pairs) new_row
   new_said row k said =
-      all_used row _ (plant_name M plant.0) (item_name M new_row.item.0) (supply_text (supply_said M (length N.pairs) new_row.supply)) (rule_text t.rule) (number_text t.lead) (number_text t.on_hand) (number_text t.safety)
+      all_used row _ (plant_name M plant.0) (item_name M new_row.item.0) (supply_text (supply_said M (length N.pairs) new_row.supply)) (rule_text t.rule)
+      (number_text t.lead) (number_text t.on_hand) (number_text t.safety)
       k.size k.word
       (said.plant ∙ plant_found N t.plant plant.0 fit.at)
       (said.item ∙ sym (name_back (add_item N.items t.item) t.item (item_added N.items t.item)))
@@ -160,11 +169,14 @@ module _ (N : Table) (plant : PlantNo) (t : PairTerms) (read : IsRead N) (once :
   pub pairs_written : (row : List (List ℕ)) → IsOfKind row kind.Pair → PairSaid row t → pair_rows M 0 M.pairs ≡ pair_rows N 0 N.pairs ++ row ∷ []
   pairs_written row k said =
       pairs_push M 0 N.pairs new_row (length N.pairs) (omega arith)
-      ∙ ap (λ l. l ++ pair_fields M (length N.pairs) new_row ∷ []) (pairs_stay N M 0 N.pairs refl (old_item N.items t.item) (old_kept N plant t read once sourced fit says) (λ k d lt. (read.pairs k d lt).item) (omega arith))
+      ∙ ap (λ l. l ++ pair_fields M (length N.pairs) new_row ∷ [])
+      (pairs_stay N M 0 N.pairs refl (old_item N.items t.item) (old_kept N plant t read once sourced fit says) (λ k d lt. (read.pairs k d lt).item)
+      (omega arith))
       ∙ ap (λ r. pair_rows N 0 N.pairs ++ r ∷ []) (sym (new_said row k said))
 
 -- the pairs with one more are numbered
-pub pair_numbered : (N : Table) (plant : PlantNo) (t : PairTerms) → AreNumbered 0 N.pairs (length N.items) → AreNumbered 0 (with_pair_terms N plant t).pairs (length (with_pair_terms N plant t).items)
+pub pair_numbered : (N : Table) (plant : PlantNo) (t : PairTerms) → AreNumbered 0 N.pairs (length N.items)
+    → AreNumbered 0 (with_pair_terms N plant t).pairs (length (with_pair_terms N plant t).items)
 pair_numbered N plant t h =
     let next = is_next N.items t.item in
     let p = pair_with (add_item N.items t.item) plant t in

@@ -20,16 +20,20 @@ use Rattle.mrp_rows.specs.Names.{has_plant, pair_named, plant_no}
 use Rattle.mrp_rows.specs.Table.{horizon, Table}
 use Rattle.mrp_grammar.specs.declared.kind.Kind.{Kind}
 use Rattle.mrp_grammar.specs.declared.kind.Kind.TheVariants as kind
-use Rattle.mrp_grammar.specs.Grammar.{amount_terms, AmountTerms, bill_fits, bill_of, bill_terms, BillTerms, cum_of, cum_terms, demand_made, demand_of, field, known_lane, known_pair, lane_number, lane_terms, LaneTerms, name_field}
-use Rattle.mrp_grammar.specs.Grammar.{plant_in_row, plant_terms, ranged, receipt_made, receipt_of, reset_in_row, reset_terms, run_terms, RunTerms, ship_of, ship_terms}
+use Rattle.mrp_grammar.specs.Grammar.{amount_terms, AmountTerms, bill_fits, bill_of, bill_terms, BillTerms, cum_of, cum_terms, demand_made, demand_of, field}
+use Rattle.mrp_grammar.specs.Grammar.{known_lane, known_pair, lane_number, lane_terms, LaneTerms, name_field}
+use Rattle.mrp_grammar.specs.Grammar.{plant_in_row, plant_terms, ranged, receipt_made, receipt_of, reset_in_row, reset_terms, run_terms, RunTerms, ship_of}
+use Rattle.mrp_grammar.specs.Grammar.{ship_terms}
 use Rattle.mrp_grammar.specs.Reading.{first_terms, is_run, kind_of_row}
-use Rattle.mrp_grammar.specs.Written.{bill_fields, cum_fields, demand_fields, pair_item, pair_plant, plant_fields, plant_name, receipt_fields, reset_fields, run_fields, ship_fields}
+use Rattle.mrp_grammar.specs.Written.{bill_fields, cum_fields, demand_fields, pair_item, pair_plant, plant_fields, plant_name, receipt_fields, reset_fields}
+use Rattle.mrp_grammar.specs.Written.{run_fields, ship_fields}
 use Rattle.mrp_grammar.proofs.KeepingParts.{AmountParts, bill_parts, cum_parts, demand_parts, receipt_parts, reset_parts, ship_parts}
 use Rattle.mrp_grammar.proofs.KeepingRead.{amount_terms_read, bill_terms_read, lane_number_read, ship_terms_read, two_names_read}
 use Rattle.mrp_grammar.proofs.KeepingRows.{on_lane}
 use Rattle.mrp_grammar.proofs.KeepingSteps.{after, after_check, after_some, same_Ok}
 use Rattle.mrp_grammar.proofs.WrittenDay.{first_text}
-use Rattle.mrp_grammar.proofs.WrittenFields.{AreFree, five_used, four_used, IsNamed, IsOfKind, name_text, number_is_text, of_kind, pair_found, plant_found, ranged_text, six_used, two_used, word_of}
+use Rattle.mrp_grammar.proofs.WrittenFields.{AreFree, five_used, four_used, IsNamed, IsOfKind, name_text, number_is_text, of_kind, pair_found, plant_found}
+use Rattle.mrp_grammar.proofs.WrittenFields.{ranged_text, six_used, two_used, word_of}
 
 -- ---- plants
 
@@ -69,7 +73,8 @@ bill_said N row b k is =
     let x = pair_found N a.0.plant a.0.parent p.x p.parent in
     let y = pair_found N a.0.plant a.0.component p.y p.component in
     subst (λ (z : BillRow). row ≡ bill_fields N z) p.same
-    (five_used row _ (pair_plant N p.x) (pair_item N p.x) (pair_item N p.y) (number_text a.0.per) k.size k.word k.free (says.plant ∙ x.plant) (says.parent ∙ x.item) (says.component ∙ y.item) says.per)
+    (five_used row _ (pair_plant N p.x) (pair_item N p.x) (pair_item N p.y) (number_text a.0.per) k.size k.word k.free (says.plant ∙ x.plant) (says.parent
+    ∙ x.item) (says.component ∙ y.item) says.per)
 
 -- ---- demands and receipts
 
@@ -97,7 +102,8 @@ known_said N plant item found is =
     subst (λ (f : PlantNo × PairNo). IsNamed N plant item f.1.0) same (pair_found N plant item b.0 (ap (λ (o : Option ℕ). pair_named N o item) a.1 ∙ b.1))
 
 -- a row of an amount has its word, and then what it was made of
-amount_said : {A : Type 0} (N : Table) (row : List (List ℕ)) (k : Kind) (has_room : Bool) (made : PairNo → ℕ → ℕ → A) (x : A) → IsOfKind row k → AreFree row 5 → (p : AmountParts N row has_room made x)
+amount_said : {A : Type 0} (N : Table) (row : List (List ℕ)) (k : Kind) (has_room : Bool) (made : PairNo → ℕ → ℕ → A) (x : A) → IsOfKind row k → AreFree row 5
+    → (p : AmountParts N row has_room made x)
     → row ≡ word_of k ∷ pair_plant N p.found.1.0 ∷ pair_item N p.found.1.0 ∷ number_text p.terms.period ∷ number_text p.terms.quantity ∷ [] ∷ [] ∷ [] ∷ []
 amount_said N row k has_room made x is free p =
     let says = amount_terms_said row (horizon N) p.terms p.read in
@@ -105,10 +111,12 @@ amount_said N row k has_room made x is free p =
     five_used row _ _ _ _ _ is.size is.word free (says.plant ∙ names.plant) (says.item ∙ names.item) says.period says.quantity
 
 pub demand_said : (N : Table) (row : List (List ℕ)) (x : DemandRow) → IsOfKind row kind.Demand → demand_of N row ≡ Ok x → row ≡ demand_fields N x
-demand_said N row x k is = let p = demand_parts N row x is in subst (λ (z : DemandRow). row ≡ demand_fields N z) p.same (amount_said N row kind.Demand _ demand_made x k k.free p)
+demand_said N row x k is = let p = demand_parts N row x is in subst (λ (z : DemandRow). row ≡ demand_fields N z) p.same
+    (amount_said N row kind.Demand _ demand_made x k k.free p)
 
 pub receipt_said : (N : Table) (row : List (List ℕ)) (x : ReceiptRow) → IsOfKind row kind.Receipt → receipt_of N row ≡ Ok x → row ≡ receipt_fields N x
-receipt_said N row x k is = let p = receipt_parts N row x is in subst (λ (z : ReceiptRow). row ≡ receipt_fields N z) p.same (amount_said N row kind.Receipt _ receipt_made x k k.free p)
+receipt_said N row x k is = let p = receipt_parts N row x is in subst (λ (z : ReceiptRow). row ≡ receipt_fields N z) p.same
+    (amount_said N row kind.Receipt _ receipt_made x k k.free p)
 
 -- ---- what one plant ships to another
 
@@ -123,7 +131,12 @@ lane_said row t is =
     let n = two_names_read row _ t is in
     let c = after (name_field (field row 3)) _ t n.rest in
     let same : record { from = n.first; to = n.second; item = c.0 } ≡ t = same_Ok _ t c.2 in
-    subst (LaneSaid row) same (record { from = name_text (field row 1) n.first n.first_is; to = name_text (field row 2) n.second n.second_is; item = name_text (field row 3) c.0 c.1 })
+    subst (LaneSaid row) same (record {
+      from = name_text (field row 1) n.first n.first_is;
+      to = name_text (field row 2) n.second n.second_is;
+      item =
+          name_text (field row 3) c.0 c.1;
+    })
 
 record ShipSaid (row : List (List ℕ)) (t : LaneTerms × ℕ × ℕ) : Type 0 where
   lane : LaneSaid row t.0
@@ -143,7 +156,8 @@ record FigureSaid (row : List (List ℕ)) (t : LaneTerms × ℕ) : Type 0 where
   figure : field row 4 ≡ number_text t.1
 
 lane_number_said : (row : List (List ℕ)) (most : ℕ) (t : LaneTerms × ℕ) → lane_number row most ≡ Ok t → FigureSaid row t
-lane_number_said row most t is = let read = lane_number_read row most t is in record { lane = lane_said row t.0 read.lane; figure = ranged_text (field row 4) 0 most t.1 read.number }
+lane_number_said row most t is = let read = lane_number_read row most t is
+    in record { lane = lane_said row t.0 read.lane; figure = ranged_text (field row 4) 0 most t.1 read.number }
 
 cum_terms_said : (row : List (List ℕ)) (t : LaneTerms × ℕ) → cum_terms row ≡ Ok t → FigureSaid row t
 unfolding cum_terms
@@ -166,7 +180,8 @@ lane_written N row t lane says known =
     record { from = says.from ∙ plant_found N t.from lane.0.0 on.from; to = says.to ∙ to.plant; item = says.item ∙ to.item }
 
 -- a row of a lane and one number has its word, and then what it was made of
-figure_said : (N : Table) (row : List (List ℕ)) (k : Kind) (t : LaneTerms × ℕ) (lane : PlantNo × PairNo) → IsOfKind row k → AreFree row 5 → FigureSaid row t → known_lane N t.0 ≡ Ok lane
+figure_said : (N : Table) (row : List (List ℕ)) (k : Kind) (t : LaneTerms × ℕ) (lane : PlantNo × PairNo) → IsOfKind row k → AreFree row 5 → FigureSaid row t
+    → known_lane N t.0 ≡ Ok lane
     → row ≡ word_of k ∷ plant_name N lane.0.0 ∷ pair_plant N lane.1.0 ∷ pair_item N lane.1.0 ∷ number_text t.1 ∷ [] ∷ [] ∷ [] ∷ []
 figure_said N row k t lane is free says known =
     let names = lane_written N row t.0 lane says.lane known in
@@ -177,7 +192,8 @@ ship_said N row x k is =
     let p = ship_parts N row x is in
     let says = ship_terms_said row (horizon N) p.terms p.read in
     let names = lane_written N row p.terms.0 p.lane says.lane p.known in
-    subst (λ (z : ShipRow). row ≡ ship_fields N z) p.same (six_used row _ _ _ _ _ _ k.size k.word k.free names.from names.to names.item says.period says.quantity)
+    subst (λ (z : ShipRow). row ≡ ship_fields N z) p.same (six_used row _ _ _ _ _ _ k.size k.word k.free names.from names.to names.item says.period
+    says.quantity)
 
 pub cum_said : (N : Table) (row : List (List ℕ)) (x : CumRow) → IsOfKind row kind.Cum → cum_of N row ≡ Ok x → row ≡ cum_fields N x
 cum_said N row x k is =
@@ -187,7 +203,8 @@ cum_said N row x k is =
 pub reset_said : (N : Table) (row : List (List ℕ)) (x : ResetRow) → IsOfKind row kind.Reset → reset_in_row N row ≡ Ok x → row ≡ reset_fields N x
 reset_said N row x k is =
     let p = reset_parts N row x is in
-    subst (λ (z : ResetRow). row ≡ reset_fields N z) p.same (figure_said N row kind.Reset p.terms p.lane k k.free (reset_terms_said row (horizon N) p.terms p.read) p.known)
+    subst (λ (z : ResetRow). row ≡ reset_fields N z) p.same (figure_said N row kind.Reset p.terms p.lane k k.free
+    (reset_terms_said row (horizon N) p.terms p.read) p.known)
 
 -- ---- the run
 
@@ -215,7 +232,8 @@ run_kind kind.Ship e = absurd (cc)
 run_kind kind.Cum e = absurd (cc)
 run_kind kind.Reset e = absurd (cc)
 
-pub run_said : (row : List (List ℕ)) (t : RunTerms) (c : CalendarTerms) → first_terms row ≡ Ok t → IsCalendarFrom t.first t.days t.periods c → IsCalendar c → row ≡ run_fields c
+pub run_said : (row : List (List ℕ)) (t : RunTerms) (c : CalendarTerms) → first_terms row ≡ Ok t → IsCalendarFrom t.first t.days t.periods c → IsCalendar c
+    → row ≡ run_fields c
 unfolding first_terms
 run_said row t c is from calendar =
     let a = after (kind_of_row row) _ t is in

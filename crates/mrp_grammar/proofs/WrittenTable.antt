@@ -1,5 +1,6 @@
 -- Rows that are read are the table written out.
-use Rattle.std.proofs.Common.{◌≡◌, ◌≤◌, ◌<◌, ℕ, ◌+◌, List, [], ◌∷◌, ◌++◌, length, map, Result, Ok, Err, refl, ap, sym, ◌∙◌, subst, append_assoc, append-nil, arith}
+use Rattle.std.proofs.Common.{◌≡◌, ◌≤◌, ◌<◌, ℕ, ◌+◌, List, [], ◌∷◌, ◌++◌, length, map, Result, Ok, Err, refl, ap, sym, ◌∙◌, subst, append_assoc, append-nil}
+use Rattle.std.proofs.Common.{arith}
 use Rattle.mrp_cal.specs.Calendar.{CalendarTerms}
 use Rattle.mrp_cal.specs.declared.fault.CalFault.{CalFault}
 use Rattle.mrp_rows.specs.declared.numbers.PlantNo.{PlantNo}
@@ -15,9 +16,12 @@ use Rattle.mrp_rows.specs.Growing.{empty_table}
 use Rattle.mrp_grammar.specs.declared.fault.TableFaultKind.{TableFaultKind}
 use Rattle.mrp_grammar.specs.declared.kind.Kind.{Kind}
 use Rattle.mrp_grammar.specs.declared.kind.Kind.TheVariants as kind
-use Rattle.mrp_grammar.specs.Grammar.{◌>>=◌, bill_of, cum_of, demand_of, may_follow, pair_fits, pair_row, pair_terms, PairTerms, kind_place, plant_in_row, receipt_of, reset_in_row, RunTerms, ship_of, with_pair_terms}
-use Rattle.mrp_grammar.specs.Reading.{at_row, first_lacking, first_terms, IsCalendarOf, IsReadSoFar, kind_of_row, read_from, Reads, row_after, row_of_kind, rows_after, started, Starts, StartsWith, waiting}
-use Rattle.mrp_grammar.specs.Written.{AreNumbered, bill_fields, cum_fields, demand_fields, later_rows, pair_rows, plant_fields, receipt_fields, reset_fields, rows_of, run_fields, ship_fields}
+use Rattle.mrp_grammar.specs.Grammar.{◌>>=◌, bill_of, cum_of, demand_of, may_follow, pair_fits, pair_row, pair_terms, PairTerms, kind_place, plant_in_row}
+use Rattle.mrp_grammar.specs.Grammar.{receipt_of, reset_in_row, RunTerms, ship_of, with_pair_terms}
+use Rattle.mrp_grammar.specs.Reading.{at_row, first_lacking, first_terms, IsCalendarOf, IsReadSoFar, kind_of_row, read_from, Reads, row_after, row_of_kind}
+use Rattle.mrp_grammar.specs.Reading.{rows_after, started, Starts, StartsWith, waiting}
+use Rattle.mrp_grammar.specs.Written.{AreNumbered, bill_fields, cum_fields, demand_fields, later_rows, pair_rows, plant_fields, receipt_fields, reset_fields}
+use Rattle.mrp_grammar.specs.Written.{rows_of, run_fields, ship_fields}
 use Rattle.mrp_grammar.proofs.Accept.{waited, was_read, went_on}
 use Rattle.mrp_grammar.proofs.Keeping.{follows, row_after_keeps}
 use Rattle.mrp_grammar.proofs.KeepingPair.{fits}
@@ -133,11 +137,21 @@ record Adds (N M : Table) (k : Kind) (row : Row) : Type 0 where
 module _ (N : Table) (row : Row) where
   plant_adds : (x : List ℕ) → IsFresh N 1 → IsOfKind row kind.Plant → plant_in_row N row ≡ Ok x → Adds N (with_plant N x) kind.Plant row
   plant_adds x fresh k is =
-      let more : IsFresh (with_plant N x) 1 = record { pairs = fresh.pairs; bills = fresh.bills; demands = fresh.demands; receipts = fresh.receipts; ships = fresh.ships; cums = fresh.cums; resets = fresh.resets } in
+      let more : IsFresh (with_plant N x) 1 = record {
+        pairs = fresh.pairs;
+        bills = fresh.bills;
+        demands = fresh.demands;
+        receipts = fresh.receipts;
+        ships =
+            fresh.ships;
+        cums = fresh.cums;
+        resets = fresh.resets;
+      } in
       record {
         calendar = refl;
         numbered = λ h. h;
-        rows = at_ends _ (map plant_fields N.plants) _ (from_pairs N) row (map_push plant_fields N.plants x row (plant_said N row x k is)) (no_pairs (with_plant N x) 1 more (omega arith)) (no_pairs N 1 fresh (omega arith));
+        rows = at_ends _ (map plant_fields N.plants) _ (from_pairs N) row (map_push plant_fields N.plants x row (plant_said N row x k is))
+            (no_pairs (with_plant N x) 1 more (omega arith)) (no_pairs N 1 fresh (omega arith));
         fresh = more;
       }
 
@@ -146,8 +160,18 @@ module _ (N : Table) (row : Row) where
     calendar = refl;
     numbered = λ h. h;
     rows = behind (map plant_fields N.plants) _ _ row (behind (pair_rows N 0 N.pairs) _ _ row
-        (at_end _ (map (bill_fields N) N.bills) (from_demands N) row (map_push (bill_fields N) N.bills x row (bill_said N row x k is)) (no_demands N 3 fresh (omega arith))));
-    fresh = record { pairs = fresh.pairs; bills = λ lt. absurd (omega arith); demands = fresh.demands; receipts = fresh.receipts; ships = fresh.ships; cums = fresh.cums; resets = fresh.resets };
+        (at_end _ (map (bill_fields N) N.bills) (from_demands N) row (map_push (bill_fields N) N.bills x row (bill_said N row x k is))
+        (no_demands N 3 fresh (omega arith))));
+    fresh = record {
+      pairs = fresh.pairs;
+      bills = λ lt. absurd (omega arith);
+      demands = fresh.demands;
+      receipts = fresh.receipts;
+      ships = fresh.ships;
+      cums =
+          fresh.cums;
+      resets = fresh.resets;
+    };
   }
 
   demand_adds : (x : DemandRow) → IsFresh N 4 → IsOfKind row kind.Demand → demand_of N row ≡ Ok x → Adds N (with_demand N x) kind.Demand row
@@ -155,47 +179,100 @@ module _ (N : Table) (row : Row) where
     calendar = refl;
     numbered = λ h. h;
     rows = behind (map plant_fields N.plants) _ _ row (behind (pair_rows N 0 N.pairs) _ _ row (behind (map (bill_fields N) N.bills) _ _ row
-        (at_end _ (map (demand_fields N) N.demands) (from_receipts N) row (map_push (demand_fields N) N.demands x row (demand_said N row x k is)) (no_receipts N 4 fresh (omega arith)))));
-    fresh = record { pairs = fresh.pairs; bills = fresh.bills; demands = λ lt. absurd (omega arith); receipts = fresh.receipts; ships = fresh.ships; cums = fresh.cums; resets = fresh.resets };
+        (at_end _ (map (demand_fields N) N.demands) (from_receipts N) row (map_push (demand_fields N) N.demands x row (demand_said N row x k is))
+        (no_receipts N 4 fresh (omega arith)))));
+    fresh = record {
+      pairs = fresh.pairs;
+      bills = fresh.bills;
+      demands = λ lt. absurd (omega arith);
+      receipts = fresh.receipts;
+      ships = fresh.ships;
+      cums =
+          fresh.cums;
+      resets = fresh.resets;
+    };
   }
 
   receipt_adds : (x : ReceiptRow) → IsFresh N 5 → IsOfKind row kind.Receipt → receipt_of N row ≡ Ok x → Adds N (with_receipt N x) kind.Receipt row
   receipt_adds x fresh k is = record {
     calendar = refl;
     numbered = λ h. h;
-    rows = behind (map plant_fields N.plants) _ _ row (behind (pair_rows N 0 N.pairs) _ _ row (behind (map (bill_fields N) N.bills) _ _ row (behind (map (demand_fields N) N.demands) _ _ row
-        (at_end _ (map (receipt_fields N) N.receipts) (from_ships N) row (map_push (receipt_fields N) N.receipts x row (receipt_said N row x k is)) (no_ships N 5 fresh (omega arith))))));
-    fresh = record { pairs = fresh.pairs; bills = fresh.bills; demands = fresh.demands; receipts = λ lt. absurd (omega arith); ships = fresh.ships; cums = fresh.cums; resets = fresh.resets };
+    rows = behind (map plant_fields N.plants) _ _ row (behind (pair_rows N 0 N.pairs) _ _ row
+        (behind (map (bill_fields N) N.bills) _ _ row (behind (map (demand_fields N) N.demands) _ _ row
+        (at_end _ (map (receipt_fields N) N.receipts) (from_ships N) row (map_push (receipt_fields N) N.receipts x row (receipt_said N row x k is))
+        (no_ships N 5 fresh (omega arith))))));
+    fresh = record {
+      pairs = fresh.pairs;
+      bills = fresh.bills;
+      demands = fresh.demands;
+      receipts = λ lt. absurd (omega arith);
+      ships = fresh.ships;
+      cums =
+          fresh.cums;
+      resets = fresh.resets;
+    };
   }
 
   ship_adds : (x : ShipRow) → IsFresh N 6 → IsOfKind row kind.Ship → ship_of N row ≡ Ok x → Adds N (with_ship N x) kind.Ship row
   ship_adds x fresh k is = record {
     calendar = refl;
     numbered = λ h. h;
-    rows = behind (map plant_fields N.plants) _ _ row (behind (pair_rows N 0 N.pairs) _ _ row (behind (map (bill_fields N) N.bills) _ _ row (behind (map (demand_fields N) N.demands) _ _ row
+    rows = behind (map plant_fields N.plants) _ _ row (behind (pair_rows N 0 N.pairs) _ _ row
+        (behind (map (bill_fields N) N.bills) _ _ row (behind (map (demand_fields N) N.demands) _ _ row
         (behind (map (receipt_fields N) N.receipts) _ _ row
-        (at_end _ (map (ship_fields N) N.ships) (from_cums N) row (map_push (ship_fields N) N.ships x row (ship_said N row x k is)) (no_cums N 6 fresh (omega arith)))))));
-    fresh = record { pairs = fresh.pairs; bills = fresh.bills; demands = fresh.demands; receipts = fresh.receipts; ships = λ lt. absurd (omega arith); cums = fresh.cums; resets = fresh.resets };
+        (at_end _ (map (ship_fields N) N.ships) (from_cums N) row (map_push (ship_fields N) N.ships x row (ship_said N row x k is))
+        (no_cums N 6 fresh (omega arith)))))));
+    fresh = record {
+      pairs = fresh.pairs;
+      bills = fresh.bills;
+      demands = fresh.demands;
+      receipts = fresh.receipts;
+      ships = λ lt. absurd (omega arith);
+      cums =
+          fresh.cums;
+      resets = fresh.resets;
+    };
   }
 
   cum_adds : (x : CumRow) → IsFresh N 7 → IsOfKind row kind.Cum → cum_of N row ≡ Ok x → Adds N (with_cum N x) kind.Cum row
   cum_adds x fresh k is = record {
     calendar = refl;
     numbered = λ h. h;
-    rows = behind (map plant_fields N.plants) _ _ row (behind (pair_rows N 0 N.pairs) _ _ row (behind (map (bill_fields N) N.bills) _ _ row (behind (map (demand_fields N) N.demands) _ _ row
+    rows = behind (map plant_fields N.plants) _ _ row (behind (pair_rows N 0 N.pairs) _ _ row
+        (behind (map (bill_fields N) N.bills) _ _ row (behind (map (demand_fields N) N.demands) _ _ row
         (behind (map (receipt_fields N) N.receipts) _ _ row (behind (map (ship_fields N) N.ships) _ _ row
-        (at_end _ (map (cum_fields N) N.cums) (map (reset_fields N) N.resets) row (map_push (cum_fields N) N.cums x row (cum_said N row x k is)) (no_resets N 7 fresh (omega arith))))))));
-    fresh = record { pairs = fresh.pairs; bills = fresh.bills; demands = fresh.demands; receipts = fresh.receipts; ships = fresh.ships; cums = λ lt. absurd (omega arith); resets = fresh.resets };
+        (at_end _ (map (cum_fields N) N.cums) (map (reset_fields N) N.resets) row (map_push (cum_fields N) N.cums x row (cum_said N row x k is))
+        (no_resets N 7 fresh (omega arith))))))));
+    fresh = record {
+      pairs = fresh.pairs;
+      bills = fresh.bills;
+      demands = fresh.demands;
+      receipts = fresh.receipts;
+      ships = fresh.ships;
+      cums =
+          λ lt. absurd (omega arith);
+      resets = fresh.resets;
+    };
   }
 
   reset_adds : (x : ResetRow) → IsFresh N 8 → IsOfKind row kind.Reset → reset_in_row N row ≡ Ok x → Adds N (with_reset N x) kind.Reset row
   reset_adds x fresh k is = record {
     calendar = refl;
     numbered = λ h. h;
-    rows = behind (map plant_fields N.plants) _ _ row (behind (pair_rows N 0 N.pairs) _ _ row (behind (map (bill_fields N) N.bills) _ _ row (behind (map (demand_fields N) N.demands) _ _ row
+    rows = behind (map plant_fields N.plants) _ _ row (behind (pair_rows N 0 N.pairs) _ _ row
+        (behind (map (bill_fields N) N.bills) _ _ row (behind (map (demand_fields N) N.demands) _ _ row
         (behind (map (receipt_fields N) N.receipts) _ _ row (behind (map (ship_fields N) N.ships) _ _ row (behind (map (cum_fields N) N.cums) _ _ row
         (map_push (reset_fields N) N.resets x row (reset_said N row x k is))))))));
-    fresh = record { pairs = fresh.pairs; bills = fresh.bills; demands = fresh.demands; receipts = fresh.receipts; ships = fresh.ships; cums = fresh.cums; resets = λ lt. absurd (omega arith) };
+    fresh = record {
+      pairs = fresh.pairs;
+      bills = fresh.bills;
+      demands = fresh.demands;
+      receipts = fresh.receipts;
+      ships = fresh.ships;
+      cums =
+          fresh.cums;
+      resets = λ lt. absurd (omega arith);
+    };
   }
 
 -- a pair, with its item and its sources
@@ -210,21 +287,33 @@ pair_adds N M last row so_far fresh k is =
       calendar = refl;
       numbered = pair_numbered N b.0 a.0;
       rows = behind (map plant_fields N.plants) _ _ row
-          (at_ends _ (pair_rows N 0 N.pairs) _ (from_bills N) row pairs (no_bills (with_pair_terms N b.0 a.0) 2 (more b.0 a.0) (omega arith)) (no_bills N 2 fresh (omega arith)));
+          (at_ends _ (pair_rows N 0 N.pairs) _ (from_bills N) row pairs (no_bills (with_pair_terms N b.0 a.0) 2 (more b.0 a.0) (omega arith))
+          (no_bills N 2 fresh (omega arith)));
       fresh = more b.0 a.0;
     })
   where
     more : (plant : PlantNo) (t : PairTerms) → IsFresh (with_pair_terms N plant t) 2
-    more plant t = record { pairs = λ lt. absurd (omega arith); bills = fresh.bills; demands = fresh.demands; receipts = fresh.receipts; ships = fresh.ships; cums = fresh.cums; resets = fresh.resets }
+    more plant t = record {
+      pairs = λ lt. absurd (omega arith);
+      bills = fresh.bills;
+      demands = fresh.demands;
+      receipts = fresh.receipts;
+      ships =
+          fresh.ships;
+      cums = fresh.cums;
+      resets = fresh.resets;
+    }
 
 -- what was read of a row makes the table with it
-made_adds : {X : Type 0} (N : Table) (k : Kind) (row : Row) (read : Result X TableFaultKind) (made : X → Table) (M : Table) → ((x : X) → read ≡ Ok x → Adds N (made x) k row)
+made_adds : {X : Type 0} (N : Table) (k : Kind) (row : Row) (read : Result X TableFaultKind) (made : X → Table) (M : Table)
+    → ((x : X) → read ≡ Ok x → Adds N (made x) k row)
     → (read >>= λ x. Ok (made x)) ≡ Ok M → Adds N M k row
 made_adds N k row read made M more is =
     let a = after read (λ x. Ok (made x)) M is in
     subst (λ (m : Table). Adds N m k row) (same_Ok (made a.0) M a.2) (more a.0 a.1)
 
-row_adds : (k last : Kind) (N M : Table) (row : Row) → IsReadSoFar N last → IsFresh N (kind_place k) → IsOfKind row k → row_of_kind k N row ≡ Ok M → Adds N M k row
+row_adds : (k last : Kind) (N M : Table) (row : Row) → IsReadSoFar N last → IsFresh N (kind_place k) → IsOfKind row k → row_of_kind k N row ≡ Ok M
+    → Adds N M k row
 unfolding row_of_kind
 row_adds kind.Run last N M row so_far fresh k is = absurd (cc)
 row_adds kind.Plant last N M row so_far fresh k is = made_adds N kind.Plant row (plant_in_row N row) (with_plant N) M (λ x. plant_adds N row x fresh k) is
@@ -255,7 +344,8 @@ record AddsAll (N M : Table) (rows : List Row) : Type 0 where
   numbered : IsNumbered N → IsNumbered M
   written : later_rows M ≡ later_rows N ++ rows
 
-rows_add : (rows : List Row) (number : ℕ) (s : Table × Kind) (M : Table) → IsReadSoFar s.0 s.1 → IsFresh s.0 (kind_place s.1) → rows_after number s rows ≡ Ok M → AddsAll s.0 M rows
+rows_add : (rows : List Row) (number : ℕ) (s : Table × Kind) (M : Table) → IsReadSoFar s.0 s.1 → IsFresh s.0 (kind_place s.1) → rows_after number s rows ≡ Ok M
+    → AddsAll s.0 M rows
 unfolding rows_after
 rows_add [] number s M so_far fresh e =
     let same : s.0 ≡ M = cc in
@@ -279,14 +369,24 @@ record HasRun (N : Table) (row : Row) : Type 0 where
   numbered : IsNumbered N
   fresh : IsFresh N 0
 
-run_has : (N : Table) (row : Row) (t : RunTerms) (c : Result CalendarTerms CalFault) → first_terms row ≡ Ok t → IsCalendarOf t c → Ok N ≡ started c → HasRun N row
+run_has : (N : Table) (row : Row) (t : RunTerms) (c : Result CalendarTerms CalFault) → first_terms row ≡ Ok t → IsCalendarOf t c → Ok N ≡ started c
+    → HasRun N row
 run_has N row t (Ok c) is says e =
     let same : empty_table c ≡ N = cc in
     subst (λ (m : Table). HasRun m row) same (record {
       run = run_said row t c is says.0 says.1;
       empty = refl;
       numbered = refl;
-      fresh = record { pairs = λ lt. refl; bills = λ lt. refl; demands = λ lt. refl; receipts = λ lt. refl; ships = λ lt. refl; cums = λ lt. refl; resets = λ lt. refl };
+      fresh = record {
+        pairs = λ lt. refl;
+        bills = λ lt. refl;
+        demands = λ lt. refl;
+        receipts = λ lt. refl;
+        ships = λ lt. refl;
+        cums = λ lt. refl;
+        resets =
+            λ lt. refl;
+      };
     })
 run_has N row t (Err f) is says e = absurd (cc)
 
@@ -300,7 +400,8 @@ record IsWritten (rows : List Row) (N : Table) : Type 0 where
   rows_are : rows ≡ rows_of N
   numbered : IsNumbered N
 
-whole_written : (start : Result Table TableFaultKind) (row : Row) (rows : List Row) (N : Table) → Starts row start → Ok N ≡ read_from start rows → IsWritten (row ∷ rows) N
+whole_written : (start : Result Table TableFaultKind) (row : Row) (rows : List Row) (N : Table) → Starts row start → Ok N ≡ read_from start rows
+    → IsWritten (row ∷ rows) N
 whole_written (Ok first) row rows N starts e =
     let a = went_on (rows_after 2 (first, kind.Run) rows) waiting N (sym e) in
     let w = waited a.0 N (first_lacking a.0 a.0.sources) a.2 in

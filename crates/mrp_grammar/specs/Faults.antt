@@ -42,20 +42,27 @@ faults_of_any = fault.NotUtf8 ∷ fault.FieldCount ∷ fault.UnknownKind ∷ fau
 -- and then those of its kind
 abbrev pub faults_of_kind : Kind → List TableFaultKind
 faults_of_kind kind.Run =
-    fault.BadNumber ∷ fault.CalendarFault cal.BadDate ∷ fault.CalendarFault cal.DaysOutOfRange ∷ fault.CalendarFault cal.PastEnd ∷ []
+    fault.BadNumber ∷ fault.CalendarFault cal.BadDate ∷ fault.CalendarFault cal.DaysOutOfRange
+    ∷ fault.CalendarFault cal.PastEnd ∷ []
 faults_of_kind kind.Plant = fault.BadName ∷ fault.Repeated ∷ fault.TooMany ∷ []
 faults_of_kind kind.Pair =
-    fault.BadName ∷ fault.BadNumber ∷ fault.BadRule ∷ fault.BadSupply ∷ fault.Repeated ∷ fault.UnknownPlant ∷ fault.SelfSource ∷ fault.TooMany ∷ []
+    fault.BadName ∷ fault.BadNumber ∷ fault.BadRule ∷ fault.BadSupply ∷ fault.Repeated ∷ fault.UnknownPlant
+    ∷ fault.SelfSource ∷ fault.TooMany ∷ []
 faults_of_kind kind.Bill =
-    fault.BadName ∷ fault.BadNumber ∷ fault.Repeated ∷ fault.UnknownPlant ∷ fault.UnknownPair ∷ fault.NotMade ∷ fault.TooMany ∷ []
-faults_of_kind kind.Demand = fault.BadName ∷ fault.BadNumber ∷ fault.UnknownPlant ∷ fault.UnknownPair ∷ fault.TooMany ∷ []
-faults_of_kind kind.Receipt = fault.BadName ∷ fault.BadNumber ∷ fault.UnknownPlant ∷ fault.UnknownPair ∷ fault.TooMany ∷ []
+    fault.BadName ∷ fault.BadNumber ∷ fault.Repeated ∷ fault.UnknownPlant ∷ fault.UnknownPair ∷ fault.NotMade
+    ∷ fault.TooMany ∷ []
+faults_of_kind kind.Demand = fault.BadName ∷ fault.BadNumber ∷ fault.UnknownPlant ∷ fault.UnknownPair ∷ fault.TooMany
+    ∷ []
+faults_of_kind kind.Receipt = fault.BadName ∷ fault.BadNumber ∷ fault.UnknownPlant ∷ fault.UnknownPair ∷ fault.TooMany
+    ∷ []
 faults_of_kind kind.Ship =
     fault.BadName ∷ fault.BadNumber ∷ fault.UnknownPlant ∷ fault.UnknownPair ∷ fault.NotSourced ∷ fault.TooMany ∷ []
 faults_of_kind kind.Cum =
-    fault.BadName ∷ fault.BadNumber ∷ fault.Repeated ∷ fault.UnknownPlant ∷ fault.UnknownPair ∷ fault.NotSourced ∷ fault.TooMany ∷ []
+    fault.BadName ∷ fault.BadNumber ∷ fault.Repeated ∷ fault.UnknownPlant ∷ fault.UnknownPair ∷ fault.NotSourced
+    ∷ fault.TooMany ∷ []
 faults_of_kind kind.Reset =
-    fault.BadName ∷ fault.BadNumber ∷ fault.Repeated ∷ fault.UnknownPlant ∷ fault.UnknownPair ∷ fault.NotSourced ∷ fault.ResetOrder ∷ []
+    fault.BadName ∷ fault.BadNumber ∷ fault.Repeated ∷ fault.UnknownPlant ∷ fault.UnknownPair ∷ fault.NotSourced
+    ∷ fault.ResetOrder ∷ []
 
 -- the faults that a row may have, where it has a kind and where it has none
 abbrev pub faults_of : Result Kind TableFaultKind → List TableFaultKind

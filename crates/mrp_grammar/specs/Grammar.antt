@@ -19,7 +19,8 @@ use Rattle.mrp_grammar.specs.declared.fault.TableFaultKind.{TableFaultKind}
 use Rattle.mrp_grammar.specs.declared.fault.TableFaultKind.TheVariants as fault
 use Rattle.mrp_grammar.specs.declared.kind.Kind.{Kind}
 use Rattle.mrp_grammar.specs.declared.kind.Kind.TheVariants as kind
-use Rattle.mrp_qty.specs.declared.limits.TheConstants.{MOST_BILLS, MOST_IN_ROW, MOST_OF_A_KIND, MOST_PAIRS, MOST_PER, MOST_PLANTS}
+use Rattle.mrp_qty.specs.declared.limits.TheConstants.{MOST_BILLS, MOST_IN_ROW, MOST_OF_A_KIND, MOST_PAIRS, MOST_PER}
+use Rattle.mrp_qty.specs.declared.limits.TheConstants.{MOST_PLANTS}
 use Rattle.mrp_rows.specs.declared.rows.Supply.{Supply}
 use Rattle.mrp_rows.specs.declared.rows.Supply.TheVariants as supply
 use Rattle.mrp_rows.specs.declared.rows.BillRow.{BillRow}
@@ -34,7 +35,8 @@ use Rattle.mrp_rows.specs.Table.{Table, horizon}
 use Rattle.mrp_rows.specs.declared.rows.PairRow.{PairRow}
 use Rattle.mrp_rows.specs.declared.rows.SourceRow.{SourceRow}
 use Rattle.mrp_rows.specs.Table.{arrivals, is_taken_from, rises_from}
-use Rattle.mrp_rows.specs.Growing.{add_item, with_plant, with_bill, with_demand, with_receipt, with_ship, with_cum, with_reset}
+use Rattle.mrp_rows.specs.Growing.{add_item, with_plant, with_bill, with_demand, with_receipt, with_ship, with_cum}
+use Rattle.mrp_rows.specs.Growing.{with_reset}
 use Rattle.mrp_spell.specs.Spelling.{is_name}
 use Rattle.mrp_spell.specs.Parsing.{spelled_number, number_within, rule_of}
 
@@ -128,7 +130,8 @@ is_free row used i = nat_lt i used || is_empty (field row i)
 -- the fields that are not used are empty
 abbrev pub is_empty_from : List (List ℕ) → ℕ → Bool
 is_empty_from row used =
-    is_free row used 1 && is_free row used 2 && is_free row used 3 && is_free row used 4 && is_free row used 5 && is_free row used 6 && is_free row used 7
+    is_free row used 1 && is_free row used 2 && is_free row used 3 && is_free row used 4 && is_free row used 5
+    && is_free row used 6 && is_free row used 7
 
 abbrev pub with_fields : List (List ℕ) → Kind → Result Kind TableFaultKind
 with_fields row k = if is_empty_from row (used k) then Ok k else Err fault.FieldCount
@@ -231,7 +234,16 @@ pair_terms row = do
   safety ← ranged (field row 7) 0 MOST_IN_ROW
   rule ← ok_or (rule_of (field row 4)) fault.BadRule
   supply ← ok_or (supply_of (field row 3)) fault.BadSupply
-  Ok (record { plant = plant; item = item; supply = supply; rule = rule; lead = lead; on_hand = on_hand; safety = safety })
+  Ok (record {
+    plant = plant;
+    item = item;
+    supply = supply;
+    rule = rule;
+    lead = lead;
+    on_hand = on_hand;
+    safety =
+        safety;
+  })
 
 -- what a run row spells: the text of its first day, the days of a period and how many periods
 pub record RunTerms : Type 0 where
@@ -358,7 +370,13 @@ pair_with items plant t =
 -- a source of the pair at a place
 abbrev pub source_row : Table → ℕ → SourceTerms → SourceRow
 source_row N x s =
-    record { pair = record { 0 = x }; plant = record { 0 = unwrap_or (plant_no N s.plant) 0 }; low = s.low; high = s.high }
+    record {
+      pair = record { 0 = x };
+      plant = record { 0 = unwrap_or (plant_no N s.plant) 0 };
+      low = s.low;
+      high =
+          s.high;
+    }
 
 -- the table with a pair more, its item where that is new, and its sources
 abbrev pub with_pair_terms : Table → PlantNo → PairTerms → Table

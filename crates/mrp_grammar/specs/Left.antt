@@ -1,8 +1,10 @@
 -- The rows that a reader has left, and what the steps of the reading answer of them.
-use Rattle.std.specs.Prelude.{◌≡◌, ℕ, ◌+◌, Bool, true, false, List, [], ◌∷◌, ◌++◌, length, Option, Some, None, option_map, Result, Ok, Err}
+use Rattle.std.specs.Prelude.{◌≡◌, ℕ, ◌+◌, Bool, true, false, List, [], ◌∷◌, ◌++◌, length, Option, Some, None}
+use Rattle.std.specs.Prelude.{option_map, Result, Ok, Err}
 use Rattle.std.specs.List.{list_all}
 use Rattle.std.specs.Str.{is_utf8}
-use Rattle.csv.specs.Reading.{default_config, is_flexible, reader_config, reader_state, reader_trim, records_from, Ready, source_of}
+use Rattle.csv.specs.Reading.{default_config, is_flexible, reader_config, reader_state, reader_trim, records_from}
+use Rattle.csv.specs.Reading.{Ready, source_of}
 use Rattle.csv.specs.declared.error.ErrorKind.{ErrorKind}
 use Rattle.csv.specs.declared.error.ErrorKind.TheVariants as error
 use Rattle.csv.specs.declared.parser.State.{State}
@@ -48,10 +50,12 @@ pub record StartsBadly (number : ℕ) (rows : List (List (List ℕ))) (e : Table
   pub fault_is : e ≡ record { row = number; kind = fault.NotUtf8 }
 
 -- what reading a row answers
-abbrev pub TellsTaken : Option (List (List (List ℕ))) → Option (List (List (List ℕ))) → ℕ → List (List ℕ) → Result Bool TableFault → Type 0
+abbrev pub TellsTaken : Option (List (List (List ℕ))) → Option (List (List (List ℕ))) → ℕ → List (List ℕ)
+    → Result Bool TableFault → Type 0
 TellsTaken before after number row (Ok true) = TakesRow before after row
 TellsTaken before after number row (Ok false) = OfLeft before (λ rows. rows ≡ [])
-TellsTaken before after number row (Err e) = OfRows e.kind (Unit {0}) (OfLeft before (λ rows. StartsBadly number rows e))
+TellsTaken before after number row (Err e) = OfRows e.kind (Unit {0})
+    (OfLeft before (λ rows. StartsBadly number rows e))
 
 -- the errors of a reader that gives each record, however many fields it has
 abbrev pub MayCome : ErrorKind → Type 0
@@ -74,13 +78,15 @@ fault_of error.OutOfMemory = fault.Memory
 -- ---- the rows after the first
 
 -- rows were read off the rows left: what is left makes, from the later state on, what all of them make
-pub record HasReadOn (rows rest : List (List (List ℕ))) (number : ℕ) (s : Table × Kind) (next : ℕ) (t : Table × Kind) : Type 0 where
+pub record HasReadOn (rows rest : List (List (List ℕ))) (number : ℕ) (s : Table × Kind) (next : ℕ) (t : Table
+    × Kind) : Type 0 where
   pub read : List (List (List ℕ))
   pub rows_are : rows ≡ read ++ rest
   pub next_is : next ≡ number + length read
   pub goes : (more : List (List (List ℕ))) → rows_after number s (read ++ more) ≡ rows_after next t more
 
-abbrev pub ReadsOn : Option (List (List (List ℕ))) → Option (List (List (List ℕ))) → ℕ → Table × Kind → ℕ → Table × Kind → Type 0
+abbrev pub ReadsOn : Option (List (List (List ℕ))) → Option (List (List (List ℕ))) → ℕ → Table × Kind → ℕ → Table × Kind
+    → Type 0
 ReadsOn None after number s next t = Unit {0}
 ReadsOn (Some rows) None number s next t = ⊥
 ReadsOn (Some rows) (Some rest) number s next t = HasReadOn rows rest number s next t
@@ -95,12 +101,16 @@ pub record IsSoundTo (number : ℕ) (s : Table × Kind) (other : ℕ) (rows : Li
   pub no_fault : rows_after number s above ≡ Ok made
 
 -- what reading one row more answers
-abbrev pub TellsNext : Option (List (List (List ℕ))) → Option (List (List (List ℕ))) → ℕ → Table × Kind → Table × Kind → Result Bool TableFault → Type 0
+abbrev pub TellsNext : Option (List (List (List ℕ))) → Option (List (List (List ℕ))) → ℕ → Table × Kind → Table × Kind
+    → Result Bool TableFault → Type 0
 TellsNext before after number s t (Ok true) = ReadsOn before after number s (number + 1) t
 TellsNext before after number s t (Ok false) = OfLeft before (λ rows. rows_after number s rows ≡ Ok t.0)
-TellsNext before after number s t (Err e) = OfRows e.kind (Unit {0}) (OfLeft before (λ rows. rows_after number s rows ≡ Err e))
+TellsNext before after number s t (Err e) = OfRows e.kind (Unit {0})
+    (OfLeft before (λ rows. rows_after number s rows ≡ Err e))
 
 -- what reading the rest answers
-abbrev pub TellsRest : Option (List (List (List ℕ))) → ℕ → Table × Kind → Table × Kind → Result (Unit {0}) TableFault → Type 0
+abbrev pub TellsRest : Option (List (List (List ℕ))) → ℕ → Table × Kind → Table × Kind → Result (Unit {0}) TableFault
+    → Type 0
 TellsRest before number s t (Ok u) = OfLeft before (λ rows. rows_after number s rows ≡ Ok t.0)
-TellsRest before number s t (Err e) = OfRows e.kind (OfLeft before (IsSoundTo number s e.row)) (OfLeft before (λ rows. rows_after number s rows ≡ Err e))
+TellsRest before number s t (Err e) = OfRows e.kind (OfLeft before (IsSoundTo number s e.row))
+    (OfLeft before (λ rows. rows_after number s rows ≡ Err e))

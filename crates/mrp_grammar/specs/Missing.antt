@@ -12,5 +12,6 @@ HasPair N s = IsPair N (source_pair N s)
 -- where all have one the table is taken, and else refused at the row of the pair of the first source that has none
 pub record TellsMissing (N : Table) : Type 0 where
   pub none : All (HasPair N) N.sources → waiting N ≡ Ok N
-  pub first : (above below : List SourceRow) (s : SourceRow) → N.sources ≡ above ++ s ∷ below → All (HasPair N) above → ¬ (HasPair N s)
+  pub first : (above below : List SourceRow) (s : SourceRow) → N.sources ≡ above ++ s ∷ below → All (HasPair N) above
+      → ¬ (HasPair N s)
       → waiting N ≡ Err (record { row = pair_row_number N s.pair.0; kind = fault.UnknownPair })

@@ -1,5 +1,6 @@
 -- The grammar of a whole table: its rows one after the other, and the test that waits for the last.
-use Rattle.std.specs.Prelude.{◌≡◌, ℕ, ◌+◌, ◌*◌, ◌≤◌, ◌<◌, Bool, true, false, if◌then◌else◌, List, [], ◌∷◌, ◌++◌, length, Option, Some, None, Result}
+use Rattle.std.specs.Prelude.{◌≡◌, ℕ, ◌+◌, ◌*◌, ◌≤◌, ◌<◌, Bool, true, false, if◌then◌else◌, List, [], ◌∷◌, ◌++◌, length}
+use Rattle.std.specs.Prelude.{Option, Some, None, Result}
 use Rattle.std.specs.Prelude.{Ok, Err}
 use Rattle.std.specs.List.{list_all}
 use Rattle.std.specs.Str.{is_utf8}
@@ -16,7 +17,8 @@ use Rattle.mrp_rows.specs.Table.{IsOnce, IsRead, IsSourced, Table}
 use Rattle.mrp_rows.specs.Growing.{empty_table}
 use Rattle.mrp_qty.specs.declared.limits.TheConstants.{MOST_SOURCES_OF_PAIR}
 use Rattle.mrp_rows.specs.Growing.{lacks_pair}
-use Rattle.mrp_grammar.specs.Grammar.{◌>>=◌, bill_row, check, cum_row, demand_row, may_follow, pair_row, kind_place, plant_row, receipt_row, reset_row}
+use Rattle.mrp_grammar.specs.Grammar.{◌>>=◌, bill_row, check, cum_row, demand_row, may_follow, pair_row, kind_place}
+use Rattle.mrp_grammar.specs.Grammar.{plant_row, receipt_row, reset_row}
 use Rattle.mrp_grammar.specs.Grammar.{row_kind, run_terms, RunTerms, ship_row}
 
 -- the kind of a row whose fields are text
@@ -153,7 +155,8 @@ pub record IsSoundAbove (number : ℕ) (rows : List (List (List ℕ))) : Type 0 
   pub number_is : number ≡ length above + 1
   pub no_fault : HoldNoFault above
 
--- that the reader failed, or that memory was wanting, says something of the rows above alone; each other fault is a row's
+-- that the reader failed, or that memory was wanting, says something of the rows above alone; each other fault is a
+-- row's
 abbrev pub OfRows : TableFaultKind → Type 0 → Type 0 → Type 0
 OfRows fault.ReadFault above says = above
 OfRows fault.Memory above says = above

@@ -1,13 +1,16 @@
 -- The tests of a row, one for each fault that it may have, whatever the others answer; of what isn't there a test says
--- anything, since an earlier one tells that it isn't. The first test of the list that a row fails is the fault that it has.
+-- anything, since an earlier one tells that it isn't. The first test of the list that a row fails is the fault that it
+-- has.
 use Rattle.std.specs.Prelude.{◌≡◌, ℕ, ◌-◌, ◌==◌, ◌&&◌, not, nat_lt, Bool, true, false}
-use Rattle.std.specs.Prelude.{List, [], ◌∷◌, ◌++◌, length, find, Option, Some, None, is_some, option_map, unwrap_or, Result, Ok, Err}
+use Rattle.std.specs.Prelude.{List, [], ◌∷◌, ◌++◌, length, find, Option, Some, None, is_some, option_map, unwrap_or}
+use Rattle.std.specs.Prelude.{Result, Ok, Err}
 use Rattle.std.specs.List.{list_all}
 use Rattle.std.specs.Str.{is_utf8}
 use Rattle.mrp_lot.specs.declared.rule.TheConstants.{LONGEST_LEAD}
 use Rattle.mrp_qty.specs.declared.horizon.TheConstants.{LONGEST}
 use Rattle.mrp_qty.specs.declared.quantity.TheConstants.{MOST}
-use Rattle.mrp_qty.specs.declared.limits.TheConstants.{MOST_BILLS, MOST_IN_ROW, MOST_OF_A_KIND, MOST_PAIRS, MOST_PER, MOST_PLANTS}
+use Rattle.mrp_qty.specs.declared.limits.TheConstants.{MOST_BILLS, MOST_IN_ROW, MOST_OF_A_KIND, MOST_PAIRS, MOST_PER}
+use Rattle.mrp_qty.specs.declared.limits.TheConstants.{MOST_PLANTS}
 use Rattle.mrp_rows.specs.Names.{has_plant, pair_named, plant_no}
 use Rattle.mrp_rows.specs.Table.{arrivals, horizon, is_taken_from, rises_from, Table}
 use Rattle.mrp_spell.specs.Spelling.{is_name}
@@ -19,7 +22,8 @@ use Rattle.mrp_grammar.specs.declared.fault.TableFaultKind.TheVariants as fault
 use Rattle.mrp_grammar.specs.declared.kind.Kind.{Kind}
 use Rattle.mrp_grammar.specs.declared.kind.Kind.TheVariants as kind
 use Rattle.mrp_grammar.specs.Faults.{faults_of, faults_of_any}
-use Rattle.mrp_grammar.specs.Grammar.{cum_between, field, has_bill, is_empty_from, is_made, kind_of, knows_sources, may_follow, reset_between, used}
+use Rattle.mrp_grammar.specs.Grammar.{cum_between, field, has_bill, is_empty_from, is_made, kind_of, knows_sources}
+use Rattle.mrp_grammar.specs.Grammar.{may_follow, reset_between, used}
 use Rattle.mrp_grammar.specs.Reading.{first_terms, is_run, kind_of_row, row_after}
 
 -- ---- what the fields of a row say, as far as it is there
@@ -65,7 +69,8 @@ plant_passes N row e = true
 
 abbrev pub pair_passes : Table → List (List ℕ) → TableFaultKind → Bool
 pair_passes N row fault.BadName = two_names row
-pair_passes N row fault.BadNumber = has_number row 5 0 LONGEST_LEAD && has_number row 6 0 MOST_IN_ROW && has_number row 7 0 MOST_IN_ROW
+pair_passes N row fault.BadNumber = has_number row 5 0 LONGEST_LEAD && has_number row 6 0 MOST_IN_ROW
+    && has_number row 7 0 MOST_IN_ROW
 pair_passes N row fault.BadRule = is_some (rule_of (field row 4))
 pair_passes N row fault.BadSupply = is_some (supply_of (field row 3))
 pair_passes N row fault.Repeated = not (is_some (pair_in N row 1 2))
@@ -106,14 +111,17 @@ lane_passes numbers new room N row fault.ResetOrder = is_in_order N (plant_in N 
 lane_passes numbers new room N row e = true
 
 abbrev pub ship_passes : Table → List (List ℕ) → TableFaultKind → Bool
-ship_passes N row = lane_passes (has_number row 4 0 (horizon N - 1) && has_number row 5 1 MOST_IN_ROW) true (nat_lt (length N.ships) MOST_OF_A_KIND) N row
+ship_passes N row = lane_passes (has_number row 4 0 (horizon N - 1) && has_number row 5 1 MOST_IN_ROW) true
+    (nat_lt (length N.ships) MOST_OF_A_KIND) N row
 
 abbrev pub cum_passes : Table → List (List ℕ) → TableFaultKind → Bool
 cum_passes N row =
-    lane_passes (has_number row 4 0 MOST) (not (cum_between N (plant_in N row 1) (pair_in N row 2 3))) (nat_lt (length N.cums) MOST_OF_A_KIND) N row
+    lane_passes (has_number row 4 0 MOST) (not (cum_between N (plant_in N row 1) (pair_in N row 2 3)))
+    (nat_lt (length N.cums) MOST_OF_A_KIND) N row
 
 abbrev pub reset_passes : Table → List (List ℕ) → TableFaultKind → Bool
-reset_passes N row = lane_passes (has_number row 4 0 (horizon N - 1)) (not (reset_between N (plant_in N row 1) (pair_in N row 2 3))) true N row
+reset_passes N row = lane_passes (has_number row 4 0 (horizon N - 1))
+    (not (reset_between N (plant_in N row 1) (pair_in N row 2 3))) true N row
 
 -- a row of that kind; a run row stands first, and no other is one
 abbrev pub passes_of : Option Kind → Table → List (List ℕ) → TableFaultKind → Bool
@@ -150,7 +158,8 @@ row_passes named may own row e = own e
 
 -- a row after the first, below those of a table of which the last is of that kind
 abbrev pub passes : Table × Kind → List (List ℕ) → TableFaultKind → Bool
-passes s row = row_passes (kind_of (field row 0)) (λ k. may_follow k s.1) (passes_of (kind_of (field row 0)) s.0 row) row
+passes s row = row_passes (kind_of (field row 0)) (λ k. may_follow k s.1)
+    (passes_of (kind_of (field row 0)) s.0 row) row
 
 -- the first row, before its calendar's faults
 abbrev pub run_passes : List (List ℕ) → TableFaultKind → Bool
@@ -168,7 +177,8 @@ abbrev pub first_failed : (TableFaultKind → Bool) → List TableFaultKind → 
 first_failed passed faults = find (λ e. not (passed e)) faults
 
 -- a row is refused for the first fault of its list whose test it fails, and taken where it passes all of them: as the
--- first row, which then has its calendar or the first of its calendar's faults, and as a later one whatever the rows above it
+-- first row, which then has its calendar or the first of its calendar's faults, and as a later one whatever the rows
+-- above it
 pub record HasFirstFault (row : List (List ℕ)) : Type 0 where
   pub first : refusal (first_terms row) ≡ first_failed (run_passes row) (faults_of_any ++ fault.BadNumber ∷ [])
   pub later : (s : Table × Kind) → refusal (row_after s row) ≡ first_failed (passes s row) (faults_of (kind_of_row row))

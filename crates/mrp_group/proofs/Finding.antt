@@ -1,5 +1,6 @@
 -- The place of a key among keys that stand once each, and of which one more came.
-use Rattle.std.proofs.Common.{◌≡◌, ℕ, ◌+◌, ◌<◌, Bool, true, false, cond, List, [], ◌∷◌, ◌++◌, length, get_or, position, Option, Some, refl, sym, ap, subst, ◌∙◌, arith}
+use Rattle.std.proofs.Common.{◌≡◌, ℕ, ◌+◌, ◌<◌, Bool, true, false, cond, List, [], ◌∷◌, ◌++◌, length, get_or, position, Option, Some, refl, sym, ap, subst, ◌∙◌}
+use Rattle.std.proofs.Common.{arith}
 use Rattle.std.specs.Cmp.{IsEquivalence}
 use Rattle.std.specs.List.{AllByRecursion, IsDistinct, list_any, position_or_len}
 use Rattle.std.proofs.lemmas.Bool.{or_parts, eq-eqb, lt-ltb}
@@ -38,8 +39,10 @@ place_behind {K} eq laws keys key other fresh = by (eq key other) refl
     by false apart = last_fails (eq other) keys key (laws.symm other key ∙ apart)
 
 -- the same of a list that is known under other names
-pub found_behind : {K : Type 0} (eq : K → K → Bool) → IsEquivalence eq → (keys roomy more : List K) (key other : K) (place : ℕ) (found : Option ℕ) → list_any (eq key) keys ≡ false
-    → found ≡ position (eq other) keys → place ≡ length keys → roomy ≡ keys → more ≡ roomy ++ key ∷ [] → cond (eq key other) (Some place) found ≡ position (eq other) more
+pub found_behind : {K : Type 0} (eq : K → K → Bool) → IsEquivalence eq → (keys roomy more : List K) (key other : K) (place : ℕ) (found : Option ℕ)
+    → list_any (eq key) keys ≡ false
+    → found ≡ position (eq other) keys → place ≡ length keys → roomy ≡ keys → more ≡ roomy ++ key ∷ []
+    → cond (eq key other) (Some place) found ≡ position (eq other) more
 found_behind {K} eq laws keys roomy more key other place found fresh so_far last same grown =
     ap (λ (o : Option ℕ). cond (eq key other) (Some place) o) so_far
     ∙ ap (λ (n : ℕ). cond (eq key other) (Some n) (position (eq other) keys)) last
@@ -47,11 +50,13 @@ found_behind {K} eq laws keys roomy more key other place found fresh so_far last
     ∙ sym (ap (position (eq other)) (grown ∙ ap (λ (ks : List K). ks ++ key ∷ []) same))
 
 -- a key behind keys that it isn't among: each still stands once
-apart_behind : {K : Type 0} (eq : K → K → Bool) (x : K) (keys : List K) (key : K) → AllByRecursion (λ k. eq x k ≡ false) keys → eq x key ≡ false → AllByRecursion (λ k. eq x k ≡ false) (keys ++ key ∷ [])
+apart_behind : {K : Type 0} (eq : K → K → Bool) (x : K) (keys : List K) (key : K) → AllByRecursion (λ k. eq x k ≡ false) keys → eq x key ≡ false
+    → AllByRecursion (λ k. eq x k ≡ false) (keys ++ key ∷ [])
 apart_behind eq x [] key h last = (last, tt)
 apart_behind eq x (k ∷ keys) key h last = (h.0, apart_behind eq x keys key h.1 last)
 
-once_behind : {K : Type 0} (eq : K → K → Bool) → IsEquivalence eq → (keys : List K) (key : K) → IsDistinct eq keys → list_any (eq key) keys ≡ false → IsDistinct eq (keys ++ key ∷ [])
+once_behind : {K : Type 0} (eq : K → K → Bool) → IsEquivalence eq → (keys : List K) (key : K) → IsDistinct eq keys → list_any (eq key) keys ≡ false
+    → IsDistinct eq (keys ++ key ∷ [])
 unfolding IsDistinct
 once_behind eq laws [] key once fresh = (tt, tt)
 once_behind eq laws (x ∷ keys) key once fresh =
@@ -59,7 +64,8 @@ once_behind eq laws (x ∷ keys) key once fresh =
     (apart_behind eq x keys key once.0 (laws.symm x key ∙ parts.0), once_behind eq laws keys key once.1 parts.1)
 
 -- the same of a list that is known under other names
-pub still_once : {K : Type 0} (eq : K → K → Bool) → IsEquivalence eq → (keys roomy more : List K) (key : K) → IsDistinct eq keys → list_any (eq key) keys ≡ false
+pub still_once : {K : Type 0} (eq : K → K → Bool) → IsEquivalence eq → (keys roomy more : List K) (key : K) → IsDistinct eq keys
+    → list_any (eq key) keys ≡ false
     → roomy ≡ keys → more ≡ roomy ++ key ∷ [] → IsDistinct eq more
 still_once {K} eq laws keys roomy more key once fresh same grown =
     subst (IsDistinct eq) (sym (grown ∙ ap (λ (ks : List K). ks ++ key ∷ []) same)) (once_behind eq laws keys key once fresh)

@@ -26,7 +26,8 @@ impl<K: Eq + Hash> Model for Places<K> {
 }
 
 impl<K: Eq + Hash + Copy + Drop> Places<K> {
-    ghost use Rattle.std.specs.Prelude.{◌≡◌, ◌<◌, ◌++◌, ◌∷◌, [], length, position, false, IfSome, IsTrue, OnErr, OnOk, Some};
+    ghost use Rattle.std.specs.Prelude.{◌≡◌, ◌<◌, ◌++◌, ◌∷◌, [], length, position, false, IfSome, IsTrue, OnErr, OnOk};
+    ghost use Rattle.std.specs.Prelude.{Some};
     ghost use Rattle.std.specs.List.{list_any};
 
     /// No keys.

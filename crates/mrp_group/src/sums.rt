@@ -42,7 +42,8 @@ pub fn add_amounts<T, K: KeyOf<T>, L: KeyOf<T>, A: AmountOf<T>>(
     requires has_second { All (L.has_key second.now) rows.now }
     requires places { All (λ r. K.key_of by.now r * width + L.key_of second.now r < length amounts.old) rows.now }
     requires keys { All (λ r. L.key_of second.now r < width) rows.now }
-    ensures { AddsAmounts (K.key_of by.now) (L.key_of second.now) (A.amount_of of.now) width rows.now amounts.old amounts.new }
+    ensures { AddsAmounts (K.key_of by.now) (L.key_of second.now)
+        (A.amount_of of.now) width rows.now amounts.old amounts.new }
 {
     for row in rows {
         let at = by.key(row) * width + second.key(row);

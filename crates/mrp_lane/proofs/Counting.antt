@@ -1,5 +1,6 @@
 -- What the ends count is what their lists have, and it stays within the bound.
-use Rattle.std.proofs.Common.{◌≡◌, ℕ, zero, suc, ◌+◌, ◌<◌, ◌≤◌, ◌^◌, ◌==◌, Bool, true, false, cond, inl, inr, List, [], ◌∷◌, ◌++◌, length, get_or, set, map, take, refl, sym, ap, subst, ◌∙◌, arith, length-append, All, Contains}
+use Rattle.std.proofs.Common.{◌≡◌, ℕ, zero, suc, ◌+◌, ◌<◌, ◌≤◌, ◌^◌, ◌==◌, Bool, true, false, cond, inl, inr, List, [], ◌∷◌, ◌++◌, length, get_or, set, map}
+use Rattle.std.proofs.Common.{take, refl, sym, ap, subst, ◌∙◌, arith, length-append, All, Contains}
 use Rattle.std.specs.List.{AllByRecursion, IsDistinct, sum_by}
 use Rattle.std.proofs.lemmas.Bool.{cases_Bool, eqb-true, eq-eqb, false≢true}
 use Rattle.std.proofs.lemmas.List.{map-append, take_all, take_more}
@@ -33,7 +34,8 @@ none_alike f same x [] h = tt
 none_alike f same x (i ∷ items) h =
     (subst (λ (y : ItemNo × ItemNo). (y.0.0 == y.1.0) ≡ false) (λ j. (sym (same x) j, sym (same i) j)) h.0, none_alike f same x items h.1)
 
-pub apart_after : (f : ItemPieces → ItemPieces) → ((i : ItemPieces) → (f i).item ≡ i.item) → (items : List ItemPieces) → IsDistinct is_same_pieces items → IsDistinct is_same_pieces (map f items)
+pub apart_after : (f : ItemPieces → ItemPieces) → ((i : ItemPieces) → (f i).item ≡ i.item) → (items : List ItemPieces) → IsDistinct is_same_pieces items
+    → IsDistinct is_same_pieces (map f items)
 unfolding IsDistinct
 apart_after f same [] h = tt
 apart_after f same (x ∷ items) h = (none_alike f same x items h.0, apart_after f same items h.1)
@@ -54,12 +56,14 @@ opened_apart N l is = open_apart N l (lane_items N (lane_at N l)) (lane_items_st
 
 -- one item more is opened
 pub opened_more : (N : Table) (l : ℕ) (on_lane : List ItemNo) (index : ℕ) (items items' : List ItemPieces) (opened : ItemPieces) → index < length on_lane
-    → items ≡ map (item_pieces_of N l []) (take index on_lane) → opened ≡ item_pieces_of N l [] (get_or on_lane index (record { 0 = 0 })) → items' ≡ items ++ opened ∷ []
+    → items ≡ map (item_pieces_of N l []) (take index on_lane) → opened ≡ item_pieces_of N l [] (get_or on_lane index (record { 0 = 0 }))
+    → items' ≡ items ++ opened ∷ []
     → items' ≡ map (item_pieces_of N l []) (take (index + 1) on_lane)
 opened_more N l on_lane index items items' opened there so_far is new =
     let item = get_or on_lane index (record { 0 = 0 }) in
     new ∙ ap (λ (z : List ItemPieces). z ++ opened ∷ []) so_far ∙ ap (λ (i : ItemPieces). map (item_pieces_of N l []) (take index on_lane) ++ i ∷ []) is
-    ∙ sym (map-append (item_pieces_of N l []) (take index on_lane) (item ∷ [])) ∙ ap (map (item_pieces_of N l [])) (sym (take_more on_lane index (record { 0 = 0 }) there))
+    ∙ sym (map-append (item_pieces_of N l []) (take index on_lane) (item ∷ []))
+    ∙ ap (map (item_pieces_of N l [])) (sym (take_more on_lane index (record { 0 = 0 }) there))
 
 -- the items opened one by one are all
 pub opened_all : (N : Table) (l : ℕ) (on_lane : List ItemNo) (index : ℕ) (items : List ItemPieces) → items ≡ map (item_pieces_of N l []) (take index on_lane)
@@ -79,7 +83,8 @@ no_pieces : (n m : ℕ) → m ≡ 0 → n + m ≡ n
 no_pieces n m e = omega (arith, e)
 
 unchanged : (item quantity : ℕ) (i : ItemPieces) → (item == i.item.0) ≡ false → more_of item quantity i ≡ i
-unchanged item quantity i other = let same = no_pieces i.pieces (cond (item == i.item.0) quantity 0) (ap (λ (b : Bool). cond b quantity 0) other) in λ j. record i { pieces = same j }
+unchanged item quantity i other = let same = no_pieces i.pieces (cond (item == i.item.0) quantity 0) (ap (λ (b : Bool). cond b quantity 0) other)
+    in λ j. record i { pieces = same j }
 
 pub others_stay : (item quantity : ℕ) (items : List ItemPieces) → All (λ i. (item == i.item.0) ≡ false) items → map (more_of item quantity) items ≡ items
 others_stay item quantity [] h = refl
@@ -116,7 +121,8 @@ nothing_more item r none = elim (cases_Bool (is_of item (content r))) [
   | inr other ↦ ap (λ (b : Bool). cond b (quantity_of (content r)) 0) other
 ]
 
-pub not_line : (r : Record) → ((number : ℕ) (item : ItemNo) (period quantity cumulative : ℕ) → ¬ (r ≡ Line number item period quantity cumulative)) → quantity_of (content r) ≡ 0
+pub not_line : (r : Record) → ((number : ℕ) (item : ItemNo) (period quantity cumulative : ℕ) → ¬ (r ≡ Line number item period quantity cumulative))
+    → quantity_of (content r) ≡ 0
 not_line (Line number item period quantity cumulative) h = absurd (h number item period quantity cumulative refl)
 not_line (ItemEnd number item lines cumulative) h = refl
 not_line (Reset number item closed) h = refl
@@ -143,7 +149,8 @@ moved_more item records r =
     ] in
     omega (arith, parts, own)
 
-items_more : (N : Table) (l : ℕ) (records : List Record) (r : Record) (items : List ItemNo) → map (with_record r) (map (item_pieces_of N l records) items) ≡ map (item_pieces_of N l (records ++ r ∷ [])) items
+items_more : (N : Table) (l : ℕ) (records : List Record) (r : Record) (items : List ItemNo)
+    → map (with_record r) (map (item_pieces_of N l records) items) ≡ map (item_pieces_of N l (records ++ r ∷ [])) items
 items_more N l records r [] = refl
 items_more N l records r (item ∷ items) =
     let here = moved_more item.0 records r in
@@ -170,11 +177,13 @@ pieces_fit N l records item sized legal there =
     let most = (load_is_small N sized lane item there).figures in
     omega (arith, most, moved_within (loads N lane) (loads_stand_once N sized.table lane) records legal (load_of N lane item) (load_is_there N lane item there))
 
-pub figures_fit : (N : Table) (l : ℕ) (records : List Record) → IsSized N → IsLegal N l records → All (λ i. i.opening + i.pieces ≤ MOST) (counts_of N l records).items
+pub figures_fit : (N : Table) (l : ℕ) (records : List Record) → IsSized N → IsLegal N l records
+    → All (λ i. i.opening + i.pieces ≤ MOST) (counts_of N l records).items
 figures_fit N l records sized legal =
     let items = lane_items N (lane_at N l) in
     All-map (λ (i : ItemPieces). i.opening + i.pieces ≤ MOST) (item_pieces_of N l records) items
-    (All-weaker (Contains items) (λ item. opening N (lane_at N l) item + moved item.0 (contents records) ≤ MOST) (λ item there. pieces_fit N l records item sized legal there) items (All-contains_itself items))
+    (All-weaker (Contains items) (λ item. opening N (lane_at N l) item + moved item.0 (contents records) ≤ MOST)
+    (λ item there. pieces_fit N l records item sized legal there) items (All-contains_itself items))
 
 pub record_fits : (N : Table) (l : ℕ) (records : List Record) (r : Record) → IsSized N → IsLegal N l (records ++ r ∷ [])
     → All (λ i. i.pieces + record_pieces i.item.0 r < 2 ^ 64) (counts_of N l records).items
@@ -182,7 +191,8 @@ record_fits N l records r sized legal =
     let items = lane_items N (lane_at N l) in
     All-map (λ (i : ItemPieces). i.pieces + record_pieces i.item.0 r < 2 ^ 64) (item_pieces_of N l records) items
     (All-weaker (Contains items) (λ item. moved item.0 (contents records) + record_pieces item.0 r < 2 ^ 64)
-    (λ item there. let small = pieces_fit N l (records ++ r ∷ []) item sized legal there in omega (arith, small, moved_more item.0 records r)) items (All-contains_itself items))
+    (λ item there. let small = pieces_fit N l (records ++ r ∷ []) item sized legal there in omega (arith, small, moved_more item.0 records r)) items
+    (All-contains_itself items))
 
 -- ---- figures
 
@@ -193,11 +203,13 @@ cum_is N l records item is legal there =
     sym (cum_is_opening_and_moved (loads N lane) (loads_stand_once N is lane) records legal (load_of N lane item) (load_is_there N lane item there))
 
 figures_together : (N : Table) (l : ℕ) (sent taken : List Record) (items : List ItemNo)
-    → All (λ item. (opening N (lane_at N l) item + moved item.0 (contents sent) ≡ cum_on N l item sent) × (opening N (lane_at N l) item + moved item.0 (contents taken) ≡ cum_on N l item taken)) items
+    → All (λ item. (opening N (lane_at N l) item + moved item.0 (contents sent) ≡ cum_on N l item sent)
+    × (opening N (lane_at N l) item + moved item.0 (contents taken) ≡ cum_on N l item taken)) items
     → figures_of (record { 0 = l }) (map (item_pieces_of N l sent) items) (map (item_pieces_of N l taken) items) ≡ map (figure_on N l sent taken) items
 figures_together N l sent taken [] h = refl
 figures_together N l sent taken (item ∷ items) h =
-    let P : ItemNo → Type 0 = λ item. (opening N (lane_at N l) item + moved item.0 (contents sent) ≡ cum_on N l item sent) × (opening N (lane_at N l) item + moved item.0 (contents taken) ≡ cum_on N l item taken) in
+    let P : ItemNo → Type 0 = λ item. (opening N (lane_at N l) item + moved item.0 (contents sent) ≡ cum_on N l item sent)
+    × (opening N (lane_at N l) item + moved item.0 (contents taken) ≡ cum_on N l item taken) in
     let here = All-head P item items h in
     let rest = figures_together N l sent taken items (All-tail P item items h) in
     λ j. record (figure_on N l sent taken item) { shipped = here.0 j; received = here.1 j } ∷ rest j
@@ -207,5 +219,6 @@ pub figures_are : (N : Table) (l : ℕ) (sent taken : List Record) → IsTable N
 figures_are N l sent taken is legal legal' =
     let items = lane_items N (lane_at N l) in
     figures_together N l sent taken items
-    (All-weaker (Contains items) (λ item. (opening N (lane_at N l) item + moved item.0 (contents sent) ≡ cum_on N l item sent) × (opening N (lane_at N l) item + moved item.0 (contents taken) ≡ cum_on N l item taken))
+    (All-weaker (Contains items) (λ item. (opening N (lane_at N l) item + moved item.0 (contents sent) ≡ cum_on N l item sent)
+    × (opening N (lane_at N l) item + moved item.0 (contents taken) ≡ cum_on N l item taken))
     (λ item there. (cum_is N l sent item is legal there, cum_is N l taken item is legal' there)) items (All-contains_itself items))

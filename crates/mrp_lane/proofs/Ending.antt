@@ -38,13 +38,16 @@ opens box p N l counts ours named is lane sized there counted = record {
 }
 
 -- an end may do what the view of its pass says, and has nothing in its list yet
-opens_as : {Q A : Type 0} (box : Box Q A) (p : Pass Record LaneView) (N : Table) (l : ℕ) (counts : Counts) (v : LaneView) (may : LaneView → Bool) (list : LaneView → List Record)
-    → view p ≡ v → may v ≡ true → list v ≡ [] → v.named ≡ true → v.network ≡ N → v.lane ≡ l → IsPassOf box p → IsSized N → l < length (lanes N) → counts ≡ counts_of N l []
+opens_as : {Q A : Type 0} (box : Box Q A) (p : Pass Record LaneView) (N : Table) (l : ℕ) (counts : Counts) (v : LaneView) (may : LaneView → Bool)
+    (list : LaneView → List Record)
+    → view p ≡ v → may v ≡ true → list v ≡ [] → v.named ≡ true → v.network ≡ N → v.lane ≡ l → IsPassOf box p → IsSized N → l < length (lanes N)
+    → counts ≡ counts_of N l []
     → (may (view p) ≡ true) × Holds box p l (list (view p)) counts
 opens_as box p N l counts v may list is can none named network lane ours sized there counted = (
   ap may is ∙ can,
   subst (λ (z : List Record). Holds box p l z counts) (sym (ap list is ∙ none))
-      (opens box p N l counts ours (ap (λ (w : LaneView). w.named) is ∙ named) (ap (λ (w : LaneView). w.network) is ∙ network) (ap (λ (w : LaneView). w.lane) is ∙ lane) sized there counted),
+      (opens box p N l counts ours (ap (λ (w : LaneView). w.named) is ∙ named) (ap (λ (w : LaneView). w.network) is ∙ network)
+      (ap (λ (w : LaneView). w.lane) is ∙ lane) sized there counted),
 )
 
 pub opens_sending : {Q A : Type 0} (box : Box Q A) (p : Pass Record LaneView) (N : Table) (l : ℕ) (counts : Counts) → IsPassOf box p
@@ -57,7 +60,8 @@ opens_taking box p N l counts ours is = opens_as box p N l counts (taking N l) (
 
 -- ---- one record more
 
-module _ {Q A : Type 0} {box : Box Q A} {p : Pass Record LaneView} {l : ℕ} {list : List Record} {counts : Counts} (h : Holds box p l list counts) (r : Record) (legal : IsLegal (view p).network l (list ++ r ∷ [])) where
+module _ {Q A : Type 0} {box : Box Q A} {p : Pass Record LaneView} {l : ℕ} {list : List Record} {counts : Counts} (h : Holds box p l list counts) (r : Record)
+    (legal : IsLegal (view p).network l (list ++ r ∷ [])) where
   pub number_fits : counts.records + 1 < 2 ^ 64
   number_fits =
       let number = ap (λ (t : Counts). t.records) h.counted in
@@ -66,9 +70,11 @@ module _ {Q A : Type 0} {box : Box Q A} {p : Pass Record LaneView} {l : ℕ} {li
 
   pub more_fits : All (λ i. i.pieces + record_pieces i.item.0 r < 2 ^ 64) counts.items
   more_fits =
-      subst (λ (t : Counts). All (λ (i : ItemPieces). i.pieces + record_pieces i.item.0 r < 2 ^ 64) t.items) (sym h.counted) (record_fits (view p).network l list r h.sized legal)
+      subst (λ (t : Counts). All (λ (i : ItemPieces). i.pieces + record_pieces i.item.0 r < 2 ^ 64) t.items) (sym h.counted)
+      (record_fits (view p).network l list r h.sized legal)
 
-  goes_on : (q : Pass Record LaneView) (counts' : Counts) → IsSamePass p q → (view q).named ≡ (view p).named → (view q).network ≡ (view p).network → (view q).lane ≡ (view p).lane
+  goes_on : (q : Pass Record LaneView) (counts' : Counts) → IsSamePass p q → (view q).named ≡ (view p).named → (view q).network ≡ (view p).network
+      → (view q).lane ≡ (view p).lane
       → counts' ≡ counted counts r → Holds box q l (list ++ r ∷ []) counts'
   goes_on q counts' same named is lane count = record {
     ours = (same.0 ∙ h.ours.0, same.2 ∙ h.ours.1);
@@ -77,11 +83,13 @@ module _ {Q A : Type 0} {box : Box Q A} {p : Pass Record LaneView} {l : ℕ} {li
     sized = subst IsSized (sym is) h.sized;
     there = subst (λ (M : Table). l < length (lanes M)) (sym is) h.there;
     legal = subst (λ (M : Table). IsLegal M l (list ++ r ∷ [])) (sym is) legal;
-    counted = count ∙ ap (λ (t : Counts). counted t r) h.counted ∙ counted_more (view p).network l list r ∙ ap (λ (M : Table). counts_of M l (list ++ r ∷ [])) (sym is);
+    counted = count ∙ ap (λ (t : Counts). counted t r) h.counted ∙ counted_more (view p).network l list r
+        ∙ ap (λ (M : Table). counts_of M l (list ++ r ∷ [])) (sym is);
   }
 
 -- an offer that isn't refused
-pub sends_on : {Q A : Type 0} (box : Box Q A) (p q : Pass Record LaneView) (l : ℕ) (counts counts' : Counts) (r : Record) (stamp : ℕ) → ((view p).sends ≡ true) × Holds box p l (view p).sent counts
+pub sends_on : {Q A : Type 0} (box : Box Q A) (p q : Pass Record LaneView) (l : ℕ) (counts counts' : Counts) (r : Record) (stamp : ℕ)
+    → ((view p).sends ≡ true) × Holds box p l (view p).sent counts
     → IsLegal (view p).network l ((view p).sent ++ r ∷ []) → IsSamePass p q → view q ≡ view_with_sent (view p) r stamp → counts' ≡ counted counts r
     → ((view q).sends ≡ true) × Holds box q l (view q).sent counts'
 sends_on box p q l counts counts' r stamp (may, h) legal same is count = (
@@ -99,14 +107,16 @@ pub taken_stays_legal : (v w : LaneView) (r : Record) (l : ℕ) → v.lane ≡ l
 taken_stays_legal v w r l lane takes =
     subst (λ (y : Table × ℕ). IsLegal y.0 y.1 w.taken) (λ i. (sym (ap (λ (x : LaneView). x.network) takes.is) i, lane i)) takes.legal
 
-pub takes_on : {Q A : Type 0} (box : Box Q A) (p q : Pass Record LaneView) (l : ℕ) (counts counts' : Counts) (r : Record) → ((view p).takes ≡ true) × Holds box p l (view p).taken counts
+pub takes_on : {Q A : Type 0} (box : Box Q A) (p q : Pass Record LaneView) (l : ℕ) (counts counts' : Counts) (r : Record)
+    → ((view p).takes ≡ true) × Holds box p l (view p).taken counts
     → IsSamePass p q → Takes (view p) r (view q) → counts' ≡ counted counts r
     → ((view q).takes ≡ true) × Holds box q l (view q).taken counts'
 takes_on box p q l counts counts' r (may, h) same takes count =
     let is = takes.is in (
       ap (λ (v : LaneView). v.takes) is ∙ may,
       subst (λ (list : List Record). Holds box q l list counts') (sym (ap (λ (v : LaneView). v.taken) is))
-          (goes_on h r (taken_is_legal (view p) (view q) r l h.lane takes) q counts' same (ap (λ (v : LaneView). v.named) is) (ap (λ (v : LaneView). v.network) is) (ap (λ (v : LaneView). v.lane) is) count),
+          (goes_on h r (taken_is_legal (view p) (view q) r l h.lane takes) q counts' same (ap (λ (v : LaneView). v.named) is)
+          (ap (λ (v : LaneView). v.network) is) (ap (λ (v : LaneView). v.lane) is) count),
     )
 
 -- nothing was sent or taken
@@ -122,14 +132,16 @@ stays {Q} {A} {box} {p} {l} {list} {counts} h q same is = record {
   counted = h.counted ∙ ap (λ (v : LaneView). counts_of v.network l list) (sym is);
 }
 
-pub stays_sending : {Q A : Type 0} (box : Box Q A) (p q : Pass Record LaneView) (l : ℕ) (counts : Counts) → ((view p).sends ≡ true) × Holds box p l (view p).sent counts
+pub stays_sending : {Q A : Type 0} (box : Box Q A) (p q : Pass Record LaneView) (l : ℕ) (counts : Counts)
+    → ((view p).sends ≡ true) × Holds box p l (view p).sent counts
     → IsSamePass p q → view q ≡ view p → ((view q).sends ≡ true) × Holds box q l (view q).sent counts
 stays_sending box p q l counts (may, h) same is = (
   ap (λ (v : LaneView). v.sends) is ∙ may,
   subst (λ (v : LaneView). Holds box q l v.sent counts) (sym is) (stays h q same is),
 )
 
-pub stays_taking : {Q A : Type 0} (box : Box Q A) (p q : Pass Record LaneView) (l : ℕ) (counts : Counts) → ((view p).takes ≡ true) × Holds box p l (view p).taken counts
+pub stays_taking : {Q A : Type 0} (box : Box Q A) (p q : Pass Record LaneView) (l : ℕ) (counts : Counts)
+    → ((view p).takes ≡ true) × Holds box p l (view p).taken counts
     → IsSamePass p q → view q ≡ view p → ((view q).takes ≡ true) × Holds box q l (view q).taken counts
 stays_taking box p q l counts (may, h) same is = (
   ap (λ (v : LaneView). v.takes) is ∙ may,
@@ -137,11 +149,13 @@ stays_taking box p q l counts (may, h) same is = (
 )
 
 -- the pass's mailbox, where a call was given it
-pub ours_there : {Q A : Type 0} {box there : Box Q A} {p : Pass Record LaneView} {l : ℕ} {list : List Record} {counts : Counts} → Holds box p l list counts → there ≡ box → IsPassOf there p
+pub ours_there : {Q A : Type 0} {box there : Box Q A} {p : Pass Record LaneView} {l : ℕ} {list : List Record} {counts : Counts} → Holds box p l list counts
+    → there ≡ box → IsPassOf there p
 ours_there {Q} {A} {box} {there} {p} {l} {list} {counts} h at = (h.ours.0 ∙ ap (λ b. b.table.shared.table_id) (sym at), h.ours.1)
 
 -- an end keeps its name
-pub same_name : {Q A : Type 0} (box : Box Q A) (p q : Pass Record LaneView) (l : ℕ) (list : List Record) (stamps : List ℕ) (e : End) → end_of box p l list stamps ≡ e
+pub same_name : {Q A : Type 0} (box : Box Q A) (p q : Pass Record LaneView) (l : ℕ) (list : List Record) (stamps : List ℕ) (e : End)
+    → end_of box p l list stamps ≡ e
     → IsSamePass p q → (view q).network ≡ (view p).network → (end_of box q l list stamps).name ≡ e.name
 same_name box p q l list stamps e is same network =
     (λ j. record { mailbox = same.0 j; network = network j; lane = l; room = box.cap }) ∙ ap (λ (e : End). e.name) is

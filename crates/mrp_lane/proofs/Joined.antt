@@ -1,5 +1,6 @@
 -- What the joined pass of a mailbox holds, and what is left over once all is taken.
-use Rattle.std.proofs.Common.{◌≡◌, ℕ, ◌+◌, ◌<◌, ◌≤◌, true, List, [], ◌∷◌, ◌++◌, drop, length, take, refl, sym, ap, subst, ◌∙◌, append_assoc, append-nil, length-append, arith, All}
+use Rattle.std.proofs.Common.{◌≡◌, ℕ, ◌+◌, ◌<◌, ◌≤◌, true, List, [], ◌∷◌, ◌++◌, drop, length, take, refl, sym, ap, subst, ◌∙◌, append_assoc, append-nil}
+use Rattle.std.proofs.Common.{length-append, arith, All}
 use Rattle.std.proofs.Math.Seq.{take-append_seam}
 use Rattle.std.proofs.lemmas.List.{drop_at, length-map, nil_from_length, take-append-drop, take_at}
 use Rattle.crossbeam_queue.specs.Passes.{Pass, IsPassOf, IsSamePass, view}
@@ -21,19 +22,27 @@ use Rattle.mrp_lane.proofs.Ending.{Box, still_ours}
 
 -- ---- the two ends of one lane
 
-pub names_agree : {Q A : Type 0} (box box' : Box Q A) (p p' : Pass Record LaneView) (l l' : ℕ) (sent taken : List Record) (sent_at taken_at : List ℕ) (s t : End)
-    → end_of box p l sent sent_at ≡ s → end_of box' p' l' taken taken_at ≡ t → s.name ≡ t.name → (end_of box p l sent sent_at).name ≡ (end_of box' p' l' taken taken_at).name
+pub names_agree : {Q A : Type 0} (box box' : Box Q A) (p p' : Pass Record LaneView) (l l' : ℕ) (sent taken : List Record) (sent_at taken_at : List ℕ)
+    (s t : End)
+    → end_of box p l sent sent_at ≡ s → end_of box' p' l' taken taken_at ≡ t → s.name ≡ t.name
+    → (end_of box p l sent sent_at).name ≡ (end_of box' p' l' taken taken_at).name
 names_agree box box' p p' l l' sent taken sent_at taken_at s t is is' same = ap (λ (e : End). e.name) is ∙ same ∙ sym (ap (λ (e : End). e.name) is')
 
 -- the other end's pass too is the mailbox's, wherever that lies
-pub both_ours : {Q A : Type 0} (box box' there : Box Q A) (p p' : Pass Record LaneView) (l l' : ℕ) (sent taken : List Record) (sent_at taken_at : List ℕ) (s t : End)
-    → end_of box p l sent sent_at ≡ s → end_of box' p' l' taken taken_at ≡ t → s.name ≡ t.name → IsPassOf box p → IsPassOf box' p' → there ≡ box → IsPassOf there p'
-both_ours box box' there p p' l l' sent taken sent_at taken_at s t is is' same ours ours' at =
-    (sym (ap (λ (n : Name). n.mailbox) (names_agree box box' p p' l l' sent taken sent_at taken_at s t is is' same)) ∙ ours.0 ∙ ap (λ b. b.table.shared.table_id) (sym at), ours'.1)
+pub both_ours : {Q A : Type 0} (box box' there : Box Q A) (p p' : Pass Record LaneView) (l l' : ℕ) (sent taken : List Record) (sent_at taken_at : List ℕ)
+    (s t : End)
+    → end_of box p l sent sent_at ≡ s → end_of box' p' l' taken taken_at ≡ t → s.name ≡ t.name → IsPassOf box p → IsPassOf box' p' → there ≡ box
+    → IsPassOf there p'
+both_ours box box' there p p' l l' sent taken sent_at taken_at s t is is' same ours ours' at = (
+  sym (ap (λ (n : Name). n.mailbox) (names_agree box box' p p' l l' sent taken sent_at taken_at s t is is' same)) ∙ ours.0
+      ∙ ap (λ b. b.table.shared.table_id) (sym at),
+  ours'.1,
+)
 
 -- what an end holds the joined pass holds
 joins : {Q A : Type 0} {box : Box Q A} {p : Pass Record LaneView} {l : ℕ} {list : List Record} {counts : Counts} → Holds box p l list counts
-    → (there : Box Q A) (q : Pass Record LaneView) (l' : ℕ) → IsPassOf there q → (view q).named ≡ true → (view q).lane ≡ l' → l ≡ l' → (view q).network ≡ (view p).network
+    → (there : Box Q A) (q : Pass Record LaneView) (l' : ℕ) → IsPassOf there q → (view q).named ≡ true → (view q).lane ≡ l' → l ≡ l'
+    → (view q).network ≡ (view p).network
     → Holds there q l' list counts
 joins {Q} {A} {box} {p} {l} {list} {counts} h there q l' ours named lane number network = record {
   ours = ours;
@@ -45,22 +54,26 @@ joins {Q} {A} {box} {p} {l} {list} {counts} h there q l' ours named lane number 
   counted = h.counted ∙ (λ j. counts_of (sym network j) (number j) list);
 }
 
-pub joins_sending : {Q A : Type 0} (box there : Box Q A) (p q : Pass Record LaneView) (w : LaneView) (l : ℕ) (counts : Counts) → Holds box p l (view p).sent counts
+pub joins_sending : {Q A : Type 0} (box there : Box Q A) (p q : Pass Record LaneView) (w : LaneView) (l : ℕ) (counts : Counts)
+    → Holds box p l (view p).sent counts
     → there ≡ box → IsSamePass p q → view q ≡ joined_pass (view p) w → ((view q).sends ≡ true) × Holds there q l (view q).sent counts
 joins_sending box there p q w l counts h at same is = (
   ap (λ (v : LaneView). v.sends) is,
   subst (λ (list : List Record). Holds there q l list counts) (sym (ap (λ (v : LaneView). v.sent) is))
-      (joins h there q l (still_ours box there p q at h.ours same) (ap (λ (v : LaneView). v.named) is) (ap (λ (v : LaneView). v.lane) is ∙ h.lane) refl (ap (λ (v : LaneView). v.network) is)),
+      (joins h there q l (still_ours box there p q at h.ours same) (ap (λ (v : LaneView). v.named) is) (ap (λ (v : LaneView). v.lane) is ∙ h.lane) refl
+      (ap (λ (v : LaneView). v.network) is)),
 )
 
 pub joins_taking : {Q A : Type 0} (box box' there : Box Q A) (p p' q : Pass Record LaneView) (l l' : ℕ) (counts counts' : Counts) (s t : End)
-    → Holds box p l (view p).sent counts → Holds box' p' l' (view p').taken counts' → end_of box p l (view p).sent (view p).sent_at ≡ s → end_of box' p' l' (view p').taken (view p').taken_at ≡ t → s.name ≡ t.name
+    → Holds box p l (view p).sent counts → Holds box' p' l' (view p').taken counts' → end_of box p l (view p).sent (view p).sent_at ≡ s
+    → end_of box' p' l' (view p').taken (view p').taken_at ≡ t → s.name ≡ t.name
     → there ≡ box → IsSamePass p q → view q ≡ joined_pass (view p) (view p') → ((view q).takes ≡ true) × Holds there q l (view q).taken counts'
 joins_taking box box' there p p' q l l' counts counts' s t h h' at_s at_t names at same is =
     let agree = names_agree box box' p p' l l' (view p).sent (view p').taken (view p).sent_at (view p').taken_at s t at_s at_t names in (
       ap (λ (v : LaneView). v.takes) is,
       subst (λ (list : List Record). Holds there q l list counts') (sym (ap (λ (v : LaneView). v.taken) is))
-          (joins h' there q l (still_ours box there p q at h.ours same) (ap (λ (v : LaneView). v.named) is) (ap (λ (v : LaneView). v.lane) is ∙ h.lane) (sym (ap (λ (n : Name). n.lane) agree))
+          (joins h' there q l (still_ours box there p q at h.ours same) (ap (λ (v : LaneView). v.named) is) (ap (λ (v : LaneView). v.lane) is ∙ h.lane)
+          (sym (ap (λ (n : Name). n.lane) agree))
           (ap (λ (v : LaneView). v.network) is ∙ ap (λ (n : Name). n.network) agree)),
     )
 
@@ -74,14 +87,17 @@ took_none v left none =
     ap (λ (z : List Record). record v { taken = z }) (sym (ap (λ (z : List Record). v.taken ++ z) none ∙ append-nil v.taken))
     ∙ ap (λ (z : List ℕ). record v { taken = v.taken ++ left; taken_at = z }) (sym (append-nil v.taken_at))
 
-pub took_more : (v now next : LaneView) (left left' : List Record) (left_at : List ℕ) (r : Record) (stamp : ℕ) → next ≡ view_with_taken now r stamp → now ≡ took v left left_at → left' ≡ left ++ r ∷ []
+pub took_more : (v now next : LaneView) (left left' : List Record) (left_at : List ℕ) (r : Record) (stamp : ℕ) → next ≡ view_with_taken now r stamp
+    → now ≡ took v left left_at → left' ≡ left ++ r ∷ []
     → next ≡ took v left' (left_at ++ stamp ∷ [])
 took_more v now next left left' left_at r stamp is so_far more =
     is ∙ ap (λ (w : LaneView). view_with_taken w r stamp) so_far
-    ∙ ap (λ (z : List Record). record v { taken = z; taken_at = (v.taken_at ++ left_at) ++ stamp ∷ [] }) (append_assoc v.taken left (r ∷ []) ∙ ap (λ (z : List Record). v.taken ++ z) (sym more))
+    ∙ ap (λ (z : List Record). record v { taken = z; taken_at = (v.taken_at ++ left_at) ++ stamp ∷ [] })
+    (append_assoc v.taken left (r ∷ []) ∙ ap (λ (z : List Record). v.taken ++ z) (sym more))
     ∙ ap (λ (z : List ℕ). record v { taken = v.taken ++ left'; taken_at = z }) (append_assoc v.taken_at left_at (stamp ∷ []))
 
-pub one_more_each : (left left' : List Record) (left_at : List ℕ) (r : Record) (stamp : ℕ) → left' ≡ left ++ r ∷ [] → length left_at ≡ length left → length (left_at ++ stamp ∷ []) ≡ length left'
+pub one_more_each : (left left' : List Record) (left_at : List ℕ) (r : Record) (stamp : ℕ) → left' ≡ left ++ r ∷ [] → length left_at ≡ length left
+    → length (left_at ++ stamp ∷ []) ≡ length left'
 one_more_each left left' left_at r stamp more as_many = omega (arith, ap length more, length-append left (r ∷ []), length-append left_at (stamp ∷ []))
 
 -- nothing is in the mailbox any more
@@ -102,11 +118,13 @@ pub took_stamps : (v now : LaneView) (left : List Record) (left_at : List ℕ) �
 took_stamps v now left left_at so_far as_many whole =
     record { waits_at = left_at; whole = took_all_at v now left left_at so_far whole; as_many = as_many }
 
-pub took_as_many : (v now : LaneView) (left : List Record) (left_at : List ℕ) → now ≡ took v left left_at → IsWholePass now [] → length v.sent_at ≡ length v.sent
+pub took_as_many : (v now : LaneView) (left : List Record) (left_at : List ℕ) → now ≡ took v left left_at → IsWholePass now []
+    → length v.sent_at ≡ length v.sent
 took_as_many v now left left_at so_far whole =
     sym (ap (λ (w : LaneView). length w.sent_at) so_far) ∙ whole.as_many ∙ ap (λ (w : LaneView). length w.sent) so_far
 
-pub took_is_all : (v now : LaneView) (left : List Record) (left_at : List ℕ) → now ≡ took v left left_at → now.sent ≡ now.taken → IsWholePass now [] → now ≡ taken_all v
+pub took_is_all : (v now : LaneView) (left : List Record) (left_at : List ℕ) → now ≡ took v left left_at → now.sent ≡ now.taken → IsWholePass now []
+    → now ≡ taken_all v
 took_is_all v now left left_at so_far all whole =
     so_far ∙ ap (λ (z : List Record). record v { taken = z; taken_at = v.taken_at ++ left_at }) (sym (took_all v now left left_at so_far all))
     ∙ ap (λ (z : List ℕ). record v { taken = v.sent; taken_at = z }) (sym (took_all_at v now left left_at so_far whole))
@@ -125,15 +143,18 @@ module _ {Q A : Type 0} {box : Box Q A} {p : Pass Record LaneView} {lane : LaneN
   sizes_agree =
       let N = (view p).network in
       let items = lane_items N (lane_at N lane.0) in
-      ap (λ (t : Counts). length t.items) h'.counted ∙ length-map items (item_pieces_of N lane.0 taken) ∙ sym (ap (λ (t : Counts). length t.items) h.counted ∙ length-map items (item_pieces_of N lane.0 sent))
+      ap (λ (t : Counts). length t.items) h'.counted ∙ length-map items (item_pieces_of N lane.0 taken)
+      ∙ sym (ap (λ (t : Counts). length t.items) h.counted ∙ length-map items (item_pieces_of N lane.0 sent))
 
   pub figures_agree : figures_of lane counts.items counts'.items ≡ figures_on (view p).network lane.0 sent taken
-  figures_agree = (λ j. figures_of lane (h.counted j).items (h'.counted j).items) ∙ figures_are (view p).network lane.0 sent taken h.sized.table h.legal h'.legal
+  figures_agree = (λ j. figures_of lane (h.counted j).items (h'.counted j).items)
+      ∙ figures_are (view p).network lane.0 sent taken h.sized.table h.legal h'.legal
 
 -- ---- what is answered
 
 -- of a pass that has taken all: the front of what was sent, as long as what was taken before
-pub front_is_taken : (v w : LaneView) (count : ℕ) (left : List Record) → w ≡ taken_all v → count ≡ length v.taken → v.sent ≡ v.taken ++ left → take count w.sent ≡ v.taken
+pub front_is_taken : (v w : LaneView) (count : ℕ) (left : List Record) → w ≡ taken_all v → count ≡ length v.taken → v.sent ≡ v.taken ++ left
+    → take count w.sent ≡ v.taken
 front_is_taken v w count left is counted parts =
     (λ j. take (counted j) ((ap (λ (x : LaneView). x.sent) is ∙ parts) j)) ∙ take-append_seam v.taken left
 
@@ -163,10 +184,12 @@ module _ (v w : LaneView) (count : ℕ) (left : List Record) (is : w ≡ taken_a
   pub stamps_left : (v.sent_at ≡ v.taken_at ++ drop count w.sent_at) × (length (drop count w.sent_at) ≡ length left)
   stamps_left = (are.whole ∙ ap (λ (z : List ℕ). v.taken_at ++ z) (sym rest_stamps), rest_as_many)
 
-pub is_counted : {Q A : Type 0} (box : Box Q A) (p q : Pass Record LaneView) (lane : LaneNo) (counts counts' : Counts) (sent taken : ℕ) (left : List Record) (figures : List LaneFigure)
+pub is_counted : {Q A : Type 0} (box : Box Q A) (p q : Pass Record LaneView) (lane : LaneNo) (counts counts' : Counts) (sent taken : ℕ) (left : List Record)
+    (figures : List LaneFigure)
     → Holds box p lane.0 (view p).sent counts → Holds box p lane.0 (view p).taken counts' → sent ≡ counts.records → taken ≡ counts'.records
     → view q ≡ taken_all (view p) → (view p).sent ≡ (view p).taken ++ left
-    → AreStamped (view p).sent_at (view p).taken_at (length left) → length (view p).sent_at ≡ length (view p).sent → figures ≡ figures_of lane counts.items counts'.items
+    → AreStamped (view p).sent_at (view p).taken_at (length left) → length (view p).sent_at ≡ length (view p).sent
+    → figures ≡ figures_of lane counts.items counts'.items
     → IsCounted lane.0 sent taken (carried_over q taken left figures)
 is_counted box p q lane counts counts' sent taken left figures h h' sent_is taken_is is parts are as_many figures_are =
     let v = view p in

@@ -55,7 +55,8 @@ stamped_same sent_at taken_at sent_there taken_there waiting sent taken are = re
 
 -- ---- the views of all passes
 
-last_place : (views : List LaneView) (v w : LaneView) (pass : ℕ) → get_elem? views pass ≢ some w → get_elem? (views ++ v ∷ []) pass ≡ some w → pass ≡ length views
+last_place : (views : List LaneView) (v w : LaneView) (pass : ℕ) → get_elem? views pass ≢ some w → get_elem? (views ++ v ∷ []) pass ≡ some w
+    → pass ≡ length views
 last_place [] v w zero n e = refl
 last_place [] v w (suc pass) n e = absurd (some-ne-none w (sym e))
 last_place (x ∷ views) v w zero n e = absurd (n e)
@@ -81,17 +82,21 @@ idle_fits line pass v a b = record {
 
 module _ {mailbox : List Record} {views : List LaneView} {line : Line} (kept : CarriesLine line mailbox views) where
   -- another pass than the sender's may not send, and another than the receiver's may not take
-  not_sender : (pass other : ℕ) (v u : LaneView) → v.sends ≡ true → get_elem? views pass ≡ some v → get_elem? views other ≡ some u → other ≢ pass → u.sends ≢ true
+  not_sender : (pass other : ℕ) (v u : LaneView) → v.sends ≡ true → get_elem? views pass ≡ some v → get_elem? views other ≡ some u → other ≢ pass
+      → u.sends ≢ true
   not_sender pass other v u may at at' apart p = apart (((kept.fits other u at').sends p).0 ∙ sym ((kept.fits pass v at).sends may).0)
 
-  not_taker : (pass other : ℕ) (v u : LaneView) → v.takes ≡ true → get_elem? views pass ≡ some v → get_elem? views other ≡ some u → other ≢ pass → u.takes ≢ true
+  not_taker : (pass other : ℕ) (v u : LaneView) → v.takes ≡ true → get_elem? views pass ≡ some v → get_elem? views other ≡ some u → other ≢ pass
+      → u.takes ≢ true
   not_taker pass other v u may at at' apart p = apart (((kept.fits other u at').takes p).0 ∙ sym ((kept.fits pass v at).takes may).0)
 
   -- what is legal at a pass that knows the lane is legal on the line
-  legal_there : (v : LaneView) (records : List Record) → (v.network ≡ line.network) × (v.lane ≡ line.lane) → IsLegal v.network v.lane records → IsLegal line.network line.lane records
+  legal_there : (v : LaneView) (records : List Record) → (v.network ≡ line.network) × (v.lane ≡ line.lane) → IsLegal v.network v.lane records
+      → IsLegal line.network line.lane records
   legal_there v records is h = subst (λ (x : Table × ℕ). IsLegal x.0 x.1 records) (λ i. (is.0 i, is.1 i)) h
 
-  legal_here : (v : LaneView) (records : List Record) → (v.network ≡ line.network) × (v.lane ≡ line.lane) → IsLegal line.network line.lane records → IsLegal v.network v.lane records
+  legal_here : (v : LaneView) (records : List Record) → (v.network ≡ line.network) × (v.lane ≡ line.lane) → IsLegal line.network line.lane records
+      → IsLegal v.network v.lane records
   legal_here v records is h = subst (λ (x : Table × ℕ). IsLegal x.0 x.1 records) (λ i. (sym is.0 i, sym is.1 i)) h
 
 abbrev first_line : Line
@@ -142,13 +147,15 @@ untaken pass v may mailbox views (line, kept) at = record { taken = line.taken; 
 pub takes : (pass : ℕ) (v : LaneView) → v.takes ≡ true → v.named ≡ true → Pops Keeps pass v (Takes v)
 takes pass v may named r mailbox views (line, kept) at =
     let mine = (kept.fits pass v at).takes may in
-    let first : TakesStamp line.sent_at line.taken_at (length mailbox) = stamped_first line.sent_at line.taken_at kept.stamps.waits_at (length mailbox) kept.stamps.whole kept.stamps.as_many in
+    let first : TakesStamp line.sent_at line.taken_at (length mailbox) =
+    stamped_first line.sent_at line.taken_at kept.stamps.waits_at (length mailbox) kept.stamps.whole kept.stamps.as_many in
     let stamp : ℕ = first.0 in
     let longer : Line = record line { taken = line.taken ++ r ∷ []; taken_at = line.taken_at ++ stamp ∷ [] } in
     let same : v.taken ++ r ∷ [] ≡ longer.taken = ap (λ (l : List Record). l ++ r ∷ []) mine.1 in
     let same_at : v.taken_at ++ stamp ∷ [] ≡ longer.taken_at = ap (λ (l : List ℕ). l ++ stamp ∷ []) mine.3 in
     let whole : line.sent ≡ longer.taken ++ mailbox = kept.whole ∙ sym (append_assoc line.taken (r ∷ []) mailbox) in
-    let front : IsLegal line.network line.lane longer.taken = front_is_legal line.network line.lane longer.taken mailbox (subst (IsLegal line.network line.lane) whole kept.legal) in (
+    let front : IsLegal line.network line.lane longer.taken = front_is_legal line.network line.lane longer.taken mailbox
+    (subst (IsLegal line.network line.lane) whole kept.legal) in (
       view_with_taken v r stamp,
       (
         longer,
@@ -199,7 +206,11 @@ parts pass v N l first mailbox views (line, kept) at =
         as_many = refl;
         legal = empty_is_legal N l;
         fits = λ j u e. ⊎_elim
-            (λ (x : get_elem? after j ≡ some u). record { sends = λ p. (((old j u x).0 p).0, sym ((old j u x).0 p).1, ((old j u x).0 p).2, sym ((old j u x).0 p).3); takes = λ p. absurd ((old j u x).1 p) })
+            (λ (x : get_elem? after j ≡ some u). record {
+              sends = λ p.
+                  (((old j u x).0 p).0, sym ((old j u x).0 p).1, ((old j u x).0 p).2, sym ((old j u x).0 p).3);
+              takes = λ p. absurd ((old j u x).1 p);
+            })
             (λ (is : right ≡ u). record {
               sends = λ p. absurd (true≢false (sym (ap (λ (y : LaneView). y.sends) is ∙ p)));
               takes = λ p. (
@@ -214,12 +225,14 @@ parts pass v N l first mailbox views (line, kept) at =
     )
 
 -- the sender's pass takes in the receiver's
-pub joins : (pass : ℕ) (v : LaneView) (other : ℕ) (u : LaneView) → v.sends ≡ true → v.named ≡ true → u.takes ≡ true → Merges Keeps pass v other u (joined_pass v u) spent
+pub joins : (pass : ℕ) (v : LaneView) (other : ℕ) (u : LaneView) → v.sends ≡ true → v.named ≡ true → u.takes ≡ true
+    → Merges Keeps pass v other u (joined_pass v u) spent
 joins pass v other u a named b mailbox views (line, kept) at two at' =
     let both : LaneView = joined_pass v u in
     let mine = (kept.fits pass v at).sends a in
     let after : List LaneView = set views pass both in
-    let was : get_elem? views other ≡ some u = ⊎_elim (λ (x : (other ≡ pass) × (both ≡ u)). absurd (two x.0)) (λ (x : (other ≢ pass) × (get_elem? views other ≡ some u)). x.1) (at_set views pass other both u at') in
+    let was : get_elem? views other ≡ some u = ⊎_elim (λ (x : (other ≡ pass) × (both ≡ u)). absurd (two x.0))
+    (λ (x : (other ≢ pass) × (get_elem? views other ≡ some u)). x.1) (at_set views pass other both u at') in
     let theirs = (kept.fits other u was).takes b in
     let new : Line = record line { taker = pass } in
     let Now : ℕ → LaneView → Type 0 = λ j y. j ≢ other → FitsLine new j y in

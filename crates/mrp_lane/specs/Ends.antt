@@ -49,7 +49,8 @@ pub record Holds {Q A : Type 0} (mailbox : Slotted (Option Record) (Doing Record
   pub legal : IsLegal (view pass).network l list
   pub counted : counts ≡ counts_of (view pass).network l list
 
-abbrev pub end_of : {Q A : Type 0} → Slotted (Option Record) (Doing Record LaneView) Q A → Pass Record LaneView → ℕ → List Record → List ℕ → End
+abbrev pub end_of : {Q A : Type 0} → Slotted (Option Record) (Doing Record LaneView) Q A → Pass Record LaneView → ℕ
+    → List Record → List ℕ → End
 end_of mailbox pass l list stamps = record {
   name = record { mailbox = pass.table_id; network = (view pass).network; lane = l; room = mailbox.cap };
   list = list;

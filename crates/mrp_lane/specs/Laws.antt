@@ -21,5 +21,6 @@ pub record EndsAreInOrder (mailbox : List Record) (send take : LaneView) : Type 
 
 abbrev pub MailboxesKeepOrder : Type 0
 MailboxesKeepOrder =
-    (mailbox : List Record) (views : List LaneView) → Keeps mailbox views → (send take : LaneView) → IsViewOf views send → IsViewOf views take
+    (mailbox : List Record) (views : List LaneView) → Keeps mailbox views → (send take : LaneView) → IsViewOf views send
+    → IsViewOf views take
     → send.sends ≡ true → send.named ≡ true → take.takes ≡ true → take.named ≡ true → EndsAreInOrder mailbox send take

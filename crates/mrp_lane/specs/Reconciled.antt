@@ -29,7 +29,13 @@ figures_on N l sent taken = map (figure_on N l sent taken) (lane_items N (lane_a
 -- the figures of the pieces that two ends counted, item by item
 abbrev pub lane_figure : LaneNo → ItemPieces → ItemPieces → LaneFigure
 lane_figure lane sent taken =
-    record { lane = lane; item = sent.item; opening = sent.opening; shipped = sent.opening + sent.pieces; received = taken.opening + taken.pieces }
+    record {
+      lane = lane;
+      item = sent.item;
+      opening = sent.opening;
+      shipped = sent.opening + sent.pieces;
+      received = taken.opening + taken.pieces;
+    }
 
 abbrev pub figures_of : LaneNo → List ItemPieces → List ItemPieces → List LaneFigure
 figures_of lane [] taken = []

@@ -34,8 +34,15 @@ more_of item quantity i = record i { pieces = i.pieces + (if item == i.item.0 th
 -- ---- of a list
 
 abbrev pub item_pieces_of : Table → ℕ → List Record → ItemNo → ItemPieces
-item_pieces_of N l records item = record { item = item; opening = opening N (lane_at N l) item; pieces = moved item.0 (contents records) }
+item_pieces_of N l records item = record {
+  item = item;
+  opening = opening N (lane_at N l) item;
+  pieces = moved item.0 (contents records);
+}
 
 -- the counts of the records on the lane l of the network N
 abbrev pub counts_of : Table → ℕ → List Record → Counts
-counts_of N l records = record { records = length records; items = map (item_pieces_of N l records) (lane_items N (lane_at N l)) }
+counts_of N l records = record {
+  records = length records;
+  items = map (item_pieces_of N l records) (lane_items N (lane_at N l));
+}

@@ -67,8 +67,10 @@ IsLaneNamed line v = v.named ≡ true → (v.network ≡ line.network) × (v.lan
 
 -- the pass that sends is one, and so is the pass that takes; each knows its list, whose lane it is, and its stamps
 pub record FitsLine (line : Line) (pass : ℕ) (v : LaneView) : Type 0 where
-  pub sends : v.sends ≡ true → (pass ≡ line.sender) × (v.sent ≡ line.sent) × IsLaneNamed line v × (v.sent_at ≡ line.sent_at)
-  pub takes : v.takes ≡ true → (pass ≡ line.taker) × (v.taken ≡ line.taken) × IsLaneNamed line v × (v.taken_at ≡ line.taken_at)
+  pub sends : v.sends ≡ true → (pass ≡ line.sender) × (v.sent ≡ line.sent) × IsLaneNamed line v
+      × (v.sent_at ≡ line.sent_at)
+  pub takes : v.takes ≡ true → (pass ≡ line.taker) × (v.taken ≡ line.taken) × IsLaneNamed line v
+      × (v.taken_at ≡ line.taken_at)
 
 -- the stamps of what was sent are those of what was taken and then as many as records wait
 pub record AreStamped (sent_at taken_at : List ℕ) (waiting : ℕ) : Type 0 where

@@ -22,8 +22,8 @@ use std::sync::Wait;
 /// What went over a lane, as its two ends showed it when they were joined.
 ///
 /// Contracts see the network and the lane, the list of all records that were sent, the list of those that
-/// were taken, what is left, the stamps of these, and the figures. The lists are what the joined pass to the mailbox knows: it is
-/// kept, and has no bytes.
+/// were taken, what is left, the stamps of these, and the figures. The lists are what the joined pass to the mailbox
+/// knows: it is kept, and has no bytes.
 #[derive(Drop)]
 pub struct Reconciled {
     pass: LanePass,
@@ -41,7 +41,8 @@ impl Model for Reconciled {
 
     ghost view = { λ r. carried_over r.pass r.taken r.left.items r.figures.items };
 
-    ghost invariant = { λ r. IsCounted r.lane.0 r.sent r.taken (carried_over r.pass r.taken r.left.items r.figures.items) };
+    ghost invariant = { λ r. IsCounted r.lane.0 r.sent r.taken
+        (carried_over r.pass r.taken r.left.items r.figures.items) };
 }
 
 impl Reconciled {
@@ -142,8 +143,10 @@ fn settle<R: Wait>(
     ensures left { IfOk result (λ r. (view pass).sent ≡ (view pass).taken ++ r.left) }
     ensures sent_at { IfOk result (λ r. r.sent_at ≡ (view pass).sent_at) }
     ensures taken_at { IfOk result (λ r. r.taken_at ≡ (view pass).taken_at) }
-    ensures left_at { IfOk result (λ r. ((view pass).sent_at ≡ (view pass).taken_at ++ r.left_at) × (length r.left_at ≡ length r.left)) }
-    ensures figures { IfOk result (λ r. r.figures ≡ figures_on (view pass).network lane.0 (view pass).sent (view pass).taken) }
+    ensures left_at { IfOk result (λ r. ((view pass).sent_at ≡ (view pass).taken_at ++ r.left_at)
+        × (length r.left_at ≡ length r.left)) }
+    ensures figures { IfOk result (λ r. r.figures
+        ≡ figures_on (view pass).network lane.0 (view pass).sent (view pass).taken) }
 {
     let left = drained(rt, alloc, mailbox, &mut pass)?;
     let figures = lane_figures(alloc, lane, sent.items(), taken.items())?;
@@ -169,7 +172,8 @@ fn drained<R: Wait>(
     requires takes { (view pass.old).takes ≡ true }
     requires named { (view pass.old).named ≡ true }
     ensures left { IfOk result (λ left. (view pass.old).sent ≡ (view pass.old).taken ++ left.items) }
-    ensures stamps { IfOk result (λ left. AreStamped (view pass.old).sent_at (view pass.old).taken_at (length left.items)) }
+    ensures stamps { IfOk result (λ left. AreStamped (view pass.old).sent_at (view pass.old).taken_at
+        (length left.items)) }
     ensures as_many { IfOk result (λ left. length (view pass.old).sent_at ≡ length (view pass.old).sent) }
     ensures took { IfOk result (λ left. view pass.new ≡ taken_all (view pass.old)) }
 {

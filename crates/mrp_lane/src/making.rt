@@ -36,7 +36,8 @@ pub fn lane(
     requires capacity { (1 ≤ capacity) × (capacity ≤ MOST_ROOM) }
     ensures network { IfOk result (λ ends. ends.0.name.network ≡ net.now.network) }
     ensures lane { IfOk result (λ ends. ends.0.name.lane ≡ lane.0) }
-    ensures room { IfOk result (λ ends. ends.0.name.room ≡ min capacity (longest_text net.now.network (lane_at net.now.network lane.0))) }
+    ensures room { IfOk result (λ ends. ends.0.name.room
+        ≡ min capacity (longest_text net.now.network (lane_at net.now.network lane.0))) }
     ensures same { IfOk result (λ ends. ends.0.name ≡ ends.1.name) }
     ensures empty { IfOk result (λ ends. (ends.0.list ≡ []) × (ends.1.list ≡ [])) }
     ensures unstamped { IfOk result (λ ends. (ends.0.stamps ≡ []) × (ends.1.stamps ≡ [])) }

@@ -1,5 +1,6 @@
 //! What an end of a lane counts of the records that went through it.
-ghost use Rattle.std.specs.Prelude.{◌≡◌, ◌+◌, ◌<◌, ◌^◌, ◌==◌, false, [], All, Contains, IfOk, IfSome, IfNone, IsTrue, length, map, slice_index_or};
+ghost use Rattle.std.specs.Prelude.{◌≡◌, ◌+◌, ◌<◌, ◌^◌, ◌==◌, false, [], All, Contains, IfOk, IfSome, IfNone, IsTrue};
+ghost use Rattle.std.specs.Prelude.{length, map, slice_index_or};
 ghost use Rattle.std.specs.List.{IsDistinct};
 ghost use Rattle.mrp_loops.specs.Sized.{IsSized};
 ghost use Rattle.mrp_net.specs.Lanes.{lanes, lane_at, lane_items};
@@ -157,7 +158,8 @@ fn place(items: &[ItemPieces], near: usize, item: ItemNo) -> Option<usize>
 
 /// Whether the item stands there.
 fn is_at(items: &[ItemPieces], at: usize, item: ItemNo) -> bool
-    ensures { IsTrue result → (at < length items.now) × ((d : ItemPieces) → (slice_index_or items.now at d).item.0 ≡ item.0) }
+    ensures { IsTrue result → (at < length items.now)
+        × ((d : ItemPieces) → (slice_index_or items.now at d).item.0 ≡ item.0) }
 {
     at < items.len() && item.0 == items[at].item.0
 }

@@ -77,8 +77,8 @@ impl<S: Stamp> Lesson<Record, LaneView> for Sent<S> {
     ghost fact = { λ v mailbox. IsUntaken v.sent mailbox };
 }
 
-/// A pop appends the record to what was taken, which stays a legal beginning, and its stamp to those. Where there is nothing to
-/// take, all that was sent is taken, as far as the pass knows both.
+/// A pop appends the record to what was taken, which stays a legal beginning, and its stamp to those. Where there is
+/// nothing to take, all that was sent is taken, as far as the pass knows both.
 pub struct Taken;
 
 impl Outcome<Record, LaneView> for Taken {

@@ -27,7 +27,8 @@ part_within N s release whole =
     omega arith
 
 -- the parts of a row's first n periods are within their sum
-parts-le : (N : Table) (s : SourceRow) (row : List ℕ) (n : ℕ) → s.high ≤ 1000 → sum_by (λ t. part (source_edge N s) (slice_index row t)) (range_with_len 0 n) ≤ sum (take n row)
+parts-le : (N : Table) (s : SourceRow) (row : List ℕ) (n : ℕ) → s.high ≤ 1000
+    → sum_by (λ t. part (source_edge N s) (slice_index row t)) (range_with_len 0 n) ≤ sum (take n row)
 parts-le N s row zero whole = omega arith
 parts-le N s row (suc n) whole =
     omega (
@@ -43,7 +44,8 @@ by_kind Despatch f s = omega arith
 by_kind Schedule f s = omega arith
 
 -- either lane of two plants begins an item no higher than after its shipments
-opening-le : (N : Table) (lane : Lane) (item : ItemNo) → opening N lane item ≤ figure N (pair_on N lane item) (supplier_of lane) + shipped_from N (pair_on N lane item) (supplier_of lane)
+opening-le : (N : Table) (lane : Lane) (item : ItemNo) → opening N lane item ≤ figure N (pair_on N lane item) (supplier_of lane)
+    + shipped_from N (pair_on N lane item) (supplier_of lane)
 opening-le N lane item = by_kind lane.kind (figure N (pair_on N lane item) (supplier_of lane)) (shipped_from N (pair_on N lane item) (supplier_of lane))
 
 pub lane_figures_within : LaneFiguresAreWithin

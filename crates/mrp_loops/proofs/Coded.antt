@@ -1,5 +1,6 @@
 -- A network without loops has codes: no chain is as long as the table has pairs, so each pair has a longest.
-use Rattle.std.proofs.Common.{◌≡◌, ℕ, zero, suc, ◌+◌, ◌<◌, ◌≤◌, Bool, true, false, cond, ⊎_elim, List, [], ◌∷◌, ◌++◌, map, reverse, length, refl, sym, ap, subst, ◌∙◌, arith, All, slice_index}
+use Rattle.std.proofs.Common.{◌≡◌, ℕ, zero, suc, ◌+◌, ◌<◌, ◌≤◌, Bool, true, false, cond, ⊎_elim, List, [], ◌∷◌, ◌++◌, map, reverse, length, refl, sym, ap}
+use Rattle.std.proofs.Common.{subst, ◌∙◌, arith, All, slice_index}
 use Rattle.std.specs.List.{list_any, range_with_len}
 use Rattle.std.proofs.lemmas.Bool.{cases_Bool, cases_lt, both_ways, or_left, or_right, cond-true, cond-false}
 use Rattle.std.proofs.lemmas.List.{length_push}
@@ -62,7 +63,8 @@ module _ (N : Table) (table : IsTable N) (free : IsLoopFree N) where
       let c = place_in path' y.0 again in
       absurd (free _ (ring_from_walk (HasEdge N) path' y c.0 c.1 (c.2 y) climbs' apart').round))
       (λ new'.
-      let rest = chain_short n y path' (All-push (λ (z : PairNo). IsPair N z.0) path x pairs pair) (HasEdge-pairs N table y.0 x.0 chain.1).0 apart' new' climbs' chain.2 in
+      let rest = chain_short n y path' (All-push (λ (z : PairNo). IsPair N z.0) path x pairs pair)
+      (HasEdge-pairs N table y.0 x.0 chain.1).0 apart' new' climbs' chain.2 in
       omega (arith, length_push path x))
       (cases_Bool (is_in path' y.0))
 

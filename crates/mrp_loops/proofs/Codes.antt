@@ -41,7 +41,8 @@ edge_raises N codes table are y x edge =
     let longest = (are.code x pairs.1).longest (suc (slice_index codes y)) (y, edge, (are.code y pairs.0).chain) in
     omega arith
 
-leads_rise : (N : Table) (codes : List ℕ) → IsTable N → AreCodes N codes → (x : ℕ) (xs : List ℕ) (after : ℕ) → LeadsTo N (x ∷ xs) after → slice_index codes x < slice_index codes after
+leads_rise : (N : Table) (codes : List ℕ) → IsTable N → AreCodes N codes → (x : ℕ) (xs : List ℕ) (after : ℕ) → LeadsTo N (x ∷ xs) after
+    → slice_index codes x < slice_index codes after
 leads_rise N codes table are x [] after h = edge_raises N codes table are x after h.0
 leads_rise N codes table are x (y ∷ ys) after h =
     let here = edge_raises N codes table are x y h.0 in
@@ -63,7 +64,8 @@ stuck_from_taken N queue left codes taken = record {
       let e = waiting-some N queue x waits in
       let from = (edge_pairs N taken.counted.table e.0 (demanders_only N x e.0 e.1).0).0 in
       let test : (slice_index left e.0.demander.0 == 0) ≡ false = sym (taken.counted.queued e.0.demander.0 from) ∙ e.2 in
-      let ne : slice_index left e.0.demander.0 ≢ 0 = λ z. both_ways (slice_index left e.0.demander.0 == 0) test (eq-eqb (slice_index left e.0.demander.0) 0 z) in
+      let ne : slice_index left e.0.demander.0 ≢ 0 = λ z. both_ways (slice_index left e.0.demander.0 == 0) test (eq-eqb (slice_index left e.0.demander.0) 0 z)
+      in
       (e.0, Contains-from_in (demanders N x) e.0 e.1, omega arith);
   all = left_is_counted N queue left codes taken;
 }

@@ -8,7 +8,8 @@ use Rattle.mrp_net.specs.declared.edge.Edge.{Edge}
 use Rattle.mrp_net.specs.Edges.{edges, demanders, bill_edge, source_edge}
 use Rattle.mrp_net.specs.Suppliers.{suppliers}
 use Rattle.mrp_loops.specs.Loop.{HasEdge}
-use Rattle.mrp_net.proofs.Members.{In, In-from_contains, Contains-from_in, In-append_cases, In-filter, filter_only, In-flat_map, flat_map_only, In-range, map_only, All-in}
+use Rattle.mrp_net.proofs.Members.{In, In-from_contains, Contains-from_in, In-append_cases, In-filter, filter_only, In-flat_map, flat_map_only, In-range}
+use Rattle.mrp_net.proofs.Members.{map_only, All-in}
 use Rattle.mrp_loops.proofs.Counts.{count-sorted, count-filter_swap}
 
 -- an edge joins pairs of the table
@@ -34,13 +35,16 @@ HasEdge-pairs N table y x h =
     (subst (λ (w : ℕ). IsPair N w) h.2 c.0, subst (λ (w : ℕ). IsPair N w) h.3 c.1)
 
 -- edges with one end at y, put in order of the other
-put_in : (by at : Edge → ℕ) (n y : ℕ) (es : List Edge) (e : Edge) → In es e → at e ≡ y → by e < n → In (flat_map (λ x. filter (λ w. by w == x) (filter (λ w. at w == y) es)) (range_with_len 0 n)) e
+put_in : (by at : Edge → ℕ) (n y : ℕ) (es : List Edge) (e : Edge) → In es e → at e ≡ y → by e < n
+    → In (flat_map (λ x. filter (λ w. by w == x) (filter (λ w. at w == y) es)) (range_with_len 0 n)) e
 put_in by at n y es e h p d =
     let to = In-filter (λ (w : Edge). at w == y) es e h (eq-eqb (at e) y p) in
     let group = In-filter (λ (w : Edge). by w == by e) (filter (λ (w : Edge). at w == y) es) e to (eq-eqb (by e) (by e) refl) in
-    In-flat_map (λ x. filter (λ (w : Edge). by w == x) (filter (λ (w : Edge). at w == y) es)) (range_with_len 0 n) (by e) e (In-range 0 n (by e) (omega arith) (omega arith)) group
+    In-flat_map (λ x. filter (λ (w : Edge). by w == x) (filter (λ (w : Edge). at w == y) es)) (range_with_len 0 n) (by e) e
+    (In-range 0 n (by e) (omega arith) (omega arith)) group
 
-only_in : (by at : Edge → ℕ) (n y : ℕ) (es : List Edge) (e : Edge) → In (flat_map (λ x. filter (λ w. by w == x) (filter (λ w. at w == y) es)) (range_with_len 0 n)) e → In es e × (at e ≡ y)
+only_in : (by at : Edge → ℕ) (n y : ℕ) (es : List Edge) (e : Edge)
+    → In (flat_map (λ x. filter (λ w. by w == x) (filter (λ w. at w == y) es)) (range_with_len 0 n)) e → In es e × (at e ≡ y)
 only_in by at n y es e h =
     let c = flat_map_only (λ x. filter (λ (w : Edge). by w == x) (filter (λ (w : Edge). at w == y) es)) (range_with_len 0 n) e h in
     let f = filter_only (λ (w : Edge). by w == c.0) (filter (λ (w : Edge). at w == y) es) e c.2 in
@@ -60,7 +64,8 @@ pub suppliers_only : (N : Table) (y : ℕ) (e : Edge) → In (suppliers N y) e �
 suppliers_only N y e h = only_in (λ w. w.pair.0) (λ w. w.demander.0) (length N.pairs) y (edges N) e h
 
 -- the edges from y to x, counted at either end
-pub count_between : (N : Table) (y x : ℕ) → IsPair N y → IsPair N x → count_by (λ e. e.demander.0 == y) (demanders N x) ≡ count_by (λ e. e.pair.0 == x) (suppliers N y)
+pub count_between : (N : Table) (y x : ℕ) → IsPair N y → IsPair N x
+    → count_by (λ e. e.demander.0 == y) (demanders N x) ≡ count_by (λ e. e.pair.0 == x) (suppliers N y)
 count_between N y x from to =
     count-sorted (λ (e : Edge). e.demander.0) (length N.pairs) y (filter (λ (e : Edge). e.pair.0 == x) (edges N)) from
     ∙ (count-filter_swap (λ (e : Edge). e.demander.0 == y) (λ (e : Edge). e.pair.0 == x) (edges N)

@@ -40,7 +40,8 @@ left_is_counted N queue left codes taken x chains =
     (cases_eq (slice_index left x) 0)
 
 -- the first that is counted as left is the first that is left
-pub first_is_first : (N : Table) (left : List ℕ) (x : ℕ) → IsStuck N left → x < length left → 0 < slice_index left x → All (λ w. w ≡ 0) (take x left) → IsFirst (IsLeft N) x
+pub first_is_first : (N : Table) (left : List ℕ) (x : ℕ) → IsStuck N left → x < length left → 0 < slice_index left x → All (λ w. w ≡ 0) (take x left)
+    → IsFirst (IsLeft N) x
 first_is_first N left x stuck within some before = (
   λ n. left_has_chains N left stuck n x (omega (arith, stuck.size)) some,
   λ y chains. ⊎_elim
@@ -77,7 +78,8 @@ first_demander N left x i d table l none y edge some =
     (cases_lt at.0 i)
 
 -- so the walk goes to it
-pub goes_to_first : (N : Table) (left : List ℕ) (x i : ℕ) (d : Edge) → IsStuck N left → i < length (demanders N x) → 0 < slice_index left (get_or (demanders N x) i d).demander.0
+pub goes_to_first : (N : Table) (left : List ℕ) (x i : ℕ) (d : Edge) → IsStuck N left → i < length (demanders N x)
+    → 0 < slice_index left (get_or (demanders N x) i d).demander.0
     → ((k : ℕ) (d : Edge) → k < i → slice_index left (get_or (demanders N x) k d).demander.0 ≡ 0)
     → GoesTo N x (get_or (demanders N x) i d).demander.0
 goes_to_first N left x i d stuck l some none =

@@ -1,5 +1,6 @@
 -- The needs, found in an order in which demanders come first.
-use Rattle.std.proofs.Common.{◌≡◌, ◌≢◌, ℕ, zero, suc, ◌+◌, ◌-◌, ◌*◌, ◌<◌, ◌≤◌, ◌==◌, true, inl, inr, ⊎_elim, List, [], ◌∷◌, length, map, get_or, set, min, refl, sym, ap, subst, ◌∙◌, arith, slice_index, sum_by, length-set}
+use Rattle.std.proofs.Common.{◌≡◌, ◌≢◌, ℕ, zero, suc, ◌+◌, ◌-◌, ◌*◌, ◌<◌, ◌≤◌, ◌==◌, true, inl, inr, ⊎_elim, List, [], ◌∷◌, length, map, get_or, set, min, refl}
+use Rattle.std.proofs.Common.{sym, ap, subst, ◌∙◌, arith, slice_index, sum_by, length-set}
 use Rattle.std.proofs.lemmas.Bool.{eqb-true, cases_eq, or_cases, true≢false}
 use Rattle.std.proofs.lemmas.List.{get_or_default, get_or-map, get_or-set_same, get_or-set_other, length-map}
 use Rattle.std.proofs.lemmas.List.Sums.{sum_by-cons}
@@ -27,9 +28,11 @@ sum_agree f g (x ∷ xs) each =
     omega (arith, sum_by-cons f x xs, sum_by-cons g x xs, each x (inl refl))
 
 -- a need looks at the needs of the demanders alone
-pub need_agrees : (N : Table) (a b : List ℕ) (x : ℕ) → ((e : Edge) → In (demanders N x) e → slice_index a e.demander.0 ≡ slice_index b e.demander.0) → need_at N a x ≡ need_at N b x
+pub need_agrees : (N : Table) (a b : List ℕ) (x : ℕ) → ((e : Edge) → In (demanders N x) e → slice_index a e.demander.0 ≡ slice_index b e.demander.0)
+    → need_at N a x ≡ need_at N b x
 need_agrees N a b x each =
-    let asked = sum_agree (λ (e : Edge). e.per * slice_index a e.demander.0) (λ (e : Edge). e.per * slice_index b e.demander.0) (demanders N x) (λ e h. ap (λ (n : ℕ). e.per * n) (each e h)) in
+    let asked = sum_agree (λ (e : Edge). e.per * slice_index a e.demander.0) (λ (e : Edge). e.per * slice_index b e.demander.0) (demanders N x)
+    (λ e h. ap (λ (n : ℕ). e.per * n) (each e h)) in
     ap (λ (n : ℕ). demand_total N x + n + (pair_at N x).safety + rule_quantities (pair_at N x).rule) asked
 
 -- where a pair of a list stands
@@ -42,7 +45,8 @@ place_in (z ∷ zs) x t = ⊎_elim
 
 module _ (N : Table) (order : List PairNo) (planning : IsPlanningOrder N (map (λ z. z.0) order)) where
   -- two lists that agree at the first k pairs give the pair at k, or before, one need
-  pub need_same : (a b : List ℕ) (k j : ℕ) (d : PairNo) → ((i : ℕ) (d : PairNo) → i < k → slice_index a (get_or order i d).0 ≡ slice_index b (get_or order i d).0)
+  pub need_same : (a b : List ℕ) (k j : ℕ) (d : PairNo) → ((i : ℕ) (d : PairNo) → i < k
+      → slice_index a (get_or order i d).0 ≡ slice_index b (get_or order i d).0)
       → j ≤ k → j < length order → need_at N a (get_or order j d).0 ≡ need_at N b (get_or order j d).0
   need_same a b k j d same jk jl = need_agrees N a b (get_or order j d).0 (λ e h.
       let c = demander_place N order planning j d e jl h in
@@ -129,7 +133,8 @@ module _ (N : Table) (order : List PairNo) (planning : IsPlanningOrder N (map (�
 
   -- the needs of all pairs, which are those that are found at the first pairs
   abbrev pub AllNeeds : ℕ → List ℕ → Type 0
-  AllNeeds k needs = (all : List ℕ) × AreNeeds N all × ((j : ℕ) (d : PairNo) → j < k → slice_index all (get_or order j d).0 ≡ slice_index needs (get_or order j d).0)
+  AllNeeds k needs = (all : List ℕ) × AreNeeds N all × ((j : ℕ) (d : PairNo) → j < k
+      → slice_index all (get_or order j d).0 ≡ slice_index needs (get_or order j d).0)
 
   pub needs_extended : (m k : ℕ) (needs : List ℕ) → m + k ≡ length order → IsFound N order k needs → AllNeeds k needs
   needs_extended zero k needs size f = (needs, needs_from_found k needs (omega arith) f, λ j d l. refl)
@@ -143,14 +148,16 @@ module _ (N : Table) (order : List PairNo) (planning : IsPlanningOrder N (map (�
       (more.0, more.1, λ j d l. more.2 j d (omega arith) ∙ needs_kept k needs x value kl at j d l)
 
 -- a sum with a cap that stays below a bound below the cap is exact
-pub cap_exact : (cap most supply need s n t : ℕ) → most < cap → s ≡ min supply cap → n ≡ min need cap → t ≡ min (s + n) cap → t ≤ most → (n ≡ need) × (supply + n ≤ most)
+pub cap_exact : (cap most supply need s n t : ℕ) → most < cap → s ≡ min supply cap → n ≡ min need cap → t ≡ min (s + n) cap → t ≤ most
+    → (n ≡ need) × (supply + n ≤ most)
 cap_exact cap most supply need s n t small es en et low = (omega arith, omega arith)
 
 pub cap_above : (cap most supply need s n t : ℕ) → most < cap → s ≡ min supply cap → n ≡ min need cap → t ≡ min (s + n) cap → most < t → most < supply + need
 cap_above cap most supply need s n t small es en et high = omega arith
 
 -- the first pair above the bound in the order of the codes
-pub need_too_large : (N : Table) (codes : List ℕ) (order : List PairNo) (x : PairNo) → IsInCodeOrder codes (map (λ z. z.0) order) → IsPlanningOrder N (map (λ z. z.0) order)
+pub need_too_large : (N : Table) (codes : List ℕ) (order : List PairNo) (x : PairNo) → IsInCodeOrder codes (map (λ z. z.0) order)
+    → IsPlanningOrder N (map (λ z. z.0) order)
     → ((y : ℕ) → IsPair N y → supply N y ≤ MOST) → IsFirstAbove N order x → IsNeedTooLarge N codes x.0
 need_too_large N codes order x by_code planning supplies first =
     let k = first.place in
@@ -175,7 +182,8 @@ need_too_large N codes order x by_code planning supplies first =
           let at_y : slice_index numbers place.0 ≡ y = get_or-map (λ (z : PairNo). z.0) order place.0 no_pair 0 place.1 ∙ place.2 no_pair in
           let P : ℕ → Type 0 = λ w. ComesBefore codes w (slice_index numbers k) in
           let Q : ℕ → Type 0 = λ w. ComesBefore codes y w in
-          let early : place.0 < k = before_in_order codes numbers by_code place.0 k (let l = place.1 in omega arith) (let l = first.short in omega arith) (subst P (sym at_y) (subst Q (sym at_x) before)) in
+          let early : place.0 < k = before_in_order codes numbers by_code place.0 k (let l = place.1 in omega arith) (let l =
+          first.short in omega arith) (subst P (sym at_y) (subst Q (sym at_x) before)) in
           let within = first.solved.within place.0 no_pair early in
           let kept = all.2 place.0 no_pair early in
           subst (λ (w : ℕ). supply N w + slice_index all.0 w ≤ MOST) (place.2 no_pair) (omega (arith, within, kept));

@@ -65,7 +65,8 @@ plan_fits N order is =
           let place = place_of N order is x in_table in
           let at = slice_index order place.0 in
           let here : rows_at (plan_of N) at ≡ pair_plan N (plan_of N) at =
-          sym (settled N order is n place.0 (suc n) (omega (arith, place.1, places)) (omega arith) place.1) ∙ round_rows N n at (place_in_table N order is place.0 place.1) in
+          sym (settled N order is n place.0 (suc n) (omega (arith, place.1, places)) (omega arith) place.1)
+          ∙ round_rows N n at (place_in_table N order is place.0 place.1) in
           let P : ℕ → Type 0 = λ y. rows_at (plan_of N) y ≡ pair_plan N (plan_of N) y in
           subst P place.2 here;
     }

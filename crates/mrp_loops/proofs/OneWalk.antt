@@ -92,7 +92,8 @@ not_again x xs once inside =
 same_rounds : (N : Table) (x : ℕ) (us vs : List ℕ) → IsRound (ComesFrom N) (x ∷ us) → IsRound (ComesFrom N) (x ∷ vs) → AllPairs (λ y z. y ≢ z) (x ∷ us)
     → AllPairs (λ y z. y ≢ z) (x ∷ vs) → us ≡ vs
 same_rounds N x us vs a b once_a once_b =
-    let back = one_way N x x (reverse us) (reverse vs) (Leads-reverse (ComesFrom N) x us x a) (Leads-reverse (ComesFrom N) x vs x b) (not_again x us once_a) (not_again x vs once_b) in
+    let back = one_way N x x (reverse us) (reverse vs) (Leads-reverse (ComesFrom N) x us x a) (Leads-reverse (ComesFrom N) x vs x b) (not_again x us once_a)
+    (not_again x vs once_b) in
     sym (reverse-reverse us) ∙ (ap (λ (q : List ℕ). reverse q) back ∙ reverse-reverse vs)
 
 -- ---- the loop of the walk
@@ -108,7 +109,12 @@ walked_loop_is_one N (x ∷ us) (y ∷ vs) a b =
     let met_x = a.walked.met 0 0 (omega arith) in
     let met_y = b.walked.met 0 0 (omega arith) in
     let common : (z : ℕ) × In (x ∷ us) z × In (y ∷ vs) z = ⊎_elim
-    (λ less. let before : met_x.0 < met_y.0 = less in (y, walk_stays N (x ∷ us) met_x.0 x a.walked.round (inl refl) met_x.1 met_y.0 y (omega arith) met_y.1, inl refl))
+    (λ less. let before : met_x.0 < met_y.0 = less in (
+      y,
+      walk_stays N (x ∷ us) met_x.0 x a.walked.round (inl refl) met_x.1 met_y.0 y
+          (omega arith) met_y.1,
+      inl refl,
+    ))
     (λ more. (x, inl refl, walk_stays N (y ∷ vs) met_y.0 y b.walked.round (inl refl) met_y.1 met_x.0 x more met_x.1))
     (cases_lt met_x.0 met_y.0) in
     let y_in_a = first_in N (x ∷ us) (y ∷ vs) common.0 a.walked.round b.walked.round common.1 common.2 in

@@ -32,23 +32,27 @@ places_apart N order is i j below within same =
     let apart = IsDistinct-from_apart (λ (x y : ℕ). x == y) (range_with_len 0 n)
     (λ a b d less high. ne_eqb _ _ (λ (e : slice_index_or (range_with_len 0 n) a d ≡ slice_index_or (range_with_len 0 n) b d).
     omega (arith, e, range_at n a d (omega (arith, size)), range_at n b d (omega (arith, size))))) in
-    eqb-false _ _ (apart_from_distinct (λ (x y : ℕ). x == y) order i j 0 (IsDistinct-IsPermutation (λ (x y : ℕ). x == y) flips (range_with_len 0 n) order is.all apart) below within) same
+    eqb-false _ _ (apart_from_distinct (λ (x y : ℕ). x == y) order i j 0
+    (IsDistinct-IsPermutation (λ (x y : ℕ). x == y) flips (range_with_len 0 n) order is.all apart) below within) same
 
 -- each place has a pair of the table
 pub place_in_table : (N : Table) (order : List ℕ) → IsPlanningOrder N order → (k : ℕ) → k < length order → slice_index order k < length N.pairs
 place_in_table N order is k within =
     All-permutation (λ (x : ℕ). x < length N.pairs) (range_with_len 0 (length N.pairs)) order is.all
-    (λ i d h. let here : i < length N.pairs = omega (arith, length-range_with_len 0 (length N.pairs)) in omega (arith, range_at (length N.pairs) i d here)) k 0 within
+    (λ i d h. let here : i < length N.pairs = omega (arith, length-range_with_len 0 (length N.pairs))
+    in omega (arith, range_at (length N.pairs) i d here)) k 0 within
 
 -- each pair of the table has a place
 pub place_of : (N : Table) (order : List ℕ) → IsPlanningOrder N order → (x : ℕ) → x < length N.pairs → (k : ℕ) × (k < length order) × (slice_index order k ≡ x)
 place_of N order is x within =
-    let in_range : Contains (range_with_len 0 (length N.pairs)) x = (x, omega (arith, length-range_with_len 0 (length N.pairs)), range_at (length N.pairs) x x within) in
+    let in_range : Contains (range_with_len 0 (length N.pairs)) x =
+    (x, omega (arith, length-range_with_len 0 (length N.pairs)), range_at (length N.pairs) x x within) in
     let found = Contains-permutation (range_with_len 0 (length N.pairs)) order x is.all in_range in
     (found.0, found.1, get_or_default order found.0 0 x found.1 ∙ found.2)
 
 -- the demander of an edge has a place before its pair
-pub demander_before : (N : Table) (order : List ℕ) → IsPlanningOrder N order → (k : ℕ) → k < length order → (i : ℕ) (d : Edge) → i < length (demanders N (slice_index order k))
+pub demander_before : (N : Table) (order : List ℕ) → IsPlanningOrder N order → (k : ℕ) → k < length order → (i : ℕ) (d : Edge)
+    → i < length (demanders N (slice_index order k))
     → (j : ℕ) × (j < k) × (slice_index order j ≡ (slice_index_or (demanders N (slice_index order k)) i d).demander.0)
 demander_before N order is k within i d edge =
     let found = is.demanders_first k within i d edge in
@@ -72,10 +76,12 @@ comes_one_way codes x y first second = ⊎_elim
     first
 
 -- what comes before by its code stands before in the order
-pub before_in_order : (codes order : List ℕ) → IsInCodeOrder codes order → (i k : ℕ) → i < length order → k < length order → ComesBefore codes (slice_index order i) (slice_index order k) → i < k
+pub before_in_order : (codes order : List ℕ) → IsInCodeOrder codes order → (i k : ℕ) → i < length order → k < length order
+    → ComesBefore codes (slice_index order i) (slice_index order k) → i < k
 before_in_order codes order is i k short long before = ⊎_elim
     (λ (same : i ≡ k).
-    let here : ComesBefore codes (slice_index order k) (slice_index order k) = subst (λ (j : ℕ). ComesBefore codes (slice_index order j) (slice_index order k)) same before in
+    let here : ComesBefore codes (slice_index order k) (slice_index order k) =
+    subst (λ (j : ℕ). ComesBefore codes (slice_index order j) (slice_index order k)) same before in
     absurd (comes_one_way codes (slice_index order k) (slice_index order k) here here))
     (λ apart. ⊎_elim
     (λ (low : i < k). low)

@@ -1,8 +1,10 @@
 -- A walk upstream that comes to a pair again has a loop behind it, which may begin anywhere.
-use Rattle.std.proofs.Common.{◌≡◌, ◌≢◌, ℕ, ◌+◌, ◌<◌, ◌≤◌, ◌==◌, Bool, true, false, ⊎_elim, List, [], ◌∷◌, ◌++◌, map, replicate, reverse, length, get_or, set, take, drop, refl, sym, ap, subst, ◌∙◌, arith, All, IsPermutation}
+use Rattle.std.proofs.Common.{◌≡◌, ◌≢◌, ℕ, ◌+◌, ◌<◌, ◌≤◌, ◌==◌, Bool, true, false, ⊎_elim, List, [], ◌∷◌, ◌++◌, map, replicate, reverse, length, get_or, set}
+use Rattle.std.proofs.Common.{take, drop, refl, sym, ap, subst, ◌∙◌, arith, All, IsPermutation}
 use Rattle.std.specs.List.{IsDistinct, AllPairs}
 use Rattle.std.proofs.lemmas.Bool.{ne_eqb, cases_eq, both_ways, eq-eqb}
-use Rattle.std.proofs.lemmas.List.{append-nil, append_assoc, map-append, reverse-append, take-append-drop, get_or-drop, get_or-map, length-map, length-drop, drop_more, get_or_default, get_or_read, take-map, drop-map, get_or-set_same, get_or-set_other, get_or-replicate, length_push}
+use Rattle.std.proofs.lemmas.List.{append-nil, append_assoc, map-append, reverse-append, take-append-drop, get_or-drop, get_or-map, length-map, length-drop}
+use Rattle.std.proofs.lemmas.List.{drop_more, get_or_default, get_or_read, take-map, drop-map, get_or-set_same, get_or-set_other, get_or-replicate, length_push}
 use Rattle.std.proofs.lemmas.List.Sorted.{IsPermutation-reverse, IsPermutation-append_comm, IsPermutation-trans, IsPermutation-map, All-permutation}
 use Rattle.std.proofs.lemmas.Map.Keys.{IsDistinct-from_apart, IsDistinct-IsPermutation, apart_from_distinct}
 use Rattle.mrp_rows.specs.Table.{Table, IsTable, IsPair}
@@ -53,7 +55,8 @@ walked_loop : (N : Table) (xs : List ℕ) → IsRound (ComesFrom N) xs → IsLoo
 walked_loop N [] h = h
 walked_loop N (x ∷ xs) h = walked_edges N (x ∷ xs) x h
 
-climb_leads : (R : ℕ → ℕ → Type 0) (a : ℕ) (bs : List PairNo) (x : PairNo) (rest : List PairNo) → Climbs R a (bs ++ x ∷ rest) → Leads R (a ∷ map (λ z. z.0) bs) x.0
+climb_leads : (R : ℕ → ℕ → Type 0) (a : ℕ) (bs : List PairNo) (x : PairNo) (rest : List PairNo) → Climbs R a (bs ++ x ∷ rest)
+    → Leads R (a ∷ map (λ z. z.0) bs) x.0
 climb_leads R a [] x rest h = (h.0, tt)
 climb_leads R a (b ∷ bs) x rest h = (h.0, climb_leads R b.0 bs x rest h.1)
 
@@ -66,7 +69,8 @@ ring_from_walk R path x from l at climbs apart =
     let back = drop (from + 1) path in
     let whole : path ≡ front ++ y ∷ back = sym (take-append-drop from path) ∙ ap (λ (q : List PairNo). front ++ q) (drop_more path from x l) in
     let turned : reverse path ≡ reverse back ++ (y ∷ reverse front) =
-    ap (λ (q : List PairNo). reverse q) whole ∙ (reverse-append front (y ∷ back) ∙ (ap (λ (q : List PairNo). q ++ reverse front) (reverse-append (y ∷ []) back) ∙ append_assoc (reverse back) (y ∷ []) (reverse front))) in
+    ap (λ (q : List PairNo). reverse q) whole ∙ (reverse-append front (y ∷ back)
+    ∙ (ap (λ (q : List PairNo). q ++ reverse front) (reverse-append (y ∷ []) back) ∙ append_assoc (reverse back) (y ∷ []) (reverse front))) in
     let leads = climb_leads R x.0 (reverse back) y (reverse front) (subst (λ (q : List PairNo). Climbs R x.0 q) turned climbs) in
     let loop : IsRound R (y.0 ∷ map (λ z. z.0) (reverse back)) = subst (λ (w : ℕ). Leads R (w ∷ map (λ z. z.0) (reverse back)) y.0) (sym at) leads in
     let again = IsRound-turned R (y.0 ∷ []) (map (λ z. z.0) (reverse back)) loop in
@@ -100,9 +104,11 @@ eqb_flips x y = ⊎_elim
     (cases_eq x y)
 
 -- a list that is turned at its least begins with its least
-turned_first : (xs : List ℕ) (k d : ℕ) → k < length xs → All (λ y. get_or xs k d ≤ y) xs → All (λ y. first_or (drop k xs ++ take k xs) 0 ≤ y) (drop k xs ++ take k xs)
+turned_first : (xs : List ℕ) (k d : ℕ) → k < length xs → All (λ y. get_or xs k d ≤ y) xs
+    → All (λ y. first_or (drop k xs ++ take k xs) 0 ≤ y) (drop k xs ++ take k xs)
 turned_first xs k d l least =
-    let moved = All-permutation (λ y. get_or xs k d ≤ y) xs (drop k xs ++ take k xs) (subst (λ (q : List ℕ). IsPermutation q (drop k xs ++ take k xs)) (take-append-drop k xs) (IsPermutation-append_comm (take k xs) (drop k xs))) least in
+    let moved = All-permutation (λ y. get_or xs k d ≤ y) xs (drop k xs ++ take k xs)
+    (subst (λ (q : List ℕ). IsPermutation q (drop k xs ++ take k xs)) (take-append-drop k xs) (IsPermutation-append_comm (take k xs) (drop k xs))) least in
     let first : first_or (drop k xs ++ take k xs) 0 ≡ get_or xs k d = ap (λ (q : List ℕ). first_or (q ++ take k xs) 0) (drop_more xs k d l) in
     rw first moved
 
@@ -114,12 +120,15 @@ found_from_ring N ring turned k is met l least eq =
     let no_pair : PairNo = record { 0 = 0 } in
     let shape : map (λ (x : PairNo). x.0) turned ≡ drop k numbers ++ take k numbers =
     ap (λ (q : List PairNo). map (λ (x : PairNo). x.0) q) eq ∙ (map-append (λ (z : PairNo). z.0) (drop k (reverse ring)) (take k (reverse ring))
-    ∙ (ap (λ (q : List ℕ). q ++ map (λ (z : PairNo). z.0) (take k (reverse ring))) (sym (drop-map (λ (z : PairNo). z.0) k (reverse ring))) ∙ ap (λ (q : List ℕ). drop k numbers ++ q) (sym (take-map (λ (z : PairNo). z.0) k (reverse ring))))) in
-    let round = IsRound-turned (ComesFrom N) (take k numbers) (drop k numbers) (subst (λ (q : List ℕ). IsRound (ComesFrom N) q) (sym (take-append-drop k numbers)) is.round) in
+    ∙ (ap (λ (q : List ℕ). q ++ map (λ (z : PairNo). z.0) (take k (reverse ring))) (sym (drop-map (λ (z : PairNo). z.0) k (reverse ring)))
+    ∙ ap (λ (q : List ℕ). drop k numbers ++ q) (sym (take-map (λ (z : PairNo). z.0) k (reverse ring))))) in
+    let round = IsRound-turned (ComesFrom N) (take k numbers) (drop k numbers)
+    (subst (λ (q : List ℕ). IsRound (ComesFrom N) q) (sym (take-append-drop k numbers)) is.round) in
     let distinct = distinct_from_apart ring is.apart in
     let moves = IsPermutation-trans (map (λ (z : PairNo). z.0) ring) numbers (drop k numbers ++ take k numbers)
     (IsPermutation-map (λ (z : PairNo). z.0) ring (reverse ring) (IsPermutation-reverse ring))
-    (subst (λ (q : List ℕ). IsPermutation q (drop k numbers ++ take k numbers)) (take-append-drop k numbers) (IsPermutation-append_comm (take k numbers) (drop k numbers))) in
+    (subst (λ (q : List ℕ). IsPermutation q (drop k numbers ++ take k numbers)) (take-append-drop k numbers)
+    (IsPermutation-append_comm (take k numbers) (drop k numbers))) in
     let once = pairs_from_distinct (drop k numbers ++ take k numbers) (IsDistinct-IsPermutation (λ (a b : ℕ). a == b) eqb_flips _ _ moves distinct) in
     let long : k < length numbers = omega (arith, length-map (reverse ring) (λ (z : PairNo). z.0)) in
     let low : All (λ y. get_or numbers k 0 ≤ y) numbers = λ j d jl.
@@ -127,7 +136,8 @@ found_from_ring N ring turned k is met l least eq =
     let at : get_or numbers k 0 ≡ (get_or (reverse ring) k no_pair).0 = get_or-map (λ (z : PairNo). z.0) (reverse ring) k no_pair 0 l in
     let at_j : get_or numbers j d ≡ (get_or (reverse ring) j no_pair).0 = get_or-map (λ (z : PairNo). z.0) (reverse ring) j no_pair d within in
     let here = least j no_pair within in
-    let same : (get_or (reverse ring) k (get_or (reverse ring) j no_pair)).0 ≡ (get_or (reverse ring) k no_pair).0 = ap (λ (z : PairNo). z.0) (get_or_default (reverse ring) k (get_or (reverse ring) j no_pair) no_pair l) in
+    let same : (get_or (reverse ring) k (get_or (reverse ring) j no_pair)).0 ≡ (get_or (reverse ring) k no_pair).0 =
+    ap (λ (z : PairNo). z.0) (get_or_default (reverse ring) k (get_or (reverse ring) j no_pair) no_pair l) in
     omega arith in
     let numbers_met = All-map (IsMet N) (λ (z : PairNo). z.0) ring met in
     let all_met = All-permutation (IsMet N) (map (λ (z : PairNo). z.0) ring) (drop k numbers ++ take k numbers) moves numbers_met in
@@ -168,13 +178,15 @@ climbs_more R path x z climbs edge =
     subst (λ (q : List PairNo). Climbs R z.0 q) (sym (reverse-append path (x ∷ []))) (edge, climbs)
 
 -- a pair that isn't marked is not on the path
-pub not_seen : (N : Table) (path : List PairNo) (visited : List Bool) (x : PairNo) (mark : Bool) → length visited ≡ length N.pairs → ((y : ℕ) → IsPair N y → get_or visited y false ≡ is_in path y) → IsPair N x.0
+pub not_seen : (N : Table) (path : List PairNo) (visited : List Bool) (x : PairNo) (mark : Bool) → length visited ≡ length N.pairs
+    → ((y : ℕ) → IsPair N y → get_or visited y false ≡ is_in path y) → IsPair N x.0
     → mark ≡ get_or visited x.0 mark → mark ≡ false → is_in path x.0 ≡ false
 not_seen N path visited x mark size seen pair read unmarked =
     sym (seen x.0 pair) ∙ sym (get_or_read visited x.0 mark (omega (arith, size, pair)) read false) ∙ unmarked
 
 -- a walk that is about to begin
-pub none_seen : (N : Table) (visited : List Bool) (path : List PairNo) (n : ℕ) → visited ≡ replicate n false → n ≡ length N.pairs → path ≡ [] → (y : ℕ) → IsPair N y → get_or visited y false ≡ is_in path y
+pub none_seen : (N : Table) (visited : List Bool) (path : List PairNo) (n : ℕ) → visited ≡ replicate n false → n ≡ length N.pairs → path ≡ [] → (y : ℕ)
+    → IsPair N y → get_or visited y false ≡ is_in path y
 none_seen N visited path n fresh size none y pair =
     let low : y < n = omega (arith, size, pair) in
     rw (fresh, none) (get_or-replicate n y false false low)
@@ -183,13 +195,15 @@ pub Apart-none : (path : List PairNo) → path ≡ [] → IsApart path
 Apart-none path none = rw none (λ j k d low far same. omega (arith, far))
 
 -- a pair that was met
-pub seen_again : (N : Table) (path : List PairNo) (visited : List Bool) (x : PairNo) (mark : Bool) → length visited ≡ length N.pairs → ((y : ℕ) → IsPair N y → get_or visited y false ≡ is_in path y) → IsPair N x.0
+pub seen_again : (N : Table) (path : List PairNo) (visited : List Bool) (x : PairNo) (mark : Bool) → length visited ≡ length N.pairs
+    → ((y : ℕ) → IsPair N y → get_or visited y false ≡ is_in path y) → IsPair N x.0
     → mark ≡ get_or visited x.0 mark → mark ≡ true → is_in path x.0 ≡ true
 seen_again N path visited x mark size seen pair read marked =
     sym (seen x.0 pair) ∙ sym (get_or_read visited x.0 mark (omega (arith, size, pair)) read false) ∙ marked
 
 -- a path is shorter than the table while the walk comes to new pairs
-pub path_short : (N : Table) (path : List PairNo) (x : PairNo) → All (λ z. IsPair N z.0) path → IsPair N x.0 → IsApart path → is_in path x.0 ≡ false → length path < length N.pairs
+pub path_short : (N : Table) (path : List PairNo) (x : PairNo) → All (λ z. IsPair N z.0) path → IsPair N x.0 → IsApart path → is_in path x.0 ≡ false
+    → length path < length N.pairs
 path_short N path x pairs pair apart new =
     let all = All-push (λ (z : PairNo). z.0 < length N.pairs) path x pairs pair in
     let short = length-apart (path ++ x ∷ []) (length N.pairs) (Apart-push path x apart new) all in

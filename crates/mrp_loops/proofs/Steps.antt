@@ -1,7 +1,10 @@
 -- Steps of the loop check: a pair begins to be taken away, an edge is passed, all edges are passed.
-use Rattle.std.proofs.Common.{◌≡◌, ◌≢◌, ℕ, zero, suc, ◌+◌, ◌-◌, ◌<◌, ◌≤◌, ◌==◌, max, true, false, cond, ⊎_elim, List, [], ◌∷◌, ◌++◌, length, get_or, set, take, drop, replicate, refl, sym, ap, subst, ◌∙◌, arith, All, length-set, slice_index}
+use Rattle.std.proofs.Common.{◌≡◌, ◌≢◌, ℕ, zero, suc, ◌+◌, ◌-◌, ◌<◌, ◌≤◌, ◌==◌, max, true, false, cond, ⊎_elim, List, [], ◌∷◌, ◌++◌, length, get_or, set, take}
+use Rattle.std.proofs.Common.{drop, replicate, refl, sym, ap, subst, ◌∙◌, arith, All, length-set, slice_index}
 use Rattle.std.proofs.lemmas.Bool.{eq-eqb, eqb-true, ne_eqb, cases_eq, cases_lt, cases_Bool, true≢false, or_from, cond_both}
-use Rattle.std.proofs.lemmas.List.{get_or-set_same, get_or-set_other, append_assoc, get_or_append_left, get_or_push, length_push, take_at, take_all, take_more, take-append-drop, drop_more, drop_all, get_or-take, get_or_default, get_or_read, length-append, length-take, get_or-replicate, length-replicate}
+use Rattle.std.proofs.lemmas.List.{get_or-set_same, get_or-set_other, append_assoc, get_or_append_left, get_or_push, length_push, take_at, take_all, take_more}
+use Rattle.std.proofs.lemmas.List.{take-append-drop, drop_more, drop_all, get_or-take, get_or_default, get_or_read, length-append, length-take}
+use Rattle.std.proofs.lemmas.List.{get_or-replicate, length-replicate}
 use Rattle.std.proofs.lemmas.List.Elements.{All-push, All-head, All-tail, All-nil, Contains-get_or}
 use Rattle.std.proofs.lemmas.List.Folds.{list_any_none}
 use Rattle.std.proofs.Math.Numerals.{add-one}
@@ -16,7 +19,8 @@ use Rattle.mrp_loops.specs.Taking.{is_in, waiting_edges, edge_count, IsTaken}
 use Rattle.mrp_loops.proofs.Passing.{IsPassing, IsBegun}
 use Rattle.mrp_net.proofs.Members.{In-from_contains, All-in}
 use Rattle.mrp_loops.proofs.Edges.{demanders_edge, suppliers_edge, suppliers_only, HasEdge-from_in, edge_pairs}
-use Rattle.mrp_loops.proofs.Taken.{Apart-push, is_in-push_same, is_in-push_other, is_in-at, waiting-none, waiting-more, waiting-zero, edges_to-cons, edges_to-none}
+use Rattle.mrp_loops.proofs.Taken.{Apart-push, is_in-push_same, is_in-push_other, is_in-at, waiting-none, waiting-more, waiting-zero, edges_to-cons}
+use Rattle.mrp_loops.proofs.Taken.{edges_to-none}
 
 -- every chain that ends in a pair without a demander left is at most as long as its code
 pub longest_taken : (N : Table) (done queue : List PairNo) (left codes : List ℕ) → IsTaken N done queue left codes
@@ -109,13 +113,15 @@ module _ (N : Table) (done : List PairNo) (y : PairNo) (code : ℕ) (passed rest
 
   codes_rise : Before → (x : ℕ) → IsPair N x → slice_index codes x ≤ slice_index codes_after x
   codes_rise p x pair = ⊎_elim
-      (λ same. subst (λ (w : ℕ). slice_index codes w ≤ slice_index codes_after w) (sym same) (omega (arith, codes_same p (subst (λ (w : ℕ). IsPair N w) same pair))))
+      (λ same. subst (λ (w : ℕ). slice_index codes w ≤ slice_index codes_after w) (sym same)
+      (omega (arith, codes_same p (subst (λ (w : ℕ). IsPair N w) same pair))))
       (λ ne. let ne' : x ≢ e.pair.0 = ne in omega (arith, codes_other x ne'))
       (cases_eq x e.pair.0)
 
   counts_after : Before → IsPair N e.pair.0 → (x : ℕ) → IsPair N x → slice_index left_after x ≡ waiting_edges N (done ++ y ∷ []) x + edge_count rest x
   counts_after p to x pair = ⊎_elim
-      (λ same. subst (λ (w : ℕ). slice_index left_after w ≡ waiting_edges N (done ++ y ∷ []) w + edge_count rest w) (sym same) (omega (arith, left_same p to, p.counted.counts e.pair.0 to, edges_same)))
+      (λ same. subst (λ (w : ℕ). slice_index left_after w ≡ waiting_edges N (done ++ y ∷ []) w + edge_count rest w) (sym same)
+      (omega (arith, left_same p to, p.counted.counts e.pair.0 to, edges_same)))
       (λ ne. let ne' : x ≢ e.pair.0 = ne in omega (arith, left_other x ne', p.counted.counts x pair, edges_other x ne'))
       (cases_eq x e.pair.0)
 
@@ -123,12 +129,14 @@ module _ (N : Table) (done : List PairNo) (y : PairNo) (code : ℕ) (passed rest
   queued_same p to = ⊎_elim
       (λ one.
       let zero_left : slice_index left_after e.pair.0 ≡ 0 = omega (arith, left_same p to) in
-      ap (λ b. is_in (cond b (queue ++ e.pair ∷ []) queue) e.pair.0) (eq-eqb (slice_index left e.pair.0) 1 one) ∙ (is_in-push_same queue e.pair e.pair.0 refl ∙ sym (eq-eqb (slice_index left_after e.pair.0) 0 zero_left)))
+      ap (λ b. is_in (cond b (queue ++ e.pair ∷ []) queue) e.pair.0) (eq-eqb (slice_index left e.pair.0) 1 one)
+      ∙ (is_in-push_same queue e.pair e.pair.0 refl ∙ sym (eq-eqb (slice_index left_after e.pair.0) 0 zero_left)))
       (λ ne.
       let ne' : slice_index left e.pair.0 ≢ 1 = ne in
       let was : slice_index left e.pair.0 ≡ 0 → ⊥ = λ z. absurd (omega (arith, waits p to)) in
       let is : slice_index left_after e.pair.0 ≡ 0 → ⊥ = λ z. absurd (omega (arith, left_same p to, waits p to)) in
-      ap (λ b. is_in (cond b (queue ++ e.pair ∷ []) queue) e.pair.0) (ne_eqb (slice_index left e.pair.0) 1 ne) ∙ (p.counted.queued e.pair.0 to ∙ (ne_eqb (slice_index left e.pair.0) 0 was ∙ sym (ne_eqb (slice_index left_after e.pair.0) 0 is))))
+      ap (λ b. is_in (cond b (queue ++ e.pair ∷ []) queue) e.pair.0) (ne_eqb (slice_index left e.pair.0) 1 ne)
+      ∙ (p.counted.queued e.pair.0 to ∙ (ne_eqb (slice_index left e.pair.0) 0 was ∙ sym (ne_eqb (slice_index left_after e.pair.0) 0 is))))
       (cases_eq (slice_index left e.pair.0) 1)
 
   queued_other : Before → (x : ℕ) → IsPair N x → x ≢ e.pair.0 → is_in queue_after x ≡ (slice_index left_after x == 0)
@@ -148,7 +156,8 @@ module _ (N : Table) (done : List PairNo) (y : PairNo) (code : ℕ) (passed rest
       (λ same. subst (λ (w : ℕ). HasChain N w (slice_index codes_after w)) (sym same)
       (⊎_elim
       (λ low. let is : code ≡ slice_index codes_after e.pair.0 = omega (arith, codes_same p to) in subst (λ (m : ℕ). HasChain N e.pair.0 m) is chain)
-      (λ high. let is : slice_index codes e.pair.0 ≡ slice_index codes_after e.pair.0 = omega (arith, codes_same p to) in subst (λ (m : ℕ). HasChain N e.pair.0 m) is (p.counted.chains e.pair.0 to))
+      (λ high. let is : slice_index codes e.pair.0 ≡ slice_index codes_after e.pair.0 =
+      omega (arith, codes_same p to) in subst (λ (m : ℕ). HasChain N e.pair.0 m) is (p.counted.chains e.pair.0 to))
       (cases_lt (slice_index codes e.pair.0) code)))
       (λ ne. let ne' : x ≢ e.pair.0 = ne in subst (λ (m : ℕ). HasChain N x m) (sym (codes_other x ne')) (p.counted.chains x pair))
       (cases_eq x e.pair.0)
@@ -159,7 +168,8 @@ module _ (N : Table) (done : List PairNo) (y : PairNo) (code : ℕ) (passed rest
       (λ ne. let ne' : x ≢ e.pair.0 = ne in omega (arith, codes_other x ne', p.counted.short x pair))
       (cases_eq x e.pair.0)
 
-  once_after : Before → IsPair N e.pair.0 → (j k : ℕ) (d : PairNo) → j < k → k < length queue_after → (get_or queue_after j d).0 ≡ (get_or queue_after k d).0 → ⊥
+  once_after : Before → IsPair N e.pair.0 → (j k : ℕ) (d : PairNo) → j < k → k < length queue_after → (get_or queue_after j d).0 ≡ (get_or queue_after k d).0
+      → ⊥
   once_after p to = cond_both (slice_index left e.pair.0 == 1) (queue ++ e.pair ∷ []) queue
       (λ (q : List PairNo). (j k : ℕ) (d : PairNo) → j < k → k < length q → (get_or q j d).0 ≡ (get_or q k d).0 → ⊥)
       (λ t.
@@ -170,7 +180,8 @@ module _ (N : Table) (done : List PairNo) (y : PairNo) (code : ℕ) (passed rest
 
   raised_after : Before → IsPair N e.pair.0 → All (λ w. code ≤ slice_index codes_after w.pair.0) passed
   raised_after p to k d l = ⊎_elim
-      (λ same. let s : slice_index codes_after (get_or passed k d).pair.0 ≡ slice_index codes_after e.pair.0 = ap (slice_index codes_after) same in omega (arith, codes_same p to))
+      (λ same. let s : slice_index codes_after (get_or passed k d).pair.0 ≡ slice_index codes_after e.pair.0 =
+      ap (slice_index codes_after) same in omega (arith, codes_same p to))
       (λ ne. let ne' : (get_or passed k d).pair.0 ≢ e.pair.0 = ne in omega (arith, codes_other (get_or passed k d).pair.0 ne', p.raised k d l))
       (cases_eq (get_or passed k d).pair.0 e.pair.0)
 
@@ -189,7 +200,8 @@ module _ (N : Table) (done : List PairNo) (y : PairNo) (code : ℕ) (passed rest
       chains = chains_after p to chain;
       short = short_after p to low;
     };
-    front = cond_both (slice_index left e.pair.0 == 1) (queue ++ e.pair ∷ []) queue (λ (q : List PairNo). (others : List PairNo) × (q ≡ (done ++ y ∷ []) ++ others))
+    front = cond_both (slice_index left e.pair.0 == 1) (queue ++ e.pair ∷ []) queue (λ (q : List PairNo). (others : List PairNo)
+        × (q ≡ (done ++ y ∷ []) ++ others))
         (λ _. (p.front.0 ++ e.pair ∷ [], ap (λ q. q ++ e.pair ∷ []) p.front.1 ∙ append_assoc (done ++ y ∷ []) p.front.0 (e.pair ∷ [])))
         (λ _. p.front);
     above = record {
@@ -266,7 +278,8 @@ module _ (N : Table) (x n : ℕ) (queue : List PairNo) (left : List ℕ) (begun 
         (λ _. Apart-push queue this begun.once (none_in queue x begun.pairs)) (λ _. begun.once);
   }
 
-pub taken_none : (N : Table) (queue : List PairNo) (left codes : List ℕ) → IsTable N → IsBegun N (length N.pairs) queue left → codes ≡ replicate (length N.pairs) 0 → IsTaken N [] queue left codes
+pub taken_none : (N : Table) (queue : List PairNo) (left codes : List ℕ) → IsTable N → IsBegun N (length N.pairs) queue left
+    → codes ≡ replicate (length N.pairs) 0 → IsTaken N [] queue left codes
 taken_none N queue left codes table begun zeros =
     let at : (x : ℕ) → IsPair N x → slice_index codes x ≡ 0 = λ x l. ap (λ (cs : List ℕ). slice_index cs x) zeros ∙ get_or-replicate (length N.pairs) x 0 0 l in
     record {
@@ -306,7 +319,8 @@ module _ (N : Table) (next : ℕ) (y : PairNo) (queue : List PairNo) (left codes
   hand_at = sym is
 
   pub hand_front : queue ≡ (take next queue ++ y ∷ []) ++ drop (next + 1) queue
-  hand_front = sym (take-append-drop (next + 1) queue) ∙ ap (λ (q : List PairNo). q ++ drop (next + 1) queue) (take_more queue next y within ∙ ap (λ (z : PairNo). take next queue ++ z ∷ []) hand_at)
+  hand_front = sym (take-append-drop (next + 1) queue) ∙ ap (λ (q : List PairNo). q ++ drop (next + 1) queue) (take_more queue next y within
+      ∙ ap (λ (z : PairNo). take next queue ++ z ∷ []) hand_at)
 
   pub hand_new : is_in (take next queue) y.0 ≡ false
   hand_new = subst (λ (z : PairNo). is_in (take next queue) z.0 ≡ false) hand_at (apart_front queue next y within taken.counted.once)
@@ -349,7 +363,8 @@ module _ (N : Table) (next : ℕ) (y : PairNo) (queue : List PairNo) (left codes
   pub hand_begins : IsPassing N (take next queue) y (slice_index codes y.0 + 1) [] (suppliers N y.0) queue left codes
   hand_begins = passing_begins N (take next queue) (drop (next + 1) queue) y queue left codes (slice_index codes y.0 + 1) taken hand_front hand_pair hand_new
 
-  pub hand_edge : (i : ℕ) (d : Edge) → i < length (suppliers N y.0) → HasEdge N y.0 (get_or (suppliers N y.0) i d).pair.0 × IsPair N (get_or (suppliers N y.0) i d).pair.0
+  pub hand_edge : (i : ℕ) (d : Edge) → i < length (suppliers N y.0)
+      → HasEdge N y.0 (get_or (suppliers N y.0) i d).pair.0 × IsPair N (get_or (suppliers N y.0) i d).pair.0
   hand_edge i d l =
       let e = get_or (suppliers N y.0) i d in
       let only = suppliers_only N y.0 e (In-from_contains (suppliers N y.0) e (Contains-get_or (suppliers N y.0) i d l)) in
@@ -365,7 +380,8 @@ module _ (N : Table) (next : ℕ) (y : PairNo) (queue : List PairNo) (left codes
       → 1 ≤ slice_index ls (get_or (suppliers N y.0) i d).pair.0
   hand_waits i d q ls cs l p =
       let e = get_or (suppliers N y.0) i d in
-      let p' = subst (λ (es : List Edge). IsPassing N (take next queue) y (slice_index codes y.0 + 1) (take i (suppliers N y.0)) es q ls cs) (drop_more (suppliers N y.0) i d l) p in
+      let p' = subst (λ (es : List Edge). IsPassing N (take next queue) y (slice_index codes y.0 + 1) (take i (suppliers N y.0)) es q ls cs)
+      (drop_more (suppliers N y.0) i d l) p in
       waits N (take next queue) y (slice_index codes y.0 + 1) (take i (suppliers N y.0)) (drop (i + 1) (suppliers N y.0)) e q ls cs p' (hand_edge i d l).1
 
   pub hand_more : (i : ℕ) (d : Edge) (q q' : List PairNo) (ls cs ls' cs' : List ℕ) → i < length (suppliers N y.0)
@@ -376,20 +392,25 @@ module _ (N : Table) (next : ℕ) (y : PairNo) (queue : List PairNo) (left codes
       → IsPassing N (take next queue) y (slice_index codes y.0 + 1) (take (i + 1) (suppliers N y.0)) (drop (i + 1) (suppliers N y.0)) q' ls' cs'
   hand_more i d q q' ls cs ls' cs' l p le ce qe =
       let e = get_or (suppliers N y.0) i d in
-      let p' = subst (λ (es : List Edge). IsPassing N (take next queue) y (slice_index codes y.0 + 1) (take i (suppliers N y.0)) es q ls cs) (drop_more (suppliers N y.0) i d l) p in
+      let p' = subst (λ (es : List Edge). IsPassing N (take next queue) y (slice_index codes y.0 + 1) (take i (suppliers N y.0)) es q ls cs)
+      (drop_more (suppliers N y.0) i d l) p in
       let edge = hand_edge i d l in
-      let one = passed_one N (take next queue) y (slice_index codes y.0 + 1) (take i (suppliers N y.0)) (drop (i + 1) (suppliers N y.0)) e q ls cs p' edge.1 (hand_chain e.pair.0 edge.0) hand_low in
+      let one = passed_one N (take next queue) y (slice_index codes y.0 + 1) (take i (suppliers N y.0)) (drop (i + 1) (suppliers N y.0)) e q ls cs p' edge.1
+      (hand_chain e.pair.0 edge.0) hand_low in
       rw (le, ce, qe, take_more (suppliers N y.0) i d l) one
 
   pub hand_ends : (i : ℕ) (q : List PairNo) (ls cs : List ℕ) → length (suppliers N y.0) ≤ i
       → IsPassing N (take next queue) y (slice_index codes y.0 + 1) (take i (suppliers N y.0)) (drop i (suppliers N y.0)) q ls cs
       → IsTaken N (take (next + 1) q) q ls cs
   hand_ends i q ls cs all p =
-      let p1 = subst (λ (es : List Edge). IsPassing N (take next queue) y (slice_index codes y.0 + 1) es (drop i (suppliers N y.0)) q ls cs) (take_all i (suppliers N y.0) all) p in
-      let p2 = subst (λ (es : List Edge). IsPassing N (take next queue) y (slice_index codes y.0 + 1) (suppliers N y.0) es q ls cs) (drop_all i (suppliers N y.0) all) p1 in
+      let p1 = subst (λ (es : List Edge). IsPassing N (take next queue) y (slice_index codes y.0 + 1) es (drop i (suppliers N y.0)) q ls cs)
+      (take_all i (suppliers N y.0) all) p in
+      let p2 = subst (λ (es : List Edge). IsPassing N (take next queue) y (slice_index codes y.0 + 1) (suppliers N y.0) es q ls cs)
+      (drop_all i (suppliers N y.0) all) p1 in
       let ended = passing_ends N (take next queue) y (slice_index codes y.0 + 1) q ls cs p2 hand_longest in
       let front : take (next + 1) q ≡ take next queue ++ y ∷ [] =
-      ap (λ (w : List PairNo). take (next + 1) w) p.front.1 ∙ take_at (take next queue ++ y ∷ []) p.front.0 (next + 1) (omega (arith, length_push (take next queue) y, length-take next queue)) in
+      ap (λ (w : List PairNo). take (next + 1) w) p.front.1 ∙ take_at (take next queue ++ y ∷ []) p.front.0 (next + 1)
+      (omega (arith, length_push (take next queue) y, length-take next queue)) in
       rw front ended
 
   pub hand_long : (i : ℕ) (q : List PairNo) (ls cs : List ℕ)

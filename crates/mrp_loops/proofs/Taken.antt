@@ -1,5 +1,6 @@
 -- Steps of the loop check: a pair is taken away, an edge is passed.
-use Rattle.std.proofs.Common.{◌≡◌, ℕ, ◌+◌, ◌<◌, ◌≤◌, ◌==◌, ◌||◌, Bool, true, false, cond, not, ⊎_elim, List, [], ◌∷◌, ◌++◌, length, map, get_or, refl, sym, ap, ◌∙◌, arith, count_by, All}
+use Rattle.std.proofs.Common.{◌≡◌, ℕ, ◌+◌, ◌<◌, ◌≤◌, ◌==◌, ◌||◌, Bool, true, false, cond, not, ⊎_elim, List, [], ◌∷◌, ◌++◌, length, map, get_or, refl, sym, ap}
+use Rattle.std.proofs.Common.{◌∙◌, arith, count_by, All}
 use Rattle.std.specs.List.{list_any}
 use Rattle.std.proofs.lemmas.Bool.{eq-eqb, eqb-true, ne_eqb, cases_eq, cases_lt, true≢false, or_cases, or_left, or_right, both_ways}
 use Rattle.std.proofs.lemmas.Bool.Decides.{nat_tests}
@@ -61,7 +62,8 @@ pub edges_to-cons : (e : Edge) (es : List Edge) (x : ℕ) → edge_count (e ∷ 
 unfolding edge_count
 edges_to-cons e es x = count-cons (λ (w : Edge). w.pair.0 == x) e es
 
-less_one : (a b c : Bool) (y d : ℕ) → (a ≡ true → (y == d) ≡ false) → b ≡ (a || ((y == d) || false)) → c ≡ (d == y) → cond (not a) 1 0 ≡ cond (not b) 1 0 + cond c 1 0
+less_one : (a b c : Bool) (y d : ℕ) → (a ≡ true → (y == d) ≡ false) → b ≡ (a || ((y == d) || false)) → c ≡ (d == y)
+    → cond (not a) 1 0 ≡ cond (not b) 1 0 + cond c 1 0
 less_one true b c y d apart is at =
     let f : (d == y) ≡ false = let g = apart refl in grind (arith, nat_tests) in
     rw (is, at, f) refl
@@ -70,10 +72,12 @@ less_one false b c y d apart is at = ⊎_elim
     (λ ne. let f : (d == y) ≡ false = ne_eqb d y (λ e. ne (sym e)) in let g : (y == d) ≡ false = ne_eqb y d ne in rw (is, at, f, g) refl)
     (cases_eq y d)
 
-pub waiting-more : (N : Table) (done : List PairNo) (y : PairNo) (x : ℕ) → IsPair N y.0 → IsPair N x → is_in done y.0 ≡ false → waiting_edges N done x ≡ waiting_edges N (done ++ y ∷ []) x + edge_count (suppliers N y.0) x
+pub waiting-more : (N : Table) (done : List PairNo) (y : PairNo) (x : ℕ) → IsPair N y.0 → IsPair N x → is_in done y.0 ≡ false
+    → waiting_edges N done x ≡ waiting_edges N (done ++ y ∷ []) x + edge_count (suppliers N y.0) x
 unfolding waiting_edges edge_count
 waiting-more N done y x from to new =
-    let parts = count_split (λ (e : Edge). not (is_in done e.demander.0)) (λ (e : Edge). not (is_in (done ++ y ∷ []) e.demander.0)) (λ (e : Edge). e.demander.0 == y.0)
+    let parts = count_split (λ (e : Edge). not (is_in done e.demander.0)) (λ (e : Edge). not (is_in (done ++ y ∷ []) e.demander.0))
+    (λ (e : Edge). e.demander.0 == y.0)
     (λ e. less_one (is_in done e.demander.0) (is_in (done ++ y ∷ []) e.demander.0) (e.demander.0 == y.0) y.0 e.demander.0
     (λ t. ne_eqb y.0 e.demander.0 (λ same. both_ways (is_in done y.0) new (ap (is_in done) same ∙ t)))
     (is_in-push done y e.demander.0) refl)
@@ -97,7 +101,8 @@ Apart queue = (j k : ℕ) (d : PairNo) → j < k → k < length queue → (get_o
 
 pub Apart-push : (queue : List PairNo) (x : PairNo) → Apart queue → is_in queue x.0 ≡ false → Apart (queue ++ x ∷ [])
 Apart-push queue x apart new j k d jk kl same = ⊎_elim
-    (λ low. apart j k d jk low (ap (λ (z : PairNo). z.0) (sym (get_or_append_left queue (x ∷ []) d j (omega arith))) ∙ (same ∙ ap (λ (z : PairNo). z.0) (get_or_append_left queue (x ∷ []) d k low))))
+    (λ low. apart j k d jk low (ap (λ (z : PairNo). z.0) (sym (get_or_append_left queue (x ∷ []) d j (omega arith)))
+    ∙ (same ∙ ap (λ (z : PairNo). z.0) (get_or_append_left queue (x ∷ []) d k low))))
     (λ high.
     let last : k ≡ length queue = omega (arith, length_push queue x) in
     let at = get_or_push queue x d k (sym last) in

@@ -1,5 +1,6 @@
 -- In a table of plans that fits a sized network the releases of each pair are within its need.
-use Rattle.std.proofs.Common.{◌≡◌, ℕ, ◌+◌, ◌*◌, ◌≤◌, ◌==◌, ◌&&◌, if◌then◌else◌, Bool, true, false, inl, inr, leb, List, [], ◌∷◌, sum, sum_by, slice_index, slice_index_or, length, refl, sym, ap, ◌∙◌, subst, arith}
+use Rattle.std.proofs.Common.{◌≡◌, ℕ, ◌+◌, ◌*◌, ◌≤◌, ◌==◌, ◌&&◌, if◌then◌else◌, Bool, true, false, inl, inr, leb, List, [], ◌∷◌, sum, sum_by, slice_index}
+use Rattle.std.proofs.Common.{slice_index_or, length, refl, sym, ap, ◌∙◌, subst, arith}
 use Rattle.std.specs.List.{All}
 use Rattle.std.proofs.lemmas.Bool.{le-leb, leb-true}
 use Rattle.std.proofs.lemmas.List.FromFn.{length-map-range_with_len}
@@ -24,7 +25,8 @@ use Rattle.mrp_net.proofs.Totals.{gross_sum-le}
 use Rattle.mrp_loops.specs.Loop.{HasEdge}
 use Rattle.mrp_loops.specs.Need.{AreNeeds, AreWithin}
 use Rattle.mrp_loops.specs.Sized.{IsSized}
-use Rattle.mrp_loops.specs.Within.{ReleasesAreWithinNeed, GrossIsWithinNeed, SupplyAndReleasesAreWithin, FiguresAreWithin, PlansAreWithin, QuantitiesAreWithin, PlanIsWithin}
+use Rattle.mrp_loops.specs.Within.{ReleasesAreWithinNeed, GrossIsWithinNeed, SupplyAndReleasesAreWithin, FiguresAreWithin, PlansAreWithin, QuantitiesAreWithin}
+use Rattle.mrp_loops.specs.Within.{PlanIsWithin}
 use Rattle.mrp_loops.proofs.Edges.{demanders_only, HasEdge-from_in, HasEdge-pairs}
 use Rattle.mrp_net.proofs.Members.{In}
 use Rattle.mrp_loops.proofs.OnePlan.{one_plan}
@@ -59,7 +61,8 @@ both-le true true v = omega arith
 both-le true false v = omega arith
 both-le false b v = omega arith
 
-module _ (N : Table) (sized : IsSized N) (needs : List ℕ) (are : AreNeeds N needs) (within : AreWithin N needs) (table : List PlanRows) (fits : Fits N table) where
+module _ (N : Table) (sized : IsSized N) (needs : List ℕ) (are : AreNeeds N needs) (within : AreWithin N needs) (table : List PlanRows)
+    (fits : Fits N table) where
   abbrev ReleasesWithin : ℕ → Type 0
   ReleasesWithin x = sum (rows_at table x).release ≤ slice_index needs x
 
@@ -101,7 +104,8 @@ module _ (N : Table) (sized : IsSized N) (needs : List ℕ) (are : AreNeeds N ne
   own_gross x pair = ap (λ (rows : PlanRows). rows.gross) (fits.rows x pair) ∙ one-gross (params_at N x) (row_of N (incoming N x)) (row_of N (gross N table x))
 
   own_incoming : (x : ℕ) → IsPair N x → (rows_at table x).incoming ≡ row_of N (incoming N x)
-  own_incoming x pair = ap (λ (rows : PlanRows). rows.incoming) (fits.rows x pair) ∙ one-incoming (params_at N x) (row_of N (incoming N x)) (row_of N (gross N table x))
+  own_incoming x pair = ap (λ (rows : PlanRows). rows.incoming) (fits.rows x pair)
+      ∙ one-incoming (params_at N x) (row_of N (incoming N x)) (row_of N (gross N table x))
 
 -- the needs of a sized network are within the bound, whichever list of them is given
 pub needs_within : (N : Table) → IsSized N → (needs : List ℕ) → AreNeeds N needs → AreWithin N needs
@@ -115,7 +119,12 @@ releases_within_need N sized needs are table fits x pair = all_within N sized ne
 pub gross_within_need : GrossIsWithinNeed
 gross_within_need N sized needs are table fits x pair =
     let within = needs_within N sized needs are in
-    omega (arith, gross-le N sized needs are within table fits x pair (demanders_within N sized needs are within table fits x), ap (λ (row : List ℕ). sum row) (own_gross N sized needs are within table fits x pair))
+    omega (
+      arith,
+      gross-le N sized needs are within table fits x pair (demanders_within N sized needs are within table fits x),
+      ap (λ (row : List ℕ). sum row)
+          (own_gross N sized needs are within table fits x pair),
+    )
 
 pub supply_and_releases_within : SupplyAndReleasesAreWithin
 supply_and_releases_within N sized table fits x pair =
@@ -123,12 +132,14 @@ supply_and_releases_within N sized table fits x pair =
 
 figure-le : (N : Table) (x supplier : ℕ) → figure N x supplier ≤ opening_total N x
 figure-le N x supplier =
-    sum_by-le-sum_by (λ (c : CumRow). if (c.pair.0 == x) && (c.from.0 == supplier) then c.figure else 0) (λ (c : CumRow). if c.pair.0 == x then c.figure else 0) N.cums
+    sum_by-le-sum_by (λ (c : CumRow). if (c.pair.0 == x) && (c.from.0 == supplier) then c.figure else 0) (λ (c : CumRow). if c.pair.0 == x then c.figure
+    else 0) N.cums
     (λ c. both-le (c.pair.0 == x) (c.from.0 == supplier) c.figure)
 
 shipped_from-le : (N : Table) (x supplier : ℕ) → shipped_from N x supplier ≤ shipped_total N x
 shipped_from-le N x supplier =
-    sum_by-le-sum_by (λ (r : ShipRow). if (r.pair.0 == x) && (r.from.0 == supplier) then r.quantity else 0) (λ (r : ShipRow). if r.pair.0 == x then r.quantity else 0) N.ships
+    sum_by-le-sum_by (λ (r : ShipRow). if (r.pair.0 == x) && (r.from.0 == supplier) then r.quantity else 0) (λ (r : ShipRow). if r.pair.0 == x then r.quantity
+    else 0) N.ships
     (λ r. both-le (r.pair.0 == x) (r.from.0 == supplier) r.quantity)
 
 pub figures_within : FiguresAreWithin
@@ -137,15 +148,18 @@ figures_within N sized table fits x supplier pair =
 
 pub plans_within : PlansAreWithin
 plans_within N sized table fits x pair =
-    let here = rows_within N sized sized.needs sized.are_needs sized.within table fits x pair (demanders_within N sized sized.needs sized.are_needs sized.within table fits x) in
+    let here = rows_within N sized sized.needs sized.are_needs sized.within table fits x pair
+    (demanders_within N sized sized.needs sized.are_needs sized.within table fits x) in
     let P : List ℕ → Type 0 = λ row. IsWithin (params_at N x) row (rows_at table x).gross in
     let Q : List ℕ → Type 0 = λ row. IsWithin (params_at N x) (row_of N (incoming N x)) row in
-    subst P (sym (own_incoming N sized sized.needs sized.are_needs sized.within table fits x pair)) (subst Q (sym (own_gross N sized sized.needs sized.are_needs sized.within table fits x pair)) here)
+    subst P (sym (own_incoming N sized sized.needs sized.are_needs sized.within table fits x pair))
+    (subst Q (sym (own_gross N sized sized.needs sized.are_needs sized.within table fits x pair)) here)
 
 pub quantities_within : QuantitiesAreWithin
 quantities_within N sized table fits x pair =
     let own = plans_within N sized table fits x pair in
-    let here = rows_within N sized sized.needs sized.are_needs sized.within table fits x pair (demanders_within N sized sized.needs sized.are_needs sized.within table fits x) in
+    let here = rows_within N sized sized.needs sized.are_needs sized.within table fits x pair
+    (demanders_within N sized sized.needs sized.are_needs sized.within table fits x) in
     let small = one-within (params_at N x) (row_of N (incoming N x)) (row_of N (gross N table x)) here in
     let P : PlanRows → Type 0 = λ rows. All (λ q. q ≤ MOST) rows.order in
     let Q : PlanRows → Type 0 = λ rows. All (λ q. q ≤ MOST) rows.release in

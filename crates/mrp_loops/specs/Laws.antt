@@ -13,7 +13,8 @@ use Rattle.mrp_loops.specs.Upstream.{IsLoopAnswered}
 -- codes rise along edges
 abbrev pub CodesRise : Type 0
 CodesRise =
-    (N : Table) (codes : List ℕ) → IsTable N → AreCodes N codes → (y x : ℕ) → HasEdge N y x → slice_index codes y < slice_index codes x
+    (N : Table) (codes : List ℕ) → IsTable N → AreCodes N codes → (y x : ℕ) → HasEdge N y x
+    → slice_index codes y < slice_index codes x
 
 -- a network whose pairs have codes has no loop
 abbrev pub CodedIsLoopFree : Type 0
@@ -56,7 +57,8 @@ NeedsExist = (N : Table) (codes : List ℕ) → IsTable N → AreCodes N codes �
 
 -- pairs by rising code, and within a code in table order, come after their demanders
 abbrev pub CodeOrderPlans : Type 0
-CodeOrderPlans = (N : Table) (codes : List ℕ) → IsTable N → AreCodes N codes → IsPlanningOrder N (map (λ x. x.0) (code_order codes))
+CodeOrderPlans = (N : Table) (codes : List ℕ) → IsTable N → AreCodes N codes
+    → IsPlanningOrder N (map (λ x. x.0) (code_order codes))
 
 -- a network without loops has an order in which each pair comes after its demanders
 abbrev pub PlanningOrdersExist : Type 0
@@ -65,7 +67,8 @@ PlanningOrdersExist = (N : Table) → IsTable N → IsLoopFree N → (order : Li
 -- a sized network has codes, and one list of them
 abbrev pub SizedHasCodes : Type 0
 SizedHasCodes =
-    (N : Table) → IsSized N → (codes : List ℕ) × AreCodes N codes × ((others : List ℕ) → AreCodes N others → others ≡ codes)
+    (N : Table) → IsSized N → (codes : List ℕ) × AreCodes N codes
+    × ((others : List ℕ) → AreCodes N others → others ≡ codes)
 
 -- and needs, and one list of them: the one that is within the bound
 abbrev pub SizedHasNeeds : Type 0

@@ -10,7 +10,8 @@ use Rattle.mrp_net.specs.Sums.{pair_at, demand_total, supply}
 -- demanders ask, safety stock, and what its lot rule may order beyond a requirement. Shares don't lessen it
 abbrev pub need_at : Table → List ℕ → ℕ → ℕ
 need_at N needs x =
-    demand_total N x + sum_by (λ e. e.per * slice_index needs e.demander.0) (demanders N x) + (pair_at N x).safety + rule_quantities (pair_at N x).rule
+    demand_total N x + sum_by (λ e. e.per * slice_index needs e.demander.0) (demanders N x) + (pair_at N x).safety
+    + rule_quantities (pair_at N x).rule
 
 -- the need of each pair
 pub record AreNeeds (N : Table) (needs : List ℕ) : Type 0 where

@@ -13,4 +13,5 @@ pub record Sized : Type 0 where
 -- an order of all pairs, each once, in which a pair comes after all of its demanders
 pub record IsPlanningOrder (N : Table) (order : List ℕ) : Type 0 where
   pub all : IsPermutation (range_with_len 0 (length N.pairs)) order
-  pub demanders_first : (k : ℕ) → k < length order → All (λ e. Contains (take k order) e.demander.0) (demanders N (slice_index order k))
+  pub demanders_first : (k : ℕ) → k < length order
+      → All (λ e. Contains (take k order) e.demander.0) (demanders N (slice_index order k))

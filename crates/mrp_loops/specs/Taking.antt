@@ -1,5 +1,6 @@
 -- How far the loop check has come: the pairs taken away, and what is known of those that are left.
-use Rattle.std.specs.Prelude.{◌≡◌, ℕ, ◌+◌, ◌<◌, ◌≤◌, ◌==◌, [], Bool, true, not, List, length, count_by, slice_index, slice_index_or, All}
+use Rattle.std.specs.Prelude.{◌≡◌, ℕ, ◌+◌, ◌<◌, ◌≤◌, ◌==◌, [], Bool, true, not, List, length, count_by, slice_index}
+use Rattle.std.specs.Prelude.{slice_index_or, All}
 use Rattle.std.specs.List.{list_any}
 use Rattle.mrp_rows.specs.Table.{Table, IsTable, IsPair}
 use Rattle.mrp_rows.specs.declared.numbers.PairNo.{PairNo}
@@ -21,14 +22,16 @@ unfoldable pub edge_count : List Edge → ℕ → ℕ
 edge_count es x = count_by (λ e. e.pair.0 == x) es
 
 -- counts, codes and queue, where the pairs of `done` are taken away but for the edges of `rest`
-pub record HasCounts (N : Table) (done : List PairNo) (rest : List Edge) (queue : List PairNo) (left codes : List ℕ) : Type 0 where
+pub record HasCounts (N : Table) (done : List PairNo) (rest : List Edge) (queue : List PairNo)
+    (left codes : List ℕ) : Type 0 where
   pub table : IsTable N
   pub left_size : length left ≡ length N.pairs
   pub codes_size : length codes ≡ length N.pairs
   pub counts : (x : ℕ) → IsPair N x → slice_index left x ≡ waiting_edges N done x + edge_count rest x
   pub queued : (x : ℕ) → IsPair N x → is_in queue x ≡ (slice_index left x == 0)
   pub pairs : All (λ z. IsPair N z.0) queue
-  pub once : (j k : ℕ) (d : PairNo) → j < k → k < length queue → (slice_index_or queue j d).0 ≡ (slice_index_or queue k d).0 → ⊥
+  pub once : (j k : ℕ) (d : PairNo) → j < k → k < length queue
+      → (slice_index_or queue j d).0 ≡ (slice_index_or queue k d).0 → ⊥
   pub chains : (x : ℕ) → IsPair N x → HasChain N x (slice_index codes x)
   pub short : (x : ℕ) → IsPair N x → slice_index codes x ≤ length done
 

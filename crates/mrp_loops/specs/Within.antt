@@ -20,13 +20,15 @@ use Rattle.mrp_loops.specs.Sized.{IsSized}
 -- in a table of plans that fits, the planned order releases of all periods are within the pair's need
 abbrev pub ReleasesAreWithinNeed : Type 0
 ReleasesAreWithinNeed =
-    (N : Table) → IsSized N → (needs : List ℕ) → AreNeeds N needs → (table : List PlanRows) → Fits N table → (x : ℕ) → IsPair N x
+    (N : Table) → IsSized N → (needs : List ℕ) → AreNeeds N needs → (table : List PlanRows) → Fits N table → (x : ℕ)
+    → IsPair N x
     → sum (rows_at table x).release ≤ slice_index needs x
 
 -- and so are gross requirements of all periods, safety stock and the rule's quantities together
 abbrev pub GrossIsWithinNeed : Type 0
 GrossIsWithinNeed =
-    (N : Table) → IsSized N → (needs : List ℕ) → AreNeeds N needs → (table : List PlanRows) → Fits N table → (x : ℕ) → IsPair N x
+    (N : Table) → IsSized N → (needs : List ℕ) → AreNeeds N needs → (table : List PlanRows) → Fits N table → (x : ℕ)
+    → IsPair N x
     → sum (rows_at table x).gross + (pair_at N x).safety + rule_quantities (pair_at N x).rule ≤ slice_index needs x
 
 -- what a pair has without any order and all its releases are together within 10^15
@@ -79,7 +81,8 @@ pub record IsPlanWithin (N : Table) (needs : List ℕ) (x : ℕ) : Type 0 where
 -- in the plan of a sized network on hand, receipts, gross requirements, safety stock and the rule's
 -- quantities of each pair are together within 10^15, and its releases within its need
 abbrev pub PlanIsWithin : Type 0
-PlanIsWithin = (N : Table) → IsSized N → (needs : List ℕ) → AreNeeds N needs → (x : ℕ) → IsPair N x → IsPlanWithin N needs x
+PlanIsWithin = (N : Table) → IsSized N → (needs : List ℕ) → AreNeeds N needs → (x : ℕ) → IsPair N x
+    → IsPlanWithin N needs x
 
 -- ---- lanes
 
@@ -91,5 +94,6 @@ parts_of N table s = sum_by (λ t. part (source_edge N s) (release_at table s.pa
 -- together within 10^15
 abbrev pub LaneFiguresAreWithin : Type 0
 LaneFiguresAreWithin =
-    (N : Table) → IsSized N → (lane : Lane) (s : SourceRow) → Contains (taken_over N (customer_of lane) (supplier_of lane)) s
+    (N : Table) → IsSized N → (lane : Lane) (s : SourceRow)
+    → Contains (taken_over N (customer_of lane) (supplier_of lane)) s
     → opening N lane (item_of_source N s) + parts_of N (plan_of N) s ≤ MOST

@@ -1,9 +1,12 @@
 //! Laws of codes, of networks without loops, of needs, and of plans. Each is the contract of a function that
 //! does nothing.
 
-ghost use Rattle.mrp_loops.specs.Laws.{CodesRise, CodedIsLoopFree, CodesExist, CodesAreOne, WalkedLoopIsOne, SetsHaveAFirst, DemandersDecide};
-ghost use Rattle.mrp_loops.specs.Laws.{NeedsExist, NeedsAreOne, CodeOrderPlans, PlanningOrdersExist, SizedHasCodes, SizedHasNeeds, OnePlan};
-ghost use Rattle.mrp_loops.specs.Within.{ReleasesAreWithinNeed, GrossIsWithinNeed, SupplyAndReleasesAreWithin, FiguresAreWithin, PlansAreWithin};
+ghost use Rattle.mrp_loops.specs.Laws.{CodesRise, CodedIsLoopFree, CodesExist, CodesAreOne, WalkedLoopIsOne};
+ghost use Rattle.mrp_loops.specs.Laws.{SetsHaveAFirst, DemandersDecide};
+ghost use Rattle.mrp_loops.specs.Laws.{NeedsExist, NeedsAreOne, CodeOrderPlans, PlanningOrdersExist, SizedHasCodes};
+ghost use Rattle.mrp_loops.specs.Laws.{SizedHasNeeds, OnePlan};
+ghost use Rattle.mrp_loops.specs.Within.{ReleasesAreWithinNeed, GrossIsWithinNeed, SupplyAndReleasesAreWithin};
+ghost use Rattle.mrp_loops.specs.Within.{FiguresAreWithin, PlansAreWithin};
 ghost use Rattle.mrp_loops.specs.Within.{QuantitiesAreWithin, PlanIsWithin, LaneFiguresAreWithin};
 
 /// Low-level codes rise along edges: a pair's code is above that of each of its demanders. So a

@@ -1,6 +1,7 @@
 //! How pairs are taken away, demanders first, until each that is left has a demander left.
 
-ghost use Rattle.std.specs.Prelude.{◌≡◌, ◌+◌, ◌<◌, ◌≤◌, ◌-◌, ◌++◌, ◌∷◌, [], ◌==◌, if◌then◌else◌, max, length, take, slice_index};
+ghost use Rattle.std.specs.Prelude.{◌≡◌, ◌+◌, ◌<◌, ◌≤◌, ◌-◌, ◌++◌, ◌∷◌, [], ◌==◌, if◌then◌else◌, max, length, take};
+ghost use Rattle.std.specs.Prelude.{slice_index};
 ghost use Rattle.std.specs.Prelude.{slice_set, slice_index_or, IfOk, OnOk};
 ghost use Rattle.mrp_loops.specs.Taking.{IsTaken};
 
@@ -55,9 +56,11 @@ fn begin(alloc: Global, network: &Network) -> Result<Taking, Memory>
 fn pass(network: &Network, state: &mut Taking, next: usize, demander: PairNo) -> Result<(), Memory>
     requires within { next < length state.old.queue.items }
     requires at { demander ≡ slice_index_or state.old.queue.items next demander }
-    requires taken { IsTaken network.now (take next state.old.queue.items) state.old.queue.items state.old.left.items state.old.codes.items }
+    requires taken { IsTaken network.now (take next state.old.queue.items) state.old.queue.items state.old.left.items
+        state.old.codes.items }
     ensures within { OnOk result (next + 1 ≤ length state.new.queue.items) }
-    ensures taken { OnOk result (IsTaken network.now (take (next + 1) state.new.queue.items) state.new.queue.items state.new.left.items state.new.codes.items) }
+    ensures taken { OnOk result (IsTaken network.now
+        (take (next + 1) state.new.queue.items) state.new.queue.items state.new.left.items state.new.codes.items) }
 {
     let code = state.codes[demander.0] + 1;
     for edge in network.suppliers(demander) {
@@ -71,10 +74,13 @@ fn lower(state: &mut Taking, pair: PairNo, code: u64) -> Result<(), Memory>
     requires left { pair.0 < length state.old.left.items }
     requires codes { pair.0 < length state.old.codes.items }
     requires some { 1 ≤ slice_index state.old.left.items pair.0 }
-    ensures left { OnOk result (state.new.left.items ≡ slice_set state.old.left.items pair.0 (slice_index state.old.left.items pair.0 - 1)) }
-    ensures codes { OnOk result (state.new.codes.items ≡ slice_set state.old.codes.items pair.0 (max (slice_index state.old.codes.items pair.0) code)) }
+    ensures left { OnOk result (state.new.left.items
+        ≡ slice_set state.old.left.items pair.0 (slice_index state.old.left.items pair.0 - 1)) }
+    ensures codes { OnOk result (state.new.codes.items
+        ≡ slice_set state.old.codes.items pair.0 (max (slice_index state.old.codes.items pair.0) code)) }
     ensures queue { OnOk result (state.new.queue.items ≡
-        (if slice_index state.old.left.items pair.0 == 1 then state.old.queue.items ++ pair ∷ [] else state.old.queue.items)) }
+        (if slice_index state.old.left.items pair.0 == 1 then state.old.queue.items ++ pair ∷ []
+        else state.old.queue.items)) }
 {
     let x = pair.0;
     state.codes[x] = state.codes[x].max(code);

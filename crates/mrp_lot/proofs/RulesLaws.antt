@@ -13,7 +13,8 @@ use Rattle.mrp_lot.specs.One.{PlanRows, one, need_over, greatest_need, net_after
 use Rattle.mrp_lot.specs.Bound.{IsWithin}
 use Rattle.mrp_lot.proofs.OneLaws.{balance_before-zero, balance_before-next, order_at-is, lot-ge, one-order, one-available}
 use Rattle.mrp_lot.proofs.OneLaws.{greatest_need-zero, greatest_need-suc, greatest_need-ge}
-use Rattle.mrp_lot.specs.Rules.{balance_in, FollowsRules, LotForLotIsExact, LotForLotOrdersTheNeed, IsLeastMultiple, FixedIsLeast, MinMultipleIsLeast, PeriodsIsGreatest}
+use Rattle.mrp_lot.specs.Rules.{balance_in, FollowsRules, LotForLotIsExact, LotForLotOrdersTheNeed, IsLeastMultiple, FixedIsLeast, MinMultipleIsLeast}
+use Rattle.mrp_lot.specs.Rules.{PeriodsIsGreatest}
 use Rattle.mrp_lot.specs.Rules.{FixedIsSmall, MinMultipleIsSmall, NothingIsOrderedWithoutANeed, LotCovers, PlanFollowsRules, RulesHaveOnePlan}
 
 pub lot_for_lot-is_exact : LotForLotIsExact

@@ -34,8 +34,8 @@ periods_covered (MinMultiple m k) = 1
 abbrev pub least_multiple_of : ℕ → ℕ → ℕ
 least_multiple_of q n = q * ((n + (q - 1)) / q)
 
--- the order for a net requirement. `span` is the greatest of the net requirements over the first 1, 2, .. of the periods that
--- the order covers, each taken together; it counts under a rule of periods alone
+-- the order for a net requirement. `span` is the greatest of the net requirements over the first 1, 2, .. of the
+-- periods that the order covers, each taken together; it counts under a rule of periods alone
 abbrev pub lot_of : Rule → ℕ → ℕ → ℕ
 lot_of LotForLot net span = net
 lot_of (Fixed q) net span = least_multiple_of q net

@@ -8,7 +8,8 @@
 -- nothing, and what says something is the balance without subtraction: what was there, comes in and is
 -- ordered is what is required or stays (`FollowsRules.available`, which each plan within the bound meets by
 -- the law `PlanFollowsRules`). By it no requirement is left open, whatever the safety stock.
-use Rattle.std.specs.Prelude.{ℕ, ◌+◌, ◌-◌, ◌&&◌, ◌==◌, Bool, nat_lt, if◌then◌else◌, min, max, List, length, map, filter, sum, sum_by, take, drop}
+use Rattle.std.specs.Prelude.{ℕ, ◌+◌, ◌-◌, ◌&&◌, ◌==◌, Bool, nat_lt, if◌then◌else◌, min, max, List, length, map, filter}
+use Rattle.std.specs.Prelude.{sum, sum_by, take, drop}
 use Rattle.std.specs.Prelude.{slice_index, zero, suc}
 use Rattle.std.specs.List.{range_with_len}
 use Rattle.mrp_lot.specs.declared.params.PairParams.{PairParams}
@@ -33,8 +34,8 @@ pub record PlanRows : Type 0 where
 abbrev pub sum_from : List ℕ → ℕ → ℕ → ℕ
 sum_from row t n = sum (take n (drop t row))
 
--- the net requirement of the n periods from t on together: safety stock and their gross requirements, less `before`, the
--- balance before t, and their scheduled receipts
+-- the net requirement of the n periods from t on together: safety stock and their gross requirements, less `before`,
+-- the balance before t, and their scheduled receipts
 abbrev pub need_over : PairParams → List ℕ → List ℕ → ℕ → ℕ → ℕ → ℕ
 need_over pair incoming gross before t n = (pair.safety + sum_from gross t n) - (before + sum_from incoming t n)
 
@@ -55,7 +56,8 @@ order_after pair incoming gross before t =
     let span = greatest_need pair incoming gross before t (min (periods_covered pair.rule) (length gross - t)) in
     if net == 0 then 0 else lot_of pair.rule net span
 
--- projected available after period t. The order covers safety and the gross requirement, so the difference cuts nothing off
+-- projected available after period t. The order covers safety and the gross requirement, so the difference cuts nothing
+-- off
 abbrev pub available_after : PairParams → List ℕ → List ℕ → ℕ → ℕ → ℕ
 available_after pair incoming gross before t =
     (before + slice_index incoming t + order_after pair incoming gross before t) - slice_index gross t
@@ -63,7 +65,8 @@ available_after pair incoming gross before t =
 -- the balance before period t: on hand before period 0, then the projected available
 unfoldable pub balance_before : PairParams → List ℕ → List ℕ → ℕ → ℕ
 balance_before pair incoming gross zero = pair.on_hand
-balance_before pair incoming gross (suc t) = available_after pair incoming gross (balance_before pair incoming gross t) t
+balance_before pair incoming gross (suc t) = available_after pair incoming gross
+    (balance_before pair incoming gross t) t
 
 -- planned order receipt of period t
 unfoldable pub order_at : PairParams → List ℕ → List ℕ → ℕ → ℕ
@@ -75,10 +78,11 @@ order_row pair incoming gross = map (order_at pair incoming gross) (range_with_l
 
 -- projected available
 abbrev pub available_row : PairParams → List ℕ → List ℕ → List ℕ
-available_row pair incoming gross = map (λ t. balance_before pair incoming gross (suc t)) (range_with_len 0 (length gross))
+available_row pair incoming gross = map (λ t. balance_before pair incoming gross (suc t))
+    (range_with_len 0 (length gross))
 
--- what of the orders of the first n periods is released in period u: those due a lead time later. Subtraction stops at 0, so
--- those due within the lead time are released in period 0
+-- what of the orders of the first n periods is released in period u: those due a lead time later. Subtraction stops at
+-- 0, so those due within the lead time are released in period 0
 abbrev pub released : ℕ → List ℕ → ℕ → ℕ → ℕ
 released lead order n u = sum_by (λ t. if (t - lead) == u then slice_index order t else 0) (range_with_len 0 n)
 

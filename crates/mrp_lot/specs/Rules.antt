@@ -23,7 +23,8 @@ pub record FollowsRules (pair : PairParams) (rows : PlanRows) : Type 0 where
       → slice_index rows.order t ≡ order_after pair rows.incoming rows.gross (balance_in pair rows t) t
   -- what was there, comes in and is ordered is required or stays
   pub available : (t : ℕ) → t < length rows.gross
-      → slice_index rows.available t + slice_index rows.gross t ≡ balance_in pair rows t + slice_index rows.incoming t + slice_index rows.order t
+      → slice_index rows.available t + slice_index rows.gross t ≡ balance_in pair rows t + slice_index rows.incoming t
+      + slice_index rows.order t
   -- orders are released a lead time before they are due, at the earliest in period 0
   pub release : rows.release ≡ release_row pair.lead rows.order
   -- and are late where that would have been before period 0
@@ -55,7 +56,8 @@ MinMultipleIsLeast = (minimum multiple net span : ℕ) → 1 ≤ multiple
 
 -- either is below the net requirement and the rule's quantities together
 abbrev pub FixedIsSmall : Type 0
-FixedIsSmall = (quantity net span : ℕ) → 1 ≤ quantity → lot_of (Fixed quantity) net span < net + rule_quantities (Fixed quantity)
+FixedIsSmall = (quantity net span : ℕ) → 1 ≤ quantity
+    → lot_of (Fixed quantity) net span < net + rule_quantities (Fixed quantity)
 
 abbrev pub MinMultipleIsSmall : Type 0
 MinMultipleIsSmall = (minimum multiple net span : ℕ) → 1 ≤ multiple
@@ -66,16 +68,20 @@ pub record IsGreatestNeed (pair : PairParams) (incoming gross : List ℕ) (befor
   -- none of them is above it
   pub covers : (n : ℕ) → 1 ≤ n → n ≤ k → t + n ≤ length gross → need_over pair incoming gross before t n ≤ ordered
   -- and one of them is it
-  pub attained : (n : ℕ) × (1 ≤ n) × (n ≤ k) × (t + n ≤ length gross) × (ordered ≡ need_over pair incoming gross before t n)
+  pub attained : (n : ℕ) × (1 ≤ n) × (n ≤ k) × (t + n ≤ length gross)
+      × (ordered ≡ need_over pair incoming gross before t n)
 
 -- periods of supply order the greatest need over so many periods, once there is a net requirement
 abbrev pub PeriodsIsGreatest : Type 0
-PeriodsIsGreatest = (pair : PairParams) (incoming gross : List ℕ) (before t k : ℕ) → pair.rule ≡ Periods k → 1 ≤ k → t < length gross
-    → 0 < net_after pair incoming gross before t → IsGreatestNeed pair incoming gross before t k (order_after pair incoming gross before t)
+PeriodsIsGreatest = (pair : PairParams) (incoming gross : List ℕ) (before t k : ℕ) → pair.rule ≡ Periods k → 1 ≤ k
+    → t < length gross
+    → 0 < net_after pair incoming gross before t
+    → IsGreatestNeed pair incoming gross before t k (order_after pair incoming gross before t)
 
 -- whatever the rule, nothing is ordered in a period without a net requirement
 abbrev pub NothingIsOrderedWithoutANeed : Type 0
-NothingIsOrderedWithoutANeed = (pair : PairParams) (incoming gross : List ℕ) (before t : ℕ) → net_after pair incoming gross before t ≡ 0
+NothingIsOrderedWithoutANeed = (pair : PairParams) (incoming gross : List ℕ) (before t : ℕ)
+    → net_after pair incoming gross before t ≡ 0
     → order_after pair incoming gross before t ≡ 0
 
 -- any order covers the net requirement, where the span does
@@ -87,13 +93,15 @@ abbrev pub OrderCoversTheNeed : Type 0
 OrderCoversTheNeed = (pair : PairParams) (incoming gross : List ℕ) (before t : ℕ) → IsRule pair.rule → t < length gross
     → net_after pair incoming gross before t ≤ order_after pair incoming gross before t
 
--- projected available is never below safety stock; with safety stock 0 this says nothing, and `FollowsRules.available` does
+-- projected available is never below safety stock; with safety stock 0 this says nothing, and `FollowsRules.available`
+-- does
 abbrev pub AvailableCoversSafety : Type 0
 AvailableCoversSafety = (pair : PairParams) (incoming gross : List ℕ) → IsWithin pair incoming gross
     → All (λ stock. pair.safety ≤ stock) (one pair incoming gross).available
 
 abbrev pub OrdersAreReleased : Type 0
-OrdersAreReleased = (pair : PairParams) (incoming gross : List ℕ) → sum (one pair incoming gross).release ≡ sum (one pair incoming gross).order
+OrdersAreReleased = (pair : PairParams) (incoming gross : List ℕ)
+    → sum (one pair incoming gross).release ≡ sum (one pair incoming gross).order
 
 abbrev pub ReleasesAreBounded : Type 0
 ReleasesAreBounded = (pair : PairParams) (incoming gross : List ℕ) → IsWithin pair incoming gross
@@ -101,14 +109,17 @@ ReleasesAreBounded = (pair : PairParams) (incoming gross : List ℕ) → IsWithi
 
 abbrev pub RowsStayWithin : Type 0
 RowsStayWithin = (pair : PairParams) (incoming gross : List ℕ) → IsWithin pair incoming gross
-    → All (λ quantity. quantity ≤ MOST) (one pair incoming gross).order × All (λ quantity. quantity ≤ MOST) (one pair incoming gross).release
+    → All (λ quantity. quantity ≤ MOST) (one pair incoming gross).order
+    × All (λ quantity. quantity ≤ MOST) (one pair incoming gross).release
     × All (λ quantity. quantity ≤ MOST) (one pair incoming gross).available
 
 -- the plan follows the rules
 abbrev pub PlanFollowsRules : Type 0
-PlanFollowsRules = (pair : PairParams) (incoming gross : List ℕ) → IsWithin pair incoming gross → FollowsRules pair (one pair incoming gross)
+PlanFollowsRules = (pair : PairParams) (incoming gross : List ℕ) → IsWithin pair incoming gross
+    → FollowsRules pair (one pair incoming gross)
 
 -- and nothing else does
 abbrev pub RulesHaveOnePlan : Type 0
-RulesHaveOnePlan = (pair : PairParams) (rows : PlanRows) → IsWithin pair rows.incoming rows.gross → FollowsRules pair rows
+RulesHaveOnePlan = (pair : PairParams) (rows : PlanRows) → IsWithin pair rows.incoming rows.gross
+    → FollowsRules pair rows
     → rows ≡ one pair rows.incoming rows.gross

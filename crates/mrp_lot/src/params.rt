@@ -12,7 +12,8 @@ pub struct PairParams {
     pub lead: u64,
     /// Pieces on hand before period 0, 0 to 10^15; of a pair of a table 0 to 10^12.
     pub on_hand: Qty,
-    /// Safety stock in pieces, 0 to 10^15, below which projected available never falls; of a pair of a table 0 to 10^12.
+    /// Safety stock in pieces, 0 to 10^15, below which projected available never falls; of a pair of a table 0 to
+    /// 10^12.
     pub safety: Qty,
 }
 

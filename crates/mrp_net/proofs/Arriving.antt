@@ -1,5 +1,6 @@
 -- What comes in for a pair comes over the lanes to its plant.
-use Rattle.std.proofs.Common.{◌≡◌, ℕ, ◌+◌, ◌<◌, ◌==◌, ◌&&◌, if◌then◌else◌, Bool, true, false, cond, inl, inr, List, [], ◌∷◌, length, get_or, map, refl, sym, ap, ◌∙◌, subst, arith}
+use Rattle.std.proofs.Common.{◌≡◌, ℕ, ◌+◌, ◌<◌, ◌==◌, ◌&&◌, if◌then◌else◌, Bool, true, false, cond, inl, inr, List, [], ◌∷◌, length, get_or, map, refl, sym, ap}
+use Rattle.std.proofs.Common.{◌∙◌, subst, arith}
 use Rattle.std.specs.List.{range_with_len, sum_by}
 use Rattle.std.proofs.lemmas.Bool.{cases_eq, cond-true, cond-false, eqb-true, eq-eqb, ne_eqb, and_from, and_parts, false_from_ne_true}
 use Rattle.std.proofs.lemmas.List.Sums.{sum_by-cons}
@@ -12,7 +13,8 @@ use Rattle.mrp_net.specs.declared.lane.Lane.{Lane}
 use Rattle.mrp_net.specs.declared.lane.LaneKind.TheVariants.{Despatch, Schedule}
 use Rattle.mrp_net.specs.declared.lane.Shipment.{Shipment}
 use Rattle.mrp_group.specs.Groups.{group}
-use Rattle.mrp_net.specs.Lanes.{lanes, lanes_of, lanes_between, taken_over, item_of_source, lane_items, shipments, shipment_of, ships_from, pair_on, customer_of, supplier_of}
+use Rattle.mrp_net.specs.Lanes.{lanes, lanes_of, lanes_between, taken_over, item_of_source, lane_items, shipments, shipment_of, ships_from, pair_on}
+use Rattle.mrp_net.specs.Lanes.{customer_of, supplier_of}
 use Rattle.mrp_net.specs.LaneLaws.{is_despatch, despatches_to, arriving, IncomingComesOverLanes, ShipmentsAreOfItems}
 use Rattle.mrp_net.specs.RouteLaws.{over_plants}
 use Rattle.mrp_net.specs.Sums.{pair_at, no_pair, received, shipped}
@@ -50,7 +52,8 @@ shipment_has_source N is lane item k d h to from =
     )
 
 -- where no source brings the item, there is no shipment
-none_shipped : (N : Table) → IsTable N → (lane : Lane) (item : ItemNo) → ((s : SourceRow) → In (taken_over N (customer_of lane) (supplier_of lane)) s → item_of_source N s ≡ item → ⊥)
+none_shipped : (N : Table) → IsTable N → (lane : Lane) (item : ItemNo)
+    → ((s : SourceRow) → In (taken_over N (customer_of lane) (supplier_of lane)) s → item_of_source N s ≡ item → ⊥)
     → shipments N lane item ≡ []
 none_shipped N is lane item none =
     let x = pair_on N lane item in
@@ -65,7 +68,8 @@ pub shipments_are_of_items : ShipmentsAreOfItems
 shipments_are_of_items N is lane item other =
     let over = taken_over N (customer_of lane) (supplier_of lane) in
     none_shipped N is lane item (λ s taken same.
-    other (Contains-from_in (lane_items N lane) item (subst (λ (i : ItemNo). In (map (item_of_source N) over) i) same (In-map (item_of_source N) over s taken))))
+    other (Contains-from_in (lane_items N lane) item (subst (λ (i : ItemNo). In (map (item_of_source N) over) i) same
+    (In-map (item_of_source N) over s taken))))
 
 -- ---- the shipments to a pair, plant by plant
 
@@ -136,12 +140,15 @@ module _ (N : Table) (is : IsTable N) (x t : ℕ) (pair : IsPair N x) where
   none_taken : (xs : List SourceRow) → length xs ≡ 0 → (s : SourceRow) → In xs s → ⊥
   none_taken xs e s h = let some = some_in xs s h in omega arith
 
-  between_counts : (customer supplier : ℕ) → sum_by counted (lanes_between N customer supplier) ≡ cond (customer == plant_of) (over_lane (despatch_between customer supplier)) 0
+  between_counts : (customer supplier : ℕ) → sum_by counted (lanes_between N customer supplier)
+      ≡ cond (customer == plant_of) (over_lane (despatch_between customer supplier)) 0
   between_counts customer supplier =
       let lane = despatch_between customer supplier in
-      elim (cases_eq (length (taken_over N customer supplier)) 0) as (λ _. sum_by counted (lanes_between N customer supplier) ≡ cond (customer == plant_of) (over_lane lane) 0) [
+      elim (cases_eq (length (taken_over N customer supplier)) 0) as
+      (λ _. sum_by counted (lanes_between N customer supplier) ≡ cond (customer == plant_of) (over_lane lane) 0) [
         | inl empty ↦
-            let none : over_lane lane ≡ 0 = ap (arriving t) (none_shipped N is lane item (λ s taken same. none_taken (taken_over N customer supplier) empty s taken)) in
+            let none : over_lane lane ≡ 0 = ap (arriving t) (none_shipped N is lane item
+            (λ s taken same. none_taken (taken_over N customer supplier) empty s taken)) in
             ap (sum_by counted) (no_lanes N customer supplier empty)
             ∙ sym (ap (λ (v : ℕ). cond (customer == plant_of) v 0) none ∙ cond_none (customer == plant_of))
         | inr some ↦
@@ -172,7 +179,8 @@ module _ (N : Table) (is : IsTable N) (x t : ℕ) (pair : IsPair N x) where
   of_customer : (customer : ℕ) → sum_by counted (lanes_of N customer) ≡ cond (plant_of == customer) (over_plants N (arrives N x t)) 0
   of_customer customer =
       sum-flat_map counted (lanes_between N customer) (range_with_len 0 (length N.plants))
-      ∙ sum_by-same (λ supplier. sum_by counted (lanes_between N customer supplier)) (λ supplier. cond (plant_of == customer) (arrives N x t supplier) 0) (range_with_len 0 (length N.plants))
+      ∙ sum_by-same (λ supplier. sum_by counted (lanes_between N customer supplier)) (λ supplier. cond (plant_of == customer) (arrives N x t supplier) 0)
+      (range_with_len 0 (length N.plants))
       (λ k d h. between_brings customer (get_or (range_with_len 0 (length N.plants)) k d))
       ∙ sum_where (plant_of == customer) (arrives N x t) (range_with_len 0 (length N.plants))
 
@@ -181,7 +189,8 @@ module _ (N : Table) (is : IsTable N) (x t : ℕ) (pair : IsPair N x) where
       let own = is.read.pairs x no_pair pair in
       sum_filter over_lane goes_there (lanes N)
       ∙ sum-flat_map counted (lanes_of N) (range_with_len 0 (length N.plants))
-      ∙ sum_by-same (λ customer. sum_by counted (lanes_of N customer)) (λ customer. cond (plant_of == customer) (over_plants N (arrives N x t)) 0) (range_with_len 0 (length N.plants))
+      ∙ sum_by-same (λ customer. sum_by counted (lanes_of N customer)) (λ customer. cond (plant_of == customer) (over_plants N (arrives N x t)) 0)
+      (range_with_len 0 (length N.plants))
       (λ k d h. of_customer (get_or (range_with_len 0 (length N.plants)) k d))
       ∙ placed_once (over_plants N (arrives N x t)) plant_of (length N.plants) own.plant
       ∙ by_plants N is x t

@@ -49,7 +49,8 @@ cond_same : (n : ℕ) (b : Bool) → cond b n n ≡ n
 cond_same n true = refl
 cond_same n false = refl
 
-from_there : (N : Table) (table : List PlanRows) (x t : ℕ) (s : SourceRow) → IsPair N x → asked_by_source N table x t s ≡ cond (eqb s.plant.0 (pair_at N x).plant.0) (asked_by_source N table x t s) 0
+from_there : (N : Table) (table : List PlanRows) (x t : ℕ) (s : SourceRow) → IsPair N x
+    → asked_by_source N table x t s ≡ cond (eqb s.plant.0 (pair_at N x).plant.0) (asked_by_source N table x t s) 0
 from_there N table x t s pair =
     let amount : ℕ = part (source_edge N s) (release_at table s.pair.0 t) in
     let here : Bool = eqb s.plant.0 (pair_at N x).plant.0 in
@@ -62,7 +63,8 @@ from_there N table x t s pair =
           none ∙ sym (ap (λ (z : ℕ). cond here z 0) none ∙ cond_same 0 here)
     ]
 
-called : (N : Table) (table : List PlanRows) (x t : ℕ) → IsTable N → IsPair N x → sum_by (asked_by_source N table x t) N.sources ≡ over_plants N (λ customer. over_route N (asked_by_source N table x t) customer (pair_at N x).plant.0)
+called : (N : Table) (table : List PlanRows) (x t : ℕ) → IsTable N → IsPair N x
+    → sum_by (asked_by_source N table x t) N.sources ≡ over_plants N (λ customer. over_route N (asked_by_source N table x t) customer (pair_at N x).plant.0)
 called N table x t is pair =
     let asks = asked_by_source N table x t in
     let here = λ (s : SourceRow). eqb s.plant.0 (pair_at N x).plant.0 in
@@ -77,5 +79,14 @@ gross_is_local_and_called N is table x t pair =
     ∙ sum_by-same (λ b. asked_of table x t (bill_edge b)) (asked_by_bill table x t) N.bills (λ k d h. bill_asks table x t (get_or N.bills k d)) in
     let sources : sum_by (asked_of table x t) (map (source_edge N) N.sources) ≡ sum_by (asked_by_source N table x t) N.sources =
     sum_map (asked_of table x t) (source_edge N) N.sources
-    ∙ sum_by-same (λ s. asked_of table x t (source_edge N s)) (asked_by_source N table x t) N.sources (λ k d h. source_asks N table x t (get_or N.sources k d)) in
-    omega (arith, all_edges N table x t is, sum_by-append (asked_of table x t) (map bill_edge N.bills) (map (source_edge N) N.sources), bills, sources, called N table x t is pair)
+    ∙ sum_by-same (λ s. asked_of table x t (source_edge N s)) (asked_by_source N table x t) N.sources (λ k d h. source_asks N table x t (get_or N.sources k d))
+    in
+    omega (
+      arith,
+      all_edges N table x t is,
+      sum_by-append (asked_of table x t) (map bill_edge N.bills)
+          (map (source_edge N) N.sources),
+      bills,
+      sources,
+      called N table x t is pair,
+    )

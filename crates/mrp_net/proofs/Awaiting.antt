@@ -1,5 +1,6 @@
 -- What comes in for the pairs to which something is on its way: their places, their receipts, and their shipments.
-use Rattle.std.proofs.Common.{◌≡◌, ℕ, ◌+◌, ◌-◌, ◌*◌, ◌^◌, ◌<◌, ◌≤◌, ◌&&◌, Bool, cond, eqb, List, [], ◌∷◌, ◌++◌, inl, inr, length, get_or, map, take, drop, refl, sym, ap, ◌∙◌, subst, arith, ⊎_elim}
+use Rattle.std.proofs.Common.{◌≡◌, ℕ, ◌+◌, ◌-◌, ◌*◌, ◌^◌, ◌<◌, ◌≤◌, ◌&&◌, Bool, cond, eqb, List, [], ◌∷◌, ◌++◌, inl, inr, length, get_or, map, take, drop, refl}
+use Rattle.std.proofs.Common.{sym, ap, ◌∙◌, subst, arith, ⊎_elim}
 use Rattle.std.specs.List.{All, range_with_len, sum_by}
 use Rattle.std.proofs.lemmas.Bool.{cases_eq, cases_lt, eq-eqb, ne_eqb}
 use Rattle.std.proofs.lemmas.List.{get_or_read, get_or_append_left, get_or-append_right, get_or-take, length-take-le, length-append}
@@ -51,7 +52,14 @@ rows_more N amount pairs rows next row i x lt is row_is grown so_far =
 -- two sums are one where each row counts the same in both
 sums_same : {X : Type 0} (f g : X → ℕ) (rows : List X) → All (λ r. f r ≡ g r) rows → sum_by f rows ≡ sum_by g rows
 sums_same f g [] same = refl
-sums_same f g (r ∷ rows) same = omega (arith, sum_by-cons f r rows, sum_by-cons g r rows, All-head (λ r. f r ≡ g r) r rows same, sums_same f g rows (All-tail (λ r. f r ≡ g r) r rows same))
+sums_same f g (r ∷ rows) same = omega (
+  arith,
+  sum_by-cons f r rows,
+  sum_by-cons g r rows,
+  All-head (λ r. f r ≡ g r) r rows same,
+  sums_same f g rows
+      (All-tail (λ r. f r ≡ g r) r rows same),
+)
 
 -- where two tests are the same
 test_same : (a b c : Bool) (v : ℕ) → a ≡ b → cond (a && c) v 0 ≡ cond (b && c) v 0
@@ -64,7 +72,8 @@ places_apart ships pairs places x y are has_x has_y =
     elim (cases_eq y x) as (λ _. eqb (get_or places y 0 - 1) (get_or places x 0 - 1) ≡ eqb y x) [
       | inl e ↦ eq-eqb (get_or places y 0 - 1) (get_or places x 0 - 1) (ap (λ (z : ℕ). get_or places z 0 - 1) e) ∙ sym (eq-eqb y x e)
       | inr ne ↦
-          ne_eqb (get_or places y 0 - 1) (get_or places x 0 - 1) (λ same. ne (sym (are.back y has_y).1 ∙ ap (λ (z : ℕ). get_or pairs z 0) same ∙ (are.back x has_x).1))
+          ne_eqb (get_or places y 0 - 1) (get_or places x 0 - 1)
+          (λ same. ne (sym (are.back y has_y).1 ∙ ap (λ (z : ℕ). get_or pairs z 0) same ∙ (are.back x has_x).1))
           ∙ sym (ne_eqb y x ne)
     ]
 
@@ -75,7 +84,8 @@ shipped_by_place N pairs places x t are has =
     sums_same (λ (s : ShipRow). cond (eqb (get_or places s.pair.0 0 - 1) (get_or places x 0 - 1) && eqb s.period t) s.quantity 0)
     (λ (s : ShipRow). cond (eqb s.pair.0 x && eqb s.period t) s.quantity 0) N.ships
     (λ k d h. let s : ShipRow = get_or N.ships k d in
-    test_same (eqb (get_or places s.pair.0 0 - 1) (get_or places x 0 - 1)) (eqb s.pair.0 x) (eqb s.period t) s.quantity (places_apart N.ships pairs places x s.pair.0 are has (are.seen k d h)))
+    test_same (eqb (get_or places s.pair.0 0 - 1) (get_or places x 0 - 1)) (eqb s.pair.0 x) (eqb s.period t) s.quantity
+    (places_apart N.ships pairs places x s.pair.0 are has (are.seen k d h)))
 
 nothing : (rows : List ShipRow) → sum_by (λ (s : ShipRow). 0) rows ≡ 0
 nothing [] = refl
@@ -86,17 +96,26 @@ pub shipped_none : (N : Table) (pairs places : List ℕ) (x t : ℕ) → AreCoun
 shipped_none N pairs places x t are none =
     sums_same (λ (s : ShipRow). cond (eqb s.pair.0 x && eqb s.period t) s.quantity 0) (λ (s : ShipRow). 0) N.ships
     (λ k d h. let s : ShipRow = get_or N.ships k d in
-    ap (λ (z : Bool). cond (z && eqb s.period t) s.quantity 0) (ne_eqb s.pair.0 x (λ e. absurd (omega (arith, are.seen k d h, none, ap (λ (z : ℕ). get_or places z 0) e)))))
+    ap (λ (z : Bool). cond (z && eqb s.period t) s.quantity 0) (ne_eqb s.pair.0 x
+    (λ e. absurd (omega (arith, are.seen k d h, none, ap (λ (z : ℕ). get_or places z 0) e)))))
     ∙ nothing N.ships
 
-incoming_is : (N : Table) (pairs first rows : List ℕ) (i : Incoming) → IsTable N → length i.places.items ≡ length N.pairs → AreCounted N.ships pairs i.places.items
+incoming_is : (N : Table) (pairs first rows : List ℕ) (i : Incoming) → IsTable N → length i.places.items ≡ length N.pairs
+    → AreCounted N.ships pairs i.places.items
     → AreRows N (received N) pairs first → length rows ≡ length first → i.rows.items ≡ rows
     → AddsAmounts (λ (s : ShipRow). get_or i.places.items s.pair.0 0 - 1) (λ s. s.period) (λ s. s.quantity) (horizon N) N.ships first rows → IsIncoming N i
 incoming_is N pairs first rows i is size are had long back adds =
     let places : List ℕ = i.places.items in
     record {
       size = size;
-      few = omega (arith, ap length back, long, had.size, mul-le (length pairs) (horizon N) MOST_OF_A_KIND LONGEST (omega (arith, are.few, is.read.limits.ships)) is.read.limits.periods);
+      few = omega (
+        arith,
+        ap length back,
+        long,
+        had.size,
+        mul-le (length pairs) (horizon N) MOST_OF_A_KIND LONGEST
+            (omega (arith, are.few, is.read.limits.ships)) is.read.limits.periods,
+      );
       none = λ x t pair none. shipped_none N pairs places x t are none;
       room = λ x pair has. omega (arith, ap length back, long, had.size, mul-le-mul_right (horizon N) (are.back x has).0);
       each = λ x t pair has g.
@@ -105,19 +124,23 @@ incoming_is N pairs first rows i is size are had long back adds =
           let low : at < length pairs = omega (arith, was.0, has) in
           let within : at * horizon N + t < length first = omega (arith, had.size, mul-add-lt at (horizon N) t (length pairs) low g) in
           let from : get_or first (at * horizon N + t) 0 ≡ received N x t = had.each at t low g ∙ ap (λ (z : ℕ). received N z t) was.1 in
-          ap (λ (z : List ℕ). get_or z (at * horizon N + t) 0) back ∙ omega (arith, adds at t g within, from, shipped_by_place N pairs places x t are has, received_within N is x t, shipped_within N is x t);
+          ap (λ (z : List ℕ). get_or z (at * horizon N + t) 0) back
+          ∙ omega (arith, adds at t g within, from, shipped_by_place N pairs places x t are has, received_within N is x t, shipped_within N is x t);
     }
 
 -- what is added to the receipts of the pairs that have a place is what comes in for them
-pub incoming_of : (N : Table) (pairs counted places read first slice rows : List ℕ) (ships : List ShipRow) (i : Incoming) → IsTable N → ships ≡ N.ships → length i.places.items ≡ length N.pairs
+pub incoming_of : (N : Table) (pairs counted places read first slice rows : List ℕ) (ships : List ShipRow) (i : Incoming) → IsTable N → ships ≡ N.ships
+    → length i.places.items ≡ length N.pairs
     → AreCounted ships counted places → pairs ≡ counted → i.places.items ≡ places → read ≡ i.places.items
     → AreRows N (received N) pairs first → slice ≡ first → length rows ≡ length slice → i.rows.items ≡ rows
     → AddsAmounts (λ (s : ShipRow). get_or read s.pair.0 0 - 1) (λ s. s.period) (λ s. s.quantity) (horizon N) N.ships slice rows → IsIncoming N i
 incoming_of N pairs counted places read first slice rows ships i is same size all same_pairs kept same_places had same_rows long back adds =
-    let are : AreCounted N.ships counted i.places.items = subst (λ (z : List ℕ). AreCounted N.ships counted z) (sym kept) (subst (λ (z : List ShipRow). AreCounted z counted places) same all) in
+    let are : AreCounted N.ships counted i.places.items = subst (λ (z : List ℕ). AreCounted N.ships counted z) (sym kept)
+    (subst (λ (z : List ShipRow). AreCounted z counted places) same all) in
     incoming_is N counted first rows i is size are (subst (λ (z : List ℕ). AreRows N (received N) z first) same_pairs had) (long ∙ ap length same_rows) back
     (subst (λ (z : List ℕ). AddsAmounts (λ (s : ShipRow). get_or z s.pair.0 0 - 1) (λ s. s.period) (λ s. s.quantity) (horizon N) N.ships first rows) same_places
-    (subst (λ (z : List ℕ). AddsAmounts (λ (s : ShipRow). get_or read s.pair.0 0 - 1) (λ s. s.period) (λ s. s.quantity) (horizon N) N.ships z rows) same_rows adds))
+    (subst (λ (z : List ℕ). AddsAmounts (λ (s : ShipRow). get_or read s.pair.0 0 - 1) (λ s. s.period) (λ s. s.quantity) (horizon N) N.ships z rows) same_rows
+    adds))
 
 -- ---- readers
 
@@ -126,28 +149,35 @@ place_is : (N : Table) (i : Incoming) (x place : ℕ) → IsIncoming N i → IsP
 place_is N i x place is pair read = sym (get_or_read i.places.items x place (omega (arith, is.size, pair)) read 0)
 
 -- what comes in where nothing is on its way is what is received
-pub incoming_is_received : (N M : Table) (i : Incoming) (x place : ℕ) → N ≡ M → IsIncoming N i → IsPair M x → place ≡ get_or i.places.items x place → place ≡ 0 → row_of M (received M x) ≡ row_of M (incoming M x)
+pub incoming_is_received : (N M : Table) (i : Incoming) (x place : ℕ) → N ≡ M → IsIncoming N i → IsPair M x → place ≡ get_or i.places.items x place → place ≡ 0
+    → row_of M (received M x) ≡ row_of M (incoming M x)
 incoming_is_received N M i x place same are pair read none =
     let is : IsIncoming M i = subst (λ (z : Table). IsIncoming z i) same are in
     map-range-same (received M x) (incoming M x) (horizon M) (λ t h. omega (arith, is.none x t pair (place_is M i x place is pair read ∙ none)))
 
 -- the row of a pair that has a place is within all rows
-pub row_room : (N M : Table) (i : Incoming) (x place periods : ℕ) → N ≡ M → IsIncoming N i → IsPair M x → place ≡ get_or i.places.items x place → 0 < place → periods ≡ horizon M
+pub row_room : (N M : Table) (i : Incoming) (x place periods : ℕ) → N ≡ M → IsIncoming N i → IsPair M x → place ≡ get_or i.places.items x place → 0 < place
+    → periods ≡ horizon M
     → (place * periods ≤ length i.rows.items) × (length i.rows.items < 2 ^ 32)
 row_room N M i x place periods same are pair read some width =
     let is : IsIncoming M i = subst (λ (z : Table). IsIncoming z i) same are in
-    let at = place_is M i x place is pair read in
-    (subst (λ (z : ℕ). z * periods ≤ length i.rows.items) at (subst (λ (z : ℕ). get_or i.places.items x 0 * z ≤ length i.rows.items) (sym width) (is.room x pair (omega (arith, at, some)))), is.few)
+    let at = place_is M i x place is pair read in (
+      subst (λ (z : ℕ). z * periods ≤ length i.rows.items) at (subst (λ (z : ℕ). get_or i.places.items x 0 * z ≤ length i.rows.items) (sym width)
+          (is.room x pair (omega (arith, at, some)))),
+      is.few,
+    )
 
 -- a place ends where the next begins
 place_ends : (place periods : ℕ) → 0 < place → (place - 1) * periods + periods ≡ place * periods
-place_ends place periods some = let at : place ≡ (place - 1) + 1 = omega (arith, some) in omega (arith, ap (λ (z : ℕ). z * periods) at, add-mul (place - 1) 1 periods)
+place_ends place periods some = let at : place ≡ (place - 1) + 1 =
+    omega (arith, some) in omega (arith, ap (λ (z : ℕ). z * periods) at, add-mul (place - 1) 1 periods)
 
 pub place_starts : (place periods : ℕ) → 0 < place → (place - 1) * periods ≤ place * periods
 place_starts place periods some = omega (arith, place_ends place periods some)
 
 -- and is what comes in for the pair
-pub row_comes : (N M : Table) (i : Incoming) (read : List ℕ) (x place periods : ℕ) → N ≡ M → IsIncoming N i → IsPair M x → place ≡ get_or i.places.items x place → 0 < place → periods ≡ horizon M
+pub row_comes : (N M : Table) (i : Incoming) (read : List ℕ) (x place periods : ℕ) → N ≡ M → IsIncoming N i → IsPair M x → place ≡ get_or i.places.items x place
+    → 0 < place → periods ≡ horizon M
     → read ≡ i.rows.items → take (place * periods - (place - 1) * periods) (drop ((place - 1) * periods) read) ≡ row_of M (incoming M x)
 row_comes N M i read x place periods same are pair seen some width rows =
     let is : IsIncoming M i = subst (λ (z : Table). IsIncoming z i) same are in

@@ -41,11 +41,14 @@ items_have_sources N is lane item contains =
     }
 
 -- the pair at the receiving end
-receiver_by_kind : (N : Table) (lane : Lane) (item : ItemNo) (kind : LaneKind) → lane.kind ≡ kind → HasSource N lane item → IsPairOf N (pair_no N lane.receiver.0 item.0) lane.receiver.0 item
+receiver_by_kind : (N : Table) (lane : Lane) (item : ItemNo) (kind : LaneKind) → lane.kind ≡ kind → HasSource N lane item
+    → IsPairOf N (pair_no N lane.receiver.0 item.0) lane.receiver.0 item
 receiver_by_kind N lane item Despatch e has =
-    subst (λ (z : ℕ). IsPairOf N (pair_no N z item.0) z item) (ap (λ (k : LaneKind). elim k as (λ _. ℕ) [ Despatch ↦ lane.receiver.0 | Schedule ↦ lane.sender.0 ]) e) has.customer
+    subst (λ (z : ℕ). IsPairOf N (pair_no N z item.0) z item) (ap
+    (λ (k : LaneKind). elim k as (λ _. ℕ) [ Despatch ↦ lane.receiver.0 | Schedule ↦ lane.sender.0 ]) e) has.customer
 receiver_by_kind N lane item Schedule e has =
-    subst (λ (z : ℕ). IsPairOf N (pair_no N z item.0) z item) (ap (λ (k : LaneKind). elim k as (λ _. ℕ) [ Despatch ↦ lane.sender.0 | Schedule ↦ lane.receiver.0 ]) e) has.supplier
+    subst (λ (z : ℕ). IsPairOf N (pair_no N z item.0) z item) (ap
+    (λ (k : LaneKind). elim k as (λ _. ℕ) [ Despatch ↦ lane.sender.0 | Schedule ↦ lane.receiver.0 ]) e) has.supplier
 
 pub receiver_is : (N : Table) (lane : Lane) (item : ItemNo) → HasSource N lane item → IsPairOf N (pair_no N lane.receiver.0 item.0) lane.receiver.0 item
 receiver_is N lane item has = receiver_by_kind N lane item lane.kind refl has

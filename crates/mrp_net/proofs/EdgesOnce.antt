@@ -23,7 +23,8 @@ bills_once : (N : Table) → IsTable N → AllPairs (λ b c. JoinOthers (bill_ed
 bills_once N is = λ i j d low lt same.
     let b : BillRow = get_or N.bills i d in
     let c : BillRow = get_or N.bills j d in
-    let passes = and_from (b.parent.0 == c.parent.0) (b.component.0 == c.component.0) (eq-eqb b.parent.0 c.parent.0 same.0) (eq-eqb b.component.0 c.component.0 same.1) in
+    let passes = and_from (b.parent.0 == c.parent.0) (b.component.0 == c.component.0) (eq-eqb b.parent.0 c.parent.0 same.0)
+    (eq-eqb b.component.0 c.component.0 same.1) in
     absurd (true≢false (sym passes ∙ apart_from_distinct is_same_bill N.bills i j d is.once.bills low lt))
 
 sources_once : (N : Table) → IsTable N → AllPairs (λ s r. JoinOthers (source_edge N s) (source_edge N r)) N.sources
@@ -33,7 +34,8 @@ sources_once N is = λ i j d low lt same.
     let there_s = source_pairs_are_there N is i d (omega arith) in
     let there_r = source_pairs_are_there N is j d lt in
     let plants : s.plant ≡ r.plant = sym there_s.1 ∙ ap (λ (x : ℕ). (pair_at N x).plant) same.1 ∙ there_r.1 in
-    let passes = and_from (s.plant.0 == r.plant.0) (s.pair.0 == r.pair.0) (eq-eqb s.plant.0 r.plant.0 (ap (λ (p : PlantNo). p.0) plants)) (eq-eqb s.pair.0 r.pair.0 same.0) in
+    let passes = and_from (s.plant.0 == r.plant.0) (s.pair.0 == r.pair.0) (eq-eqb s.plant.0 r.plant.0 (ap (λ (p : PlantNo). p.0) plants))
+    (eq-eqb s.pair.0 r.pair.0 same.0) in
     absurd (true≢false (sym passes ∙ apart_from_distinct is_same_source N.sources i j d is.once.sources low lt))
 
 -- an edge within a plant and one that crosses join others
@@ -62,5 +64,9 @@ demanders_stand_once N is x =
     AllPairs-pieces (λ e f. e.demander.0 ≢ f.demander.0) (λ (e : Edge). e.demander.0) from 0 (length N.pairs)
     (λ e f low same. omega arith)
     (λ y. AllPairs-filter (λ e f. e.demander.0 ≢ f.demander.0) (λ (e : Edge). e.demander.0 == y) to
-    (λ i j d low lt same. once i j d low lt (same, eqb-true (get_or to i d).pair.0 x (pairs i d (omega arith)) ∙ sym (eqb-true (get_or to j d).pair.0 x (pairs j d lt)))))
+    (λ i j d low lt same. once i j d low lt (
+      same,
+      eqb-true (get_or to i d).pair.0 x (pairs i d (omega arith))
+          ∙ sym (eqb-true (get_or to j d).pair.0 x (pairs j d lt)),
+    )))
     (λ y i d lt. eqb-true (get_or (from y) i d).demander.0 y (filter_passes (λ (e : Edge). e.demander.0 == y) to i d lt))

@@ -29,16 +29,19 @@ apart N customer supplier is some same =
     let s : SourceRow = get_or (taken_over N customer supplier) 0 no_source in
     let parts = and_parts (eqb (pair_at N s.pair.0).plant.0 customer) (eqb s.plant.0 supplier) (filter_passes test N.sources 0 no_source some) in
     let row = All-filter test (IsSourceRow N) N.sources is.read.sources 0 no_source some in
-    let other : eqb s.plant.0 (plant_at N s.pair.0) ≡ false = All-filter test (λ (r : SourceRow). eqb r.plant.0 (plant_at N r.pair.0) ≡ false) N.sources is.sourced.others 0 no_source some in
+    let other : eqb s.plant.0 (plant_at N s.pair.0) ≡ false = All-filter test
+    (λ (r : SourceRow). eqb r.plant.0 (plant_at N r.pair.0) ≡ false) N.sources is.sourced.others 0 no_source some in
     eqb-false s.plant.0 (plant_at N s.pair.0) other
     (eqb-true s.plant.0 supplier parts.1 ∙ sym same ∙ sym (eqb-true (pair_at N s.pair.0).plant.0 customer parts.0) ∙ sym (plant_is N s.pair.0 row.pair))
 
-joins : (N : Table) (customer supplier : ℕ) → IsTable N → customer < length N.plants → supplier < length N.plants → 0 < length (taken_over N customer supplier) → All (JoinsTwo N) (both_lanes (record { 0 = customer }) (record { 0 = supplier }))
+joins : (N : Table) (customer supplier : ℕ) → IsTable N → customer < length N.plants → supplier < length N.plants → 0 < length (taken_over N customer supplier)
+    → All (JoinsTwo N) (both_lanes (record { 0 = customer }) (record { 0 = supplier }))
 joins N customer supplier is c s some =
     let despatch : Lane = record { kind = Despatch; sender = record { 0 = supplier }; receiver = record { 0 = customer } } in
     let schedule : Lane = record { kind = Schedule; sender = record { 0 = customer }; receiver = record { 0 = supplier } } in
     let two = apart N customer supplier is some in
-    let items : 1 ≤ length (map (item_of_source N) (taken_over N customer supplier)) = omega (arith, length-map (taken_over N customer supplier) (item_of_source N)) in
+    let items : 1 ≤ length (map (item_of_source N) (taken_over N customer supplier)) =
+    omega (arith, length-map (taken_over N customer supplier) (item_of_source N)) in
     All-cons (JoinsTwo N) despatch (schedule ∷ []) (record { customer = c; supplier = s; two = two; some = items })
     (All-cons (JoinsTwo N) schedule [] (record { customer = c; supplier = s; two = two; some = items }) (All-nil (JoinsTwo N)))
 
@@ -59,16 +62,24 @@ of_one true false n = omega arith
 of_one false b n = omega arith
 
 figure_among : (N : Table) (x p : ℕ) → figure N x p ≤ opening_total N x
-figure_among N x p = sum_by-le-sum_by (λ (c : CumRow). cond (eqb c.pair.0 x && eqb c.from.0 p) c.figure 0) (λ c. cond (eqb c.pair.0 x) c.figure 0) N.cums (λ c. of_one (eqb c.pair.0 x) (eqb c.from.0 p) c.figure)
+figure_among N x p = sum_by-le-sum_by (λ (c : CumRow). cond (eqb c.pair.0 x && eqb c.from.0 p) c.figure 0) (λ c. cond (eqb c.pair.0 x) c.figure 0) N.cums
+    (λ c. of_one (eqb c.pair.0 x) (eqb c.from.0 p) c.figure)
 
 shipped_among : (N : Table) (x p : ℕ) → shipped_from N x p ≤ shipped_total N x
-shipped_among N x p = sum_by-le-sum_by (λ (s : ShipRow). cond (eqb s.pair.0 x && eqb s.from.0 p) s.quantity 0) (λ s. cond (eqb s.pair.0 x) s.quantity 0) N.ships (λ s. of_one (eqb s.pair.0 x) (eqb s.from.0 p) s.quantity)
+shipped_among N x p = sum_by-le-sum_by (λ (s : ShipRow). cond (eqb s.pair.0 x && eqb s.from.0 p) s.quantity 0) (λ s. cond (eqb s.pair.0 x) s.quantity 0) N.ships
+    (λ s. of_one (eqb s.pair.0 x) (eqb s.from.0 p) s.quantity)
 
 opening_by_kind : (N : Table) (lane : Lane) (item : ItemNo) (kind : LaneKind) → lane.kind ≡ kind → opening N lane item ≤ supply N (pair_on N lane item)
 opening_by_kind N lane item Despatch e =
     omega (arith, opening_despatch N lane item e, figure_among N (pair_on N lane item) (supplier_of lane))
 opening_by_kind N lane item Schedule e =
-    omega (arith, opening_schedule N lane item e, figure_among N (pair_on N lane item) (supplier_of lane), shipped_among N (pair_on N lane item) (supplier_of lane))
+    omega (
+      arith,
+      opening_schedule N lane item e,
+      figure_among N (pair_on N lane item) (supplier_of lane),
+      shipped_among N (pair_on N lane item)
+          (supplier_of lane),
+    )
 
 pub openings_are_supplied : OpeningsAreSupplied
 openings_are_supplied N lane item = opening_by_kind N lane item lane.kind refl

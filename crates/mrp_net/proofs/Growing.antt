@@ -1,5 +1,6 @@
 -- Lists that grow row by row, and rows of a table that were read.
-use Rattle.std.proofs.Common.{◌≡◌, ℕ, ◌+◌, ◌-◌, ◌*◌, ◌^◌, ◌<◌, ◌≤◌, Bool, true, false, cond, eqb, List, [], ◌∷◌, ◌++◌, inl, inr, length, get_or, map, set, take, min, sym, ap, ◌∙◌, subst, arith, append_assoc}
+use Rattle.std.proofs.Common.{◌≡◌, ℕ, ◌+◌, ◌-◌, ◌*◌, ◌^◌, ◌<◌, ◌≤◌, Bool, true, false, cond, eqb, List, [], ◌∷◌, ◌++◌, inl, inr, length, get_or, map, set, take}
+use Rattle.std.proofs.Common.{min, sym, ap, ◌∙◌, subst, arith, append_assoc}
 use Rattle.std.specs.List.{All}
 use Rattle.std.proofs.lemmas.Bool.{cases_eq, eq-eqb, ne_eqb}
 use Rattle.std.proofs.lemmas.List.{get_or_default, get_or_read, get_or-set_same, get_or-set_other, map_more, take_all}
@@ -33,7 +34,8 @@ map_pushed {X} {Y} f xs k d y so_far next within value e grown =
     ∙ ap (λ (z : Y). map f (take k xs) ++ z ∷ []) value
     ∙ sym (map_more f xs k d within)
 
-pub map_pushed_after : {X Y : Type 0} (f : X → Y) (before : List Y) (xs : List X) (k : ℕ) (d : X) (y : Y) (so_far next : List Y) → k < length xs → y ≡ f (get_or xs k d)
+pub map_pushed_after : {X Y : Type 0} (f : X → Y) (before : List Y) (xs : List X) (k : ℕ) (d : X) (y : Y) (so_far next : List Y) → k < length xs
+    → y ≡ f (get_or xs k d)
     → so_far ≡ before ++ map f (take k xs) → next ≡ so_far ++ y ∷ [] → next ≡ before ++ map f (take (k + 1) xs)
 map_pushed_after {X} {Y} f before xs k d y so_far next within value e grown =
     grown
@@ -59,7 +61,8 @@ pair_row N M x p e is pair here =
 
 pub item_read : (N : Table) (read : List PairRow) (x : ℕ) (d : PairRow) → IsPair N x → read ≡ N.pairs → (get_or read x d).item.0 ≡ item_at N x
 item_read N read x d h e =
-    ap (λ (z : PairRow). z.item.0) (get_or_default read x d no_pair (omega (arith, ap length e)) ∙ ap (λ (z : List PairRow). get_or z x no_pair) e) ∙ sym (item_is N x h)
+    ap (λ (z : PairRow). z.item.0) (get_or_default read x d no_pair (omega (arith, ap length e)) ∙ ap (λ (z : List PairRow). get_or z x no_pair) e)
+    ∙ sym (item_is N x h)
 
 -- the edge of a source to the pair that was found for it
 abbrev pub edge_from : SourceRow → PairNo → Edge
@@ -72,8 +75,10 @@ edge_read N s pair e = ap (λ (z : ℕ). edge_from s (record { 0 = z })) e
 abbrev pub taken_by : PairRow → SourceRow → ℕ → Taken
 taken_by p s plants = record { route = p.plant.0 * plants + s.plant.0; item = p.item }
 
-pub taken_read : (N : Table) (read : List PairRow) (s : SourceRow) (p : PairRow) (plants : ℕ) → IsPair N s.pair.0 → read ≡ N.pairs → p ≡ get_or read s.pair.0 p → plants ≡ length N.plants → taken_by p s plants ≡ taken N s
-taken_read N read s p plants h e is size = ap (λ (z : PairRow). taken_by z s plants) (pair_read N read s.pair.0 p h e is) ∙ ap (λ (z : ℕ). taken_by (pair_at N s.pair.0) s z) size
+pub taken_read : (N : Table) (read : List PairRow) (s : SourceRow) (p : PairRow) (plants : ℕ) → IsPair N s.pair.0 → read ≡ N.pairs → p ≡ get_or read s.pair.0 p
+    → plants ≡ length N.plants → taken_by p s plants ≡ taken N s
+taken_read N read s p plants h e is size = ap (λ (z : PairRow). taken_by z s plants) (pair_read N read s.pair.0 p h e is)
+    ∙ ap (λ (z : ℕ). taken_by (pair_at N s.pair.0) s z) size
 
 -- a shipment and the source by which it comes
 abbrev pub sent_by : ShipRow → ℕ → Sent
@@ -83,7 +88,8 @@ pub sent_read : (N : Table) (s : ShipRow) (read : ShipRow) (source : ℕ) → s 
 sent_read N s read source is value = ap (sent_by s) value ∙ ap (sent N) is
 
 -- the number of a route fits, and so does the one behind it
-pub route_fits : (N : Table) (customer supplier plants : ℕ) → IsTable N → customer < length N.plants → supplier < length N.plants → plants ≡ length N.plants → customer * plants + supplier + 1 < 2 ^ 32
+pub route_fits : (N : Table) (customer supplier plants : ℕ) → IsTable N → customer < length N.plants → supplier < length N.plants → plants ≡ length N.plants
+    → customer * plants + supplier + 1 < 2 ^ 32
 route_fits N customer supplier plants is h g size =
     let few : length N.plants ≤ MOST_PLANTS = is.read.limits.plants in
     let place : customer * plants + supplier ≡ route_no N customer supplier = ap (λ (z : ℕ). customer * z + supplier) size in
@@ -91,7 +97,8 @@ route_fits N customer supplier plants is h g size =
 
 -- so does the route of a source that was read, to the pair that was
 pub source_fits : (N : Table) (rows : List SourceRow) (pairs : List PairRow) (i plants : ℕ) (p : PairRow) → IsTable N → rows ≡ N.sources → i < length rows
-    → pairs ≡ N.pairs → p ≡ get_or pairs (get_or rows i no_source).pair.0 p → plants ≡ length N.plants → p.plant.0 * plants + (get_or rows i no_source).plant.0 + 1 < 2 ^ 32
+    → pairs ≡ N.pairs → p ≡ get_or pairs (get_or rows i no_source).pair.0 p → plants ≡ length N.plants
+    → p.plant.0 * plants + (get_or rows i no_source).plant.0 + 1 < 2 ^ 32
 source_fits N rows pairs i plants p table same within read is size =
     let s : SourceRow = get_or rows i no_source in
     let row = read_within (IsSourceRow N) rows N.sources same table.read.sources i no_source within in
@@ -99,20 +106,23 @@ source_fits N rows pairs i plants p table same within read is size =
     route_fits N p.plant.0 s.plant.0 plants table (omega (arith, plant, (table.read.pairs s.pair.0 no_pair row.pair).plant)) row.plant size
 
 -- one amount more
-sum_of-more : {R : Type 0} (key amount : R → ℕ) (k : ℕ) (rows : List R) (i : ℕ) (r : R) → i < length rows → r ≡ get_or rows i r → (b : Bool) → eqb (key r) k ≡ b → sum_of key amount k (take (i + 1) rows) ≡ sum_of key amount k (take i rows) + cond b (amount r) 0
+sum_of-more : {R : Type 0} (key amount : R → ℕ) (k : ℕ) (rows : List R) (i : ℕ) (r : R) → i < length rows → r ≡ get_or rows i r → (b : Bool) → eqb (key r) k ≡ b
+    → sum_of key amount k (take (i + 1) rows) ≡ sum_of key amount k (take i rows) + cond b (amount r) 0
 sum_of-more {R} key amount k rows i r lt here b test =
     sum_by_more (λ r. cond (eqb (key r) k) (amount r) 0) rows i r lt
     ∙ ap (λ (z : R). sum_of key amount k (take i rows) + cond (eqb (key z) k) (amount z) 0) (sym here)
     ∙ ap (λ (z : Bool). sum_of key amount k (take i rows) + cond z (amount r) 0) test
 
-pub AddsTotals-more : {R : Type 0} (key amount : R → ℕ) (rows : List R) (before now : List ℕ) (i : ℕ) (r : R) (at v : ℕ) → i < length rows → r ≡ get_or rows i r → AddsTotals key amount (take i rows) before now → at ≡ key r
+pub AddsTotals-more : {R : Type 0} (key amount : R → ℕ) (rows : List R) (before now : List ℕ) (i : ℕ) (r : R) (at v : ℕ) → i < length rows → r ≡ get_or rows i r
+    → AddsTotals key amount (take i rows) before now → at ≡ key r
     → length now ≡ length before → v ≡ min (get_or now at 0 + amount r) (2 ^ 64 - 1) → AddsTotals key amount (take (i + 1) rows) before (set now at v)
 AddsTotals-more key amount rows before now i r at v lt here was is same new k within =
     elim (cases_eq k at) as (λ _. get_or (set now at v) k 0 ≡ min (get_or before k 0 + sum_of key amount k (take (i + 1) rows)) (2 ^ 64 - 1)) [
       | inl e ↦
           let more = sum_of-more key amount k rows i r lt here true (eq-eqb (key r) k (sym (e ∙ is))) in
           let there : get_or (set now at v) k 0 ≡ v = rw e (get_or-set_same now at v 0 (omega arith)) in
-          let had : get_or now at 0 ≡ min (get_or before k 0 + sum_of key amount k (take i rows)) (2 ^ 64 - 1) = ap (λ (z : ℕ). get_or now z 0) (sym e) ∙ was k within in
+          let had : get_or now at 0 ≡ min (get_or before k 0 + sum_of key amount k (take i rows)) (2 ^ 64 - 1) =
+          ap (λ (z : ℕ). get_or now z 0) (sym e) ∙ was k within in
           omega (arith, there, new, had, more)
       | inr ne ↦
           let more = sum_of-more key amount k rows i r lt here false (ne_eqb (key r) k (λ h. ne (sym (is ∙ h)))) in

@@ -18,10 +18,19 @@ lines_by_kind : (N : Table) (lane : Lane) (item : ItemNo) (kind : LaneKind) → 
 lines_by_kind N lane item Despatch e is =
     let x : ℕ = pair_on N lane item in
     let test = λ (s : ShipRow). eqb s.pair.0 x && eqb s.from.0 (supplier_of lane) in
-    let lines : most_lines N lane item ≡ length (shipments N lane item) = ap (λ (k : LaneKind). elim k as (λ _. ℕ) [ Despatch ↦ length (shipments N lane item) | Schedule ↦ horizon N ]) e in
-    omega (arith, lines, length-map (ships_from N x (supplier_of lane)) shipment_of, length-filter test N.ships, count_by-le-length test N.ships, is.read.limits.ships)
+    let lines : most_lines N lane item ≡ length (shipments N lane item) =
+    ap (λ (k : LaneKind). elim k as (λ _. ℕ) [ Despatch ↦ length (shipments N lane item) | Schedule ↦ horizon N ]) e in
+    omega (
+      arith,
+      lines,
+      length-map (ships_from N x (supplier_of lane)) shipment_of,
+      length-filter test N.ships,
+      count_by-le-length test N.ships,
+      is.read.limits.ships,
+    )
 lines_by_kind N lane item Schedule e is =
-    let lines : most_lines N lane item ≡ horizon N = ap (λ (k : LaneKind). elim k as (λ _. ℕ) [ Despatch ↦ length (shipments N lane item) | Schedule ↦ horizon N ]) e in
+    let lines : most_lines N lane item ≡ horizon N = ap (λ (k : LaneKind). elim k as
+    (λ _. ℕ) [ Despatch ↦ length (shipments N lane item) | Schedule ↦ horizon N ]) e in
     omega (arith, lines, is.read.limits.periods)
 
 one_at_most : (b : Bool) → cond b 1 0 ≤ 1
@@ -34,4 +43,11 @@ block_is_short N lane item is = omega (arith, lines_by_kind N lane item lane.kin
 pub lane_items_are_few : (N : Table) (lane : Lane) → IsTable N → length (lane_items N lane) ≤ 80000
 lane_items_are_few N lane is =
     let test = λ (s : SourceRow). eqb (pair_at N s.pair.0).plant.0 (customer_of lane) && eqb s.plant.0 (supplier_of lane) in
-    omega (arith, length-map (taken_over N (customer_of lane) (supplier_of lane)) (item_of_source N), length-filter test N.sources, count_by-le-length test N.sources, is.read.limits.sources)
+    omega (
+      arith,
+      length-map (taken_over N (customer_of lane) (supplier_of lane))
+          (item_of_source N),
+      length-filter test N.sources,
+      count_by-le-length test N.sources,
+      is.read.limits.sources,
+    )

@@ -16,7 +16,8 @@ use Rattle.mrp_rows.specs.Table.{Table, IsTable, IsPair, pair_no, plant_at, item
 use Rattle.mrp_net.specs.declared.edge.Edge.{Edge}
 use Rattle.mrp_net.specs.Edges.{bill_edge, source_edge, edges}
 use Rattle.mrp_net.specs.Lanes.{item_of_source}
-use Rattle.mrp_net.specs.EdgeLaws.{SourcePairsAreThere, is_local, IsLocalEdge, LocalEdgesAreBills, LocalEdgesAreWhole, LocalDemandersAreWhole, CrossingEdgesAreSources}
+use Rattle.mrp_net.specs.EdgeLaws.{SourcePairsAreThere, is_local, IsLocalEdge, LocalEdgesAreBills, LocalEdgesAreWhole, LocalDemandersAreWhole}
+use Rattle.mrp_net.specs.EdgeLaws.{CrossingEdgesAreSources}
 use Rattle.mrp_net.specs.Sums.{pair_at, no_pair}
 use Rattle.mrp_net.proofs.Naming.{place_of}
 use Rattle.mrp_net.proofs.Sharing.{share-whole, zero_share}
@@ -40,7 +41,8 @@ pair_of N x plant item is pair =
       ap (λ (z : ℕ). (pair_at N z).item.0) place ∙ eqb-true (pair_at N n).item.0 item parts.1,
     )
 
-source_pair_is : (N : Table) (s : SourceRow) → IsPair N s.pair.0 → IsPair N (source_pair N s) → IsPair N (source_pair N s) × ((pair_at N (source_pair N s)).plant ≡ s.plant) × ((pair_at N (source_pair N s)).item ≡ item_of_source N s)
+source_pair_is : (N : Table) (s : SourceRow) → IsPair N s.pair.0 → IsPair N (source_pair N s)
+    → IsPair N (source_pair N s) × ((pair_at N (source_pair N s)).plant ≡ s.plant) × ((pair_at N (source_pair N s)).item ≡ item_of_source N s)
 source_pair_is N s takes pair =
     let both = pair_of N (source_pair N s) s.plant.0 (item_at N s.pair.0) refl pair in (
       pair,
@@ -52,11 +54,13 @@ pub source_pairs_are_there : SourcePairsAreThere
 source_pairs_are_there N is = λ k d h. source_pair_is N (get_or N.sources k d) (is.read.sources k d h).pair (is.source_pairs k d h)
 
 -- bill edges stay within a plant, and source edges don't
-pub bill_edge_is_local : (N : Table) (b : BillRow) → IsPair N b.parent.0 → IsPair N b.component.0 → plant_at N b.parent.0 ≡ plant_at N b.component.0 → is_local N (bill_edge b) ≡ true
+pub bill_edge_is_local : (N : Table) (b : BillRow) → IsPair N b.parent.0 → IsPair N b.component.0 → plant_at N b.parent.0 ≡ plant_at N b.component.0
+    → is_local N (bill_edge b) ≡ true
 bill_edge_is_local N b parent component same =
     eq-eqb (pair_at N b.parent.0).plant.0 (pair_at N b.component.0).plant.0 (sym (plant_is N b.parent.0 parent) ∙ same ∙ plant_is N b.component.0 component)
 
-source_edge_crosses : (N : Table) (s : SourceRow) → IsPair N s.pair.0 → IsPair N (source_pair N s) → eqb s.plant.0 (plant_at N s.pair.0) ≡ false → is_local N (source_edge N s) ≡ false
+source_edge_crosses : (N : Table) (s : SourceRow) → IsPair N s.pair.0 → IsPair N (source_pair N s) → eqb s.plant.0 (plant_at N s.pair.0) ≡ false
+    → is_local N (source_edge N s) ≡ false
 source_edge_crosses N s takes pair other =
     false_from_ne_true (is_local N (source_edge N s))
     (λ same. true≢false (sym (eq-eqb s.plant.0 (plant_at N s.pair.0)
@@ -77,7 +81,8 @@ source_edges_cross N is =
 pub local_edges_are_bills : LocalEdgesAreBills
 local_edges_are_bills N is =
     filter-append (is_local N) (map bill_edge N.bills) (map (source_edge N) N.sources)
-    ∙ ap (λ (z : List Edge). z ++ filter (is_local N) (map (source_edge N) N.sources)) (filter_whole (is_local N) (map bill_edge N.bills) (bill_edges_are_local N is))
+    ∙ ap (λ (z : List Edge). z ++ filter (is_local N) (map (source_edge N) N.sources))
+    (filter_whole (is_local N) (map bill_edge N.bills) (bill_edges_are_local N is))
     ∙ ap (λ (z : List Edge). map bill_edge N.bills ++ z) (filter_none (is_local N) (map (source_edge N) N.sources) (source_edges_cross N is))
     ∙ append-nil (map bill_edge N.bills)
 
@@ -85,7 +90,8 @@ pub crossing_edges_are_sources : CrossingEdgesAreSources
 crossing_edges_are_sources N is =
     let crosses = λ (e : Edge). not (is_local N e) in
     filter-append crosses (map bill_edge N.bills) (map (source_edge N) N.sources)
-    ∙ ap (λ (z : List Edge). z ++ filter crosses (map (source_edge N) N.sources)) (filter_none crosses (map bill_edge N.bills) (λ k d h. ap not (bill_edges_are_local N is k d h)))
+    ∙ ap (λ (z : List Edge). z ++ filter crosses (map (source_edge N) N.sources))
+    (filter_none crosses (map bill_edge N.bills) (λ k d h. ap not (bill_edges_are_local N is k d h)))
     ∙ filter_whole crosses (map (source_edge N) N.sources) (λ k d h. ap not (source_edges_cross N is k d h))
 
 -- a bill edge is whole
@@ -113,4 +119,5 @@ local_edges_are_whole N is =
 pub local_demanders_are_whole : LocalDemandersAreWhole
 local_demanders_are_whole N is x =
     let P = λ (e : Edge). is_local N e ≡ true → IsLocalEdge N e in
-    All-sorted_by P (λ e. e.demander.0) (length N.pairs) (filter (λ e. eqb e.pair.0 x) (edges N)) (All-filter (λ e. eqb e.pair.0 x) P (edges N) (local_edges_are_whole N is))
+    All-sorted_by P (λ e. e.demander.0) (length N.pairs) (filter (λ e. eqb e.pair.0 x) (edges N))
+    (All-filter (λ e. eqb e.pair.0 x) P (edges N) (local_edges_are_whole N is))

@@ -1,5 +1,6 @@
 -- Sums of rows by period: no period, and not all periods together, have more than all rows.
-use Rattle.std.proofs.Common.{◌≡◌, ℕ, ◌+◌, ◌<◌, ◌≤◌, ◌==◌, ◌&&◌, if◌then◌else◌, Bool, true, false, List, [], ◌∷◌, length, sum, sum_by, slice_index, slice_index_or, arith, ap, ◌∙◌, ⊎_elim}
+use Rattle.std.proofs.Common.{◌≡◌, ℕ, ◌+◌, ◌<◌, ◌≤◌, ◌==◌, ◌&&◌, if◌then◌else◌, Bool, true, false, List, [], ◌∷◌, length, sum, sum_by, slice_index}
+use Rattle.std.proofs.Common.{slice_index_or, arith, ap, ◌∙◌, ⊎_elim}
 use Rattle.std.specs.List.{range_with_len}
 use Rattle.std.proofs.lemmas.Bool.{cases_lt}
 use Rattle.std.proofs.lemmas.List.FromFn.{get_or-range_with_len, get_or-map-range_with_len, length-range_with_len, length-map-range_with_len}
@@ -22,15 +23,18 @@ tested-le false v p n = omega (arith, sum_by-none (range_with_len 0 n))
 
 -- rows by period, over the first n periods, against all rows
 pub periods-le : {X : Type 0} (test : X → Bool) (period quantity : X → ℕ) (n : ℕ) (rows : List X)
-    → sum_by (λ t. sum_by (λ r. if test r && (period r == t) then quantity r else 0) rows) (range_with_len 0 n) ≤ sum_by (λ r. if test r then quantity r else 0) rows
+    → sum_by (λ t. sum_by (λ r. if test r && (period r == t) then quantity r else 0) rows) (range_with_len 0 n)
+    ≤ sum_by (λ r. if test r then quantity r else 0) rows
 periods-le test period quantity n [] = omega (arith, sum_by-none (range_with_len 0 n))
 periods-le test period quantity n (r ∷ rows) =
     omega (
       arith,
       sum_by-ext (λ t. sum_by (λ r. if test r && (period r == t) then quantity r else 0) (r ∷ rows))
-          (λ t. (if test r && (period r == t) then quantity r else 0) + sum_by (λ r. if test r && (period r == t) then quantity r else 0) rows) (range_with_len 0 n)
+          (λ t. (if test r && (period r == t) then quantity r else 0) + sum_by (λ r. if test r && (period r == t) then quantity r else 0) rows)
+          (range_with_len 0 n)
           (λ t. sum_by-cons (λ r. if test r && (period r == t) then quantity r else 0) r rows),
-      sum_by-add (λ t. if test r && (period r == t) then quantity r else 0) (λ t. sum_by (λ r. if test r && (period r == t) then quantity r else 0) rows) (range_with_len 0 n),
+      sum_by-add (λ t. if test r && (period r == t) then quantity r else 0) (λ t. sum_by (λ r. if test r && (period r == t) then quantity r else 0) rows)
+          (range_with_len 0 n),
       tested-le (test r) (quantity r) (period r) n,
       periods-le test period quantity n rows,
       sum_by-cons (λ r. if test r then quantity r else 0) r rows,
@@ -77,5 +81,6 @@ pub row_within : (N : Table) (amount : ℕ → ℕ) (row : List ℕ) (most : ℕ
     → (k d : ℕ) → k < length row → slice_index_or row k d ≤ most
 row_within N amount row most is less k d below =
     let here : k < horizon N = omega (arith, below, ap (λ (r : List ℕ). length r) is, length-map-range_with_len amount 0 (horizon N)) in
-    let read : slice_index_or row k d ≡ amount k = ap (λ (r : List ℕ). slice_index_or r k d) is ∙ get_or-map-range_with_len amount 0 (horizon N) k k d here (omega arith) in
+    let read : slice_index_or row k d ≡ amount k = ap (λ (r : List ℕ). slice_index_or r k d) is
+    ∙ get_or-map-range_with_len amount 0 (horizon N) k k d here (omega arith) in
     omega (arith, read, less k here)

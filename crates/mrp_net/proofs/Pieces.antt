@@ -22,7 +22,8 @@ AllPairs-map R f (x ∷ xs) h =
     (AllPairs-map R f xs (λ i j d low lt. h (suc i) (suc j) d (omega arith) (omega arith)))
 
 -- what holds of the elements of each piece
-pub All-pieces : {X : Type 0} (P : X → Type 0) (f : ℕ → List X) (a n : ℕ) → ((k : ℕ) → a ≤ k → k < a + n → All P (f k)) → All P (flat_map f (range_with_len a n))
+pub All-pieces : {X : Type 0} (P : X → Type 0) (f : ℕ → List X) (a n : ℕ) → ((k : ℕ) → a ≤ k → k < a + n → All P (f k))
+    → All P (flat_map f (range_with_len a n))
 All-pieces P f a zero h = All-nil P
 All-pieces P f a (suc n) h =
     All-append P (f a) (flat_map f (range_with_len (a + 1) n)) (h a (omega arith) (omega arith))

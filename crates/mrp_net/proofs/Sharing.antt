@@ -1,5 +1,6 @@
 -- The parts of a release over a pair's sources make the release, and pairs stand once.
-use Rattle.std.proofs.Common.{◌≡◌, ℕ, suc, zero, ◌+◌, ◌-◌, ◌*◌, ◌/◌, ◌<◌, ◌≤◌, ◌&&◌, true, eqb, List, [], ◌∷◌, ◌++◌, inl, inr, length, get_or, map, refl, sym, ap, ◌∙◌, subst, arith}
+use Rattle.std.proofs.Common.{◌≡◌, ℕ, suc, zero, ◌+◌, ◌-◌, ◌*◌, ◌/◌, ◌<◌, ◌≤◌, ◌&&◌, true, eqb, List, [], ◌∷◌, ◌++◌, inl, inr, length, get_or, map, refl, sym}
+use Rattle.std.proofs.Common.{ap, ◌∙◌, subst, arith}
 use Rattle.std.specs.List.{All, filter, sum_by, position_or_len}
 use Rattle.std.specs.Option.{unwrap_or, option_map}
 use Rattle.std.proofs.lemmas.Bool.{cases_order, eq-eqb, ne_eqb, and_from, true≢false}
@@ -36,14 +37,16 @@ pub share-whole : (release : ℕ) → release * 1000 / 1000 ≡ release
 share-whole release = mul-div_cancel release (omega arith)
 
 -- what sources whose shares go from `low` to the whole ask of a release
-rest_of_shares : (N : Table) (release low : ℕ) (ss : List SourceRow) → AreShares low ss → All (IsSourceRow N) ss → low ≤ 1000 → sum_by (λ s. part (source_edge N s) release) ss + release * low / 1000 ≡ release
+rest_of_shares : (N : Table) (release low : ℕ) (ss : List SourceRow) → AreShares low ss → All (IsSourceRow N) ss → low ≤ 1000
+    → sum_by (λ s. part (source_edge N s) release) ss + release * low / 1000 ≡ release
 unfolding AreShares
 rest_of_shares N release low [] shares rows small = ap (λ (z : ℕ). 0 + release * z / 1000) shares ∙ omega (arith, share-whole release)
 rest_of_shares N release low (s ∷ ss) shares rows small =
     let row = All-head (IsSourceRow N) s ss rows in
     let rest = rest_of_shares N release s.high ss shares.1 (All-tail (IsSourceRow N) s ss rows) row.ends in
     let up : release * low / 1000 ≤ release * s.high / 1000 = share-le release low s.high (omega (arith, shares.0, row.rises)) in
-    let here : part (source_edge N s) release ≡ release * s.high / 1000 - release * low / 1000 = ap (λ (z : ℕ). release * s.high / 1000 - release * z / 1000) shares.0 in
+    let here : part (source_edge N s) release ≡ release * s.high / 1000 - release * low / 1000 =
+    ap (λ (z : ℕ). release * s.high / 1000 - release * z / 1000) shares.0 in
     omega (arith, sum_by-cons (λ s. part (source_edge N s) release) s ss, here, rest, up)
 
 pub zero_share : (release : ℕ) → release * 0 / 1000 ≡ 0
@@ -58,7 +61,12 @@ shares_of N x table h from = subst (λ (z : Supply). HasSupply z (sources_of_pai
 
 pub parts_are_whole : PartsAreWhole
 parts_are_whole N table x h from release =
-    omega (arith, zero_share release, rest_of_shares N release 0 (sources_of_pair N x) (shares_of N x table h from) (All-filter (λ s. eqb s.pair.0 x) (IsSourceRow N) N.sources table.read.sources) (omega arith))
+    omega (
+      arith,
+      zero_share release,
+      rest_of_shares N release 0 (sources_of_pair N x) (shares_of N x table h from)
+          (All-filter (λ s. eqb s.pair.0 x) (IsSourceRow N) N.sources table.read.sources) (omega arith),
+    )
 
 -- the edges from a pair are those of its components and those of its sources
 made_is : (s : Supply) → s ≡ Make → s ≡ From → ⊥
@@ -70,7 +78,8 @@ bought_is s buy from = cc
 bought_is_not_made : (s : Supply) → s ≡ Buy → s ≡ Make → ⊥
 bought_is_not_made s buy make = cc
 
-edges_of : (N : Table) (x : ℕ) → filter (λ e. eqb e.demander.0 x) (edges N) ≡ map bill_edge (filter (λ b. eqb b.parent.0 x) N.bills) ++ map (source_edge N) (sources_of_pair N x)
+edges_of : (N : Table) (x : ℕ) → filter (λ e. eqb e.demander.0 x) (edges N) ≡ map bill_edge (filter (λ b. eqb b.parent.0 x) N.bills)
+    ++ map (source_edge N) (sources_of_pair N x)
 edges_of N x =
     filter-append (λ e. eqb e.demander.0 x) (map bill_edge N.bills) (map (source_edge N) N.sources)
     ∙ ap (λ (z : List Edge). z ++ filter (λ e. eqb e.demander.0 x) (map (source_edge N) N.sources)) (filter-map (λ e. eqb e.demander.0 x) bill_edge N.bills)
@@ -86,17 +95,26 @@ pub sum_map : {X Y : Type 0} (f : Y → ℕ) (g : X → Y) (xs : List X) → sum
 sum_map f g [] = refl
 sum_map f g (x ∷ xs) = omega (arith, sum_by-cons f (g x) (map g xs), sum_by-cons (λ x. f (g x)) x xs, sum_map f g xs)
 
-needs_are_parts : (N : Table) (release : ℕ) (ss : List SourceRow) → sum_by (λ s. edge_need (source_edge N s) release) ss ≡ sum_by (λ s. part (source_edge N s) release) ss
+needs_are_parts : (N : Table) (release : ℕ) (ss : List SourceRow)
+    → sum_by (λ s. edge_need (source_edge N s) release) ss ≡ sum_by (λ s. part (source_edge N s) release) ss
 needs_are_parts N release [] = refl
 needs_are_parts N release (s ∷ ss) =
     let one : edge_need (source_edge N s) release ≡ part (source_edge N s) release = omega arith in
-    omega (arith, sum_by-cons (λ s. edge_need (source_edge N s) release) s ss, sum_by-cons (λ s. part (source_edge N s) release) s ss, one, needs_are_parts N release ss)
+    omega (
+      arith,
+      sum_by-cons (λ s. edge_need (source_edge N s) release) s ss,
+      sum_by-cons
+          (λ s. part (source_edge N s) release) s ss,
+      one,
+      needs_are_parts N release ss,
+    )
 
 pub needs_are_whole : NeedsAreWhole
 needs_are_whole N table x h from release =
     let own = filter (λ e. eqb e.demander.0 x) (edges N) in
     let need = λ (e : Edge). edge_need e release in
-    let pairs : All (λ e. e.pair.0 < length N.pairs) own = All-filter (λ e. eqb e.demander.0 x) (λ e. e.pair.0 < length N.pairs) (edges N) (λ k d lt. (edges_join N table k d lt).pair) in
+    let pairs : All (λ e. e.pair.0 < length N.pairs) own = All-filter (λ e. eqb e.demander.0 x) (λ e. e.pair.0 < length N.pairs) (edges N)
+    (λ k d lt. (edges_join N table k d lt).pair) in
     let none = no_components N x table (λ make. made_is (supply_at N x) make (supply_is N x h ∙ from)) in
     sum-sorted_by need (λ e. e.pair.0) (length N.pairs) own pairs
     ∙ ap (sum_by need) (edges_of N x)
@@ -122,7 +140,8 @@ append_none {X} (x ∷ xs) ys e = ap (λ (z : List X). x ∷ z) (append_none xs 
 pub others_have_components : OthersHaveComponents
 others_have_components N table x h other =
     ap (sorted_by (λ e. e.pair.0) (length N.pairs))
-    (edges_of N x ∙ append_none (map bill_edge (filter (λ b. eqb b.parent.0 x) N.bills)) (map (source_edge N) (sources_of_pair N x)) (ap (map (source_edge N)) (others_have_no_sources N table x h other)))
+    (edges_of N x ∙ append_none (map bill_edge (filter (λ b. eqb b.parent.0 x) N.bills)) (map (source_edge N) (sources_of_pair N x))
+    (ap (map (source_edge N)) (others_have_no_sources N table x h other)))
 
 sorted_none : {X : Type 0} (key : X → ℕ) (n : ℕ) → sorted_by key n [] ≡ []
 sorted_none key zero = refl
@@ -131,7 +150,8 @@ sorted_none {X} key (suc n) = sorted_by-suc key n [] ∙ ap (λ (z : List X). z 
 pub bought_have_no_edges : BoughtHaveNoEdges
 bought_have_no_edges N table x h buy =
     others_have_components N table x h (bought_is (pair_at N x).supply buy)
-    ∙ ap (λ (z : List BillRow). sorted_by (λ e. e.pair.0) (length N.pairs) (map bill_edge z)) (no_components N x table (bought_is_not_made (supply_at N x) (supply_is N x h ∙ buy)))
+    ∙ ap (λ (z : List BillRow). sorted_by (λ e. e.pair.0) (length N.pairs) (map bill_edge z))
+    (no_components N x table (bought_is_not_made (supply_at N x) (supply_is N x h ∙ buy)))
     ∙ sorted_none (λ (e : Edge). e.pair.0) (length N.pairs)
 
 -- a pair stands once
@@ -140,7 +160,8 @@ pairs_are_found N table x h =
     let row : PairRow = pair_at N x in
     let test = λ (p : PairRow). eqb p.plant.0 row.plant.0 && eqb p.item.0 row.item.0 in
     let n : ℕ = position_or_len test N.pairs in
-    let passes : test row ≡ true = and_from (eqb row.plant.0 row.plant.0) (eqb row.item.0 row.item.0) (eq-eqb row.plant.0 row.plant.0 refl) (eq-eqb row.item.0 row.item.0 refl) in
+    let passes : test row ≡ true = and_from (eqb row.plant.0 row.plant.0) (eqb row.item.0 row.item.0) (eq-eqb row.plant.0 row.plant.0 refl)
+    (eq-eqb row.item.0 row.item.0 refl) in
     place_of test N.pairs
     ∙ elim (cases_order n x) as (λ _. n ≡ x) [
       | inl e ↦ e

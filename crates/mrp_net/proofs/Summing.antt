@@ -1,9 +1,11 @@
 -- Sums of a table's rows are within 64 bits, so nothing is cut off them.
-use Rattle.std.proofs.Common.{◌≡◌, ℕ, ◌+◌, ◌-◌, ◌*◌, ◌^◌, ◌<◌, ◌≤◌, ◌&&◌, Bool, true, false, cond, eqb, List, [], ◌∷◌, ◌++◌, length, get_or, map, take, drop, min, replicate, refl, sym, subst, ap, ◌∙◌, inl, inr, arith}
+use Rattle.std.proofs.Common.{◌≡◌, ℕ, ◌+◌, ◌-◌, ◌*◌, ◌^◌, ◌<◌, ◌≤◌, ◌&&◌, Bool, true, false, cond, eqb, List, [], ◌∷◌, ◌++◌, length, get_or, map, take, drop}
+use Rattle.std.proofs.Common.{min, replicate, refl, sym, subst, ap, ◌∙◌, inl, inr, arith}
 use Rattle.std.specs.List.{All, AllByRecursion, IsDistinct, range_with_len, sum_by}
 use Rattle.std.proofs.lemmas.Bool.{cond_both, cases_Bool, and_from, and_parts, eq-eqb, eqb-true, false_from_ne_true, true≢false}
 use Rattle.std.proofs.lemmas.Grind.{same_number_lists}
-use Rattle.std.proofs.lemmas.List.{get_or_read, take_at, get_or-replicate, get_or-map, get_or-take, get_or-drop, length-replicate, length-map, length-take-le, length-drop}
+use Rattle.std.proofs.lemmas.List.{get_or_read, take_at, get_or-replicate, get_or-map, get_or-take, get_or-drop, length-replicate, length-map, length-take-le}
+use Rattle.std.proofs.lemmas.List.{length-drop}
 use Rattle.std.proofs.lemmas.List.FromFn.{get_or-map-range_with_len, length-map-range_with_len}
 use Rattle.std.proofs.lemmas.List.Elements.{All-head, All-tail}
 use Rattle.std.proofs.lemmas.List.Sums.{sum_by-cons, sum_by-le}
@@ -24,29 +26,36 @@ use Rattle.mrp_net.specs.Lanes.{figure, shipped_from}
 use Rattle.mrp_net.specs.Built.{AreTotals, ArePeriods, capped_supply}
 
 -- some of at most 10^6 amounts of at most 10^12 are at most 10^18
-some_within : {R : Type 0} (test : R → Bool) (amount : R → ℕ) (rows : List R) → All (λ r. amount r ≤ MOST_IN_ROW) rows → length rows ≤ MOST_OF_A_KIND → sum_by (λ r. cond (test r) (amount r) 0) rows ≤ 10 ^ 18
+some_within : {R : Type 0} (test : R → Bool) (amount : R → ℕ) (rows : List R) → All (λ r. amount r ≤ MOST_IN_ROW) rows → length rows ≤ MOST_OF_A_KIND
+    → sum_by (λ r. cond (test r) (amount r) 0) rows ≤ 10 ^ 18
 some_within test amount rows small few =
-    let each : All (λ r. cond (test r) (amount r) 0 ≤ MOST_IN_ROW) rows = λ k d h. cond_both (test (get_or rows k d)) (amount (get_or rows k d)) 0 (λ n. n ≤ MOST_IN_ROW) (λ _. small k d h) (λ _. omega arith) in
+    let each : All (λ r. cond (test r) (amount r) 0 ≤ MOST_IN_ROW) rows =
+    λ k d h. cond_both (test (get_or rows k d)) (amount (get_or rows k d)) 0 (λ n. n ≤ MOST_IN_ROW) (λ _. small k d h) (λ _. omega arith) in
     omega (arith, sum_by-le (λ r. cond (test r) (amount r) 0) MOST_IN_ROW rows each)
 
 pub demand_within : (N : Table) → IsTable N → (x t : ℕ) → demand N x t ≤ 10 ^ 18
-demand_within N is x t = some_within (λ d. eqb d.pair.0 x && eqb d.period t) (λ d. d.quantity) N.demands (λ k d h. (is.read.demands k d h).quantity) is.read.limits.demands
+demand_within N is x t = some_within (λ d. eqb d.pair.0 x && eqb d.period t) (λ d. d.quantity) N.demands
+    (λ k d h. (is.read.demands k d h).quantity) is.read.limits.demands
 
 pub demand_total_within : (N : Table) → IsTable N → (x : ℕ) → demand_total N x ≤ 10 ^ 18
 demand_total_within N is x = some_within (λ d. eqb d.pair.0 x) (λ d. d.quantity) N.demands (λ k d h. (is.read.demands k d h).quantity) is.read.limits.demands
 
 pub received_within : (N : Table) → IsTable N → (x t : ℕ) → received N x t ≤ 10 ^ 18
-received_within N is x t = some_within (λ r. eqb r.pair.0 x && eqb r.period t) (λ r. r.quantity) N.receipts (λ k d h. (is.read.receipts k d h).quantity) is.read.limits.receipts
+received_within N is x t = some_within (λ r. eqb r.pair.0 x && eqb r.period t) (λ r. r.quantity) N.receipts
+    (λ k d h. (is.read.receipts k d h).quantity) is.read.limits.receipts
 
 pub shipped_within : (N : Table) → IsTable N → (x t : ℕ) → shipped N x t ≤ 10 ^ 18
-shipped_within N is x t = some_within (λ s. eqb s.pair.0 x && eqb s.period t) (λ s. s.quantity) N.ships (λ k d h. (is.read.ships k d h).quantity) is.read.limits.ships
+shipped_within N is x t = some_within (λ s. eqb s.pair.0 x && eqb s.period t) (λ s. s.quantity) N.ships
+    (λ k d h. (is.read.ships k d h).quantity) is.read.limits.ships
 
 -- a pair and a period have a place
-place_within : (N : Table) (amounts : List ℕ) (x t : ℕ) → length amounts ≡ length N.pairs * horizon N → IsPair N x → t < horizon N → x * horizon N + t < length amounts
+place_within : (N : Table) (amounts : List ℕ) (x t : ℕ) → length amounts ≡ length N.pairs * horizon N → IsPair N x → t < horizon N
+    → x * horizon N + t < length amounts
 place_within N amounts x t size h g = omega (arith, size, mul-add-lt x (horizon N) t (length N.pairs) h g, mul_comm (horizon N) (length N.pairs))
 
 -- and so has each row of a pair and a period
-pub places_within : {R : Type 0} (pair period : R → ℕ) (N : Table) (periods : ℕ) (rows : List R) (amounts : List ℕ) → length amounts ≡ length N.pairs * horizon N → periods ≡ horizon N
+pub places_within : {R : Type 0} (pair period : R → ℕ) (N : Table) (periods : ℕ) (rows : List R) (amounts : List ℕ)
+    → length amounts ≡ length N.pairs * horizon N → periods ≡ horizon N
     → All (λ r. IsPair N (pair r)) rows → All (λ r. period r < horizon N) rows → All (λ r. pair r * periods + period r < length amounts) rows
 places_within pair period N periods rows amounts size width pairs small k d h =
     let x : ℕ = pair (get_or rows k d) in
@@ -60,7 +69,8 @@ place_fits N x n is pair width =
     omega (arith, mul-le-mul_left n few, width, is.read.limits.periods)
 
 -- amounts that stand together are a row
-pub row_at : (amounts : List ℕ) (from n : ℕ) (amount : ℕ → ℕ) → from + n ≤ length amounts → ((t : ℕ) → t < n → get_or amounts (from + t) 0 ≡ amount t) → take n (drop from amounts) ≡ map amount (range_with_len 0 n)
+pub row_at : (amounts : List ℕ) (from n : ℕ) (amount : ℕ → ℕ) → from + n ≤ length amounts → ((t : ℕ) → t < n → get_or amounts (from + t) 0 ≡ amount t)
+    → take n (drop from amounts) ≡ map amount (range_with_len 0 n)
 row_at amounts from n amount end each =
     let size : length (take n (drop from amounts)) ≡ n = omega (arith, length-take-le n (drop from amounts), length-drop from amounts) in
     same_number_lists (take n (drop from amounts)) (map amount (range_with_len 0 n)) (size ∙ sym (length-map-range_with_len amount 0 n))
@@ -71,17 +81,20 @@ row_at amounts from n amount end each =
     ∙ sym (get_or-map-range_with_len amount 0 n t t 0 g (omega arith)))
 
 -- the amounts of a pair are its row
-row_in_periods : (N : Table) (amount : ℕ → ℕ → ℕ) (amounts : List ℕ) (x : ℕ) → ArePeriods N amount amounts → IsPair N x → take (horizon N) (drop (x * horizon N) amounts) ≡ row_of N (amount x)
+row_in_periods : (N : Table) (amount : ℕ → ℕ → ℕ) (amounts : List ℕ) (x : ℕ) → ArePeriods N amount amounts → IsPair N x
+    → take (horizon N) (drop (x * horizon N) amounts) ≡ row_of N (amount x)
 row_in_periods N amount amounts x are h =
     row_at amounts (x * horizon N) (horizon N) (amount x) (omega (arith, are.size, mul-le-mul_left (horizon N) h)) (λ t g. are.each x t h g)
 
 -- the amounts of a pair end within those of all
-pub row_ends : (N M : Table) (sums : Table → ℕ → ℕ → ℕ) (amounts : List ℕ) (x : ℕ) → N ≡ M → ArePeriods N (sums N) amounts → IsPair M x → (x + 1) * horizon M ≤ length amounts
+pub row_ends : (N M : Table) (sums : Table → ℕ → ℕ → ℕ) (amounts : List ℕ) (x : ℕ) → N ≡ M → ArePeriods N (sums N) amounts → IsPair M x
+    → (x + 1) * horizon M ≤ length amounts
 row_ends N M sums amounts x is are pair =
     let there : ArePeriods M (sums M) amounts = subst (λ (z : Table). ArePeriods z (sums z) amounts) is are in
     omega (arith, there.size, mul-le-mul_left (horizon M) pair)
 
-pub row_read : (N M : Table) (sums : Table → ℕ → ℕ → ℕ) (amounts read : List ℕ) (x from to : ℕ) → N ≡ M → ArePeriods N (sums N) amounts → from ≡ x * horizon M → to ≡ (x + 1) * horizon M → IsPair M x
+pub row_read : (N M : Table) (sums : Table → ℕ → ℕ → ℕ) (amounts read : List ℕ) (x from to : ℕ) → N ≡ M → ArePeriods N (sums N) amounts → from ≡ x * horizon M
+    → to ≡ (x + 1) * horizon M → IsPair M x
     → read ≡ amounts → take (to - from) (drop from read) ≡ row_of M (sums M x)
 row_read N M sums amounts read x from to is are begins ends pair same =
     let long : to - from ≡ horizon M = omega (arith, begins, ends) in
@@ -92,12 +105,14 @@ row_read N M sums amounts read x from to is are begins ends pair same =
     ∙ row_in_periods M (sums M) amounts x there pair
 
 -- and so does the amount of a period
-pub amount_within : (N M : Table) (sums : Table → ℕ → ℕ → ℕ) (amounts : List ℕ) (x t : ℕ) → N ≡ M → ArePeriods N (sums N) amounts → IsPair M x → t < horizon M → x * horizon M + t < length amounts
+pub amount_within : (N M : Table) (sums : Table → ℕ → ℕ → ℕ) (amounts : List ℕ) (x t : ℕ) → N ≡ M → ArePeriods N (sums N) amounts → IsPair M x → t < horizon M
+    → x * horizon M + t < length amounts
 amount_within N M sums amounts x t is are pair period =
     let there : ArePeriods M (sums M) amounts = subst (λ (z : Table). ArePeriods z (sums z) amounts) is are in
     place_within M amounts x t there.size pair period
 
-pub amount_read : (N M : Table) (sums : Table → ℕ → ℕ → ℕ) (amounts : List ℕ) (x t place v : ℕ) → N ≡ M → ArePeriods N (sums N) amounts → place ≡ x * horizon M + t → IsPair M x → t < horizon M
+pub amount_read : (N M : Table) (sums : Table → ℕ → ℕ → ℕ) (amounts : List ℕ) (x t place v : ℕ) → N ≡ M → ArePeriods N (sums N) amounts
+    → place ≡ x * horizon M + t → IsPair M x → t < horizon M
     → v ≡ get_or amounts place v → v ≡ sums M x t
 amount_read N M sums amounts x t place v is are at pair period read =
     let there : ArePeriods M (sums M) amounts = subst (λ (z : Table). ArePeriods z (sums z) amounts) is are in
@@ -116,7 +131,8 @@ sums_built pair period amount N periods rows first slice after n zeros width sam
       size = long ∙ ap length same ∙ room;
       each = λ x t h g.
           let within = place_within N first x t room h g in
-          let was : get_or first (x * horizon N + t) 0 ≡ 0 = ap (λ (z : List ℕ). get_or z (x * horizon N + t) 0) zeros ∙ get_or-replicate (length N.pairs * horizon N) (x * horizon N + t) 0 0 (omega arith) in
+          let was : get_or first (x * horizon N + t) 0 ≡ 0 = ap (λ (z : List ℕ). get_or z (x * horizon N + t) 0) zeros
+          ∙ get_or-replicate (length N.pairs * horizon N) (x * horizon N + t) 0 0 (omega arith) in
           omega (arith, added x t g within, was, few x t);
     })
 
@@ -140,10 +156,15 @@ totals_built {R} {O} key amount found owners read rows first slice after n zeros
           omega (arith, added k (omega arith), was);
     })
 
-pub demand_totals_built : (N : Table) (totals : List ℕ) → IsTable N → AreTotalsOf (λ (d : DemandRow). d.pair.0) (λ d. d.quantity) (length N.pairs) N.demands totals → AreTotals N (demand_total N) totals
+pub demand_totals_built : (N : Table) (totals : List ℕ) → IsTable N
+    → AreTotalsOf (λ (d : DemandRow). d.pair.0) (λ d. d.quantity) (length N.pairs) N.demands totals → AreTotals N (demand_total N) totals
 demand_totals_built N totals is are = record { size = are.size; each = λ x h. omega (arith, are.each x h, demand_total_within N is x) }
 
-pub supplies_built : (N : Table) (before with_receipts with_ships after : List ℕ) → before ≡ map (λ p. p.on_hand) N.pairs → length with_receipts ≡ length before → length with_ships ≡ length with_receipts → length after ≡ length with_ships → AddsTotals (λ (r : ReceiptRow). r.pair.0) (λ r. r.quantity) N.receipts before with_receipts → AddsTotals (λ (s : ShipRow). s.pair.0) (λ s. s.quantity) N.ships with_receipts with_ships → AddsTotals (λ (c : CumRow). c.pair.0) (λ c. c.figure) N.cums with_ships after → AreTotals N (capped_supply N) after
+pub supplies_built : (N : Table) (before with_receipts with_ships after : List ℕ) → before ≡ map (λ p. p.on_hand) N.pairs → length with_receipts ≡ length before
+    → length with_ships ≡ length with_receipts → length after ≡ length with_ships
+    → AddsTotals (λ (r : ReceiptRow). r.pair.0) (λ r. r.quantity) N.receipts before with_receipts
+    → AddsTotals (λ (s : ShipRow). s.pair.0) (λ s. s.quantity) N.ships with_receipts with_ships
+    → AddsTotals (λ (c : CumRow). c.pair.0) (λ c. c.figure) N.cums with_ships after → AreTotals N (capped_supply N) after
 supplies_built N before with_receipts with_ships after is same1 same2 same3 adds1 adds2 adds3 =
     let room : length before ≡ length N.pairs = ap length is ∙ length-map N.pairs (λ p. p.on_hand) in
     record {
@@ -154,13 +175,15 @@ supplies_built N before with_receipts with_ships after is same1 same2 same3 adds
     }
 
 pub shipped_from_within : (N : Table) → IsTable N → (x p : ℕ) → shipped_from N x p ≤ 10 ^ 18
-shipped_from_within N is x p = some_within (λ s. eqb s.pair.0 x && eqb s.from.0 p) (λ s. s.quantity) N.ships (λ k d h. (is.read.ships k d h).quantity) is.read.limits.ships
+shipped_from_within N is x p = some_within (λ s. eqb s.pair.0 x && eqb s.from.0 p) (λ s. s.quantity) N.ships
+    (λ k d h. (is.read.ships k d h).quantity) is.read.limits.ships
 
 -- a plant's cumulative figure for a pair stands once, so it is that of one row at most
 abbrev is_of : ℕ → ℕ → CumRow → Bool
 is_of x p c = eqb c.pair.0 x && eqb c.from.0 p
 
-no_more_figures : (x p : ℕ) (c : CumRow) (rows : List CumRow) → is_of x p c ≡ true → AllByRecursion (λ d. is_same_cum c d ≡ false) rows → sum_by (λ d. cond (is_of x p d) d.figure 0) rows ≡ 0
+no_more_figures : (x p : ℕ) (c : CumRow) (rows : List CumRow) → is_of x p c ≡ true → AllByRecursion (λ d. is_same_cum c d ≡ false) rows
+    → sum_by (λ d. cond (is_of x p d) d.figure 0) rows ≡ 0
 no_more_figures x p c [] here apart = refl
 no_more_figures x p c (d ∷ rows) here apart =
     let first = apart.0 in
@@ -171,7 +194,8 @@ no_more_figures x p c (d ∷ rows) here apart =
     (eq-eqb c.pair.0 d.pair.0 (eqb-true c.pair.0 x parts.0 ∙ sym (eqb-true d.pair.0 x both.0)))) ∙ first)) in
     omega (arith, sum_by-cons (λ d. cond (is_of x p d) d.figure 0) d rows, ap (λ (b : Bool). cond b d.figure 0) other, no_more_figures x p c rows here apart.1)
 
-one_figure : (x p : ℕ) (rows : List CumRow) → IsDistinct is_same_cum rows → All (λ c. c.figure ≤ MOST) rows → sum_by (λ d. cond (is_of x p d) d.figure 0) rows ≤ MOST
+one_figure : (x p : ℕ) (rows : List CumRow) → IsDistinct is_same_cum rows → All (λ c. c.figure ≤ MOST) rows
+    → sum_by (λ d. cond (is_of x p d) d.figure 0) rows ≤ MOST
 one_figure x p [] once small = omega arith
 one_figure x p (c ∷ rows) once small =
     let sum = sum_by-cons (λ d. cond (is_of x p d) d.figure 0) c rows in
@@ -180,7 +204,13 @@ one_figure x p (c ∷ rows) once small =
           let apart = IsDistinct-head is_same_cum c rows once in
           omega (arith, sum, ap (λ (b : Bool). cond b c.figure 0) here, no_more_figures x p c rows here apart, All-head (λ c. c.figure ≤ MOST) c rows small)
       | inr other ↦
-          omega (arith, sum, ap (λ (b : Bool). cond b c.figure 0) other, one_figure x p rows (IsDistinct-tail is_same_cum c rows once) (All-tail (λ c. c.figure ≤ MOST) c rows small))
+          omega (
+            arith,
+            sum,
+            ap (λ (b : Bool). cond b c.figure 0) other,
+            one_figure x p rows (IsDistinct-tail is_same_cum c rows once)
+                (All-tail (λ c. c.figure ≤ MOST) c rows small),
+          )
     ]
 
 pub figure_within : (N : Table) → IsTable N → (x p : ℕ) → figure N x p ≤ MOST

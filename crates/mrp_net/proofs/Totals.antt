@@ -32,7 +32,8 @@ abbrev asked_whole : List PlanRows → List Edge → ℕ
 asked_whole table edges = sum_by (λ e. e.per * sum (rows_at table e.demander.0).release) edges
 
 -- what one edge asks over the first n periods
-edge_asked-le : (e : Edge) (row : List ℕ) (n : ℕ) → e.high ≤ 1000 → sum_by (λ t. edge_need e (slice_index row t)) (range_with_len 0 n) ≤ e.per * sum (take n row)
+edge_asked-le : (e : Edge) (row : List ℕ) (n : ℕ) → e.high ≤ 1000
+    → sum_by (λ t. edge_need e (slice_index row t)) (range_with_len 0 n) ≤ e.per * sum (take n row)
 edge_asked-le e row zero whole = omega arith
 edge_asked-le e row (suc n) whole =
     omega (
@@ -67,7 +68,8 @@ pub shares_end : (N : Table) (x : ℕ) → IsTable N → All (λ e. e.high ≤ 1
 shares_end N x is = λ i d h. let edge = demanders_join N x (edges_join N is) i d h in edge.ends
 
 -- the gross requirements together are within the demand rows and what the demanders would ask
-pub gross_sum-le : (N : Table) (table : List PlanRows) (x : ℕ) → IsTable N → sum (row_of N (gross N table x)) ≤ demand_total N x + asked_whole table (demanders N x)
+pub gross_sum-le : (N : Table) (table : List PlanRows) (x : ℕ) → IsTable N
+    → sum (row_of N (gross N table x)) ≤ demand_total N x + asked_whole table (demanders N x)
 gross_sum-le N table x is =
     omega (
       arith,

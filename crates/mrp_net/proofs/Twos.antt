@@ -1,5 +1,6 @@
 -- Lanes stand in twos, each once, and each source has its two.
-use Rattle.std.proofs.Common.{◌≡◌, ◌≢◌, ℕ, suc, zero, ◌*◌, ◌<◌, ◌==◌, ◌&&◌, inl, inr, List, [], ◌∷◌, ◌++◌, length, map, get_or, refl, sym, ap, subst, arith, add-one}
+use Rattle.std.proofs.Common.{◌≡◌, ◌≢◌, ℕ, suc, zero, ◌*◌, ◌<◌, ◌==◌, ◌&&◌, inl, inr, List, [], ◌∷◌, ◌++◌, length, map, get_or, refl, sym, ap, subst, arith}
+use Rattle.std.proofs.Common.{add-one}
 use Rattle.std.specs.List.{All, AllPairs, Contains, flat_map, range_with_len}
 use Rattle.std.proofs.lemmas.Bool.{cond_both, eq-eqb, and_from}
 use Rattle.std.proofs.lemmas.List.Elements.{All-nil, All-cons, Contains-get_or}
@@ -38,7 +39,8 @@ between_are_twos N customer supplier =
     (λ _. tt)
     (λ _. (record { first = refl; second = refl; customer = refl; supplier = refl }, tt))
 
-two_at : (xs : List Lane) (k i : ℕ) (d : Lane) → AreTwos xs → i ≡ 2 * k → i < length xs → (suc i < length xs) × AreBothLanes (get_or xs i d) (get_or xs (suc i) d)
+two_at : (xs : List Lane) (k i : ℕ) (d : Lane) → AreTwos xs → i ≡ 2 * k → i < length xs
+    → (suc i < length xs) × AreBothLanes (get_or xs i d) (get_or xs (suc i) d)
 two_at [] k i d h e l = absurd (omega arith)
 two_at (a ∷ []) k i d h e l = absurd h
 two_at (a ∷ b ∷ rest) zero zero d h e l = (omega arith, h.0)
@@ -52,7 +54,8 @@ two_at (a ∷ b ∷ rest) (suc k) (suc (suc i)) d h e l =
 pub lanes_come_in_twos : LanesComeInTwos
 lanes_come_in_twos N k l =
     let plants = range_with_len 0 (length N.plants) in
-    let twos : AreTwos (lanes N) = twos-flat_map (lanes_of N) plants (λ customer. twos-flat_map (lanes_between N customer) plants (λ supplier. between_are_twos N customer supplier)) in
+    let twos : AreTwos (lanes N) = twos-flat_map (lanes_of N) plants
+    (λ customer. twos-flat_map (lanes_between N customer) plants (λ supplier. between_are_twos N customer supplier)) in
     let none : Lane = record { kind = Despatch; sender = record { 0 = 0 }; receiver = record { 0 = 0 } } in
     let both = two_at (lanes N) k (2 * k) none twos refl l in
     (omega (arith, both.0), subst (λ (i : ℕ). AreBothLanes (lane_at N (2 * k)) (lane_at N i)) (sym (add-one (2 * k))) both.1)
@@ -62,7 +65,8 @@ lanes_come_in_twos N k l =
 kinds_apart : Despatch ≡ Schedule → ⊥
 kinds_apart e = cc
 
-between_joins : (N : Table) (customer supplier : ℕ) → All (λ lane. (customer_of lane ≡ customer) × (supplier_of lane ≡ supplier)) (lanes_between N customer supplier)
+between_joins : (N : Table) (customer supplier : ℕ) → All (λ lane. (customer_of lane ≡ customer) × (supplier_of lane ≡ supplier))
+    (lanes_between N customer supplier)
 between_joins N customer supplier =
     let P = λ (lane : Lane). (customer_of lane ≡ customer) × (supplier_of lane ≡ supplier) in
     let despatch : Lane = record { kind = Despatch; sender = record { 0 = supplier }; receiver = record { 0 = customer } } in
@@ -76,7 +80,8 @@ between_once N customer supplier =
     let R = λ (a b : Lane). a ≢ b in
     let despatch : Lane = record { kind = Despatch; sender = record { 0 = supplier }; receiver = record { 0 = customer } } in
     let schedule : Lane = record { kind = Schedule; sender = record { 0 = customer }; receiver = record { 0 = supplier } } in
-    cond_both (length (taken_over N customer supplier) == 0) [] (both_lanes (record { 0 = customer }) (record { 0 = supplier })) (λ (z : List Lane). AllPairs R z)
+    cond_both (length (taken_over N customer supplier) == 0) [] (both_lanes (record { 0 = customer }) (record { 0 = supplier }))
+    (λ (z : List Lane). AllPairs R z)
     (λ _ i j d low lt. absurd (omega arith))
     (λ _. AllPairs-cons R despatch (schedule ∷ []) (All-cons (R despatch) schedule [] (λ e. kinds_apart (ap (λ (l : Lane). l.kind) e)) (All-nil (R despatch)))
     (AllPairs-cons R schedule [] (All-nil (R schedule)) (λ i j d low lt. absurd (omega arith))))
@@ -108,12 +113,14 @@ pub some_in : {X : Type 0} (xs : List X) (x : X) → In xs x → 0 < length xs
 some_in [] x h = absurd h
 some_in (y ∷ ys) x h = omega arith
 
-between_is_lane : (N : Table) (customer supplier : PlantNo) (lane : Lane) → 0 < length (taken_over N customer.0 supplier.0) → customer.0 < length N.plants → supplier.0 < length N.plants
+between_is_lane : (N : Table) (customer supplier : PlantNo) (lane : Lane) → 0 < length (taken_over N customer.0 supplier.0) → customer.0 < length N.plants
+    → supplier.0 < length N.plants
     → In (both_lanes customer supplier) lane → Contains (lanes N) lane
 between_is_lane N customer supplier lane some c s h =
     let n = length N.plants in
     let here : In (lanes_between N customer.0 supplier.0) lane = subst (λ (z : List Lane). In z lane) (sym (some_lanes N customer.0 supplier.0 some)) h in
-    let of : In (lanes_of N customer.0) lane = In-flat_map (lanes_between N customer.0) (range_with_len 0 n) supplier.0 lane (In-range 0 n supplier.0 (omega arith) (omega arith)) here in
+    let of : In (lanes_of N customer.0) lane = In-flat_map (lanes_between N customer.0) (range_with_len 0 n) supplier.0 lane
+    (In-range 0 n supplier.0 (omega arith) (omega arith)) here in
     Contains-from_in (lanes N) lane (In-flat_map (lanes_of N) (range_with_len 0 n) customer.0 lane (In-range 0 n customer.0 (omega arith) (omega arith)) of)
 
 pub sources_have_lanes : SourcesHaveLanes
@@ -124,7 +131,8 @@ sources_have_lanes N is k d h =
     let customer : PlantNo = (pair_at N s.pair.0).plant in
     let taken = source_is_taken N s (In-from_contains N.sources s (Contains-get_or N.sources k d h)) in
     let some = some_in (taken_over N customer.0 s.plant.0) s taken in
-    let item = Contains-from_in (map (item_of_source N) (taken_over N customer.0 s.plant.0)) (item_of_source N s) (In-map (item_of_source N) (taken_over N customer.0 s.plant.0) s taken) in
+    let item = Contains-from_in (map (item_of_source N) (taken_over N customer.0 s.plant.0)) (item_of_source N s)
+    (In-map (item_of_source N) (taken_over N customer.0 s.plant.0) s taken) in
     record {
       despatch = between_is_lane N customer s.plant (despatch_lane N s) some own.plant row.plant (inl refl);
       schedule = between_is_lane N customer s.plant (schedule_lane N s) some own.plant row.plant (inr (inl refl));

@@ -34,7 +34,8 @@ LocalEdgesAreBills = (N : Table) → IsTable N → filter (is_local N) (edges N)
 
 -- and those between plants are those of sources
 abbrev pub CrossingEdgesAreSources : Type 0
-CrossingEdgesAreSources = (N : Table) → IsTable N → filter (λ e. not (is_local N e)) (edges N) ≡ map (source_edge N) N.sources
+CrossingEdgesAreSources = (N : Table) → IsTable N
+    → filter (λ e. not (is_local N e)) (edges N) ≡ map (source_edge N) N.sources
 
 -- an edge within a plant takes its part of the whole release, for a pair of the same plant
 pub record IsLocalEdge (N : Table) (e : Edge) : Type 0 where
@@ -49,4 +50,5 @@ LocalEdgesAreWhole = (N : Table) → IsTable N → All (λ e. is_local N e ≡ t
 
 -- and so among the demanders of a pair
 abbrev pub LocalDemandersAreWhole : Type 0
-LocalDemandersAreWhole = (N : Table) → IsTable N → (x : ℕ) → All (λ e. is_local N e ≡ true → IsLocalEdge N e) (demanders N x)
+LocalDemandersAreWhole = (N : Table) → IsTable N → (x : ℕ)
+    → All (λ e. is_local N e ≡ true → IsLocalEdge N e) (demanders N x)

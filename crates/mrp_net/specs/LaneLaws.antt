@@ -9,7 +9,8 @@ use Rattle.mrp_net.specs.declared.lane.Lane.{Lane}
 use Rattle.mrp_net.specs.declared.lane.LaneKind.{LaneKind}
 use Rattle.mrp_net.specs.declared.lane.LaneKind.TheVariants.{Despatch, Schedule}
 use Rattle.mrp_net.specs.declared.lane.Shipment.{Shipment}
-use Rattle.mrp_net.specs.Lanes.{lanes, lane_at, taken_over, item_of_source, lane_items, opening, shipments, pair_on, customer_of, supplier_of}
+use Rattle.mrp_net.specs.Lanes.{lanes, lane_at, taken_over, item_of_source, lane_items, opening, shipments, pair_on}
+use Rattle.mrp_net.specs.Lanes.{customer_of, supplier_of}
 use Rattle.mrp_net.specs.Sources.{source_on}
 use Rattle.mrp_net.specs.SourceRows.{supplied_on}
 use Rattle.mrp_net.specs.Sums.{pair_at, incoming, received, supply}
@@ -20,7 +21,8 @@ is_same_item i j = i.0 == j.0
 
 abbrev pub OneSourceBringsAnItem : Type 0
 OneSourceBringsAnItem =
-    (N : Table) → IsTable N → (customer supplier : ℕ) → IsDistinct is_same_item (map (item_of_source N) (taken_over N customer supplier))
+    (N : Table) → IsTable N → (customer supplier : ℕ)
+    → IsDistinct is_same_item (map (item_of_source N) (taken_over N customer supplier))
 
 abbrev pub LaneItemsStandOnce : Type 0
 LaneItemsStandOnce = (N : Table) → IsTable N → (lane : Lane) → IsDistinct is_same_item (lane_items N lane)
@@ -109,9 +111,11 @@ arriving t ships = sum_by (λ s. if s.period == t then s.quantity else 0) ships
 abbrev pub IncomingComesOverLanes : Type 0
 IncomingComesOverLanes =
     (N : Table) → IsTable N → (x t : ℕ) → IsPair N x
-    → incoming N x t ≡ received N x t + sum_by (λ lane. arriving t (shipments N lane (pair_at N x).item)) (despatches_to N (pair_at N x).plant.0)
+    → incoming N x t ≡ received N x t + sum_by (λ lane. arriving t (shipments N lane (pair_at N x).item))
+    (despatches_to N (pair_at N x).plant.0)
 
 -- and a lane that doesn't have the item has no shipments of it
 abbrev pub ShipmentsAreOfItems : Type 0
 ShipmentsAreOfItems =
-    (N : Table) → IsTable N → (lane : Lane) (item : ItemNo) → ¬ Contains (lane_items N lane) item → shipments N lane item ≡ []
+    (N : Table) → IsTable N → (lane : Lane) (item : ItemNo) → ¬ Contains (lane_items N lane) item
+    → shipments N lane item ≡ []

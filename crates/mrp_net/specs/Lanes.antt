@@ -27,7 +27,8 @@ both_lanes customer supplier =
 -- they are there where something is taken
 abbrev pub lanes_between : Table → ℕ → ℕ → List Lane
 lanes_between N customer supplier =
-    if length (taken_over N customer supplier) == 0 then [] else both_lanes (record { 0 = customer }) (record { 0 = supplier })
+    if length (taken_over N customer supplier) == 0 then []
+    else both_lanes (record { 0 = customer }) (record { 0 = supplier })
 
 -- by customer, then by supplier, in table order of the plants
 abbrev pub lanes_of : Table → ℕ → List Lane
@@ -38,7 +39,12 @@ lanes N = flat_map (λ customer. lanes_of N customer) (range_with_len 0 (length 
 
 -- the lane of a number; a look-up past the end reads a lane of no plants
 abbrev pub lane_at : Table → ℕ → Lane
-lane_at N l = slice_index_or (lanes N) l (record { kind = Despatch; sender = record { 0 = 0 }; receiver = record { 0 = 0 } })
+lane_at N l = slice_index_or (lanes N) l (record {
+  kind = Despatch;
+  sender = record { 0 = 0 };
+  receiver =
+      record { 0 = 0 };
+})
 
 -- the plant that takes the items, and the plant that it takes them from
 abbrev pub customer_of : Lane → ℕ
@@ -72,7 +78,8 @@ pair_on N lane item = pair_no N (customer_of lane) item.0
 abbrev pub opening : Table → Lane → ItemNo → ℕ
 opening N lane item = elim lane.kind [
   | Despatch ↦ figure N (pair_on N lane item) (supplier_of lane)
-  | Schedule ↦ figure N (pair_on N lane item) (supplier_of lane) + shipped_from N (pair_on N lane item) (supplier_of lane)
+  | Schedule ↦ figure N (pair_on N lane item) (supplier_of lane)
+      + shipped_from N (pair_on N lane item) (supplier_of lane)
 ]
 
 -- the shipments of an item on their way, in table order

@@ -37,4 +37,5 @@ RoutesCoverSuppliers =
 abbrev pub RoutesCoverSources : Type 0
 RoutesCoverSources =
     (N : Table) → IsTable N → (amount : SourceRow → ℕ)
-    → over_plants N (λ customer. over_plants N (λ supplier. over_route N amount customer supplier)) ≡ sum_by amount N.sources
+    → over_plants N (λ customer. over_plants N (λ supplier. over_route N amount customer supplier))
+    ≡ sum_by amount N.sources

@@ -21,7 +21,8 @@ taken N s = record { route = route_no N (pair_at N s.pair.0).plant.0 s.plant.0; 
 
 -- the items of each route
 abbrev pub AreItems : Table → List ItemNo → List ℕ → Type 0
-AreItems N rows starts = ShowsGroups (λ t. t.item) (λ t. t.route) (length N.plants * length N.plants) (map (taken N) N.sources) rows starts
+AreItems N rows starts = ShowsGroups (λ t. t.item) (λ t. t.route) (length N.plants * length N.plants)
+    (map (taken N) N.sources) rows starts
 
 -- a lane joins plants of the table
 pub record IsLane (N : Table) (lane : Lane) : Type 0 where

@@ -25,7 +25,8 @@ sent N s = record { source = source_no N s.pair.0 s.from.0; shipment = shipment_
 
 -- the shipments by each source
 abbrev pub AreShipments : Table → List Shipment → List ℕ → Type 0
-AreShipments N rows starts = ShowsGroups (λ t. t.shipment) (λ t. t.source) (length N.sources) (map (sent N) N.ships) rows starts
+AreShipments N rows starts = ShowsGroups (λ t. t.shipment) (λ t. t.source) (length N.sources)
+    (map (sent N) N.ships) rows starts
 
 -- an amount of each source, by the pair that takes and the plant that it takes from
 pub record AreSent (N : Table) (amount : ℕ → ℕ → ℕ) (amounts : List ℕ) : Type 0 where

@@ -11,7 +11,16 @@ use Rattle.mrp_rows.specs.Table.{Table, horizon}
 -- what a look-up past the pairs of the table reads
 abbrev pub no_pair : PairRow
 no_pair =
-    record { plant = record { 0 = 0 }; item = record { 0 = 0 }; supply = Buy; rule = LotForLot; lead = 0; on_hand = 0; safety = 0 }
+    record {
+      plant = record { 0 = 0 };
+      item = record { 0 = 0 };
+      supply = Buy;
+      rule = LotForLot;
+      lead = 0;
+      on_hand =
+          0;
+      safety = 0;
+    }
 
 -- the row of a pair
 abbrev pub pair_at : Table → ℕ → PairRow

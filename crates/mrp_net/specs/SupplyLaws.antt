@@ -42,4 +42,5 @@ BoughtHaveNoEdges = (N : Table) → IsTable N → (x : ℕ) → IsPair N x → (
 
 -- the pair of the plant and the item of a pair is that pair
 abbrev pub PairsAreFound : Type 0
-PairsAreFound = (N : Table) → IsTable N → (x : ℕ) → IsPair N x → pair_no N (pair_at N x).plant.0 (pair_at N x).item.0 ≡ x
+PairsAreFound = (N : Table) → IsTable N → (x : ℕ) → IsPair N x
+    → pair_no N (pair_at N x).plant.0 (pair_at N x).item.0 ≡ x

@@ -82,7 +82,8 @@ fn received_of(
 fn add_ships(tables: &Tables, pairs: &[usize], places: &[usize], rows: &mut [u64])
     requires counted { AreCounted tables.now.ships pairs.now places.now }
     requires room { length rows.old ≡ length pairs.now * horizon tables.now }
-    ensures { AddsAmounts (λ s. slice_index places.now s.pair.0 - 1) (λ s. s.period) (λ s. s.quantity) (horizon tables.now) tables.now.ships rows.old rows.new }
+    ensures { AddsAmounts (λ s. slice_index places.now s.pair.0 - 1) (λ s. s.period) (λ s. s.quantity)
+        (horizon tables.now) tables.now.ships rows.old rows.new }
 {
     let periods = tables.horizon().get() as usize;
     let by = ByPlace { places };

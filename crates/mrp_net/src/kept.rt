@@ -1,6 +1,7 @@
 //! What a network keeps of its table.
 
-ghost use Rattle.std.specs.Prelude.{◌≡◌, ◌<◌, ◌==◌, ◌&&◌, ◌↔◌, Some, IsSome, IfSome, length, option_map, position, slice_get};
+ghost use Rattle.std.specs.Prelude.{◌≡◌, ◌<◌, ◌==◌, ◌&&◌, ◌↔◌, Some, IsSome, IfSome, length, option_map, position};
+ghost use Rattle.std.specs.Prelude.{slice_get};
 ghost use Rattle.std.specs.Str.{bytes_eq};
 ghost use Rattle.mrp_rows.specs.Table.{IsPair, IsTable, horizon, pair_no};
 ghost use Rattle.mrp_rows.specs.Dropping.{without_bills_and_demands};
@@ -147,7 +148,8 @@ impl Kept {
 
     /// The pair of a plant and an item, if there is one.
     pub fn find_pair(&self, plant: PlantNo, item: ItemNo) -> Option<PairNo>
-        ensures place { option_map (λ x. x.0) result ≡ position (λ p. (p.plant.0 == plant.0) && (p.item.0 == item.0)) self.now.pairs }
+        ensures place { option_map (λ x. x.0) result
+            ≡ position (λ p. (p.plant.0 == plant.0) && (p.item.0 == item.0)) self.now.pairs }
         ensures found { IsSome result ↔ IsPair self.now (pair_no self.now plant.0 item.0) }
         ensures value { IfSome result (λ x. x.0 ≡ pair_no self.now plant.0 item.0) }
     {

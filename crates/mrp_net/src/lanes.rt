@@ -246,7 +246,8 @@ fn shipments(alloc: Global, tables: &Tables, all: &[Sent]) -> Result<Groups<Ship
 fn add_figures(tables: &Tables, starts: &[usize], figures: &mut [u64])
     requires starts { AreSourceStarts tables.now starts.now }
     requires room { length figures.old ≡ length tables.now.sources }
-    ensures { AddsTotals (λ c. source_no tables.now c.pair.0 c.from.0) (λ c. c.figure) tables.now.cums figures.old figures.new }
+    ensures { AddsTotals (λ c. source_no tables.now c.pair.0 c.from.0)
+        (λ c. c.figure) tables.now.cums figures.old figures.new }
 {
     for cum in tables.cums() {
         let source = source_of(tables, starts, cum.pair, cum.from);

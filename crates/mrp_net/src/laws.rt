@@ -1,14 +1,17 @@
 //! Laws of sources and shares and of the pairs of a table, of routes and lanes, and of edges.
 //! Each is the contract of a function that does nothing.
 
-ghost use Rattle.mrp_net.specs.SupplyLaws.{PartsAreWhole, NeedsAreWhole, PartsAreWithin, OthersHaveNoSources, OthersHaveComponents, BoughtHaveNoEdges};
+ghost use Rattle.mrp_net.specs.SupplyLaws.{PartsAreWhole, NeedsAreWhole, PartsAreWithin, OthersHaveNoSources};
+ghost use Rattle.mrp_net.specs.SupplyLaws.{OthersHaveComponents, BoughtHaveNoEdges};
 ghost use Rattle.mrp_net.specs.LaneLaws.{OneSourceBringsAnItem, LaneItemsStandOnce};
 ghost use Rattle.mrp_net.specs.RouteLaws.{RoutesCoverCustomers, RoutesCoverSuppliers, RoutesCoverSources};
 ghost use Rattle.mrp_net.specs.SupplyLaws.{PairsAreFound};
-ghost use Rattle.mrp_net.specs.EdgeLaws.{SourcePairsAreThere, LocalEdgesAreBills, LocalEdgesAreWhole, LocalDemandersAreWhole, CrossingEdgesAreSources};
+ghost use Rattle.mrp_net.specs.EdgeLaws.{SourcePairsAreThere, LocalEdgesAreBills, LocalEdgesAreWhole};
+ghost use Rattle.mrp_net.specs.EdgeLaws.{LocalDemandersAreWhole, CrossingEdgesAreSources};
 ghost use Rattle.mrp_net.specs.LaneLaws.{SourcesHaveLanes, LanesComeInTwos, LanesStandOnce, LanesJoinTwoPlants};
 ghost use Rattle.mrp_net.specs.PlanLaws.{GrossIsLocalAndCalled, PlansLookAtDemanders};
-ghost use Rattle.mrp_net.specs.LaneLaws.{ItemsHaveSources, OpeningsAreSupplied, IncomingComesOverLanes, ShipmentsAreOfItems};
+ghost use Rattle.mrp_net.specs.LaneLaws.{ItemsHaveSources, OpeningsAreSupplied, IncomingComesOverLanes};
+ghost use Rattle.mrp_net.specs.LaneLaws.{ShipmentsAreOfItems};
 ghost use Rattle.mrp_net.specs.EdgeLaws.{OneEdgeJoinsTwoPairs, DemandersStandOnce};
 
 /// The parts of a release over the sources of a pair that is taken from plants add up to the release,

@@ -7,7 +7,8 @@ ghost use Rattle.mrp_net.specs.Edges.{demanders};
 ghost use Rattle.mrp_net.specs.Suppliers.{suppliers, IsEdge};
 ghost use Rattle.mrp_net.specs.Sums.{pair_at, row_of, demand, demand_total, incoming, received, supply};
 ghost use Rattle.mrp_net.specs.Names.{IsNamed};
-ghost use Rattle.mrp_net.specs.Lanes.{lanes, lane_at, lane_items, figure, opening, shipments, reset, pair_on, customer_of, supplier_of};
+ghost use Rattle.mrp_net.specs.Lanes.{lanes, lane_at, lane_items, figure, opening, shipments, reset, pair_on};
+ghost use Rattle.mrp_net.specs.Lanes.{customer_of, supplier_of};
 ghost use Rattle.mrp_net.specs.Routes.{route_no, IsLane};
 ghost use Rattle.mrp_net.specs.Sources.{source_no, source_on};
 ghost use Rattle.mrp_net.specs.Texts.{longest_block, longest_text};
@@ -265,7 +266,8 @@ impl Network {
         self.incoming_row(x)[t]
     }
 
-    /// What comes in for the pair, period by period: its receipt rows and the shipments to it, each at most 2 * 10^18 pieces.
+    /// What comes in for the pair, period by period: its receipt rows and the shipments to it, each at most 2 * 10^18
+    /// pieces.
     pub fn incoming_row(&self, x: PairNo) -> &[u64]
         requires { IsPair self.now x.0 }
         ensures { result.now ≡ row_of self.now (incoming self.now x.0) }
@@ -383,7 +385,8 @@ impl Network {
     pub fn figure(&self, l: LaneNo, item: ItemNo) -> u64
         requires lane { l.0 < length (lanes self.now) }
         requires item { Contains (lane_items self.now (lane_at self.now l.0)) item }
-        ensures { result ≡ figure self.now (pair_on self.now (lane_at self.now l.0) item) (supplier_of (lane_at self.now l.0)) }
+        ensures { result ≡ figure self.now (pair_on self.now (lane_at self.now l.0) item)
+            (supplier_of (lane_at self.now l.0)) }
     {
         let source = self.source(self.lane(l), item);
         self.lanes.figures[source]

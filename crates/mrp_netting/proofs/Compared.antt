@@ -1,5 +1,6 @@
 -- Rows and late orders that are compared with those of the plan.
-use Rattle.std.proofs.Common.{◌≡◌, ◌≢◌, ℕ, ◌+◌, ◌-◌, ◌<◌, ◌≤◌, ◌↔◌, ◌==◌, ◌++◌, if◌then◌else◌, List, [], ◌∷◌, Some, length, map, min, max, slice_index, slice_index_or, slice_get, take, cond, zero, suc, refl, sym, ap, ◌∙◌, ⊎_elim, arith, eq-eqb, ne_eqb, length-append}
+use Rattle.std.proofs.Common.{◌≡◌, ◌≢◌, ℕ, ◌+◌, ◌-◌, ◌<◌, ◌≤◌, ◌↔◌, ◌==◌, ◌++◌, if◌then◌else◌, List, [], ◌∷◌, Some, length, map, min, max, slice_index}
+use Rattle.std.proofs.Common.{slice_index_or, slice_get, take, cond, zero, suc, refl, sym, ap, ◌∙◌, ⊎_elim, arith, eq-eqb, ne_eqb, length-append}
 use Rattle.std.specs.List.{range_with_len}
 use Rattle.std.proofs.Math.Seq.{get_or-append_seam}
 use Rattle.std.proofs.lemmas.Bool.{cases_lt, cond-false, cond-true}
@@ -74,7 +75,8 @@ released_more lead order u t at =
     let hit = cond-true ((t - lead) == u) (slice_index order t) 0 (eq-eqb (t - lead) u at) in
     omega (arith, hit, sum_by-range-more (λ (j : ℕ). if (j - lead) == u then slice_index order j else 0) t)
 
-pub released_all : (lead : ℕ) (order : List ℕ) (u first n end t : ℕ) → IsFirst lead u first → end ≡ min n (u + lead + 1) → first ≤ t → end ≤ t → t ≤ max first end
+pub released_all : (lead : ℕ) (order : List ℕ) (u first n end t : ℕ) → IsFirst lead u first → end ≡ min n (u + lead + 1) → first ≤ t → end ≤ t
+    → t ≤ max first end
     → released lead order t u ≡ released lead order n u
 released_all lead order u first n end t is ends low high most =
     ⊎_elim
@@ -87,7 +89,8 @@ released_all lead order u first n end t is ends low high most =
     (cases_lt n t)
 
 -- with so many late orders found, the next late period has the next late order
-pub late_next : (lead : ℕ) (order : List ℕ) (late : List Late) (found t n : ℕ) → late ≡ late_orders_in lead order (late_periods lead order n) → t < n → t < lead → 0 < slice_index order t
+pub late_next : (lead : ℕ) (order : List ℕ) (late : List Late) (found t n : ℕ) → late ≡ late_orders_in lead order (late_periods lead order n) → t < n → t < lead
+    → 0 < slice_index order t
     → take found late ≡ late_orders_in lead order (late_periods lead order t) → found ≤ length late
     → slice_get late found ≡ Some (record { period = t; quantity = slice_index order t; by = lead - t })
 late_next lead order late found t n whole within soon some before there =
@@ -101,9 +104,11 @@ late_next lead order late found t n whole within soon some before there =
     let split : late ≡ front ++ here ∷ map show more.0 =
     whole ∙ ap (map show) (periods ∙ append_assoc (late_periods lead order t) (t ∷ []) more.0) ∙ map-append show (late_periods lead order t) (t ∷ more.0) in
     let count : found ≡ length front = sym (length-take-le found late there) ∙ ap (λ (xs : List Late). length xs) before in
-    let long : length late ≡ length front + suc (length (map show more.0)) = ap (λ (xs : List Late). length xs) split ∙ length-append front (here ∷ map show more.0) in
+    let long : length late ≡ length front + suc (length (map show more.0)) =
+    ap (λ (xs : List Late). length xs) split ∙ length-append front (here ∷ map show more.0) in
     let at : slice_index_or late found here ≡ here =
-    ap (λ (k : ℕ). slice_index_or late k here) count ∙ ap (λ (xs : List Late). slice_index_or xs (length front) here) split ∙ get_or-append_seam front here (map show more.0) here in
+    ap (λ (k : ℕ). slice_index_or late k here) count ∙ ap (λ (xs : List Late). slice_index_or xs (length front) here) split
+    ∙ get_or-append_seam front here (map show more.0) here in
     slice_get_read late (length late) found here refl (omega arith) (sym at)
 
 -- it was there, so one more is found
@@ -125,13 +130,24 @@ pub is_plan-from : (pair : PairParams) (rows : PlanRows) → AreOrders pair rows
     → rows.release ≡ release_row pair.lead rows.order → rows.late ≡ late_orders pair.lead rows.order
     → rows ≡ one pair rows.incoming rows.gross
 is_plan-from pair rows orders releases lates =
-    let whole = plan_is pair rows.incoming rows.gross rows.incoming rows.gross rows.order rows.release rows.available (late_periods pair.lead rows.order (length rows.order))
+    let whole = plan_is pair rows.incoming rows.gross rows.incoming rows.gross rows.order rows.release rows.available
+    (late_periods pair.lead rows.order (length rows.order))
     refl refl orders.0 orders.1 releases refl in
-    let with_late : List Late → PlanRows = λ late. record { gross = rows.gross; incoming = rows.incoming; order = rows.order; release = rows.release; available = rows.available; late = late } in
-    let same : rows ≡ rows_of pair.lead rows.gross rows.incoming rows.order rows.release rows.available (late_periods pair.lead rows.order (length rows.order)) = ap with_late lates in
+    let with_late : List Late → PlanRows = λ late. record {
+      gross = rows.gross;
+      incoming = rows.incoming;
+      order = rows.order;
+      release =
+          rows.release;
+      available = rows.available;
+      late = late;
+    } in
+    let same : rows ≡ rows_of pair.lead rows.gross rows.incoming rows.order rows.release rows.available
+    (late_periods pair.lead rows.order (length rows.order)) = ap with_late lates in
     same ∙ whole
 
-pub is_plan-orders : (pair : PairParams) (rows : PlanRows) → rows ≡ one pair rows.incoming rows.gross → AreOrders pair rows.incoming rows.gross rows.order rows.available
+pub is_plan-orders : (pair : PairParams) (rows : PlanRows) → rows ≡ one pair rows.incoming rows.gross
+    → AreOrders pair rows.incoming rows.gross rows.order rows.available
 unfolding one
 is_plan-orders pair rows is = (ap (λ (r : PlanRows). r.order) is, ap (λ (r : PlanRows). r.available) is)
 
@@ -153,7 +169,8 @@ orders_along pair incoming gross order available incoming2 gross2 order2 availab
 )
 
 -- so the rows that are read have them where those of the plan do
-pub orders_read : (pair : PairParams) (rows : PlanRows) (incoming gross order available : List ℕ) → incoming ≡ rows.incoming → gross ≡ rows.gross → order ≡ rows.order → available ≡ rows.available
+pub orders_read : (pair : PairParams) (rows : PlanRows) (incoming gross order available : List ℕ) → incoming ≡ rows.incoming → gross ≡ rows.gross
+    → order ≡ rows.order → available ≡ rows.available
     → AreOrders pair incoming gross order available ↔ AreOrders pair rows.incoming rows.gross rows.order rows.available
 orders_read pair rows incoming gross order available i g o a = (
   orders_along pair incoming gross order available rows.incoming rows.gross rows.order rows.available i g o a,

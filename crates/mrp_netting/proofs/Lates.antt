@@ -1,5 +1,6 @@
 -- The loop over a pair's orders that are late.
-use Rattle.std.proofs.Common.{◌≡◌, ℕ, ◌+◌, ◌-◌, ◌<◌, ◌≤◌, ◌&&◌, Bool, true, false, cond, min, nat_lt, ⊎_elim, List, [], ◌∷◌, ◌++◌, length, slice_index, filter, zero, suc, sym, refl, ◌∙◌, ap, arith, ltb-true, lt-ltb, le-ltb, add-one, add-zero, get_or, All}
+use Rattle.std.proofs.Common.{◌≡◌, ℕ, ◌+◌, ◌-◌, ◌<◌, ◌≤◌, ◌&&◌, Bool, true, false, cond, min, nat_lt, ⊎_elim, List, [], ◌∷◌, ◌++◌, length, slice_index, filter}
+use Rattle.std.proofs.Common.{zero, suc, sym, refl, ◌∙◌, ap, arith, ltb-true, lt-ltb, le-ltb, add-one, add-zero, get_or, All}
 use Rattle.std.specs.List.{range_with_len}
 use Rattle.std.proofs.lemmas.Bool.{cases_lt, cond-true, cond-false}
 use Rattle.std.proofs.lemmas.List.{append-nil}
@@ -84,4 +85,10 @@ are_late lead order k d h =
 -- there is at most one a period
 pub late_few : (lead : ℕ) (order : List ℕ) → length (late_periods lead order (length order)) ≤ length order
 late_few lead order =
-    omega (arith, length-filter (is_late lead order) (range_with_len 0 (length order)), count_by-le-length (is_late lead order) (range_with_len 0 (length order)), length-range_with_len 0 (length order))
+    omega (
+      arith,
+      length-filter (is_late lead order) (range_with_len 0 (length order)),
+      count_by-le-length (is_late lead order)
+          (range_with_len 0 (length order)),
+      length-range_with_len 0 (length order),
+    )

@@ -23,7 +23,8 @@ rows_of lead gross incoming order release available late = record {
 }
 
 -- what is written from rows that are read is the plan's
-pub from_rows : {A : Type 0} (f : List ℕ → List ℕ → A) (incoming gross read asked : List ℕ) (written : A) → written ≡ f read asked → read ≡ incoming → asked ≡ gross → written ≡ f incoming gross
+pub from_rows : {A : Type 0} (f : List ℕ → List ℕ → A) (incoming gross read asked : List ℕ) (written : A) → written ≡ f read asked → read ≡ incoming
+    → asked ≡ gross → written ≡ f incoming gross
 from_rows {A} f incoming gross read asked written is i g = is ∙ ap (λ (xs : List ℕ). f xs asked) i ∙ ap (f incoming) g
 
 pub length-order_row : (pair : PairParams) (incoming gross order : List ℕ) → order ≡ order_row pair incoming gross → length order ≡ length gross
@@ -51,6 +52,7 @@ pub copied : (lead : ℕ) (gross incoming order release available late : List �
 copied lead gross incoming order release available late gross2 incoming2 order2 release2 available2 late2 g i o r a l = cc
 
 -- a list that was cleared takes over another, where it has room
-pub refilled : (took : Bool) (other slice cleared filled : List ℕ) → took ≡ true → slice ≡ other → cleared ≡ [] → filled ≡ cond took (cleared ++ slice) cleared → filled ≡ other
+pub refilled : (took : Bool) (other slice cleared filled : List ℕ) → took ≡ true → slice ≡ other → cleared ≡ [] → filled ≡ cond took (cleared ++ slice) cleared
+    → filled ≡ other
 refilled took other slice cleared filled ok same empty is =
     is ∙ cond-true took (cleared ++ slice) cleared ok ∙ ap (λ (xs : List ℕ). xs ++ slice) empty ∙ same

@@ -1,5 +1,6 @@
 -- One period of the loop over a pair's orders that are released.
-use Rattle.std.proofs.Common.{◌≡◌, ℕ, ◌+◌, ◌-◌, ◌<◌, ◌≤◌, ◌==◌, if◌then◌else◌, ⊎_elim, List, length, slice_index, slice_set, suc, sum, sym, ◌∙◌, ap, arith, eq-eqb, ne_eqb, get_or-set_other}
+use Rattle.std.proofs.Common.{◌≡◌, ℕ, ◌+◌, ◌-◌, ◌<◌, ◌≤◌, ◌==◌, if◌then◌else◌, ⊎_elim, List, length, slice_index, slice_set, suc, sum, sym, ◌∙◌, ap, arith}
+use Rattle.std.proofs.Common.{eq-eqb, ne_eqb, get_or-set_other}
 use Rattle.std.specs.List.{range_with_len}
 use Rattle.std.proofs.lemmas.Bool.{cases_eq, cond-true, cond-false, cond_both}
 use Rattle.std.proofs.lemmas.Grind.{get_or-set_at}

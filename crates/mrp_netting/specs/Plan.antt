@@ -30,7 +30,8 @@ nothing_planned horizon = record {
 
 -- both are given
 abbrev pub AreOrders : PairParams → List ℕ → List ℕ → List ℕ → List ℕ → Type 0
-AreOrders pair incoming gross order available = (order ≡ order_row pair incoming gross) × (available ≡ available_row pair incoming gross)
+AreOrders pair incoming gross order available = (order ≡ order_row pair incoming gross)
+    × (available ≡ available_row pair incoming gross)
 
 -- the late orders of given periods
 abbrev pub late_orders_in : ℕ → List ℕ → List ℕ → List Late

@@ -1,5 +1,6 @@
 -- The terms of a pegging add up to the gross requirement, and each is what a row asks.
-use Rattle.std.proofs.Common.{◌≡◌, ℕ, ◌+◌, ◌*◌, ◌<◌, ◌==◌, Bool, true, false, not, eqb, List, [], ◌∷◌, length, map, slice_index, get_or, arith, ap, ◌∙◌, sym, refl}
+use Rattle.std.proofs.Common.{◌≡◌, ℕ, ◌+◌, ◌*◌, ◌<◌, ◌==◌, Bool, true, false, not, eqb, List, [], ◌∷◌, length, map, slice_index, get_or, arith, ap, ◌∙◌, sym}
+use Rattle.std.proofs.Common.{refl}
 use Rattle.std.specs.List.{All, Contains, filter, sum_by}
 use Rattle.std.proofs.Math.Nat.{mul_comm}
 use Rattle.std.proofs.lemmas.Bool.{cond_both, eqb-true, eq-eqb, true≢false}
@@ -56,7 +57,8 @@ sum_asked (p ∷ ps) =
 pub terms_add_up : TermsAddUp
 terms_add_up N table fits x t in_table within =
     let edged = map (edge_term N table t) (demanders N x) in
-    let at : slice_index (row_of N (gross N table x)) t ≡ gross N table x t = get_or-map-range_with_len (gross N table x) 0 (horizon N) t t 0 within (omega arith) in
+    let at : slice_index (row_of N (gross N table x)) t ≡ gross N table x t =
+    get_or-map-range_with_len (gross N table x) 0 (horizon N) t t 0 within (omega arith) in
     sum_asked (demand_term N x t ∷ edged)
     ∙ sum_by-cons quantity_of (demand_term N x t) edged
     ∙ ap (λ (n : ℕ). (demand_term N x t).quantity + n) (sum_map quantity_of (edge_term N table t) (demanders N x))

@@ -37,7 +37,15 @@ sum-le_each (b ∷ before) (a ∷ after) [] per size same each = let bad : 0 ≡
 sum-le_each (b ∷ before) (a ∷ after) (r ∷ row) per size same each =
     let here : a ≤ b + per * r = each 0 (omega arith) in
     let rest = sum-le_each before after row per (omega arith) (omega arith) (λ t h. each (suc t) (omega arith)) in
-    omega (arith, here, rest, sum_by-cons (λ (x : ℕ). x) b before, sum_by-cons (λ (x : ℕ). x) a after, ap (λ (x : ℕ). per * x) (sum_by-cons (λ (x : ℕ). x) r row))
+    omega (
+      arith,
+      here,
+      rest,
+      sum_by-cons (λ (x : ℕ). x) b before,
+      sum_by-cons (λ (x : ℕ). x) a after,
+      ap (λ (x : ℕ). per * x)
+          (sum_by-cons (λ (x : ℕ). x) r row),
+    )
 
 -- what is within the bound in all is within it in each period
 pub within_each : (gross row : List ℕ) (per t : ℕ) → length row ≡ length gross → sum gross + per * sum row ≤ MOST → t < length gross

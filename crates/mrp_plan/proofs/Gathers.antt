@@ -1,10 +1,12 @@
 -- How the plans of all plants are gathered.
-use Rattle.std.proofs.Common.{◌≡◌, ◌⊎◌, inl, inr, ℕ, ◌+◌, ◌-◌, ◌<◌, ◌==◌, Bool, cond, List, [], ◌∷◌, ◌++◌, length, get_or, set, take, drop, map, reverse, Option, None, Some, Vec, Global, refl, sym, ap, subst, ◌∙◌, arith, append_assoc, append-nil, length-append, add-one}
+use Rattle.std.proofs.Common.{◌≡◌, ◌⊎◌, inl, inr, ℕ, ◌+◌, ◌-◌, ◌<◌, ◌==◌, Bool, cond, List, [], ◌∷◌, ◌++◌, length, get_or, set, take, drop, map, reverse}
+use Rattle.std.proofs.Common.{Option, None, Some, Vec, Global, refl, sym, ap, subst, ◌∙◌, arith, append_assoc, append-nil, length-append, add-one}
 use Rattle.std.specs.List.{range_with_len, filter}
 use Rattle.std.specs.Option.{option_to_list, MatchOption}
 use Rattle.std.specs.Vec.{vec_len}
 use Rattle.std.proofs.lemmas.Bool.{cases_Bool, eqb-true, eq-eqb, false≢true}
-use Rattle.std.proofs.lemmas.List.{map-append, take_at, take_more, take_all, length-reverse, reverse-append, reverse-reverse, length-set, get_or-set_same, get_or-set_other}
+use Rattle.std.proofs.lemmas.List.{map-append, take_at, take_more, take_all, length-reverse, reverse-append, reverse-reverse, length-set, get_or-set_same}
+use Rattle.std.proofs.lemmas.List.{get_or-set_other}
 use Rattle.std.proofs.lemmas.List.Elements.{filter-append}
 use Rattle.mrp_lot.specs.One.{PlanRows}
 use Rattle.mrp_netting.specs.declared.plan.PairPlan.{PairPlan}
@@ -20,7 +22,8 @@ use Rattle.mrp_plan.specs.Given.{plans_below, HaveGiven}
 
 -- ---- the last one
 
-pub popped : {X : Type 0} (old new below : List X) (o : Option X) (y : X) → old ≡ below ++ y ∷ [] → old ≡ new ++ option_to_list o → (o ≡ None → old ≡ []) → (new ≡ below) × (o ≡ Some y)
+pub popped : {X : Type 0} (old new below : List X) (o : Option X) (y : X) → old ≡ below ++ y ∷ [] → old ≡ new ++ option_to_list o → (o ≡ None → old ≡ [])
+    → (new ≡ below) × (o ≡ Some y)
 popped old new below None y is parts none = absurd (omega (arith, ap length (none refl), ap length is, length-append below (y ∷ [])))
 popped {X} old new below (Some z) y is parts none =
     let e : new ++ z ∷ [] ≡ below ++ y ∷ [] = sym parts ∙ is in
@@ -60,15 +63,18 @@ is_or_not k at = elim (cases_Bool (k == at)) [
 ]
 
 -- the plan of the last pair taken from its plant's list
-pub have_after : (N : Table) (given : List (Vec PairPlan Global)) (x p : ℕ) (new : Vec PairPlan Global) → HaveGiven N given (x + 1) → (pair_at N x).plant.0 ≡ p → p < length given
+pub have_after : (N : Table) (given : List (Vec PairPlan Global)) (x p : ℕ) (new : Vec PairPlan Global) → HaveGiven N given (x + 1) → (pair_at N x).plant.0 ≡ p
+    → p < length given
     → new.items ≡ plans_below N p x → HaveGiven N (set given p new) x
 have_after N given x p new have owner within is = record {
   all = length-set given p new ∙ have.all;
   each = λ k d h.
       let inside : k < length given = omega (arith, h, length-set given p new) in
       elim (is_or_not k p) [
-        | inl e ↦ subst (λ (z : ℕ). (get_or (set given p new) z d).items ≡ plans_below N z x) (sym e) (ap (λ (v : Vec PairPlan Global). v.items) (get_or-set_same given p new d within) ∙ is)
-        | inr other ↦ ap (λ (v : Vec PairPlan Global). v.items) (get_or-set_other given p k new d other) ∙ have.each k d inside ∙ below_other N k x (λ e. other (omega (arith, e, owner)))
+        | inl e ↦ subst (λ (z : ℕ). (get_or (set given p new) z d).items ≡ plans_below N z x) (sym e)
+            (ap (λ (v : Vec PairPlan Global). v.items) (get_or-set_same given p new d within) ∙ is)
+        | inr other ↦ ap (λ (v : Vec PairPlan Global). v.items) (get_or-set_other given p k new d other) ∙ have.each k d inside
+            ∙ below_other N k x (λ e. other (omega (arith, e, owner)))
       ];
 }
 
@@ -80,7 +86,8 @@ none_case : {X : Type 0} (o : Option X) (P : Type 0) (Q : X → Type 0) → Matc
 none_case None P Q h e = h
 none_case (Some x) P Q h e = absurd (cc)
 
-pub nothing_left : {X Z : Type 0} (v new : Vec X Z) (o : Option X) (Q : X → Type 0) → MatchOption o ((vec_len v ≡ 0) × (vec_len new ≡ 0)) Q → o ≡ None → v.items ≡ []
+pub nothing_left : {X Z : Type 0} (v new : Vec X Z) (o : Option X) (Q : X → Type 0) → MatchOption o ((vec_len v ≡ 0) × (vec_len new ≡ 0)) Q → o ≡ None
+    → v.items ≡ []
 nothing_left v new o Q cases none =
     let size : vec_len v ≡ 0 = (none_case o ((vec_len v ≡ 0) × (vec_len new ≡ 0)) Q cases none).0 in
     empty v.items (omega (arith, size, v.ok.0))
@@ -113,9 +120,11 @@ last_next plan now new m within pushed so_far =
     ap (λ (xs : List PlanRows). xs ++ reverse (take m plan)) pushed ∙ append_assoc now (rows_at plan m ∷ []) (reverse (take m plan))
     ∙ ap (λ (xs : List PlanRows). now ++ xs) (sym front) ∙ so_far
 
-pub gathered_next : (N : Table) → IsSized N → (pairs done : ℕ) → pairs ≡ length N.pairs → done < pairs → (now new : List PlanRows) (plan : PlanRows) (o : Option PlanRows)
+pub gathered_next : (N : Table) → IsSized N → (pairs done : ℕ) → pairs ≡ length N.pairs → done < pairs
+    → (now new : List PlanRows) (plan : PlanRows) (o : Option PlanRows)
     → o ≡ Some (rows_at (plan_of N) (pairs - 1 - done)) → o ≡ Some plan → new ≡ now ++ plan ∷ []
-    → now ++ reverse (take (length N.pairs - done) (plan_of N)) ≡ reverse (plan_of N) → new ++ reverse (take (length N.pairs - (done + 1)) (plan_of N)) ≡ reverse (plan_of N)
+    → now ++ reverse (take (length N.pairs - done) (plan_of N)) ≡ reverse (plan_of N)
+    → new ++ reverse (take (length N.pairs - (done + 1)) (plan_of N)) ≡ reverse (plan_of N)
 gathered_next N sized pairs done all within now new plan o given is pushed so_far =
     let m : ℕ = pairs - 1 - done in
     let before : length N.pairs - done ≡ m + 1 = omega (arith, all, within) in
@@ -125,17 +134,20 @@ gathered_next N sized pairs done all within now new plan o given is pushed so_fa
     subst (λ (z : ℕ). new ++ reverse (take z (plan_of N)) ≡ reverse (plan_of N)) after
     (last_next (plan_of N) now new m (omega (arith, plan_size N sized, all, within)) (pushed ∙ ap (λ (p : PlanRows). now ++ p ∷ []) same) front)
 
-pub have_next : (N : Table) (given : List (Vec PairPlan Global)) (pairs done : ℕ) → pairs ≡ length N.pairs → done < pairs → HaveGiven N given (pairs - 1 - done) → HaveGiven N given (length N.pairs - (done + 1))
+pub have_next : (N : Table) (given : List (Vec PairPlan Global)) (pairs done : ℕ) → pairs ≡ length N.pairs → done < pairs → HaveGiven N given (pairs - 1 - done)
+    → HaveGiven N given (length N.pairs - (done + 1))
 have_next N given pairs done all within have = subst (λ (z : ℕ). HaveGiven N given z) (omega (arith, all, within)) have
 
-pub have_here : (N : Table) (given : List (Vec PairPlan Global)) (pairs done : ℕ) → pairs ≡ length N.pairs → done < pairs → HaveGiven N given (length N.pairs - done) → HaveGiven N given (pairs - 1 - done + 1)
+pub have_here : (N : Table) (given : List (Vec PairPlan Global)) (pairs done : ℕ) → pairs ≡ length N.pairs → done < pairs
+    → HaveGiven N given (length N.pairs - done) → HaveGiven N given (pairs - 1 - done + 1)
 have_here N given pairs done all within have = subst (λ (z : ℕ). HaveGiven N given z) (omega (arith, all, within)) have
 
 pub none_or_some : {X : Type 0} (o : Option X) (x : X) → o ≡ Some x → o ≡ None → ⊥
 none_or_some o x some none = absurd (cc)
 
 -- the plans from the last on, turned round in place
-pub turned_back : (N : Table) (pairs now turned : List PlanRows) (len : ℕ) → pairs ≡ reverse (plan_of N) → now ≡ pairs → turned ≡ reverse now → len ≡ length pairs
+pub turned_back : (N : Table) (pairs now turned : List PlanRows) (len : ℕ) → pairs ≡ reverse (plan_of N) → now ≡ pairs → turned ≡ reverse now
+    → len ≡ length pairs
     → take len (turned ++ drop (length turned) pairs) ≡ plan_of N
 turned_back N pairs now turned len from_last same turns size =
     let plan : turned ≡ plan_of N = turns ∙ ap reverse (same ∙ from_last) ∙ reverse-reverse (plan_of N) in

@@ -1,5 +1,6 @@
 -- Planned orders make the planned order releases, and those that are late are the late orders.
-use Rattle.std.proofs.Common.{◌≡◌, ℕ, ◌-◌, ◌<◌, ◌==◌, ◌&&◌, Bool, true, false, not, cond, ltb, List, [], ◌∷◌, length, map, slice_index, arith, ap, ◌∙◌, sym, refl, subst}
+use Rattle.std.proofs.Common.{◌≡◌, ℕ, ◌-◌, ◌<◌, ◌==◌, ◌&&◌, Bool, true, false, not, cond, ltb, List, [], ◌∷◌, length, map, slice_index, arith, ap, ◌∙◌, sym}
+use Rattle.std.proofs.Common.{refl, subst}
 use Rattle.std.specs.List.{filter, range_with_len, sum_by}
 use Rattle.std.proofs.lemmas.Bool.{and_from, and_left, and_right, cond_both, eqb-true, eq-eqb, le-ltb, lt-ltb, ltb-false, ltb-true, true≢false}
 use Rattle.std.proofs.lemmas.List.FromFn.{get_or-map-range_with_len, length-map-range_with_len}
@@ -64,7 +65,8 @@ released_in lead r rows (t ∷ ts) =
     omega (arith, rest, whole, is))
 
 -- the release row of the plan of one pair
-row_is : (pair : PairParams) (incoming gross : List ℕ) (r : ℕ) → slice_index (one pair incoming gross).release r ≡ slice_index (release_row pair.lead (one pair incoming gross).order) r
+row_is : (pair : PairParams) (incoming gross : List ℕ) (r : ℕ) → slice_index (one pair incoming gross).release r
+    ≡ slice_index (release_row pair.lead (one pair incoming gross).order) r
 unfolding one
 row_is pair incoming gross r = refl
 
@@ -82,7 +84,8 @@ orders_make_releases N table fits x r in_table within =
     let lead = (params_at N x).lead in
     let is : PlanRows → Type 0 = λ rows. slice_index rows.release r ≡ sum_by (part_in lead rows.order r) (range_with_len 0 (horizon N)) in
     let plan : is (pair_plan N table x) =
-    one_release (params_at N x) (row_of N (incoming N x)) (row_of N (gross N table x)) (horizon N) r (length-map-range_with_len (gross N table x) 0 (horizon N)) within in
+    one_release (params_at N x) (row_of N (incoming N x)) (row_of N (gross N table x)) (horizon N) r
+    (length-map-range_with_len (gross N table x) 0 (horizon N)) within in
     released_in lead r (rows_at table x) (range_with_len 0 (horizon N)) ∙ sym (subst is (sym (fits.rows x in_table)) plan)
 
 -- ---- late orders
@@ -98,7 +101,8 @@ late_free : (lead order t : ℕ) → order ≡ 0 → (ltb t lead && ltb 0 order)
 late_free lead order t none = and_right (ltb t lead) (ltb 0 order) (le-ltb 0 order (omega arith))
 
 late_in : (lead : ℕ) (rows : PlanRows) (ts : List ℕ)
-    → map late_of (filter (λ o. ltb 0 o.late) (map (planned_order lead rows) (filter (has_order rows) ts))) ≡ map (late_order lead rows.order) (filter (is_late lead rows.order) ts)
+    → map late_of (filter (λ o. ltb 0 o.late) (map (planned_order lead rows) (filter (has_order rows) ts)))
+    ≡ map (late_order lead rows.order) (filter (is_late lead rows.order) ts)
 late_in lead rows [] = refl
 late_in lead rows (t ∷ ts) =
     let test : PlannedOrder → Bool = λ o. ltb 0 o.late in
@@ -122,7 +126,8 @@ unfolding one
 one_late pair incoming gross = refl
 
 one_late_in : (pair : PairParams) (incoming gross : List ℕ) (n : ℕ) → length gross ≡ n
-    → (one pair incoming gross).late ≡ map (late_order pair.lead (one pair incoming gross).order) (filter (is_late pair.lead (one pair incoming gross).order) (range_with_len 0 n))
+    → (one pair incoming gross).late ≡ map (late_order pair.lead (one pair incoming gross).order)
+    (filter (is_late pair.lead (one pair incoming gross).order) (range_with_len 0 n))
 one_late_in pair incoming gross n same =
     let order = (one pair incoming gross).order in
     one_late pair incoming gross
@@ -133,5 +138,6 @@ late_orders_are_orders N table fits x in_table =
     let lead = (params_at N x).lead in
     let is : PlanRows → Type 0 = λ rows. rows.late ≡ map (late_order lead rows.order) (filter (is_late lead rows.order) (range_with_len 0 (horizon N))) in
     let plan : is (pair_plan N table x) =
-    one_late_in (params_at N x) (row_of N (incoming N x)) (row_of N (gross N table x)) (horizon N) (length-map-range_with_len (gross N table x) 0 (horizon N)) in
+    one_late_in (params_at N x) (row_of N (incoming N x)) (row_of N (gross N table x)) (horizon N) (length-map-range_with_len (gross N table x) 0 (horizon N))
+    in
     late_in lead (rows_at table x) (range_with_len 0 (horizon N)) ∙ sym (subst is (sym (fits.rows x in_table)) plan)

@@ -27,9 +27,11 @@ fitting_release N table x fits in_table = ap (λ (r : PlanRows). length r.releas
 
 -- what an edge asks is within the gross requirement
 pub term_within : (N : Table) (table : List PlanRows) (x t i : ℕ) → Fits N table → IsPair N x → t < horizon N → i < length (demanders N x)
-    → edge_need (slice_index_or (demanders N x) i no_edge) (slice_index (rows_at table (slice_index_or (demanders N x) i no_edge).demander.0).release t) ≤ slice_index (rows_at table x).gross t
+    → edge_need (slice_index_or (demanders N x) i no_edge) (slice_index (rows_at table (slice_index_or (demanders N x) i no_edge).demander.0).release t)
+    ≤ slice_index (rows_at table x).gross t
 term_within N table x t i fits in_table within edge =
-    let at : slice_index (row_of N (gross N table x)) t ≡ gross N table x t = get_or-map-range_with_len (gross N table x) 0 (horizon N) t t 0 within (omega arith) in
+    let at : slice_index (row_of N (gross N table x)) t ≡ gross N table x t =
+    get_or-map-range_with_len (gross N table x) 0 (horizon N) t t 0 within (omega arith) in
     omega (
       arith,
       at,
@@ -38,13 +40,15 @@ term_within N table x t i fits in_table within edge =
     )
 
 -- each edge to the pair can be pegged
-pub peggable : (N : Table) (table : List PlanRows) (x t : ℕ) (edges : List Edge) → Fits N table → IsPair N x → t < horizon N → slice_index (rows_at table x).gross t ≤ MOST
+pub peggable : (N : Table) (table : List PlanRows) (x t : ℕ) (edges : List Edge) → Fits N table → IsPair N x → t < horizon N
+    → slice_index (rows_at table x).gross t ≤ MOST
     → edges ≡ demanders N x → All (IsEdge N) edges → All (IsPeggable N table t) edges
 peggable N table x t edges fits in_table within quantity are all i d h =
     let e = slice_index_or edges i d in
     let is_edge = all i d h in
     let in_demanders : i < length (demanders N x) = omega (arith, h, ap (λ (es : List Edge). length es) are) in
-    let read : slice_index_or (demanders N x) i no_edge ≡ e = get_or_default (demanders N x) i no_edge d in_demanders ∙ ap (λ (es : List Edge). slice_index_or es i d) (sym are) in
+    let read : slice_index_or (demanders N x) i no_edge ≡ e = get_or_default (demanders N x) i no_edge d in_demanders
+    ∙ ap (λ (es : List Edge). slice_index_or es i d) (sym are) in
     record {
       edge = is_edge;
       period = omega (arith, within, fitting_release N table e.demander.0 fits is_edge.demander);
@@ -57,7 +61,8 @@ peggable N table x t edges fits in_table within quantity are all i d h =
     }
 
 -- the terms name pairs of the table
-pub peg_pairs : (N : Table) (table : List PlanRows) (x t : ℕ) (edges : List Edge) → IsPair N x → edges ≡ demanders N x → All (IsEdge N) edges → All (λ term. IsPair N term.pair.0) (peg_terms N table x t)
+pub peg_pairs : (N : Table) (table : List PlanRows) (x t : ℕ) (edges : List Edge) → IsPair N x → edges ≡ demanders N x → All (IsEdge N) edges
+    → All (λ term. IsPair N term.pair.0) (peg_terms N table x t)
 peg_pairs N table x t edges in_table are all =
     let P : List Edge → Type 0 = λ es. All (IsEdge N) es in
     let joins = subst P are all in
@@ -66,7 +71,8 @@ peg_pairs N table x t edges in_table are all =
     (All-map (λ (term : PegTerm). IsPair N term.pair.0) (edge_term N table t) (demanders N x) (λ i d h. (joins i d h).demander)))
 
 -- what is kept of the demand rows and of the edges, one after the other
-pub pegged : (N n : Table) (table : List PlanRows) (x t : ℕ) (edges : List Edge) (term : PegTerm) (none first all : List PegTerm) → n ≡ N → edges ≡ demanders n x → term ≡ demand_term n x t → none ≡ []
+pub pegged : (N n : Table) (table : List PlanRows) (x t : ℕ) (edges : List Edge) (term : PegTerm) (none first all : List PegTerm) → n ≡ N
+    → edges ≡ demanders n x → term ≡ demand_term n x t → none ≡ []
     → first ≡ none ++ filter is_asked (term ∷ []) → all ≡ first ++ filter is_asked (map (edge_term n table t) edges) → all ≡ peg_terms N table x t
 pegged N n table x t edges term none first all same es is begun one rest =
     rw (rest, one, begun, is, es, same) (sym (filter-append is_asked (demand_term N x t ∷ []) (map (edge_term N table t) (demanders N x))))

@@ -1,5 +1,6 @@
 -- One more pair is planned.
-use Rattle.std.proofs.Common.{◌≡◌, ℕ, ◌+◌, ◌*◌, ◌<◌, ◌≤◌, ◌≢◌, List, [], ◌∷◌, length, sum, sum_by, slice_index, slice_index_or, slice_set, suc, arith, refl, ap, sym, ◌∙◌, ⊎_elim, subst}
+use Rattle.std.proofs.Common.{◌≡◌, ℕ, ◌+◌, ◌*◌, ◌<◌, ◌≤◌, ◌≢◌, List, [], ◌∷◌, length, sum, sum_by, slice_index, slice_index_or, slice_set, suc, arith, refl, ap}
+use Rattle.std.proofs.Common.{sym, ◌∙◌, ⊎_elim, subst}
 use Rattle.std.specs.List.{range_with_len}
 use Rattle.std.proofs.lemmas.Bool.{cases_eq}
 use Rattle.std.proofs.lemmas.List.{get_or_default, get_or-set_same, get_or-set_other, length-set}
@@ -27,13 +28,15 @@ use Rattle.mrp_plan.proofs.Asked.{no_edge}
 use Rattle.mrp_loops.proofs.Orders.{places_apart, place_in_table, place_of, demander_before}
 
 -- sums of terms that are the same, or not greater, at each element
-sum_by-same_all : {X : Type 0} (f g : X → ℕ) (d : X) (xs : List X) → ((i : ℕ) → i < length xs → f (slice_index_or xs i d) ≡ g (slice_index_or xs i d)) → sum_by f xs ≡ sum_by g xs
+sum_by-same_all : {X : Type 0} (f g : X → ℕ) (d : X) (xs : List X) → ((i : ℕ) → i < length xs → f (slice_index_or xs i d) ≡ g (slice_index_or xs i d))
+    → sum_by f xs ≡ sum_by g xs
 sum_by-same_all f g d [] same = refl
 sum_by-same_all f g d (x ∷ xs) same =
     let here : f x ≡ g x = same 0 (omega arith) in
     omega (arith, here, sum_by-cons f x xs, sum_by-cons g x xs, sum_by-same_all f g d xs (λ i h. same (suc i) (omega arith)))
 
-sum_by-le_all : {X : Type 0} (f g : X → ℕ) (d : X) (xs : List X) → ((i : ℕ) → i < length xs → f (slice_index_or xs i d) ≤ g (slice_index_or xs i d)) → sum_by f xs ≤ sum_by g xs
+sum_by-le_all : {X : Type 0} (f g : X → ℕ) (d : X) (xs : List X) → ((i : ℕ) → i < length xs → f (slice_index_or xs i d) ≤ g (slice_index_or xs i d))
+    → sum_by f xs ≤ sum_by g xs
 sum_by-le_all f g d [] less = omega arith
 sum_by-le_all f g d (x ∷ xs) less =
     let here : f x ≤ g x = less 0 (omega arith) in
@@ -41,14 +44,16 @@ sum_by-le_all f g d (x ∷ xs) less =
 
 -- the plan of a pair looks at the releases of its demanders alone
 pub pair_plan-same : (N : Table) (old new : List PlanRows) (x : ℕ)
-    → ((i : ℕ) → i < length (demanders N x) → rows_at new (slice_index_or (demanders N x) i no_edge).demander.0 ≡ rows_at old (slice_index_or (demanders N x) i no_edge).demander.0)
+    → ((i : ℕ) → i < length (demanders N x) → rows_at new (slice_index_or (demanders N x) i no_edge).demander.0
+    ≡ rows_at old (slice_index_or (demanders N x) i no_edge).demander.0)
     → pair_plan N new x ≡ pair_plan N old x
 pair_plan-same N old new x same =
     let asks = λ (t : ℕ) (i : ℕ) (h : i < length (demanders N x)).
     ap (λ (r : PlanRows). edge_need (slice_index_or (demanders N x) i no_edge) (slice_index r.release t)) (same i h) in
     let each = λ (t : ℕ) (h : t < horizon N).
     ap (λ (s : ℕ). demand N x t + s)
-    (sum_by-same_all (λ (e : Edge). edge_need e (slice_index (rows_at new e.demander.0).release t)) (λ (e : Edge). edge_need e (slice_index (rows_at old e.demander.0).release t)) no_edge (demanders N x) (asks t)) in
+    (sum_by-same_all (λ (e : Edge). edge_need e (slice_index (rows_at new e.demander.0).release t))
+    (λ (e : Edge). edge_need e (slice_index (rows_at old e.demander.0).release t)) no_edge (demanders N x) (asks t)) in
     ap (one (params_at N x) (row_of N (incoming N x))) (map-range-same (gross N new x) (gross N old x) (horizon N) each)
 
 -- the plan of a pair has a release for each period, and its gross requirements
@@ -77,11 +82,13 @@ pair_plan-releases N table x is =
     )
 
 -- what the demanders ask is within what they need
-pub asked_total-le : (N : Table) (needs order : List ℕ) (k : ℕ) (table : List PlanRows) → IsPlanningOrder N order → k < length order → IsPlannedTo N needs order k table
+pub asked_total-le : (N : Table) (needs order : List ℕ) (k : ℕ) (table : List PlanRows) → IsPlanningOrder N order → k < length order
+    → IsPlannedTo N needs order k table
     → asked_total table (demanders N (slice_index order k)) ≤ sum_by (λ e. e.per * slice_index needs e.demander.0) (demanders N (slice_index order k))
 asked_total-le N needs order k table is within planned =
     let x = slice_index order k in
-    sum_by-le_all (λ (e : Edge). e.per * sum (rows_at table e.demander.0).release) (λ (e : Edge). e.per * slice_index needs e.demander.0) no_edge (demanders N x)
+    sum_by-le_all (λ (e : Edge). e.per * sum (rows_at table e.demander.0).release) (λ (e : Edge). e.per * slice_index needs e.demander.0) no_edge
+    (demanders N x)
     (λ i h.
     let e = slice_index_or (demanders N x) i no_edge in
     let before = demander_before N order is k within i no_edge h in
@@ -90,8 +97,10 @@ asked_total-le N needs order k table is within planned =
     mul-le-mul_left e.per (subst P before.2 own))
 
 -- the demander of an edge to the next pair has a row of releases
-pub demander_release : (N : Table) (needs order : List ℕ) (k : ℕ) (table : List PlanRows) → IsPlanningOrder N order → k < length order → IsPlannedTo N needs order k table
-    → (i : ℕ) → i < length (demanders N (slice_index order k)) → length (rows_at table (slice_index_or (demanders N (slice_index order k)) i no_edge).demander.0).release ≡ horizon N
+pub demander_release : (N : Table) (needs order : List ℕ) (k : ℕ) (table : List PlanRows) → IsPlanningOrder N order → k < length order
+    → IsPlannedTo N needs order k table
+    → (i : ℕ) → i < length (demanders N (slice_index order k)) → length
+    (rows_at table (slice_index_or (demanders N (slice_index order k)) i no_edge).demander.0).release ≡ horizon N
 demander_release N needs order k table is within planned i h =
     let before = demander_before N order is k within i no_edge h in
     let P : ℕ → Type 0 = λ y. length (rows_at table y).release ≡ horizon N in
@@ -114,7 +123,8 @@ is_within N table x row can size total =
     }
 
 -- so are those of its plan
-pub pair_within : (N : Table) (table : List PlanRows) (x : ℕ) → CanBeDrafted N table x → IsWithin (params_at N x) (row_of N (incoming N x)) (row_of N (gross N table x))
+pub pair_within : (N : Table) (table : List PlanRows) (x : ℕ) → CanBeDrafted N table x
+    → IsWithin (params_at N x) (row_of N (incoming N x)) (row_of N (gross N table x))
 pair_within N table x can = is_within N table x (row_of N (gross N table x)) can (length-row_of N (gross N table x)) (gross_sum-le N table x can.is_table)
 
 -- demand rows and what the demanders ask are the gross requirements
@@ -129,7 +139,8 @@ gross_row N table x row size each =
     omega (arith, own, each t (omega (arith, periods))))
 
 -- the pair at place k can be planned
-pub can_plan : (N : Table) (needs order : List ℕ) (k : ℕ) (table : List PlanRows) → IsTable N → AreNeeds N needs → AreWithin N needs → IsPlanningOrder N order → k < length order
+pub can_plan : (N : Table) (needs order : List ℕ) (k : ℕ) (table : List PlanRows) → IsTable N → AreNeeds N needs → AreWithin N needs → IsPlanningOrder N order
+    → k < length order
     → IsPlannedTo N needs order k table → CanBeDrafted N table (slice_index order k)
 can_plan N needs order k table tables are_needs are_within is within planned =
     let x = slice_index order k in
@@ -146,7 +157,8 @@ can_plan N needs order k table tables are_needs are_within is within planned =
     }
 
 -- with its plan kept, one more pair is planned
-pub IsPlannedTo-more : (N : Table) (needs order : List ℕ) (k : ℕ) (table : List PlanRows) (rows : PlanRows) → IsPlanningOrder N order → k < length order → IsPlannedTo N needs order k table
+pub IsPlannedTo-more : (N : Table) (needs order : List ℕ) (k : ℕ) (table : List PlanRows) (rows : PlanRows) → IsPlanningOrder N order → k < length order
+    → IsPlannedTo N needs order k table
     → rows ≡ pair_plan N table (slice_index order k) → sum rows.release ≤ slice_index needs (slice_index order k)
     → IsPlannedTo N needs order (k + 1) (slice_set table (slice_index order k) rows)
 IsPlannedTo-more N needs order k table rows is within planned plan releases =
@@ -188,16 +200,25 @@ IsPlannedTo-more N needs order k table rows is within planned plan releases =
     }
 
 -- the releases of the plan beside the plans so far are within the need
-next_releases : (N : Table) (needs order : List ℕ) (k : ℕ) (table : List PlanRows) → IsTable N → AreNeeds N needs → AreWithin N needs → IsPlanningOrder N order → k < length order
+next_releases : (N : Table) (needs order : List ℕ) (k : ℕ) (table : List PlanRows) → IsTable N → AreNeeds N needs → AreWithin N needs → IsPlanningOrder N order
+    → k < length order
     → IsPlannedTo N needs order k table → sum (pair_plan N table (slice_index order k)).release ≤ slice_index needs (slice_index order k)
 next_releases N needs order k table tables are_needs are_within is within planned =
     let x = slice_index order k in
     let can = can_plan N needs order k table tables are_needs are_within is within planned in
     let total = gross_sum-le N table x tables in
-    omega (arith, pair_plan-releases N table x (pair_within N table x can), total, are_needs.need x can.in_table, asked_total-le N needs order k table is within planned)
+    omega (
+      arith,
+      pair_plan-releases N table x (pair_within N table x can),
+      total,
+      are_needs.need x can.in_table,
+      asked_total-le N needs order k table is within
+          planned,
+    )
 
 -- the same with the plan beside the plans so far
-pub next_planned : (N : Table) (needs order : List ℕ) (k : ℕ) (table : List PlanRows) → IsTable N → AreNeeds N needs → AreWithin N needs → IsPlanningOrder N order → k < length order
+pub next_planned : (N : Table) (needs order : List ℕ) (k : ℕ) (table : List PlanRows) → IsTable N → AreNeeds N needs → AreWithin N needs
+    → IsPlanningOrder N order → k < length order
     → IsPlannedTo N needs order k table
     → IsPlannedTo N needs order (k + 1) (slice_set table (slice_index order k) (pair_plan N table (slice_index order k)))
 next_planned N needs order k table tables are_needs are_within is within planned =
@@ -205,8 +226,10 @@ next_planned N needs order k table tables are_needs are_within is within planned
     (next_releases N needs order k table tables are_needs are_within is within planned)
 
 -- a table that has the plan of the next pair already
-pub next_kept : (N : Table) (needs order : List ℕ) (k : ℕ) (table : List PlanRows) → IsTable N → AreNeeds N needs → AreWithin N needs → IsPlanningOrder N order → k < length order
-    → IsPlannedTo N needs order k table → rows_at table (slice_index order k) ≡ pair_plan N table (slice_index order k) → IsPlannedTo N needs order (k + 1) table
+pub next_kept : (N : Table) (needs order : List ℕ) (k : ℕ) (table : List PlanRows) → IsTable N → AreNeeds N needs → AreWithin N needs → IsPlanningOrder N order
+    → k < length order
+    → IsPlannedTo N needs order k table → rows_at table (slice_index order k) ≡ pair_plan N table (slice_index order k)
+    → IsPlannedTo N needs order (k + 1) table
 next_kept N needs order k table tables are_needs are_within is within planned kept =
     let x = slice_index order k in
     let releases : sum (rows_at table x).release ≤ slice_index needs x =
@@ -232,7 +255,8 @@ fits_rooms N table fits x in_table =
     ap (λ (r : PlanRows). length r.gross) (fits.rows x in_table) ∙ ap (λ (r : List ℕ). length r) (one-gross N table x) ∙ length-row_of N (gross N table x)
 
 -- with all places of the order planned, the table fits
-pub all_planned : (N : Table) (needs order : List ℕ) (k : ℕ) (table : List PlanRows) → IsPlanningOrder N order → length order ≤ k → IsPlannedTo N needs order k table → Fits N table
+pub all_planned : (N : Table) (needs order : List ℕ) (k : ℕ) (table : List PlanRows) → IsPlanningOrder N order → length order ≤ k
+    → IsPlannedTo N needs order k table → Fits N table
 all_planned N needs order k table is whole planned = record {
   size = planned.size;
   rows = λ x in_table.

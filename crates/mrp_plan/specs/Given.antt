@@ -15,4 +15,5 @@ plans_below N p bound = map (plan_at N) (filter (is_of_plant N p) (range_with_le
 -- a list of each plant, with the plans of its pairs with numbers below one
 pub record HaveGiven (N : Table) (given : List (Vec PairPlan Global)) (bound : ℕ) : Type 0 where
   pub all : length given ≡ length N.plants
-  pub each : (p : ℕ) (d : Vec PairPlan Global) → p < length given → (slice_index_or given p d).items ≡ plans_below N p bound
+  pub each : (p : ℕ) (d : Vec PairPlan Global) → p < length given
+      → (slice_index_or given p d).items ≡ plans_below N p bound

@@ -11,7 +11,8 @@ use Rattle.mrp_plan.specs.Orders.{orders_of}
 -- the orders of a pair that are released in a period add up to its planned order release there
 abbrev pub OrdersMakeReleases : Type 0
 OrdersMakeReleases = (N : Table) (table : List PlanRows) → Fits N table → (x r : ℕ) → IsPair N x → r < horizon N
-    → sum_by (λ o. o.quantity) (filter (λ o. o.release == r) (orders_of N table x)) ≡ slice_index (rows_at table x).release r
+    → sum_by (λ o. o.quantity) (filter (λ o. o.release == r) (orders_of N table x))
+    ≡ slice_index (rows_at table x).release r
 
 -- the late order that a planned order is
 abbrev pub late_of : PlannedOrder → Late

@@ -1,5 +1,6 @@
 -- Planned orders: what is ordered of a pair, when it is due, and when it is released.
-use Rattle.std.specs.Prelude.{ℕ, ◌-◌, ◌==◌, nat_le, Bool, true, not, if◌then◌else◌, List, map, filter, slice_index, Option, Some, None}
+use Rattle.std.specs.Prelude.{ℕ, ◌-◌, ◌==◌, nat_le, Bool, true, not, if◌then◌else◌, List, map, filter, slice_index}
+use Rattle.std.specs.Prelude.{Option, Some, None}
 use Rattle.std.specs.List.{range_with_len}
 use Rattle.mrp_lot.specs.One.{PlanRows}
 use Rattle.mrp_rows.specs.Table.{Table, horizon}
@@ -23,7 +24,8 @@ order_in lead rows t = if has_order rows t then Some (planned_order lead rows t)
 -- the planned orders of a pair, in rising due period
 abbrev pub orders_of : Table → List PlanRows → ℕ → List PlannedOrder
 orders_of N table x =
-    map (planned_order (params_at N x).lead (rows_at table x)) (filter (has_order (rows_at table x)) (range_with_len 0 (horizon N)))
+    map (planned_order (params_at N x).lead (rows_at table x))
+    (filter (has_order (rows_at table x)) (range_with_len 0 (horizon N)))
 
 -- the order is released in that period or before it; without a period every order is
 abbrev pub is_released_by : Option ℕ → PlannedOrder → Bool

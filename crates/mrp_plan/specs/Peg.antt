@@ -25,7 +25,13 @@ source_of N e = if (pair_at N e.demander.0).plant.0 == (pair_at N e.pair.0).plan
 abbrev pub edge_term : Table → List PlanRows → ℕ → Edge → PegTerm
 edge_term N table t e =
     let release = slice_index (rows_at table e.demander.0).release t in
-    record { source = source_of N e; pair = e.demander; release = part e release; per = e.per; quantity = edge_need e release }
+    record {
+      source = source_of N e;
+      pair = e.demander;
+      release = part e release;
+      per = e.per;
+      quantity = edge_need e release;
+    }
 
 -- something is asked
 abbrev pub is_asked : PegTerm → Bool

@@ -29,4 +29,5 @@ pub record IsPlannedTo (N : Table) (needs order : List ℕ) (k : ℕ) (table : L
   pub size : length table ≡ length N.pairs
   pub rooms : HavePeriods N table
   pub rows : (j : ℕ) → j < k → rows_at table (slice_index order j) ≡ pair_plan N table (slice_index order j)
-  pub releases : (j : ℕ) → j < k → sum (rows_at table (slice_index order j)).release ≤ slice_index needs (slice_index order j)
+  pub releases : (j : ℕ) → j < k → sum (rows_at table (slice_index order j)).release
+      ≤ slice_index needs (slice_index order j)

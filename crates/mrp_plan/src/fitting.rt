@@ -65,7 +65,8 @@ fn fits_next(net: &SizedNet, order: &[PairNo], k: usize, plan: &Plan) -> bool
     requires order { IsPlanningOrder net.now.network (map (λ x. x.0) order.now) }
     requires place { k < length order.now }
     requires before { IsPlannedTo net.now.network net.now.needs (map (λ x. x.0) order.now) k plan.now }
-    ensures after { IsTrue result → IsPlannedTo net.now.network net.now.needs (map (λ x. x.0) order.now) (k + 1) plan.now }
+    ensures after { IsTrue result → IsPlannedTo net.now.network net.now.needs (map (λ x. x.0) order.now)
+        (k + 1) plan.now }
     ensures fits { Fits net.now.network plan.now → IsTrue result }
 {
     fits_at(net.network(), order[k], plan)

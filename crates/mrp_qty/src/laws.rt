@@ -2,8 +2,10 @@
 ghost use Rattle.std.specs.Prelude.{◌≡◌, ◌+◌, ◌*◌, ◌^◌};
 ghost use Rattle.mrp_qty.specs.declared.horizon.TheConstants.{LONGEST};
 ghost use Rattle.mrp_qty.specs.declared.quantity.TheConstants.{MOST};
-ghost use Rattle.mrp_qty.specs.declared.limits.TheConstants.{MAX_TURNS, MOST_BILLS, MOST_IN_ROW, MOST_OF_A_KIND, MOST_PAIRS, MOST_PER, MOST_PLANTS};
-ghost use Rattle.mrp_qty.specs.declared.limits.TheConstants.{MOST_RECORDS, MOST_ROOM, MOST_SHARE, MOST_SOURCES, MOST_SOURCES_OF_PAIR, MOST_TURNS, MOST_WORKERS};
+ghost use Rattle.mrp_qty.specs.declared.limits.TheConstants.{MAX_TURNS, MOST_BILLS, MOST_IN_ROW, MOST_OF_A_KIND};
+ghost use Rattle.mrp_qty.specs.declared.limits.TheConstants.{MOST_PAIRS, MOST_PER, MOST_PLANTS};
+ghost use Rattle.mrp_qty.specs.declared.limits.TheConstants.{MOST_RECORDS, MOST_ROOM, MOST_SHARE, MOST_SOURCES};
+ghost use Rattle.mrp_qty.specs.declared.limits.TheConstants.{MOST_SOURCES_OF_PAIR, MOST_TURNS, MOST_WORKERS};
 
 /// The limits as numbers: a quantity is at most 10^15 pieces, a horizon has at most 104 periods, and
 /// the others are those of a table, of a text of records and of a run.

@@ -1,6 +1,7 @@
 //! A row: one quantity a period.
 
-ghost use Rattle.std.specs.Prelude.{◌≡◌, ℕ, ◌+◌, ◌*◌, ◌≤◌, ◌<◌, List, length, sum, replicate, slice_index, slice_set, IfOk, All};
+ghost use Rattle.std.specs.Prelude.{◌≡◌, ℕ, ◌+◌, ◌*◌, ◌≤◌, ◌<◌, List, length, sum, replicate, slice_index, slice_set};
+ghost use Rattle.std.specs.Prelude.{IfOk, All};
 ghost use Rattle.mrp_qty.specs.declared.quantity.TheConstants.{MOST};
 ghost use Rattle.mrp_qty.specs.declared.horizon.TheConstants.{LONGEST};
 ghost use Rattle.mrp_qty.specs.Row.{IsRow};
@@ -75,7 +76,8 @@ impl Row {
     /// sum is at most 10^15.
     pub fn add_times(&mut self, times: u64, other: &Row)
         requires periods { length self.old ≡ length other.now }
-        requires within { (t : ℕ) → t < length self.old → slice_index self.old t + times * slice_index other.now t ≤ MOST }
+        requires within { (t : ℕ) → t < length self.old
+            → slice_index self.old t + times * slice_index other.now t ≤ MOST }
         ensures each { (t : ℕ) → t < length self.old →
             slice_index self.new t ≡ slice_index self.old t + times * slice_index other.now t }
         ensures size { length self.new ≡ length self.old }

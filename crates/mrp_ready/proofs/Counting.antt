@@ -1,8 +1,10 @@
 -- Waits as counts: of joins with unplanned demanders, and of awaited blocks that aren't ended.
-use Rattle.std.proofs.Common.{◌≡◌, ℕ, ◌+◌, ◌-◌, ◌<◌, ◌≤◌, ◌&&◌, Bool, true, false, not, cond, eqb, List, [], ◌∷◌, inl, inr, length, get_or, set, take, map, refl, sym, ap, ◌∙◌, subst, arith, Some}
+use Rattle.std.proofs.Common.{◌≡◌, ℕ, ◌+◌, ◌-◌, ◌<◌, ◌≤◌, ◌&&◌, Bool, true, false, not, cond, eqb, List, [], ◌∷◌, inl, inr, length, get_or, set, take, map}
+use Rattle.std.proofs.Common.{refl, sym, ap, ◌∙◌, subst, arith, Some}
 use Rattle.std.specs.Prelude.{slice_get}
 use Rattle.std.specs.List.{All, count_by, filter}
-use Rattle.std.proofs.lemmas.Bool.{cases_eq, eq-eqb, eqb-true, ne_eqb, and_from, and_parts, both_ways, false_from_ne_true, true_from_ne_false, not-true, not_from_false}
+use Rattle.std.proofs.lemmas.Bool.{cases_eq, eq-eqb, eqb-true, ne_eqb, and_from, and_parts, both_ways, false_from_ne_true, true_from_ne_false, not-true}
+use Rattle.std.proofs.lemmas.Bool.{not_from_false}
 use Rattle.std.proofs.lemmas.List.{get_or-set_same, get_or-set_other, length-set, length-take-le}
 use Rattle.std.proofs.lemmas.List.Elements.{All-weaker}
 use Rattle.std.proofs.lemmas.List.Sums.{sum_by-cons, sum_by-set, get_or-le-sum_by, sum_by-le, count_by_more_yes, count_by_more_no, count_by-le-length}
@@ -29,11 +31,13 @@ when_unplanned true = refl
 when_unplanned false = refl
 
 -- the joins of x no longer count, each other as before
-waiting-set : (j : Join) (planned : List Bool) (x y : ℕ) → x < length planned → is_planned planned x ≡ false → waiting (set planned x true) y j + cond (eqb j.demander x) (cond (eqb j.component y) 1 0) 0 ≡ waiting planned y j
+waiting-set : (j : Join) (planned : List Bool) (x y : ℕ) → x < length planned → is_planned planned x ≡ false
+    → waiting (set planned x true) y j + cond (eqb j.demander x) (cond (eqb j.component y) 1 0) 0 ≡ waiting planned y j
 waiting-set j planned x y within free =
     elim (cases_eq j.demander x) as (λ _. waiting (set planned x true) y j + cond (eqb j.demander x) (cond (eqb j.component y) 1 0) 0 ≡ waiting planned y j) [
       | inl e ↦
-          let now : get_or (set planned x true) j.demander false ≡ true = ap (λ (z : ℕ). get_or (set planned x true) z false) e ∙ get_or-set_same planned x true false within in
+          let now : get_or (set planned x true) j.demander false ≡ true =
+          ap (λ (z : ℕ). get_or (set planned x true) z false) e ∙ get_or-set_same planned x true false within in
           let was : get_or planned j.demander false ≡ false = ap (λ (z : ℕ). get_or planned z false) e ∙ free in
           let test : eqb j.demander x ≡ true = eq-eqb j.demander x e in
           rw (now, was, test) (when_planned (eqb j.component y))
@@ -44,12 +48,14 @@ waiting-set j planned x y within free =
     ]
 
 -- the components of one join more
-times-cons : (j : Join) (rest : List Join) (y : ℕ) (b : Bool) → times y (map (λ (i : Join). i.component) (cond b (j ∷ rest) rest)) ≡ cond b (cond (eqb j.component y) 1 0) 0 + times y (map (λ (i : Join). i.component) rest)
+times-cons : (j : Join) (rest : List Join) (y : ℕ) (b : Bool) → times y (map (λ (i : Join). i.component) (cond b (j ∷ rest) rest))
+    ≡ cond b (cond (eqb j.component y) 1 0) 0 + times y (map (λ (i : Join). i.component) rest)
 times-cons j rest y true = sum_by-cons (λ c. cond (eqb c y) 1 0) j.component (map (λ (i : Join). i.component) rest)
 times-cons j rest y false = omega arith
 
 -- once x is planned, a pair waits for x no longer, as often as it stands in the joins of x
-pub unplanned-set : (joins : List Join) (planned : List Bool) (x y : ℕ) → x < length planned → is_planned planned x ≡ false → unplanned joins (set planned x true) y + times y (components_of joins x) ≡ unplanned joins planned y
+pub unplanned-set : (joins : List Join) (planned : List Bool) (x y : ℕ) → x < length planned → is_planned planned x ≡ false
+    → unplanned joins (set planned x true) y + times y (components_of joins x) ≡ unplanned joins planned y
 unplanned-set [] planned x y within free = refl
 unplanned-set (j ∷ joins) planned x y within free =
     let now = sum_by-cons (waiting (set planned x true) y) j joins in
@@ -62,7 +68,8 @@ both-le : (b : Bool) → cond b 1 0 ≤ cond (b && not false) 1 0
 both-le true = omega arith
 both-le false = omega arith
 
-taken-le : (j : Join) (planned : List Bool) (x y : ℕ) → is_planned planned x ≡ false → cond (eqb j.demander x) (cond (eqb j.component y) 1 0) 0 ≤ waiting planned y j
+taken-le : (j : Join) (planned : List Bool) (x y : ℕ) → is_planned planned x ≡ false
+    → cond (eqb j.demander x) (cond (eqb j.component y) 1 0) 0 ≤ waiting planned y j
 taken-le j planned x y free =
     elim (cases_eq j.demander x) as (λ _. cond (eqb j.demander x) (cond (eqb j.component y) 1 0) 0 ≤ waiting planned y j) [
       | inl e ↦
@@ -91,13 +98,16 @@ unplanned-none (j ∷ joins) planned y none =
     let same : waiting planned y j ≡ one_if (eqb j.component y) = rw (none j.demander) (when_unplanned (eqb j.component y)) in
     omega (arith, was, all, same, unplanned-none joins planned y none)
 
-pub AreCounts-first : (waits : List ℕ) (joins : List Join) (planned : List Bool) (blocks : ℕ → ℕ) → ((x : ℕ) → is_planned planned x ≡ false) → AreFirstCounts waits joins blocks → AreCounts waits joins planned blocks
+pub AreCounts-first : (waits : List ℕ) (joins : List Join) (planned : List Bool) (blocks : ℕ → ℕ) → ((x : ℕ) → is_planned planned x ≡ false)
+    → AreFirstCounts waits joins blocks → AreCounts waits joins planned blocks
 AreCounts-first waits joins planned blocks none first = record {
   counted = λ y h. omega (arith, first.counted y h, unplanned-none joins planned y none);
 }
 
 -- after a pair is settled, waits are the counts as before
-pub AreCounts-settled : (old new : List ℕ) (joins : List Join) (planned later : List Bool) (blocks : ℕ → ℕ) (components : List ℕ) (x : ℕ) → x < length planned → is_planned planned x ≡ false → later ≡ set planned x true → IsLess old new components → components ≡ components_of joins x → AreCounts old joins planned blocks → AreCounts new joins later blocks
+pub AreCounts-settled : (old new : List ℕ) (joins : List Join) (planned later : List Bool) (blocks : ℕ → ℕ) (components : List ℕ) (x : ℕ) → x < length planned
+    → is_planned planned x ≡ false → later ≡ set planned x true → IsLess old new components → components ≡ components_of joins x
+    → AreCounts old joins planned blocks → AreCounts new joins later blocks
 AreCounts-settled old new joins planned later blocks components x within free marked less same was = record {
   counted = λ y h.
       let known : y < length old = omega (arith, less.size) in
@@ -107,7 +117,8 @@ AreCounts-settled old new joins planned later blocks components x within free ma
 }
 
 -- and after a block is ended
-pub AreCounts-arrived : (old new : List ℕ) (joins : List Join) (planned later : List Bool) (before after : ℕ → ℕ) (y : ℕ) → y < length old → later ≡ planned → new ≡ set old y (get_or old y 0 - 1) → IsOneEnded y before after → AreCounts old joins planned before → AreCounts new joins later after
+pub AreCounts-arrived : (old new : List ℕ) (joins : List Join) (planned later : List Bool) (before after : ℕ → ℕ) (y : ℕ) → y < length old → later ≡ planned
+    → new ≡ set old y (get_or old y 0 - 1) → IsOneEnded y before after → AreCounts old joins planned before → AreCounts new joins later after
 AreCounts-arrived old new joins planned later before after y known same is one was =
     rw (same, is) record {
       counted = λ z h. elim (cases_eq z y) as (λ _. get_or (set old y (get_or old y 0 - 1)) z 0 ≡ unplanned joins planned z + after z) [
@@ -151,16 +162,21 @@ ready_where_nothing_is_open waits ready joins planned blocks counts listed y = (
       record {
         known = free.known;
         is_unplanned = free.unplanned;
-        demanders_are_planned = All-weaker (λ (j : Join). (eqb j.component y && not (is_planned planned j.demander)) ≡ false) (λ (j : Join). j.component ≡ y → is_planned planned j.demander ≡ true) (λ j h. holds_from_false j.component y (is_planned planned j.demander) h) joins
+        demanders_are_planned = All-weaker (λ (j : Join). (eqb j.component y && not (is_planned planned j.demander)) ≡ false) (λ (j : Join). j.component ≡ y
+            → is_planned planned j.demander ≡ true) (λ j h. holds_from_false j.component y (is_planned planned j.demander) h) joins
             (none_from_zero (λ (j : Join). eqb j.component y && not (is_planned planned j.demander)) joins (omega (arith, sum, free.waits_for_none)));
-        blocks_are_ended = All-weaker (λ (b : Awaited). (eqb b.pair y && not b.ended) ≡ false) (λ (b : Awaited). b.pair ≡ y → b.ended ≡ true) (λ b h. holds_from_false b.pair y b.ended h) blocks
+        blocks_are_ended = All-weaker (λ (b : Awaited). (eqb b.pair y && not b.ended) ≡ false) (λ (b : Awaited). b.pair ≡ y
+            → b.ended ≡ true) (λ b h. holds_from_false b.pair y b.ended h) blocks
             (none_from_zero (λ (b : Awaited). eqb b.pair y && not b.ended) blocks (omega (arith, sum, free.waits_for_none)));
       },
   λ is.
       let no_joins = zero_from_none (λ (j : Join). eqb j.component y && not (is_planned planned j.demander)) joins
-      (All-weaker (λ (j : Join). j.component ≡ y → is_planned planned j.demander ≡ true) (λ (j : Join). (eqb j.component y && not (is_planned planned j.demander)) ≡ false) (λ j h. false_from_holds j.component y (is_planned planned j.demander) h) joins is.demanders_are_planned) in
+      (All-weaker (λ (j : Join). j.component ≡ y → is_planned planned j.demander ≡ true)
+      (λ (j : Join). (eqb j.component y && not (is_planned planned j.demander)) ≡ false)
+      (λ j h. false_from_holds j.component y (is_planned planned j.demander) h) joins is.demanders_are_planned) in
       let no_blocks = zero_from_none (λ (b : Awaited). eqb b.pair y && not b.ended) blocks
-      (All-weaker (λ (b : Awaited). b.pair ≡ y → b.ended ≡ true) (λ (b : Awaited). (eqb b.pair y && not b.ended) ≡ false) (λ b h. false_from_holds b.pair y b.ended h) blocks is.blocks_are_ended) in
+      (All-weaker (λ (b : Awaited). b.pair ≡ y → b.ended ≡ true) (λ (b : Awaited). (eqb b.pair y && not b.ended) ≡ false)
+      (λ b h. false_from_holds b.pair y b.ended h) blocks is.blocks_are_ended) in
       (listed.exact y).1 record {
         known = is.known;
         waits_for_none = omega (arith, counts.counted y is.known, no_joins, no_blocks);
@@ -189,7 +205,8 @@ ended_counts false = refl
 other_counts : (y z : ℕ) (p : Bool) → (z ≡ y → ⊥) → awaiting z (block y p) ≡ 0
 other_counts y z p ne = let e : eqb y z ≡ false = ne_eqb y z (λ q. ne (sym q)) in rw e refl
 
-open_blocks-set : (blocks : List Awaited) (k y z : ℕ) → slice_get blocks k ≡ Some (block y false) → open_blocks (set blocks k (block y true)) z + awaiting z (block y false) ≡ open_blocks blocks z + awaiting z (block y true)
+open_blocks-set : (blocks : List Awaited) (k y z : ℕ) → slice_get blocks k ≡ Some (block y false)
+    → open_blocks (set blocks k (block y true)) z + awaiting z (block y false) ≡ open_blocks blocks z + awaiting z (block y true)
 open_blocks-set blocks k y z is =
     let here : get_or blocks k (block y false) ≡ block y false = get_or_from_slice_get blocks k (block y false) (block y false) is in
     let sums = sum_by-set (awaiting z) blocks k (block y true) (block y false) (slice_get_within blocks k (block y false) is) in
@@ -211,7 +228,8 @@ open_blocks_are_awaited waits joins planned blocks counts k y is known =
 -- ---- what pairs wait for at first
 
 -- one row more is counted
-pub AreCounted-more : {X : Type 0} (key : X → ℕ) (old now : List ℕ) (rows : List X) (i : ℕ) (r : X) (v : ℕ) → i < length rows → r ≡ get_or rows i r → AreCounted key old now (take i rows) → key r < length old → v ≡ get_or now (key r) 0 + 1 → AreCounted key old (set now (key r) v) (take (i + 1) rows)
+pub AreCounted-more : {X : Type 0} (key : X → ℕ) (old now : List ℕ) (rows : List X) (i : ℕ) (r : X) (v : ℕ) → i < length rows → r ≡ get_or rows i r
+    → AreCounted key old now (take i rows) → key r < length old → v ≡ get_or now (key r) 0 + 1 → AreCounted key old (set now (key r) v) (take (i + 1) rows)
 AreCounted-more {X} key old now rows i r v lt is was known new = record {
   size = length-set now (key r) v ∙ was.size;
   counted = λ y h.
@@ -219,7 +237,8 @@ AreCounted-more {X} key old now rows i r v lt is was known new = record {
       elim (cases_eq y (key r)) as (λ _. get_or (set now (key r) v) y 0 ≡ get_or old y 0 + count_by (λ (x : X). eqb (key x) y) (take (i + 1) rows)) [
         | inl e ↦
             let more = count_by_more_yes (λ (x : X). eqb (key x) y) rows i r lt (eq-eqb (key (get_or rows i r)) y (here ∙ sym e)) in
-            let at : get_or (set now (key r) v) y 0 ≡ v = ap (λ (z : ℕ). get_or (set now (key r) v) z 0) e ∙ get_or-set_same now (key r) v 0 (omega (arith, was.size)) in
+            let at : get_or (set now (key r) v) y 0 ≡ v = ap (λ (z : ℕ). get_or (set now (key r) v) z 0) e
+            ∙ get_or-set_same now (key r) v 0 (omega (arith, was.size)) in
             let had : get_or now y 0 ≡ get_or now (key r) 0 = ap (λ (z : ℕ). get_or now z 0) e in
             omega (arith, more, at, had, new, was.counted y h)
         | inr ne ↦
@@ -229,6 +248,7 @@ AreCounted-more {X} key old now rows i r v lt is was known new = record {
 }
 
 -- no number is greater than at first by more than the rows so far
-pub AreCounted-le : {X : Type 0} (key : X → ℕ) (old now : List ℕ) (rows : List X) (i y : ℕ) → i ≤ length rows → AreCounted key old now (take i rows) → y < length old → get_or now y 0 ≤ get_or old y 0 + i
+pub AreCounted-le : {X : Type 0} (key : X → ℕ) (old now : List ℕ) (rows : List X) (i y : ℕ) → i ≤ length rows → AreCounted key old now (take i rows)
+    → y < length old → get_or now y 0 ≤ get_or old y 0 + i
 AreCounted-le {X} key old now rows i y le was known =
     omega (arith, was.counted y known, count_by-le-length (λ (x : X). eqb (key x) y) (take i rows), length-take-le i rows le)

@@ -12,7 +12,8 @@ use Rattle.mrp_ready.specs.Components.{ArePartsOf, parts}
 use Rattle.mrp_ready.specs.Counts.{components_of}
 
 -- the parts of the components of grouped joins
-pub parts_grouped : (joins rows : List Join) (starts all : List ℕ) (n : ℕ) → IsGrouped (λ (j : Join). j.demander) n joins rows starts → all ≡ map (λ (j : Join). j.component) rows → parts all starts ≡ map (components_of joins) (range_with_len 0 n)
+pub parts_grouped : (joins rows : List Join) (starts all : List ℕ) (n : ℕ) → IsGrouped (λ (j : Join). j.demander) n joins rows starts
+    → all ≡ map (λ (j : Join). j.component) rows → parts all starts ≡ map (components_of joins) (range_with_len 0 n)
 parts_grouped joins rows starts all n is same =
     let key : Join → ℕ = λ j. j.demander in
     let component : Join → ℕ = λ j. j.component in
@@ -26,12 +27,15 @@ parts_grouped joins rows starts all n is same =
     ∙ take-map component (b - a) (drop a rows)
     ∙ ap (map component) (is.slices x h) in
     ap (λ (k : ℕ). map part (range_with_len 0 k)) count
-    ∙ ext_get_or [] (map part (range_with_len 0 n)) (map (components_of joins) (range_with_len 0 n)) (length-map-range_with_len part 0 n ∙ sym (length-map-range_with_len (components_of joins) 0 n))
+    ∙ ext_get_or [] (map part (range_with_len 0 n)) (map (components_of joins) (range_with_len 0 n)) (length-map-range_with_len part 0 n
+    ∙ sym (length-map-range_with_len (components_of joins) 0 n))
     (λ x h.
     let less : x < n = omega (arith, length-map-range_with_len part 0 n) in
-    get_or-map-range_with_len part 0 n x x [] less (omega arith) ∙ one x less ∙ sym (get_or-map-range_with_len (components_of joins) 0 n x x [] less (omega arith)))
+    get_or-map-range_with_len part 0 n x x [] less (omega arith) ∙ one x less
+    ∙ sym (get_or-map-range_with_len (components_of joins) 0 n x x [] less (omega arith)))
 
-pub ArePartsOf-grouped : (joins rows : List Join) (starts all : List ℕ) (n : ℕ) → IsGrouped (λ (j : Join). j.demander) n joins rows starts → all ≡ map (λ (j : Join). j.component) rows → ArePartsOf all starts
+pub ArePartsOf-grouped : (joins rows : List Join) (starts all : List ℕ) (n : ℕ) → IsGrouped (λ (j : Join). j.demander) n joins rows starts
+    → all ≡ map (λ (j : Join). j.component) rows → ArePartsOf all starts
 ArePartsOf-grouped joins rows starts all n is same =
     let size : length all ≡ length rows = ap length same ∙ length-map rows (λ (j : Join). j.component) in
     record {
@@ -45,7 +49,8 @@ within_starts all starts value x shown known =
     let part : ℕ → List ℕ = λ y. slice_range all (get_or starts y 0) (get_or starts (y + 1) 0) in
     omega (arith, ap length shown, length-map-range_with_len part 0 (length starts - 1))
 
-pub part_at : (all starts : List ℕ) (value : List (List ℕ)) (x : ℕ) → parts all starts ≡ value → x < length value → slice_get value x ≡ Some (slice_range all (get_or starts x 0) (get_or starts (x + 1) 0))
+pub part_at : (all starts : List ℕ) (value : List (List ℕ)) (x : ℕ) → parts all starts ≡ value → x < length value
+    → slice_get value x ≡ Some (slice_range all (get_or starts x 0) (get_or starts (x + 1) 0))
 part_at all starts value x shown known =
     let part : ℕ → List ℕ = λ y. slice_range all (get_or starts y 0) (get_or starts (y + 1) 0) in
     let less : x < length starts - 1 = omega (arith, within_starts all starts value x shown known) in

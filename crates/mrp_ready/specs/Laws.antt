@@ -1,11 +1,13 @@
 -- Laws of what pairs wait for.
-use Rattle.std.specs.Prelude.{◌≡◌, ◌↔◌, ◌≤◌, ◌<◌, ℕ, Bool, true, false, List, length, All, Contains, slice_get, slice_index, slice_set, Some}
+use Rattle.std.specs.Prelude.{◌≡◌, ◌↔◌, ◌≤◌, ◌<◌, ℕ, Bool, true, false, List, length, All, Contains, slice_get}
+use Rattle.std.specs.Prelude.{slice_index, slice_set, Some}
 use Rattle.mrp_ready.specs.declared.join.Join.{Join}
 use Rattle.mrp_ready.specs.Progress.{is_planned, IsListed, times}
 use Rattle.mrp_ready.specs.Counts.{Awaited, AreCounts, components_of, open_blocks, IsOneEnded}
 
 -- a pair that isn't planned, has no demander at the plant that isn't planned, and awaits no block that isn't ended
-pub record NothingIsOpen (size : ℕ) (joins : List Join) (planned : List Bool) (blocks : List Awaited) (y : ℕ) : Type 0 where
+pub record NothingIsOpen (size : ℕ) (joins : List Join) (planned : List Bool) (blocks : List Awaited)
+    (y : ℕ) : Type 0 where
   pub known : y < size
   pub is_unplanned : is_planned planned y ≡ false
   pub demanders_are_planned : All (λ j. j.component ≡ y → is_planned planned j.demander ≡ true) joins
@@ -22,7 +24,8 @@ ReadyWhereNothingIsOpen =
 abbrev pub ComponentsWait : Type 0
 ComponentsWait =
     (waits : List ℕ) (joins : List Join) (planned : List Bool) (blocks : ℕ → ℕ) → AreCounts waits joins planned blocks
-    → (x : ℕ) → is_planned planned x ≡ false → (y : ℕ) → y < length waits → times y (components_of joins x) ≤ slice_index waits y
+    → (x : ℕ) → is_planned planned x ≡ false → (y : ℕ) → y < length waits
+    → times y (components_of joins x) ≤ slice_index waits y
 
 -- when an open block is ended, one block fewer of its pair is open, and as many of each other
 abbrev pub EndingOpensFewer : Type 0
@@ -33,5 +36,7 @@ EndingOpensFewer =
 -- a pair whose block is open waits for it
 abbrev pub OpenBlocksAreAwaited : Type 0
 OpenBlocksAreAwaited =
-    (waits : List ℕ) (joins : List Join) (planned : List Bool) (blocks : List Awaited) → AreCounts waits joins planned (open_blocks blocks)
-    → (k y : ℕ) → slice_get blocks k ≡ Some (record { pair = y; ended = false }) → y < length waits → 0 < slice_index waits y
+    (waits : List ℕ) (joins : List Join) (planned : List Bool) (blocks : List Awaited)
+    → AreCounts waits joins planned (open_blocks blocks)
+    → (k y : ℕ) → slice_get blocks k ≡ Some (record { pair = y; ended = false }) → y < length waits
+    → 0 < slice_index waits y

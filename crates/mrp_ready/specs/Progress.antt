@@ -1,5 +1,6 @@
 -- How far the planning of a plant's pairs is. A pair is named by its place there.
-use Rattle.std.specs.Prelude.{◌≡◌, ◌↔◌, ◌<◌, ◌+◌, ◌==◌, ℕ, Bool, true, false, not, List, length, count_by, slice_index, slice_index_or, Contains}
+use Rattle.std.specs.Prelude.{◌≡◌, ◌↔◌, ◌<◌, ◌+◌, ◌==◌, ℕ, Bool, true, false, not, List, length, count_by, slice_index}
+use Rattle.std.specs.Prelude.{slice_index_or, Contains}
 use Rattle.mrp_rows.specs.declared.numbers.PairNo.{PairNo}
 use Rattle.mrp_ready.specs.Chosen.{Chosen}
 
@@ -12,7 +13,13 @@ pub record Progress : Type 0 where
 
 -- what is kept, with the chosen pairs as the ready ones
 abbrev pub progress_of : List ℕ → List Bool → Chosen → Progress
-progress_of waits planned ready = record { numbers = ready.numbers; waits = waits; planned = planned; ready = ready.places }
+progress_of waits planned ready = record {
+  numbers = ready.numbers;
+  waits = waits;
+  planned = planned;
+  ready =
+      ready.places;
+}
 
 -- whether a pair is planned; false where there is no such pair
 abbrev pub is_planned : List Bool → ℕ → Bool

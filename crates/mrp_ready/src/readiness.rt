@@ -86,7 +86,8 @@ impl Readiness {
         ensures listed { IsListed self.new.waits self.new.planned self.new.ready }
         ensures others { (y : ℕ) → Contains self.old.ready y → y ≢ x → Contains self.new.ready y }
         ensures counts { (joins : List Join) (blocks : ℕ → ℕ) → components.now ≡ components_of joins x
-            → AreCounts self.old.waits joins self.old.planned blocks → AreCounts self.new.waits joins self.new.planned blocks }
+            → AreCounts self.old.waits joins self.old.planned blocks
+            → AreCounts self.new.waits joins self.new.planned blocks }
     {
         self.mark(x);
         self.lower_each(components);
@@ -103,7 +104,8 @@ impl Readiness {
         ensures listed { IsListed self.new.waits self.new.planned self.new.ready }
         ensures others { (z : ℕ) → Contains self.old.ready z → Contains self.new.ready z }
         ensures counts { (joins : List Join) (before after : ℕ → ℕ) → IsOneEnded y before after
-            → AreCounts self.old.waits joins self.old.planned before → AreCounts self.new.waits joins self.new.planned after }
+            → AreCounts self.old.waits joins self.old.planned before
+            → AreCounts self.new.waits joins self.new.planned after }
     {
         self.lower(y);
     }

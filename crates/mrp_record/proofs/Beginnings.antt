@@ -9,7 +9,9 @@ use Rattle.std.proofs.lemmas.List.Sorted.{IsPermutation-refl, sum_by-IsPermutati
 use Rattle.mrp_record.specs.declared.record.Record.{Record}
 use Rattle.mrp_record.specs.Entries.{Entry, EndOf, Closing, content, contents, number_of, is_of, is_end, entries_of}
 use Rattle.mrp_record.specs.Blocks.{entry_delivery}
-use Rattle.mrp_record.specs.Laws.{AreLoads, EmptyIsABeginning, FrontsAreBeginnings, FrontsAreNested, NothingFollowsClosing, ClosedIsWhole, TextsHaveOneLength, BeginningsAreNoLonger, EndedBlocksAreWhole, EndedBlocksBringDeliveries, EndedBlocksBringPeriods, EndedBlocksBringTotals, EndedItemsAreDone, quantity_in}
+use Rattle.mrp_record.specs.Laws.{AreLoads, EmptyIsABeginning, FrontsAreBeginnings, FrontsAreNested, NothingFollowsClosing, ClosedIsWhole, TextsHaveOneLength}
+use Rattle.mrp_record.specs.Laws.{BeginningsAreNoLonger, EndedBlocksAreWhole, EndedBlocksBringDeliveries, EndedBlocksBringPeriods, EndedBlocksBringTotals}
+use Rattle.mrp_record.specs.Laws.{EndedItemsAreDone, quantity_in}
 use Rattle.mrp_record.specs.Text.{Load, body, block, last_figure, text_of, IsText, IsBeginning, NumberedFrom, total}
 use Rattle.mrp_record.specs.Lengths.{block_length}
 use Rattle.mrp_record.proofs.Fronts.{overlap}
@@ -76,9 +78,11 @@ nil_contents : (records : List Record) → contents records ≡ [] → records �
 nil_contents [] e = refl
 nil_contents (r ∷ records) e = absurd (cc)
 
-rest_after_closing : (loads : List Load) (before after : List Record) (r : Record) → content r ≡ Closing → (h : IsBeginning loads (before ++ r ∷ after)) → contents after ++ h.rest ≡ []
+rest_after_closing : (loads : List Load) (before after : List Record) (r : Record) → content r ≡ Closing → (h : IsBeginning loads (before ++ r ∷ after))
+    → contents after ++ h.rest ≡ []
 rest_after_closing loads before after r closing h =
-    let split : contents before ++ (content r ∷ (contents after ++ h.rest)) ≡ text_of h.text.order = sym (contents_parts before (r ∷ after) h.rest) ∙ h.text.is in
+    let split : contents before ++ (content r ∷ (contents after ++ h.rest)) ≡ text_of h.text.order =
+    sym (contents_parts before (r ∷ after) h.rest) ∙ h.text.is in
     let there : contents before ++ Closing ∷ (contents after ++ h.rest) ≡ text_of h.text.order =
     ap (λ (z : Entry). contents before ++ z ∷ (contents after ++ h.rest)) (sym closing) ∙ split in
     closing_last h.text.order (contents before) (contents after ++ h.rest) there
@@ -110,7 +114,13 @@ length-blocks (load ∷ loads) =
 pub texts_have_one_length : TextsHaveOneLength
 texts_have_one_length loads entries h =
     let order = h.order in
-    ap length h.is ∙ omega (arith, length-append (flat_map block order) (Closing ∷ []), length-blocks order, sum_by-IsPermutation block_length loads order h.once)
+    ap length h.is ∙ omega (
+      arith,
+      length-append (flat_map block order)
+          (Closing ∷ []),
+      length-blocks order,
+      sum_by-IsPermutation block_length loads order h.once,
+    )
 
 pub beginnings_are_no_longer : BeginningsAreNoLonger
 beginnings_are_no_longer loads records h =
@@ -135,11 +145,13 @@ ended_is_whole load own rest e ended =
     elim (overlap own rest front (last ∷ []) e) [
       | inl b ↦ beyond front last own rest b.more b.is b.after unended ended
       | inr i ↦
-          let none : list_any is_end own ≡ false = list_any-front is_end own (i.next ∷ i.more) (subst (λ (z : List Entry). list_any is_end z ≡ false) i.is unended) in
+          let none : list_any is_end own ≡ false = list_any-front is_end own (i.next ∷ i.more)
+          (subst (λ (z : List Entry). list_any is_end z ≡ false) i.is unended) in
           absurd (both_ways (list_any is_end own) none ended)
     ]
   where
-    beyond : (front : List Entry) (last : Entry) (own rest more : List Entry) → own ≡ front ++ more → more ++ rest ≡ last ∷ [] → list_any is_end front ≡ false → list_any is_end own ≡ true → (own ≡ front ++ last ∷ []) × (rest ≡ [])
+    beyond : (front : List Entry) (last : Entry) (own rest more : List Entry) → own ≡ front ++ more → more ++ rest ≡ last ∷ [] → list_any is_end front ≡ false
+        → list_any is_end own ≡ true → (own ≡ front ++ last ∷ []) × (rest ≡ [])
     beyond front last own rest [] is after unended ended =
         let same : own ≡ front = is ∙ append-nil front in
         absurd (both_ways (list_any is_end own) (subst (λ (z : List Entry). list_any is_end z ≡ false) (sym same) unended) ended)

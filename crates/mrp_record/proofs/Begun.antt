@@ -47,7 +47,8 @@ items_of es (i ∷ items) = ap (λ (z : List FormItem). i ∷ z) (items_of es it
 abbrev IsBrought : List Entry → FormItem → Type 0
 IsBrought es i = IsFront (own es i) (block (brought es i))
 
-front_of : (form : LaneForm) → IsDistinct is_same_form_item form.items → (records : List Record) → IsInForm form records → (i : FormItem) → Contains form.items i → IsBrought (contents records) i
+front_of : (form : LaneForm) → IsDistinct is_same_form_item form.items → (records : List Record) → IsInForm form records → (i : FormItem)
+    → Contains form.items i → IsBrought (contents records) i
 front_of form once records h i there =
     block_front form i (own (contents records) i) (own_all i.item (contents records)) (own_forms form records h i (found_self form.items i once there))
 
@@ -72,12 +73,15 @@ whole_blocks es (i ∷ items) ended fronts =
     let front = fronts i (Contains-append_left (i ∷ []) items i (0, (omega arith), refl)) in
     let first : own es i ≡ block (brought es i) =
     (ended_is_whole (brought es i) (own es i) front.rest front.is (All-head (λ (j : FormItem). is_ended j.item es ≡ true) i items ended)).0 in
-    let others = whole_blocks es items (All-tail (λ (j : FormItem). is_ended j.item es ≡ true) i items ended) (λ j there. fronts j (Contains-append_right (i ∷ []) items j there)) in
+    let others = whole_blocks es items (All-tail (λ (j : FormItem). is_ended j.item es ≡ true) i items ended)
+    (λ j there. fronts j (Contains-append_right (i ∷ []) items j there)) in
     ap (λ (z : List Entry). z ++ flat_map (own es) items) first ∙ ap (λ (z : List Entry). block (brought es i) ++ z) others
 
 -- whole blocks and the front of what is still to do make a text with what is missing of it
-filled : (es : List Entry) (done todo : List FormItem) (part rest : List Entry) → All (λ i. is_ended i.item es ≡ true) done → ((i : FormItem) → Contains done i → IsBrought es i)
-    → es ≡ flat_map (own es) done ++ part → part ++ rest ≡ flat_map (λ i. block (brought es i)) todo → es ++ (rest ++ Closing ∷ []) ≡ text_of (loads_by es (done ++ todo))
+filled : (es : List Entry) (done todo : List FormItem) (part rest : List Entry) → All (λ i. is_ended i.item es ≡ true) done
+    → ((i : FormItem) → Contains done i → IsBrought es i)
+    → es ≡ flat_map (own es) done ++ part → part ++ rest ≡ flat_map (λ i. block (brought es i)) todo
+    → es ++ (rest ++ Closing ∷ []) ≡ text_of (loads_by es (done ++ todo))
 filled es done todo part rest ended fronts is more =
     let last = Closing ∷ [] in
     let first = flat_map (own es) done in
@@ -92,7 +96,8 @@ filled es done todo part rest ended fronts is more =
 
 -- ---- a legal beginning
 
-begun_by : (form : LaneForm) → IsDistinct is_same_form_item form.items → (records : List Record) → IsInForm form records → (es rest : List Entry) (order : List FormItem)
+begun_by : (form : LaneForm) → IsDistinct is_same_form_item form.items → (records : List Record) → IsInForm form records
+    → (es rest : List Entry) (order : List FormItem)
     → All (IsTold form) (loads_by es form.items)
     → IsPermutation form.items order → contents records ++ rest ≡ text_of (loads_by es order) → IsBegunBy form records (loads_by es form.items)
 begun_by form once records h es rest order telling permuted is = record {
@@ -107,12 +112,16 @@ begun_by form once records h es rest order telling permuted is = record {
 }
 
 -- the items of an order are those of the lane
-among : (items done todo : List FormItem) → IsPermutation items (done ++ todo) → ((i : FormItem) → Contains done i → Contains items i) × ((i : FormItem) → Contains todo i → Contains items i)
+among : (items done todo : List FormItem) → IsPermutation items (done ++ todo)
+    → ((i : FormItem) → Contains done i → Contains items i) × ((i : FormItem) → Contains todo i → Contains items i)
 among items done todo order =
-    let back = IsPermutation-sym items (done ++ todo) order in
-    ((λ i there. Contains-permutation (done ++ todo) items i back (Contains-append_left done todo i there)), (λ i there. Contains-permutation (done ++ todo) items i back (Contains-append_right done todo i there)))
+    let back = IsPermutation-sym items (done ++ todo) order in (
+      (λ i there. Contains-permutation (done ++ todo) items i back (Contains-append_left done todo i there)),
+      (λ i there. Contains-permutation (done ++ todo) items i back (Contains-append_right done todo i there)),
+    )
 
-unclosed_begins : (form : LaneForm) → IsDistinct is_same_form_item form.items → (records : List Record) → IsInForm form records → is_closed (contents records) ≡ false
+unclosed_begins : (form : LaneForm) → IsDistinct is_same_form_item form.items → (records : List Record) → IsInForm form records
+    → is_closed (contents records) ≡ false
     → IsBegunBy form records (loads_by (contents records) form.items)
 unclosed_begins form once records h unclosed = by (ordered form once records h unclosed)
   where
@@ -122,7 +131,8 @@ unclosed_begins form once records h unclosed = by (ordered form once records h u
         let there = among form.items r.done r.todo r.order in
         let rest = flat_map (λ (i : FormItem). block (brought es i)) r.todo in
         begun_by form once records h es (rest ++ Closing ∷ []) (r.done ++ r.todo) (told_of form once records h) r.order
-        (filled es r.done r.todo [] rest r.ended (λ i in'. front_of form once records h i (there.0 i in')) (r.is ∙ sym (append-nil (flat_map (own es) r.done))) refl)
+        (filled es r.done r.todo [] rest r.ended (λ i in'. front_of form once records h i (there.0 i in')) (r.is
+        ∙ sym (append-nil (flat_map (own es) r.done))) refl)
     by (inr s) =
         let es = contents records in
         let i = s.item in
@@ -146,18 +156,22 @@ closing_is Closing h = refl
 all_rest : (form : LaneForm) (es : List Entry) → All (λ i. is_ended i.item es ≡ true) form.items → IsOrdered form es → IsResting form es
 all_rest form es ended (inl r) = r
 all_rest form es ended (inr s) =
-    let there = (among form.items s.at.done (s.item ∷ s.at.todo) s.at.order).1 s.item (Contains-append_left (s.item ∷ []) s.at.todo s.item (0, (omega arith), refl)) in
+    let there = (among form.items s.at.done (s.item ∷ s.at.todo) s.at.order).1 s.item
+    (Contains-append_left (s.item ∷ []) s.at.todo s.item (0, (omega arith), refl)) in
     let done : is_ended s.item.item es ≡ true = All-contains (λ (i : FormItem). is_ended i.item es ≡ true) form.items s.item ended there in
-    rest_after form es s.item s.at (and_right (nat_lt 0 (length (own es s.item))) (not (is_ended s.item.item es)) (not_from_true (is_ended s.item.item es) done))
+    rest_after form es s.item s.at (and_right (nat_lt 0 (length (own es s.item))) (not (is_ended s.item.item es))
+    (not_from_true (is_ended s.item.item es) done))
 
-nothing_to_do : (es : List Entry) (todo : List FormItem) → All (λ i. own es i ≡ []) todo → ((i : FormItem) → Contains todo i → is_ended i.item es ≡ true) → todo ≡ []
+nothing_to_do : (es : List Entry) (todo : List FormItem) → All (λ i. own es i ≡ []) todo → ((i : FormItem) → Contains todo i → is_ended i.item es ≡ true)
+    → todo ≡ []
 nothing_to_do es [] none ended = refl
 nothing_to_do es (i ∷ todo) none ended =
     let nothing : own es i ≡ [] = All-head (λ (j : FormItem). own es j ≡ []) i todo none in
     let done : is_ended i.item es ≡ true = ended i (Contains-append_left (i ∷ []) todo i (0, (omega arith), refl)) in
     absurd (false≢true (sym (ap (list_any is_end) nothing) ∙ done))
 
-closed_begins : (form : LaneForm) → IsDistinct is_same_form_item form.items → (front : List Record) (r : Record) → IsInForm form (front ++ r ∷ []) → content r ≡ Closing
+closed_begins : (form : LaneForm) → IsDistinct is_same_form_item form.items → (front : List Record) (r : Record) → IsInForm form (front ++ r ∷ [])
+    → content r ≡ Closing
     → IsBegunBy form (front ++ r ∷ []) (loads_by (contents front) form.items)
 closed_begins form once front r h closing =
     let es = contents front in
@@ -191,7 +205,8 @@ lists_in_form_are_beginnings form once records h = elim (cases_Bool (is_closed (
           | inl is ↦ closing_is (content p.last) is
           | inr other ↦
               let parts : contents records ≡ contents p.front ++ content p.last ∷ [] = ap contents p.is ∙ map-append content p.front (p.last ∷ []) in
-              let none : is_closed (contents p.front ++ content p.last ∷ []) ≡ false = list_any-append is_closing (contents p.front) (content p.last ∷ []) c.unclosed (or_none (is_closing (content p.last)) other) in
+              let none : is_closed (contents p.front ++ content p.last ∷ []) ≡ false =
+              list_any-append is_closing (contents p.front) (content p.last ∷ []) c.unclosed (or_none (is_closing (content p.last)) other) in
               absurd (both_ways (is_closed (contents records)) (ap is_closed parts ∙ none) closed)
         ] in
         let begun = closed_begins form once p.front p.last h' closing in

@@ -1,5 +1,6 @@
 -- The block of a small load is in form, record by record.
-use Rattle.std.proofs.Common.{◌≡◌, ℕ, ◌+◌, ◌<◌, ◌≤◌, Bool, true, false, cond, ltb, suc, ◌||◌, Some, None, Option, List, [], ◌∷◌, ◌++◌, inl, inr, refl, sym, ◌∙◌, ap, subst, length, get_or, append_assoc, length-append, arith}
+use Rattle.std.proofs.Common.{◌≡◌, ℕ, ◌+◌, ◌<◌, ◌≤◌, Bool, true, false, cond, ltb, suc, ◌||◌, Some, None, Option, List, [], ◌∷◌, ◌++◌, inl, inr, refl, sym, ◌∙◌}
+use Rattle.std.proofs.Common.{ap, subst, length, get_or, append_assoc, length-append, arith}
 use Rattle.std.specs.List.{All, AllPairs, fold, list_any, sum_by, count_by}
 use Rattle.std.specs.List.Sorted.{IsNonDecreasingBy}
 use Rattle.std.proofs.lemmas.Bool.{cases_Bool, ltb-true, ltb-false, le-leb, lt-leb, false≢true}
@@ -13,7 +14,8 @@ use Rattle.mrp_record.specs.Form.{FormItem, LaneForm, is_anew}
 use Rattle.mrp_record.specs.Laws.{IsSmall, form_item}
 use Rattle.mrp_record.specs.Text.{Load, total, running, early, late, block}
 use Rattle.mrp_record.proofs.Running.{early-append-late, running_unended}
-use Rattle.mrp_record.proofs.Tallies.{Tally, after, tally, start, LineGoesOn, EndGoesOn, ResetGoesOn, OwnForm, figure_is, closed_is, lines_is, next_is, anew_is, ended_is}
+use Rattle.mrp_record.proofs.Tallies.{Tally, after, tally, start, LineGoesOn, EndGoesOn, ResetGoesOn, OwnForm, figure_is, closed_is, lines_is, next_is, anew_is}
+use Rattle.mrp_record.proofs.Tallies.{ended_is}
 
 -- ---- totals
 
@@ -35,14 +37,25 @@ figure_running item first figure (line ∷ lines) =
 pub closed_running : (item first : ℕ) (lines : List Delivery) → sum_by closed_of (running item first lines) ≡ 0
 closed_running item first [] = refl
 closed_running item first (line ∷ lines) =
-    omega (arith, closed_running item (first + line.quantity) lines, sum_by-cons closed_of (LineOf item line.period line.quantity (first + line.quantity)) (running item (first + line.quantity) lines))
+    omega (
+      arith,
+      closed_running item (first + line.quantity) lines,
+      sum_by-cons closed_of (LineOf item line.period line.quantity (first + line.quantity))
+          (running item (first + line.quantity) lines),
+    )
 
 pub lines_running : (item first : ℕ) (lines : List Delivery) → count_by is_line (running item first lines) ≡ length lines
 lines_running item first [] = refl
 lines_running item first (line ∷ lines) =
-    omega (arith, lines_running item (first + line.quantity) lines, sum_by-cons (λ (e : Entry). cond (is_line e) 1 0) (LineOf item line.period line.quantity (first + line.quantity)) (running item (first + line.quantity) lines))
+    omega (
+      arith,
+      lines_running item (first + line.quantity) lines,
+      sum_by-cons (λ (e : Entry). cond (is_line e) 1 0)
+          (LineOf item line.period line.quantity (first + line.quantity)) (running item (first + line.quantity) lines),
+    )
 
-pub next_running : (item first next : ℕ) (lines : List Delivery) → fold next_after next (running item first lines) ≡ fold (λ (n : ℕ) (l : Delivery). l.period + 1) next lines
+pub next_running : (item first next : ℕ) (lines : List Delivery)
+    → fold next_after next (running item first lines) ≡ fold (λ (n : ℕ) (l : Delivery). l.period + 1) next lines
 next_running item first next [] = refl
 next_running item first next (line ∷ lines) = next_running item (first + line.quantity) (line.period + 1) lines
 
@@ -179,7 +192,8 @@ broken rising horizon items item opening from lines small =
     let first = early from lines in
     let second = late from lines in
     let whole = early-append-late from lines in
-    let inside : All (λ (l : Delivery). l.period < horizon) (first ++ second) = subst (λ (z : List Delivery). All (λ l. l.period < horizon) z) (sym whole) small.inside in
+    let inside : All (λ (l : Delivery). l.period < horizon) (first ++ second) =
+    subst (λ (z : List Delivery). All (λ l. l.period < horizon) z) (sym whole) small.inside in
     let some : All (λ (l : Delivery). 1 ≤ l.quantity) (first ++ second) = subst (λ (z : List Delivery). All (λ l. 1 ≤ l.quantity) z) (sym whole) small.some in
     let sums : total first + total second ≡ total lines = sym (sum_by-append (λ (l : Delivery). l.quantity) first second) ∙ ap total whole in
     let rising_all : rising ≡ true → RisesFrom 0 (first ++ second) =
@@ -216,7 +230,16 @@ broken rising horizon items item opening from lines small =
     } in
     let last : EndGoesOn i (tally t2 anew) (length lines) (total second) = record {
       unended = ended_is t2 anew ∙ ap (λ (b : Bool). b || list_any is_end anew) unended ∙ running_unended item 0 second;
-      count = omega (arith, lines_is t2 anew, lines_running item 0 second, lines_is t run, lines_running item opening first, length-append first second, ap length whole);
+      count = omega (
+        arith,
+        lines_is t2 anew,
+        lines_running item 0 second,
+        lines_is t run,
+        lines_running item opening first,
+        length-append first second,
+        ap
+            length whole,
+      );
       figure = omega (arith, figure_is t2 anew, figure_running item 0 0 second);
       side = λ _. anew_is t2 anew;
     } in
@@ -237,5 +260,6 @@ block_in_form rising horizon items load small =
         let form : LaneForm = record { rising = rising; horizon = horizon; items = items } in
         let i : FormItem = record { item = item; opening = opening; reset = Some from } in
         subst (OwnForm form i (start opening))
-        (sym (append_assoc (running item opening (early from lines)) (ResetOf item (opening + total (early from lines)) ∷ running item 0 (late from lines)) (EndOf item (length lines) (total (late from lines)) ∷ [])))
+        (sym (append_assoc (running item opening (early from lines)) (ResetOf item (opening + total (early from lines)) ∷ running item 0 (late from lines))
+        (EndOf item (length lines) (total (late from lines)) ∷ [])))
         (broken rising horizon items item opening from lines small)

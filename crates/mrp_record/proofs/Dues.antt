@@ -28,7 +28,8 @@ restarting true line e = refl
 restarting false None e = absurd (cc)
 restarting false (Some m) e = absurd (cc)
 
-pub line_is_due : (anew : Bool) (reset : Option ℕ) (line : Option NextLine) (l : NextLine) → due_of anew reset line ≡ Moving l → (line ≡ Some l) × (is_anew (reset_at anew reset) l.period ≡ false)
+pub line_is_due : (anew : Bool) (reset : Option ℕ) (line : Option NextLine) (l : NextLine) → due_of anew reset line ≡ Moving l
+    → (line ≡ Some l) × (is_anew (reset_at anew reset) l.period ≡ false)
 line_is_due true reset None l e = absurd (cc)
 line_is_due true reset (Some m) l e = let same : m ≡ l = cc in (ap Some same, refl)
 line_is_due false None None l e = absurd (cc)
@@ -38,7 +39,8 @@ line_is_due false (Some from) (Some m) l e =
     let parts = not_restarting (is_anew (Some from) m.period) m l e in
     (ap Some parts.1, subst (λ (z : NextLine). is_anew (Some from) z.period ≡ false) parts.1 parts.0)
 
-pub reset_is_due : (anew : Bool) (reset : Option ℕ) (line : Option NextLine) → due_of anew reset line ≡ Restarting → (anew ≡ false) × (is_reset_due reset line ≡ true)
+pub reset_is_due : (anew : Bool) (reset : Option ℕ) (line : Option NextLine) → due_of anew reset line ≡ Restarting
+    → (anew ≡ false) × (is_reset_due reset line ≡ true)
 reset_is_due true reset None e = absurd (cc)
 reset_is_due true reset (Some m) e = absurd (cc)
 reset_is_due false reset line e = (refl, restarting (is_reset_due reset line) line e)
@@ -51,7 +53,8 @@ end_is_due false None (Some m) e = absurd (cc)
 end_is_due false (Some from) None e = absurd (cc)
 end_is_due false (Some from) (Some m) e = absurd (never_ending (is_anew (Some from) m.period) m e)
 
-pub reset_is_next : (from : ℕ → List Delivery) (mark : ℕ) (reset : Option ℕ) (line : Option NextLine) → IsNextLine from mark line → is_reset_due reset line ≡ true
+pub reset_is_next : (from : ℕ → List Delivery) (mark : ℕ) (reset : Option ℕ) (line : Option NextLine) → IsNextLine from mark line
+    → is_reset_due reset line ≡ true
     → (period : ℕ) × (reset ≡ Some period) × IsResetNext period (from mark)
 reset_is_next from mark None None n d = absurd (cc)
 reset_is_next from mark None (Some m) n d = absurd (cc)

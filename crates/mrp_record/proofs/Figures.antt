@@ -35,15 +35,18 @@ cum_is_moved figure (ResetOf i c ∷ es) h =
 cum_is_moved figure (Closing ∷ es) h =
     omega (arith, cum_is_moved figure es h, sum_by-cons quantity_of Closing es, sum_by-cons closed_of Closing es)
 
-running_closes : (item figure reached : ℕ) (lines : List Delivery) (rest : List Entry) → reached ≡ figure + total lines → ClosesRight reached rest → ClosesRight figure (running item figure lines ++ rest)
+running_closes : (item figure reached : ℕ) (lines : List Delivery) (rest : List Entry) → reached ≡ figure + total lines → ClosesRight reached rest
+    → ClosesRight figure (running item figure lines ++ rest)
 running_closes item figure reached [] rest e h = let same : reached ≡ figure = omega arith in subst (λ (f : ℕ). ClosesRight f rest) same h
 running_closes item figure reached (line ∷ lines) rest e h =
     running_closes item (figure + line.quantity) reached lines rest (omega (arith, sum_by-cons (λ (l : Delivery). l.quantity) line lines)) h
 
 pub block_closes : (load : Load) → ClosesRight load.opening (block load)
 block_closes load =
-    elim load.reset as (λ reset. ClosesRight load.opening (body load.item load.opening reset load.lines ++ EndOf load.item (length load.lines) (last_figure load.opening reset load.lines) ∷ [])) [
-      | None ↦ running_closes load.item load.opening (load.opening + total load.lines) load.lines (EndOf load.item (length load.lines) (load.opening + total load.lines) ∷ []) refl tt
+    elim load.reset as (λ reset. ClosesRight load.opening (body load.item load.opening reset load.lines
+    ++ EndOf load.item (length load.lines) (last_figure load.opening reset load.lines) ∷ [])) [
+      | None ↦ running_closes load.item load.opening (load.opening + total load.lines) load.lines
+          (EndOf load.item (length load.lines) (load.opening + total load.lines) ∷ []) refl tt
       | Some from ↦
           let before = early from load.lines in
           let after = late from load.lines in
@@ -72,6 +75,7 @@ moved_within loads once records h load there =
     let own = entries_of load.item (contents records) in
     let rest = entries_of load.item h.rest in
     let all : own ++ rest ≡ block load = own_block loads once load there (contents records) h.rest h.text in
-    let sums : sum_by quantity_of own + sum_by quantity_of rest ≡ sum_by quantity_of (block load) = sym (sum_by-append quantity_of own rest) ∙ ap (sum_by quantity_of) all in
+    let sums : sum_by quantity_of own + sum_by quantity_of rest ≡ sum_by quantity_of (block load) =
+    sym (sum_by-append quantity_of own rest) ∙ ap (sum_by quantity_of) all in
     let whole : sum_by quantity_of (block load) ≡ total load.lines = moved_is_delivered (block load) ∙ ap total (block_delivers load) in
     omega (arith, sums, whole)

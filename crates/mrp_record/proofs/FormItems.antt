@@ -1,5 +1,6 @@
 -- The items of a lane, each once.
-use Rattle.std.proofs.Common.{◌≡◌, ℕ, ◌+◌, ◌<◌, ◌==◌, Bool, true, false, cond, zero, suc, Some, List, [], ◌∷◌, ◌++◌, inl, inr, refl, sym, ◌∙◌, ap, length, get_or, arith}
+use Rattle.std.proofs.Common.{◌≡◌, ℕ, ◌+◌, ◌<◌, ◌==◌, Bool, true, false, cond, zero, suc, Some, List, [], ◌∷◌, ◌++◌, inl, inr, refl, sym, ◌∙◌, ap, length}
+use Rattle.std.proofs.Common.{get_or, arith}
 use Rattle.std.specs.List.{All, AllByRecursion, Contains, IsDistinct, find, list_any}
 use Rattle.std.specs.List.Sorted.{IsPermutation}
 use Rattle.std.proofs.lemmas.Bool.{cases_Bool, eqb-true, eqb-false, ne_eqb, false≢true, or_parts}
@@ -69,9 +70,11 @@ found_self (j ∷ items) i once there =
           there.2
     ]
   where
-    apart : (j : FormItem) (items : List FormItem) (i : FormItem) → AllByRecursion (λ other. is_same_form_item j other ≡ false) items → Contains items i → (j.item == i.item) ≡ true → ⊥
+    apart : (j : FormItem) (items : List FormItem) (i : FormItem) → AllByRecursion (λ other. is_same_form_item j other ≡ false) items → Contains items i
+        → (j.item == i.item) ≡ true → ⊥
     apart j items i all there same =
-        let all' : All (λ (other : FormItem). is_same_form_item j other ≡ false) items = All-from_recursion (λ (other : FormItem). is_same_form_item j other ≡ false) items all in
+        let all' : All (λ (other : FormItem). is_same_form_item j other ≡ false) items =
+        All-from_recursion (λ (other : FormItem). is_same_form_item j other ≡ false) items all in
         let no : (j.item == i.item) ≡ false = All-contains (λ (other : FormItem). is_same_form_item j other ≡ false) items i all' there in
         false≢true (sym no ∙ same)
 
@@ -92,7 +95,8 @@ none_counted item (j ∷ items) h =
     ]
 
 -- after an item in any order of the items the others are apart from it
-pub apart_after : (items done todo : List FormItem) (i : FormItem) → IsDistinct is_same_form_item items → IsPermutation items (done ++ i ∷ todo) → All (λ j. (i.item == j.item) ≡ false) todo
+pub apart_after : (items done todo : List FormItem) (i : FormItem) → IsDistinct is_same_form_item items → IsPermutation items (done ++ i ∷ todo)
+    → All (λ j. (i.item == j.item) ≡ false) todo
 apart_after items done todo i distinct order =
     let few = once.at_most_one (λ i. i.item) i.item items distinct in
     let same = sum_by-IsPermutation (λ (j : FormItem). cond (j.item == i.item) 1 0) items (done ++ i ∷ todo) order in

@@ -1,5 +1,6 @@
 -- A legal beginning of small loads is in form, and no figure in it is above 10^15.
-use Rattle.std.proofs.Common.{◌≡◌, ℕ, ◌+◌, ◌≤◌, ◌==◌, Bool, true, false, cond, Some, None, Option, List, [], ◌∷◌, ◌++◌, inl, inr, refl, sym, ◌∙◌, ap, subst, length, take, drop, get_or, map, length-append, arith}
+use Rattle.std.proofs.Common.{◌≡◌, ℕ, ◌+◌, ◌≤◌, ◌==◌, Bool, true, false, cond, Some, None, Option, List, [], ◌∷◌, ◌++◌, inl, inr, refl, sym, ◌∙◌, ap, subst}
+use Rattle.std.proofs.Common.{length, take, drop, get_or, map, length-append, arith}
 use Rattle.std.specs.Prelude.{nat_lt, not, ◌&&◌, IsSomeAnd}
 use Rattle.std.specs.List.{All, Contains, find, flat_map, fold, list_any, sum_by, count_by}
 use Rattle.std.specs.List.Sorted.{IsPermutation}
@@ -10,7 +11,8 @@ use Rattle.std.proofs.lemmas.List.Sums.{sum_by-append, count_by-le-length, lengt
 use Rattle.std.proofs.lemmas.List.Sorted.{IsPermutation-sym}
 use Rattle.mrp_qty.specs.declared.quantity.TheConstants.{MOST}
 use Rattle.mrp_record.specs.declared.record.Record.{Record}
-use Rattle.mrp_record.specs.Entries.{Entry, LineOf, EndOf, ResetOf, Closing, number_of, content, contents, is_of, is_end, is_closing, figure_after, closed_of, entries_of, is_ended, is_closed, in_force, cum}
+use Rattle.mrp_record.specs.Entries.{Entry, LineOf, EndOf, ResetOf, Closing, number_of, content, contents, is_of, is_end, is_closing, figure_after, closed_of}
+use Rattle.mrp_record.specs.Entries.{entries_of, is_ended, is_closed, in_force, cum}
 use Rattle.mrp_record.specs.Blocks.{is_line, is_reset, next_after, is_open, line_count}
 use Rattle.mrp_record.specs.Form.{FormItem, LaneForm, item_on, is_other_open, LineFits, EndFits, ResetFits, GoesOn, EntryFits}
 use Rattle.mrp_record.specs.Laws.{AreLoads, IsSmall, AreSmall, form_item, loads_form, BeginningsAreInForm, HasSmallFigures, FiguresAreSmall, CumsAreSmall}
@@ -18,7 +20,8 @@ use Rattle.mrp_record.specs.Text.{Load, body, block, last_figure, text_of, IsBeg
 use Rattle.mrp_record.proofs.Beginnings.{number_at, contents_parts, fronts_are_beginnings, beginnings_are_no_longer}
 use Rattle.mrp_record.proofs.BlockForm.{block_in_form}
 use Rattle.mrp_record.proofs.Figures.{cum_is_opening_and_moved, moved_within}
-use Rattle.mrp_record.proofs.Loads.{In, In-append, In-from_contains, Contains-from_in, In-permutation, load_count, count_own, at_most_one, count_permuted, item_found, no_block, one_block}
+use Rattle.mrp_record.proofs.Loads.{In, In-append, In-from_contains, Contains-from_in, In-permutation, load_count, count_own, at_most_one, count_permuted}
+use Rattle.mrp_record.proofs.Loads.{item_found, no_block, one_block}
 use Rattle.mrp_record.proofs.Own.{AllOf, AllOf-block, AllOf-front, own_kept, others_left, none_closing, list_any-append}
 use Rattle.mrp_record.proofs.Standing.{IsWithin, stands}
 use Rattle.mrp_record.proofs.Tallies.{tally, start, OwnForm, OwnGoesOn, own_at, figure_is, closed_is, lines_is, next_is, anew_is, ended_is}
@@ -55,7 +58,8 @@ blocks_not_open : (item : ℕ) (loads : List Load) → opens (entries_of item (f
 blocks_not_open item [] = refl
 blocks_not_open item (load ∷ loads) =
     let rest = entries_of item (flat_map block loads) in
-    let parts : entries_of item (flat_map block (load ∷ loads)) ≡ entries_of item (block load) ++ rest = filter-append (is_of item) (block load) (flat_map block loads) in
+    let parts : entries_of item (flat_map block (load ∷ loads)) ≡ entries_of item (block load) ++ rest =
+    filter-append (is_of item) (block load) (flat_map block loads) in
     elim (cases_Bool (load.item == item)) [
       | inl own ↦
           let kept : entries_of load.item (block load) ≡ block load = own_kept load.item (block load) (AllOf-block load) in
@@ -72,7 +76,8 @@ blocks_not_open item (load ∷ loads) =
 -- ---- a record of a block fits after whole blocks and the records before it
 
 pub entry_fits : (form : LaneForm) (i : FormItem) (before own : List Entry) (e : Entry) → item_on form i.item ≡ Some i → entries_of i.item before ≡ own
-    → is_other_open form i.item before ≡ false → ((other : ℕ) → is_of other e ≡ (i.item == other)) → OwnGoesOn form i (tally (start i.opening) own) e → EntryFits form before e
+    → is_other_open form i.item before ≡ false → ((other : ℕ) → is_of other e ≡ (i.item == other)) → OwnGoesOn form i (tally (start i.opening) own) e
+    → EntryFits form before e
 entry_fits form i before own (LineOf item p q c) found mine alone is h =
     let t = start i.opening in
     let same : i.item ≡ item = eqb-true i.item item (sym (is item) ∙ eq-eqb item item refl) in
@@ -126,7 +131,8 @@ record IsPlaced (loads : List Load) (before : List Entry) (w_load : Load) (done 
   own : AllOf w_load.item part
   is : before ≡ flat_map block done ++ part
 
-placed_own : (loads : List Load) (before : List Entry) (load : Load) (done : List Load) (part : List Entry) → IsPlaced loads before load done part → entries_of load.item before ≡ part
+placed_own : (loads : List Load) (before : List Entry) (load : Load) (done : List Load) (part : List Entry) → IsPlaced loads before load done part
+    → entries_of load.item before ≡ part
 placed_own loads before load done part h =
     let earlier : entries_of load.item (flat_map block done) ≡ [] = no_block load.item done h.none in
     ap (entries_of load.item) h.is
@@ -134,7 +140,8 @@ placed_own loads before load done part h =
     ∙ ap (λ (z : List Entry). z ++ entries_of load.item part) earlier
     ∙ own_kept load.item part h.own
 
-placed_alone : (rising : Bool) (horizon : ℕ) (loads : List Load) (before : List Entry) (load : Load) (done : List Load) (part : List Entry) → IsPlaced loads before load done part
+placed_alone : (rising : Bool) (horizon : ℕ) (loads : List Load) (before : List Entry) (load : Load) (done : List Load) (part : List Entry)
+    → IsPlaced loads before load done part
     → is_other_open (loads_form rising horizon loads) load.item before ≡ false
 placed_alone rising horizon loads before load done part h =
     none_of_them (λ (other : FormItem). not (other.item == load.item) && is_open other.item before) (map form_item loads)
@@ -154,7 +161,8 @@ placed_alone rising horizon loads before load done part h =
     both_apart : (a b : ℕ) → (a == b) ≡ false → a ≡ b → ⊥
     both_apart a b ne e = eqb-false a b ne e
 
-placed : (loads : List Load) → AreLoads loads → (order : List Load) → IsPermutation loads order → (entries rest : List Entry) → (w : IsWithin order entries rest)
+placed : (loads : List Load) → AreLoads loads → (order : List Load) → IsPermutation loads order → (entries rest : List Entry)
+    → (w : IsWithin order entries rest)
     → IsPlaced loads entries w.load w.done w.part
 placed loads once order permuted entries rest w =
     let few = at_most_one w.load.item loads once in
@@ -179,7 +187,8 @@ record EntryGoesOn (form : LaneForm) (before : List Entry) (e : Entry) : Type 0 
   unclosed : is_closed before ≡ false
   fits : EntryFits form before e
 
-within_goes_on : (rising : Bool) (horizon : ℕ) (loads : List Load) → AreLoads loads → All (IsSmall rising horizon) loads → (order : List Load) → IsPermutation loads order
+within_goes_on : (rising : Bool) (horizon : ℕ) (loads : List Load) → AreLoads loads → All (IsSmall rising horizon) loads → (order : List Load)
+    → IsPermutation loads order
     → (before rest : List Entry) (e : Entry) (w : IsWithin order before (e ∷ rest)) → EntryGoesOn (loads_form rising horizon loads) before e
 within_goes_on rising horizon loads once small order permuted before rest e w =
     let form = loads_form rising horizon loads in
@@ -190,7 +199,8 @@ within_goes_on rising horizon loads once small order permuted before rest e w =
     let goes = own_at form (form_item w.load) (start w.load.opening) w.part w.more e
     (subst (OwnForm form (form_item w.load) (start w.load.opening)) block_is (block_in_form rising horizon (map form_item loads) w.load fit)) in
     record {
-      unclosed = ap is_closed w.is ∙ list_any-append is_closing (flat_map block w.done) w.part (blocks_unclosed w.done) (none_closing w.load.item w.part at.own);
+      unclosed = ap is_closed w.is ∙ list_any-append is_closing (flat_map block w.done) w.part (blocks_unclosed w.done)
+          (none_closing w.load.item w.part at.own);
       fits =
           entry_fits form (form_item w.load) before w.part e (item_found w.load loads at.among at.few) (placed_own loads before w.load w.done w.part at)
           (placed_alone rising horizon loads before w.load w.done w.part at)
@@ -214,7 +224,8 @@ closing_goes_on rising horizon loads once order permuted before is =
           (All-weaker (Contains loads) (λ (load : Load). is_ended load.item before ≡ true) ended loads (All-contains_itself loads));
     }
 
-goes_on : (rising : Bool) (horizon : ℕ) (loads : List Load) → AreLoads loads → All (IsSmall rising horizon) loads → (order : List Load) → IsPermutation loads order
+goes_on : (rising : Bool) (horizon : ℕ) (loads : List Load) → AreLoads loads → All (IsSmall rising horizon) loads → (order : List Load)
+    → IsPermutation loads order
     → (before rest : List Entry) (e : Entry) → before ++ e ∷ rest ≡ text_of order → EntryGoesOn (loads_form rising horizon loads) before e
 goes_on rising horizon loads once small order permuted before rest e split = elim (stands order before (e ∷ rest) split) [
   | inl w ↦ within_goes_on rising horizon loads once small order permuted before rest e w
@@ -229,7 +240,8 @@ goes_on rising horizon loads once small order permuted before rest e split = eli
 pub beginnings_are_in_form : BeginningsAreInForm
 beginnings_are_in_form rising horizon loads once small records h before after r is =
     let h' : IsBeginning loads (before ++ r ∷ after) = subst (IsBeginning loads) is h in
-    let split : contents before ++ (content r ∷ (contents after ++ h'.rest)) ≡ text_of h'.text.order = sym (contents_parts before (r ∷ after) h'.rest) ∙ h'.text.is in
+    let split : contents before ++ (content r ∷ (contents after ++ h'.rest)) ≡ text_of h'.text.order =
+    sym (contents_parts before (r ∷ after) h'.rest) ∙ h'.text.is in
     let goes = goes_on rising horizon loads once small.0 h'.text.order h'.text.once (contents before) (contents after ++ h'.rest) (content r) split in
     let number = number_at 1 before after r h'.numbered in
     record {
@@ -258,7 +270,8 @@ record IsLoaded (loads : List Load) (i : FormItem) : Type 0 where
   there : Contains loads load
   is : i ≡ form_item load
 
-loaded : (loads all : List Load) (item : ℕ) (i : FormItem) → ((load : Load) → In load loads → In load all) → find (λ (j : FormItem). j.item == item) (map form_item loads) ≡ Some i → IsLoaded all i
+loaded : (loads all : List Load) (item : ℕ) (i : FormItem) → ((load : Load) → In load loads → In load all)
+    → find (λ (j : FormItem). j.item == item) (map form_item loads) ≡ Some i → IsLoaded all i
 loaded [] all item i among found = absurd (cc)
 loaded (load ∷ loads) all item i among found =
     elim (cases_Bool (load.item == item)) [
@@ -270,18 +283,21 @@ loaded (load ∷ loads) all item i among found =
           loaded loads all item i (λ other there. among other (inr there)) later
     ]
 
-in_force_small : (rising : Bool) (horizon : ℕ) (loads : List Load) → AreLoads loads → AreSmall rising horizon loads → (before : List Record) → IsBeginning loads before → (i : FormItem) → IsLoaded loads i
+in_force_small : (rising : Bool) (horizon : ℕ) (loads : List Load) → AreLoads loads → AreSmall rising horizon loads → (before : List Record)
+    → IsBeginning loads before → (i : FormItem) → IsLoaded loads i
     → in_force i.opening i.item (contents before) ≤ MOST
 in_force_small rising horizon loads once small before h i l =
     let all : cum i.opening i.item (contents before) ≤ MOST =
-    subst (λ (j : FormItem). cum j.opening j.item (contents before) ≤ MOST) (sym l.is) (cums_are_small rising horizon loads once small before h l.load l.there) in
+    subst (λ (j : FormItem). cum j.opening j.item (contents before) ≤ MOST) (sym l.is) (cums_are_small rising horizon loads once small before h l.load l.there)
+    in
     omega (arith, all)
 
 count_few : (item : ℕ) (es : List Entry) → line_count item es ≤ length es
 count_few item es =
     omega (arith, count_by-le-length is_line (entries_of item es), length-filter (is_of item) es, count_by-le-length (is_of item) es)
 
-figures_fit : (form : LaneForm) (before : List Entry) (e : Entry) → ((i : FormItem) (item : ℕ) → item_on form item ≡ Some i → in_force i.opening i.item before ≤ MOST) → length before ≤ MOST
+figures_fit : (form : LaneForm) (before : List Entry) (e : Entry)
+    → ((i : FormItem) (item : ℕ) → item_on form item ≡ Some i → in_force i.opening i.item before ≤ MOST) → length before ≤ MOST
     → EntryFits form before e → HasSmallFigures e
 figures_fit form before (LineOf item p q c) figures few fits = line (item_on form item) fits
   where
@@ -290,12 +306,14 @@ figures_fit form before (LineOf item p q c) figures few fits = line (item_on for
     line (Some i) h = let f : LineFits form i before p q c = h.1 in (omega (arith, f.small, f.figure), omega (arith, f.small))
 figures_fit form before (EndOf item n c) figures few fits = end (item_on form item) (λ i e. figures i item e) fits
   where
-    end : (o : Option FormItem) → ((i : FormItem) → o ≡ Some i → in_force i.opening i.item before ≤ MOST) → IsSomeAnd o (λ i. GoesOn form i before × EndFits i before n c) → (n ≤ MOST) × (c ≤ MOST)
+    end : (o : Option FormItem) → ((i : FormItem) → o ≡ Some i → in_force i.opening i.item before ≤ MOST)
+        → IsSomeAnd o (λ i. GoesOn form i before × EndFits i before n c) → (n ≤ MOST) × (c ≤ MOST)
     end None g h = absurd h
     end (Some i) g h = let f : EndFits i before n c = h.1 in (omega (arith, f.count, count_few i.item before), omega (arith, f.figure, g i refl))
 figures_fit form before (ResetOf item c) figures few fits = anew (item_on form item) (λ i e. figures i item e) fits
   where
-    anew : (o : Option FormItem) → ((i : FormItem) → o ≡ Some i → in_force i.opening i.item before ≤ MOST) → IsSomeAnd o (λ i. GoesOn form i before × ResetFits i before c) → c ≤ MOST
+    anew : (o : Option FormItem) → ((i : FormItem) → o ≡ Some i → in_force i.opening i.item before ≤ MOST)
+        → IsSomeAnd o (λ i. GoesOn form i before × ResetFits i before c) → c ≤ MOST
     anew None g h = absurd h
     anew (Some i) g h = let f : ResetFits i before c = h.1 in omega (arith, f.figure, g i refl)
 figures_fit form before Closing figures few fits = tt

@@ -1,5 +1,6 @@
 -- A list in form, record by record, and what each record adds to those of its item.
-use Rattle.std.proofs.Common.{◌≡◌, ℕ, ◌+◌, ◌==◌, true, false, Some, Option, List, [], ◌∷◌, ◌++◌, ◌⊎◌, inl, inr, refl, sym, ◌∙◌, ap, subst, length, append_assoc, length-append, arith}
+use Rattle.std.proofs.Common.{◌≡◌, ℕ, ◌+◌, ◌==◌, true, false, Some, Option, List, [], ◌∷◌, ◌++◌, ◌⊎◌, inl, inr, refl, sym, ◌∙◌, ap, subst, length, append_assoc}
+use Rattle.std.proofs.Common.{length-append, arith}
 use Rattle.std.specs.Prelude.{IsSomeAnd}
 use Rattle.std.proofs.lemmas.Bool.{cases_Bool, eqb-true, false≢true}
 use Rattle.std.proofs.lemmas.List.{append-nil, map-append}
@@ -13,7 +14,8 @@ use Rattle.mrp_record.proofs.Tallies.{Tally, after, tally, start, OwnGoesOn, Own
 
 -- ---- record by record
 
-further : (form : LaneForm) (P : List Entry → Type 0) → ((before : List Record) (r : Record) → Continues form before r → P (contents before) → P (contents before ++ content r ∷ []))
+further : (form : LaneForm) (P : List Entry → Type 0) → ((before : List Record) (r : Record) → Continues form before r → P (contents before)
+    → P (contents before ++ content r ∷ []))
     → (before after : List Record) → IsInForm form (before ++ after) → P (contents before) → P (contents (before ++ after))
 further form P step before [] h p = subst (λ (z : List Record). P (contents z)) (sym (append-nil before)) p
 further form P step before (r ∷ after) h p =
@@ -22,7 +24,8 @@ further form P step before (r ∷ after) h p =
     subst (λ (z : List Record). P (contents z)) same (further form P step (before ++ r ∷ []) after (subst (IsInForm form) (sym same) h) more)
 
 -- what holds of no records, and after each record if before it, holds of a list in form
-pub grow : (form : LaneForm) (P : List Entry → Type 0) → P [] → ((before : List Record) (r : Record) → Continues form before r → P (contents before) → P (contents before ++ content r ∷ []))
+pub grow : (form : LaneForm) (P : List Entry → Type 0) → P [] → ((before : List Record) (r : Record) → Continues form before r → P (contents before)
+    → P (contents before ++ content r ∷ []))
     → (records : List Record) → IsInForm form records → P (contents records)
 grow form P first step records h = further form P step [] records h first
 
@@ -85,7 +88,8 @@ own_all item (e ∷ es) = elim (cases_Bool (is_of item e)) [
 
 -- ---- each goes on from those before it
 
-own_form_pushed : (form : LaneForm) (i : FormItem) (t : Tally) (own : List Entry) (e : Entry) → OwnForm form i t own → OwnGoesOn form i (tally t own) e → OwnForm form i t (own ++ e ∷ [])
+own_form_pushed : (form : LaneForm) (i : FormItem) (t : Tally) (own : List Entry) (e : Entry) → OwnForm form i t own → OwnGoesOn form i (tally t own) e
+    → OwnForm form i t (own ++ e ∷ [])
 own_form_pushed form i t [] e h g = (g, tt)
 own_form_pushed form i t (x ∷ own) e h g = (h.0, own_form_pushed form i (after t x) own e h.1 g)
 
@@ -93,7 +97,8 @@ own_goes_on : (form : LaneForm) (i : FormItem) (es : List Entry) (e : Entry) →
     → OwnGoesOn form i (tally (start i.opening) (entries_of i.item es)) e
 own_goes_on form i es (LineOf item p q c) found own fits =
     let same : item_on form item ≡ Some i = ap (item_on form) (eqb-true item i.item own) ∙ found in
-    let f : GoesOn form i es × LineFits form i es p q c = subst (λ (o : Option FormItem). IsSomeAnd o (λ i. GoesOn form i es × LineFits form i es p q c)) same fits in
+    let f : GoesOn form i es × LineFits form i es p q c = subst (λ (o : Option FormItem). IsSomeAnd o (λ i. GoesOn form i es × LineFits form i es p q c)) same
+    fits in
     let t = start i.opening in
     let mine = entries_of i.item es in
     record {
@@ -130,7 +135,8 @@ own_goes_on form i es (ResetOf item c) found own fits =
 own_goes_on form i es Closing found own fits = absurd (false≢true own)
 
 -- the records of an item in a list in form
-pub own_forms : (form : LaneForm) (records : List Record) → IsInForm form records → (i : FormItem) → item_on form i.item ≡ Some i → OwnForm form i (start i.opening) (entries_of i.item (contents records))
+pub own_forms : (form : LaneForm) (records : List Record) → IsInForm form records → (i : FormItem) → item_on form i.item ≡ Some i
+    → OwnForm form i (start i.opening) (entries_of i.item (contents records))
 own_forms form records h i found =
     grow form (λ es. OwnForm form i (start i.opening) (entries_of i.item es)) tt
     (λ before r c mine.

@@ -1,5 +1,6 @@
 -- The loads of a lane: each item has one, and the records of an item are those of its block.
-use Rattle.std.proofs.Common.{◌≡◌, ℕ, ◌+◌, ◌<◌, ◌≤◌, ◌==◌, true, false, cond, zero, suc, Some, List, [], ◌∷◌, ◌++◌, ◌⊎◌, inl, inr, refl, sym, ◌∙◌, ap, subst, length, get_or, map, arith}
+use Rattle.std.proofs.Common.{◌≡◌, ℕ, ◌+◌, ◌<◌, ◌≤◌, ◌==◌, true, false, cond, zero, suc, Some, List, [], ◌∷◌, ◌++◌, ◌⊎◌, inl, inr, refl, sym, ◌∙◌, ap, subst}
+use Rattle.std.proofs.Common.{length, get_or, map, arith}
 use Rattle.std.specs.List.{Contains, flat_map, find}
 use Rattle.std.specs.List.Sorted.{IsPermutation}
 use Rattle.std.proofs.lemmas.Bool.{eq-eqb, eqb-true, cases_Bool}
@@ -71,7 +72,8 @@ pub count_permuted : (item : ℕ) (loads order : List Load) → IsPermutation lo
 count_permuted item loads order h = sum_by-IsPermutation (λ (l : Load). cond (l.item == item) 1 0) loads order h
 
 -- the item of a load is found among the items of the lane
-pub item_found : (load : Load) (loads : List Load) → In load loads → load_count load.item loads ≤ 1 → find (λ (i : FormItem). i.item == load.item) (map form_item loads) ≡ Some (form_item load)
+pub item_found : (load : Load) (loads : List Load) → In load loads → load_count load.item loads ≤ 1
+    → find (λ (i : FormItem). i.item == load.item) (map form_item loads) ≡ Some (form_item load)
 item_found load [] h few = absurd h
 item_found load (first ∷ loads) h few = elim h [
   | inl e ↦
@@ -122,4 +124,5 @@ one_block load (first ∷ loads) h few =
 
 pub text_block : (load : Load) (loads : List Load) → In load loads → load_count load.item loads ≤ 1 → entries_of load.item (text_of loads) ≡ block load
 text_block load loads h few =
-    filter-append (is_of load.item) (flat_map block loads) (Closing ∷ []) ∙ append-nil (entries_of load.item (flat_map block loads)) ∙ one_block load loads h few
+    filter-append (is_of load.item) (flat_map block loads) (Closing ∷ []) ∙ append-nil (entries_of load.item (flat_map block loads))
+    ∙ one_block load loads h few

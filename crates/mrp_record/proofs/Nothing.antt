@@ -1,5 +1,6 @@
 -- Where a cursor gives no record none can be sent.
-use Rattle.std.proofs.Common.{◌≡◌, ℕ, ◌<◌, ◌≤◌, cond, Bool, true, false, Some, None, List, [], ◌∷◌, ◌++◌, ◌⊎◌, inl, inr, refl, sym, ◌∙◌, ap, subst, length, take, drop, suc, length-append, arith}
+use Rattle.std.proofs.Common.{◌≡◌, ℕ, ◌<◌, ◌≤◌, cond, Bool, true, false, Some, None, List, [], ◌∷◌, ◌++◌, ◌⊎◌, inl, inr, refl, sym, ◌∙◌, ap, subst, length}
+use Rattle.std.proofs.Common.{take, drop, suc, length-append, arith}
 use Rattle.std.specs.Prelude.{slice_get, nat_lt, ◌||◌}
 use Rattle.std.specs.List.{Contains, list_any, filter}
 use Rattle.std.proofs.lemmas.Bool.{cases_Bool, or_cases, ltb-true, eq-eqb}
@@ -22,7 +23,8 @@ use Rattle.mrp_record.proofs.Lists.{none_there, contains_there}
 use Rattle.mrp_record.proofs.Texts.{sizes_are, blocks_there, load_at, later_blocks, whole_text, open_text}
 
 -- all queued blocks were sent
-all_sent : (goods : ℕ → Goods) (o : OutFigures) (sent : List Record) → ShowsSent goods o sent → o.closed ≡ false → o.head ≡ length o.queue → contents sent ≡ blocks goods o.queue
+all_sent : (goods : ℕ → Goods) (o : OutFigures) (sent : List Record) → ShowsSent goods o sent → o.closed ≡ false → o.head ≡ length o.queue
+    → contents sent ≡ blocks goods o.queue
 all_sent goods o sent h is_open all =
     h.text
     ∙ ap (λ (z : List Entry). blocks goods (take o.head o.queue) ++ z) (h.between is_open all).0
@@ -65,7 +67,8 @@ none_kept item e own none =
     let kept : entries_of item (e ∷ []) ≡ e ∷ [] = ap (λ (b : Bool). cond b (e ∷ []) []) own in
     cc
 
-no_record_of : (goods : ℕ → Goods) (o : OutFigures) (sent : List Record) (r : Record) (item : ℕ) → contents sent ≡ blocks goods o.queue → IsQueued goods o item → is_of item (content r) ≡ true
+no_record_of : (goods : ℕ → Goods) (o : OutFigures) (sent : List Record) (r : Record) (item : ℕ) → contents sent ≡ blocks goods o.queue → IsQueued goods o item
+    → is_of item (content r) ≡ true
     → (loads : List Load) → AreLoads loads → Agrees goods o loads → IsBeginning loads (sent ++ r ∷ []) → ⊥
 no_record_of goods o sent r item all q own loads once agrees begins =
     let load = goods_load (goods q.place) in
@@ -82,14 +85,16 @@ some_block d loads (place ∷ later) h =
     let load = load_at d loads place in
     omega (arith, length-append (block load) (later_blocks d loads later), length-block load)
 
-no_closing_record : (goods : ℕ → Goods) (o : OutFigures) (sent : List Record) (r : Record) → (h : ShowsSent goods o sent) → contents sent ≡ blocks goods o.queue → 1 ≤ length h.later → content r ≡ Closing
+no_closing_record : (goods : ℕ → Goods) (o : OutFigures) (sent : List Record) (r : Record) → (h : ShowsSent goods o sent) → contents sent ≡ blocks goods o.queue
+    → 1 ≤ length h.later → content r ≡ Closing
     → (loads : List Load) → Agrees goods o loads → IsBeginning loads (sent ++ r ∷ []) → ⊥
 no_closing_record goods o sent r h all some closing loads agrees begins =
     let d = goods_load (goods 0) in
     let blocks_left = later_blocks d loads h.later in
     let whole = closed_is_whole loads sent r closing begins in
     let one = texts_have_one_length loads (contents (sent ++ r ∷ [])) whole.text in
-    let other = texts_have_one_length loads (contents sent ++ (blocks_left ++ Closing ∷ [])) (open_text goods o sent h [] (append-nil (contents sent) ∙ all) loads agrees) in
+    let other = texts_have_one_length loads (contents sent ++ (blocks_left ++ Closing ∷ []))
+    (open_text goods o sent h [] (append-nil (contents sent) ∙ all) loads agrees) in
     omega (
       arith,
       one,
@@ -104,7 +109,8 @@ no_closing_record goods o sent r h all some closing loads agrees begins =
 
 -- ---- none at all
 
-no_more : (goods : ℕ → Goods) (o : OutFigures) (sent : List Record) → ShowsSent goods o sent → o.closed ≡ true → (loads : List Load) → Agrees goods o loads → (r : Record) → IsBeginning loads (sent ++ r ∷ []) → ⊥
+no_more : (goods : ℕ → Goods) (o : OutFigures) (sent : List Record) → ShowsSent goods o sent → o.closed ≡ true → (loads : List Load) → Agrees goods o loads
+    → (r : Record) → IsBeginning loads (sent ++ r ∷ []) → ⊥
 no_more goods o sent h closed loads agrees r begins =
     omega (
       arith,
@@ -118,7 +124,8 @@ none_is_given : (b : Bool) (c : Record) → cond b None (Some c) ≡ None → b 
 none_is_given true c e = refl
 none_is_given false c e = absurd (cc)
 
-nothing_open : (goods : ℕ → Goods) (o : OutFigures) (sent : List Record) → ShowsSent goods o sent → slice_get o.queue o.head ≡ None → o.closed ≡ false → o.head < o.size
+nothing_open : (goods : ℕ → Goods) (o : OutFigures) (sent : List Record) → ShowsSent goods o sent → slice_get o.queue o.head ≡ None → o.closed ≡ false
+    → o.head < o.size
     → (loads : List Load) → AreLoads loads → Agrees goods o loads → (r : Record) → MaySend goods o (content r) → IsBeginning loads (sent ++ r ∷ []) → ⊥
 nothing_open goods o sent h left is_open more loads once agrees r may begins =
     let all : o.head ≡ length o.queue = omega (arith, h.head, none_there o.queue o.head left) in

@@ -1,12 +1,15 @@
 -- A list in form is the records of its items in the order of their blocks: whole blocks, and then the block that goes on.
-use Rattle.std.proofs.Common.{◌≡◌, ℕ, ◌==◌, true, false, not, ◌&&◌, Some, None, Option, List, [], ◌∷◌, ◌++◌, ◌⊎◌, inl, inr, refl, sym, ◌∙◌, ap, subst, length, get_or, append_assoc, arith}
+use Rattle.std.proofs.Common.{◌≡◌, ℕ, ◌==◌, true, false, not, ◌&&◌, Some, None, Option, List, [], ◌∷◌, ◌++◌, ◌⊎◌, inl, inr, refl, sym, ◌∙◌, ap, subst, length}
+use Rattle.std.proofs.Common.{get_or, append_assoc, arith}
 use Rattle.std.specs.Prelude.{nat_lt, IsSomeAnd}
 use Rattle.std.specs.List.{All, Contains, IsDistinct, flat_map, list_any, remove}
 use Rattle.std.specs.List.Sorted.{IsPermutation}
 use Rattle.std.proofs.lemmas.Bool.{cases_Bool, eq-eqb, eqb-true, ne_eqb, and_cases, not_from_false, both_ways, false≢true, ltb-false, or_parts}
 use Rattle.std.proofs.lemmas.List.{append-nil, flat_map_more}
-use Rattle.std.proofs.lemmas.List.Elements.{All-nil, All-cons, All-head, All-tail, All-push, All-contains, All-weaker, Contains-append_cases, Contains-append_right}
-use Rattle.std.proofs.lemmas.List.Sorted.{IsPermutation-refl, IsPermutation-sym, IsPermutation-trans, IsPermutation-append_right, IsPermutation-remove, All-permutation, Contains-permutation}
+use Rattle.std.proofs.lemmas.List.Elements.{All-nil, All-cons, All-head, All-tail, All-push, All-contains, All-weaker, Contains-append_cases}
+use Rattle.std.proofs.lemmas.List.Elements.{Contains-append_right}
+use Rattle.std.proofs.lemmas.List.Sorted.{IsPermutation-refl, IsPermutation-sym, IsPermutation-trans, IsPermutation-append_right, IsPermutation-remove}
+use Rattle.std.proofs.lemmas.List.Sorted.{All-permutation, Contains-permutation}
 use Rattle.mrp_record.specs.declared.record.Record.{Record}
 use Rattle.mrp_record.specs.Entries.{Entry, LineOf, EndOf, ResetOf, Closing, content, contents, is_of, is_end, is_closing, entries_of, is_ended, is_closed}
 use Rattle.mrp_record.specs.Blocks.{is_open}
@@ -131,10 +134,12 @@ to_item form es i there goes h = elim h [
 -- ---- one record more
 
 -- items that aren't the record's keep theirs
-kept : (es : List Entry) (e : Entry) (item : ℕ) → ((other : ℕ) → is_of other e ≡ (item == other)) → (j : FormItem) → (item == j.item) ≡ false → own (es ++ e ∷ []) j ≡ own es j
+kept : (es : List Entry) (e : Entry) (item : ℕ) → ((other : ℕ) → is_of other e ≡ (item == other)) → (j : FormItem) → (item == j.item) ≡ false
+    → own (es ++ e ∷ []) j ≡ own es j
 kept es e item is j apart = other_pushed j.item es e (is j.item ∙ apart)
 
-blocks_kept : (es : List Entry) (e : Entry) (item : ℕ) → ((other : ℕ) → is_of other e ≡ (item == other)) → (js : List FormItem) → All (λ j. (item == j.item) ≡ false) js
+blocks_kept : (es : List Entry) (e : Entry) (item : ℕ) → ((other : ℕ) → is_of other e ≡ (item == other)) → (js : List FormItem)
+    → All (λ j. (item == j.item) ≡ false) js
     → flat_map (own (es ++ e ∷ [])) js ≡ flat_map (own es) js
 blocks_kept es e item is [] apart = refl
 blocks_kept es e item is (j ∷ js) apart =
@@ -142,7 +147,8 @@ blocks_kept es e item is (j ∷ js) apart =
     let others = blocks_kept es e item is js (All-tail (λ (k : FormItem). (item == k.item) ≡ false) j js apart) in
     ap (λ (z : List Entry). z ++ flat_map (own (es ++ e ∷ [])) js) first ∙ ap (λ (z : List Entry). own es j ++ z) others
 
-pushed : (form : LaneForm) → IsDistinct is_same_form_item form.items → (es : List Entry) (e : Entry) (i : FormItem) → ((other : ℕ) → is_of other e ≡ (i.item == other)) → is_ended i.item es ≡ false
+pushed : (form : LaneForm) → IsDistinct is_same_form_item form.items → (es : List Entry) (e : Entry) (i : FormItem)
+    → ((other : ℕ) → is_of other e ≡ (i.item == other)) → is_ended i.item es ≡ false
     → IsAt form es i → IsAt form (es ++ e ∷ []) i
 pushed form once es e i is unended at =
     let apart_done : All (λ (j : FormItem). (i.item == j.item) ≡ false) at.done =
@@ -164,7 +170,8 @@ pushed form once es e i is unended at =
           ∙ ap (λ (z : List Entry). z ++ own (es ++ e ∷ []) i) (sym whole);
     }
 
-goes_further : (form : LaneForm) → IsDistinct is_same_form_item form.items → (es : List Entry) (e : Entry) (item : ℕ) (i : FormItem) → item_on form item ≡ Some i → GoesOn form i es
+goes_further : (form : LaneForm) → IsDistinct is_same_form_item form.items → (es : List Entry) (e : Entry) (item : ℕ) (i : FormItem)
+    → item_on form item ≡ Some i → GoesOn form i es
     → ((other : ℕ) → is_of other e ≡ (item == other)) → IsOrdered form es → IsOrdered form (es ++ e ∷ [])
 goes_further form once es e item i found goes is h =
     let there : Contains form.items i = found_in form.items item i found in
@@ -173,10 +180,12 @@ goes_further form once es e item i found goes is h =
     let its : (other : ℕ) → is_of other e ≡ (next.i.item == other) = λ other. is other ∙ ap (λ (n : ℕ). n == other) (sym (next.same ∙ same)) in
     inr (record { item = next.i; at = pushed form once es e next.i its (ap (λ (n : ℕ). is_ended n es) next.same ∙ goes.unended) next.at })
 
-one_more : (form : LaneForm) → IsDistinct is_same_form_item form.items → (es : List Entry) (e : Entry) → EntryFits form es e → is_closing e ≡ false → IsOrdered form es → IsOrdered form (es ++ e ∷ [])
+one_more : (form : LaneForm) → IsDistinct is_same_form_item form.items → (es : List Entry) (e : Entry) → EntryFits form es e → is_closing e ≡ false
+    → IsOrdered form es → IsOrdered form (es ++ e ∷ [])
 one_more form once es (LineOf item p q c) fits more h = by (item_on form item) refl fits
   where
-    by : (o : Option FormItem) → item_on form item ≡ o → IsSomeAnd o (λ i. GoesOn form i es × LineFits form i es p q c) → IsOrdered form (es ++ LineOf item p q c ∷ [])
+    by : (o : Option FormItem) → item_on form item ≡ o → IsSomeAnd o (λ i. GoesOn form i es × LineFits form i es p q c)
+        → IsOrdered form (es ++ LineOf item p q c ∷ [])
     by None found f = absurd f
     by (Some i) found f = goes_further form once es (LineOf item p q c) item i found f.0 (λ other. refl) h
 one_more form once es (EndOf item n c) fits more h = by (item_on form item) refl fits
@@ -197,7 +206,8 @@ last_open : (es : List Entry) (e : Entry) → is_closed (es ++ e ∷ []) ≡ fal
 last_open [] e h = (or_parts (is_closing e) false h).0
 last_open (x ∷ es) e h = last_open es e (or_parts (is_closing x) (is_closed (es ++ e ∷ [])) h).1
 
-pub ordered : (form : LaneForm) → IsDistinct is_same_form_item form.items → (records : List Record) → IsInForm form records → is_closed (contents records) ≡ false → IsOrdered form (contents records)
+pub ordered : (form : LaneForm) → IsDistinct is_same_form_item form.items → (records : List Record) → IsInForm form records
+    → is_closed (contents records) ≡ false → IsOrdered form (contents records)
 ordered form once records h =
     grow form (λ es. is_closed es ≡ false → IsOrdered form es) (λ _. inl first)
     (λ before r c so unclosed.

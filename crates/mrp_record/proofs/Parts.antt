@@ -1,5 +1,6 @@
 -- What is left of a block after a line, a reset or the end, and how the part that was sent grows.
-use Rattle.std.proofs.Common.{◌≡◌, ℕ, ◌+◌, ◌<◌, ◌≤◌, Bool, true, false, Some, None, Option, List, [], ◌∷◌, ◌++◌, refl, sym, ◌∙◌, ap, subst, length, append_assoc, arith}
+use Rattle.std.proofs.Common.{◌≡◌, ℕ, ◌+◌, ◌<◌, ◌≤◌, Bool, true, false, Some, None, Option, List, [], ◌∷◌, ◌++◌, refl, sym, ◌∙◌, ap, subst, length}
+use Rattle.std.proofs.Common.{append_assoc, arith}
 use Rattle.std.specs.Prelude.{nat_lt}
 use Rattle.std.proofs.lemmas.Bool.{leb-false, lt-ltb, le-ltb}
 use Rattle.std.proofs.lemmas.List.Sums.{sum_by-cons}
@@ -42,19 +43,24 @@ left_parted item count figure from lines before after e h =
     ∙ ap (λ (z : List Delivery). parted item (count + length lines) figure before z) h
 
 pub left_line : (item count figure : ℕ) (reset : Option ℕ) (line : Delivery) (lines : List Delivery) → is_anew reset line.period ≡ false
-    → left_from item count figure reset (line ∷ lines) ≡ LineOf item line.period line.quantity (figure + line.quantity) ∷ left_from item (count + 1) (figure + line.quantity) reset lines
+    → left_from item count figure reset (line ∷ lines) ≡ LineOf item line.period line.quantity (figure + line.quantity)
+    ∷ left_from item (count + 1) (figure + line.quantity) reset lines
 left_line item count figure None line lines e =
-    end_same (running item figure (line ∷ lines)) item (count + length (line ∷ lines)) (count + 1 + length lines) (figure + total (line ∷ lines)) (figure + line.quantity + total lines)
+    end_same (running item figure (line ∷ lines)) item (count + length (line ∷ lines)) (count + 1 + length lines) (figure + total (line ∷ lines))
+    (figure + line.quantity + total lines)
     (omega arith)
     (omega (arith, total-cons line lines))
 left_line item count figure (Some from) line lines e =
     let before : line.period < from = leb-false from line.period e in
     let counts : count + length (line ∷ lines) ≡ count + 1 + length lines = omega arith in
-    let closed : figure + total (line ∷ early from lines) ≡ figure + line.quantity + total (early from lines) = omega (arith, total-cons line (early from lines)) in
-    left_parted item count figure from (line ∷ lines) (line ∷ early from lines) (late from lines) (early_more from line lines before) (late_more from line lines before)
+    let closed : figure + total (line ∷ early from lines) ≡ figure + line.quantity + total (early from lines) =
+    omega (arith, total-cons line (early from lines)) in
+    left_parted item count figure from (line ∷ lines) (line ∷ early from lines) (late from lines) (early_more from line lines before)
+    (late_more from line lines before)
     ∙ ap (λ (m : ℕ). parted item m figure (line ∷ early from lines) (late from lines)) counts
     ∙ ap (λ (m : ℕ). LineOf item line.period line.quantity (figure + line.quantity)
-    ∷ ((running item (figure + line.quantity) (early from lines) ++ ResetOf item m ∷ running item 0 (late from lines)) ++ EndOf item (count + 1 + length lines) (total (late from lines)) ∷ [])) closed
+    ∷ ((running item (figure + line.quantity) (early from lines) ++ ResetOf item m ∷ running item 0 (late from lines))
+    ++ EndOf item (count + 1 + length lines) (total (late from lines)) ∷ [])) closed
 
 -- the reset comes next
 abbrev pub IsResetNext : ℕ → List Delivery → Type 0
@@ -104,26 +110,32 @@ figure_more false moved quantity opening = omega arith
 further : (part : List Entry) (e : Entry) (rest whole left : List Entry) → whole ≡ part ++ left → left ≡ e ∷ rest → whole ≡ (part ++ e ∷ []) ++ rest
 further part e rest whole left h g = h ∙ ap (λ (z : List Entry). part ++ z) g ∙ sym (append_assoc part (e ∷ []) rest)
 
-pub part_line : (g : Goods) (mark after lines moved : ℕ) (anew : Bool) (part : List Entry) (line : Delivery) → IsPart g mark lines moved anew part → g.from mark ≡ line ∷ g.from after
+pub part_line : (g : Goods) (mark after lines moved : ℕ) (anew : Bool) (part : List Entry) (line : Delivery) → IsPart g mark lines moved anew part
+    → g.from mark ≡ line ∷ g.from after
     → is_anew (reset_at anew g.reset) line.period ≡ false
-    → IsPart g after (lines + 1) (moved + line.quantity) anew (part ++ LineOf g.item line.period line.quantity (figure_at anew moved g.opening + line.quantity) ∷ [])
+    → IsPart g after (lines + 1) (moved + line.quantity) anew (part ++ LineOf g.item line.period line.quantity (figure_at anew moved g.opening + line.quantity)
+    ∷ [])
 part_line g mark after lines moved anew part line h e side =
     let rest = g.from after in
     let figure = figure_at anew moved g.opening in
     let reset = reset_at anew g.reset in
-    let first : left_from g.item lines figure reset (g.from mark) ≡ left_from g.item lines figure reset (line ∷ rest) = ap (left_from g.item lines figure reset) e in
-    let moved_on : left_from g.item (lines + 1) (figure + line.quantity) reset rest ≡ left_from g.item (lines + 1) (figure_at anew (moved + line.quantity) g.opening) reset rest =
+    let first : left_from g.item lines figure reset (g.from mark) ≡ left_from g.item lines figure reset (line ∷ rest) =
+    ap (left_from g.item lines figure reset) e in
+    let moved_on : left_from g.item (lines + 1) (figure + line.quantity) reset rest
+    ≡ left_from g.item (lines + 1) (figure_at anew (moved + line.quantity) g.opening) reset rest =
     ap (λ (m : ℕ). left_from g.item (lines + 1) m reset rest) (figure_more anew moved line.quantity g.opening) in
     let entry = LineOf g.item line.period line.quantity (figure + line.quantity) in
     record {
       whole =
-          further part entry (left_from g.item (lines + 1) (figure_at anew (moved + line.quantity) g.opening) reset rest) (block (goods_load g)) (left_from g.item lines figure reset (g.from mark)) h.whole
+          further part entry (left_from g.item (lines + 1) (figure_at anew (moved + line.quantity) g.opening) reset rest) (block (goods_load g))
+          (left_from g.item lines figure reset (g.from mark)) h.whole
           (first ∙ left_line g.item lines figure reset line rest side ∙ ap (λ (z : List Entry). entry ∷ z) moved_on);
       lines = omega (arith, h.lines, ap length e);
       pieces = omega (arith, h.pieces, ap total e, total-cons line rest);
     }
 
-pub part_reset : (g : Goods) (mark lines moved from : ℕ) (part : List Entry) → IsPart g mark lines moved false part → g.reset ≡ Some from → IsResetNext from (g.from mark)
+pub part_reset : (g : Goods) (mark lines moved from : ℕ) (part : List Entry) → IsPart g mark lines moved false part → g.reset ≡ Some from
+    → IsResetNext from (g.from mark)
     → IsPart g mark lines 0 true (part ++ ResetOf g.item (g.opening + moved) ∷ [])
 part_reset g mark lines moved from part h is next =
     let figure = g.opening + moved in
@@ -131,13 +143,15 @@ part_reset g mark lines moved from part h is next =
     ap (λ (r : Option ℕ). left_from g.item lines figure r (g.from mark)) is in
     record {
       whole =
-          further part (ResetOf g.item figure) (left_from g.item lines 0 None (g.from mark)) (block (goods_load g)) (left_from g.item lines figure g.reset (g.from mark)) h.whole
+          further part (ResetOf g.item figure) (left_from g.item lines 0 None (g.from mark)) (block (goods_load g))
+          (left_from g.item lines figure g.reset (g.from mark)) h.whole
           (first ∙ left_reset g.item lines figure from (g.from mark) next);
       lines = h.lines;
       pieces = omega (arith, h.pieces);
     }
 
-pub part_end : (g : Goods) (mark lines moved : ℕ) (anew : Bool) (part : List Entry) → IsPart g mark lines moved anew part → g.from mark ≡ [] → reset_at anew g.reset ≡ None
+pub part_end : (g : Goods) (mark lines moved : ℕ) (anew : Bool) (part : List Entry) → IsPart g mark lines moved anew part → g.from mark ≡ []
+    → reset_at anew g.reset ≡ None
     → block (goods_load g) ≡ part ++ EndOf g.item lines (figure_at anew moved g.opening) ∷ []
 part_end g mark lines moved anew part h none is =
     let figure = figure_at anew moved g.opening in

@@ -24,7 +24,8 @@ use Rattle.mrp_record.proofs.Texts.{sizes_are}
 -- ---- one place more
 
 -- a place that isn't queued is a later one
-is_later : (size : ℕ) (queue later : List ℕ) (place : ℕ) → IsPermutation (range_with_len 0 size) (queue ++ later) → place < size → (Contains queue place → ⊥) → Contains later place
+is_later : (size : ℕ) (queue later : List ℕ) (place : ℕ) → IsPermutation (range_with_len 0 size) (queue ++ later) → place < size → (Contains queue place → ⊥)
+    → Contains later place
 is_later size queue later place h inside absent =
     elim (Contains-append_cases queue later place (Contains-permutation (range_with_len 0 size) (queue ++ later) place h (range_has size place inside))) [
       | inl there ↦ absurd (absent there)
@@ -32,7 +33,8 @@ is_later size queue later place h inside absent =
     ]
 
 -- with a later place at its end
-push_shows : (goods : ℕ → Goods) (o : OutFigures) (sent : List Record) (place : ℕ) → (h : ShowsSent goods o sent) → Contains h.later place → length o.queue < o.size
+push_shows : (goods : ℕ → Goods) (o : OutFigures) (sent : List Record) (place : ℕ) → (h : ShowsSent goods o sent) → Contains h.later place
+    → length o.queue < o.size
     → ShowsSent goods (record o { queue = o.queue ++ place ∷ [] }) sent
 push_shows goods o sent place h later room =
     let unclosed : (o.closed ≡ true → ⊥) = λ closed. absurd (omega (arith, (h.after closed).1)) in
@@ -69,7 +71,8 @@ queues_show goods o sent place h inside absent =
 
 -- ---- goods of queued places
 
-same_blocks : (goods others : ℕ → Goods) (places : List ℕ) → ((place : ℕ) → Contains places place → goods place ≡ others place) → blocks goods places ≡ blocks others places
+same_blocks : (goods others : ℕ → Goods) (places : List ℕ) → ((place : ℕ) → Contains places place → goods place ≡ others place)
+    → blocks goods places ≡ blocks others places
 same_blocks goods others [] h = refl
 same_blocks goods others (place ∷ places) h =
     ap (λ (g : Goods). block (goods_load g) ++ blocks goods places) (h place (Contains-first place places))
@@ -93,14 +96,16 @@ looks_at_queued goods others o sent same h =
           ∙ ap (λ (z : List Entry). z ++ h.part)
           (same_blocks goods others (take o.head o.queue) (λ place there. same place (in_front o.head o.queue place there)));
       within = λ is_open place there.
-          subst (λ (g : Goods). IsPart g o.mark o.lines o.moved o.anew h.part) (same place (contains_there o.queue o.head place there)) (h.within is_open place there);
+          subst (λ (g : Goods). IsPart g o.mark o.lines o.moved o.anew h.part) (same place (contains_there o.queue o.head place there))
+          (h.within is_open place there);
       between = h.between;
       after = h.after;
     }
 
 -- ---- before the first record
 
-nothing_sent : (goods : ℕ → Goods) (size : ℕ) (queue later : List ℕ) → IsPermutation (range_with_len 0 size) (queue ++ later) → ShowsSent goods (unsent size queue) []
+nothing_sent : (goods : ℕ → Goods) (size : ℕ) (queue later : List ℕ) → IsPermutation (range_with_len 0 size) (queue ++ later)
+    → ShowsSent goods (unsent size queue) []
 nothing_sent goods size queue later places =
     record {
       numbers = tt;
@@ -128,7 +133,8 @@ all_show goods size o is =
     subst (λ (z : OutFigures). ShowsSent goods z []) (sym is) (nothing_sent goods size all [] places)
 
 -- a list of all places, with all of them queued
-pub all_queued : (size : ℕ) (slots : List ℕ) (queued : ℕ) (o : OutFigures) → slots ≡ range_with_len 0 size → queued ≡ length slots → o ≡ unsent (length slots) (take queued slots) → o ≡ unsent size (range_with_len 0 size)
+pub all_queued : (size : ℕ) (slots : List ℕ) (queued : ℕ) (o : OutFigures) → slots ≡ range_with_len 0 size → queued ≡ length slots
+    → o ≡ unsent (length slots) (take queued slots) → o ≡ unsent size (range_with_len 0 size)
 all_queued size slots queued o is count e =
     let length_is : length slots ≡ size = ap length is ∙ length-range_with_len 0 size in
     e

@@ -25,7 +25,8 @@ pub length-running : (item figure : ℕ) (lines : List Delivery) → length (run
 length-running item figure [] = refl
 length-running item figure (line ∷ lines) = omega (arith, length-running item (figure + line.quantity) lines)
 
-pub length-body : (item opening : ℕ) (reset : Option ℕ) (lines : List Delivery) → length (body item opening reset lines) ≡ length lines + (if is_some reset then 1 else 0)
+pub length-body : (item opening : ℕ) (reset : Option ℕ) (lines : List Delivery)
+    → length (body item opening reset lines) ≡ length lines + (if is_some reset then 1 else 0)
 length-body item opening None lines = omega (arith, length-running item opening lines)
 length-body item opening (Some from) lines =
     let before = running item opening (early from lines) in
@@ -69,11 +70,13 @@ body_delivers item opening None lines = running_delivers item opening lines
 body_delivers item opening (Some from) lines =
     let before = running item opening (early from lines) in
     let after = running item 0 (late from lines) in
-    let parts : filter_map entry_delivery (before ++ ResetOf item (opening + total (early from lines)) ∷ after) ≡ filter_map entry_delivery before ++ filter_map entry_delivery after =
+    let parts : filter_map entry_delivery (before ++ ResetOf item (opening + total (early from lines)) ∷ after) ≡ filter_map entry_delivery before
+    ++ filter_map entry_delivery after =
     filter_map-append entry_delivery before (ResetOf item (opening + total (early from lines)) ∷ after) in
     let first : filter_map entry_delivery before ≡ early from lines = running_delivers item opening (early from lines) in
     let second : filter_map entry_delivery after ≡ late from lines = running_delivers item 0 (late from lines) in
-    parts ∙ ap (λ (z : List Delivery). z ++ filter_map entry_delivery after) first ∙ ap (λ (z : List Delivery). early from lines ++ z) second ∙ early-append-late from lines
+    parts ∙ ap (λ (z : List Delivery). z ++ filter_map entry_delivery after) first ∙ ap (λ (z : List Delivery). early from lines ++ z) second
+    ∙ early-append-late from lines
 
 pub block_delivers : (load : Load) → filter_map entry_delivery (block load) ≡ load.lines
 block_delivers load =

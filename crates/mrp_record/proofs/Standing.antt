@@ -59,7 +59,8 @@ stands (load ∷ order) entries rest e =
       | inl b ↦ further load order entries rest b.more b.is (stands order b.more rest b.after)
     ]
   where
-    further : (load : Load) (order : List Load) (entries rest more : List Entry) → entries ≡ block load ++ more → Stands order more rest → Stands (load ∷ order) entries rest
+    further : (load : Load) (order : List Load) (entries rest more : List Entry) → entries ≡ block load ++ more → Stands order more rest
+        → Stands (load ∷ order) entries rest
     further load order entries rest more is h = elim h [
       | inl w ↦
           inl (record {

@@ -1,5 +1,6 @@
 -- After each step a cursor shows the list with the record that it gave.
-use Rattle.std.proofs.Common.{◌≡◌, ℕ, ◌+◌, ◌^◌, ◌<◌, ◌≤◌, min, cond, suc, Bool, true, false, Some, None, Option, List, [], ◌∷◌, ◌++◌, inl, inr, refl, sym, ◌∙◌, ap, subst, length, take, append_assoc, length-append, arith}
+use Rattle.std.proofs.Common.{◌≡◌, ℕ, ◌+◌, ◌^◌, ◌<◌, ◌≤◌, min, cond, suc, Bool, true, false, Some, None, Option, List, [], ◌∷◌, ◌++◌, inl, inr, refl, sym, ◌∙◌}
+use Rattle.std.proofs.Common.{ap, subst, length, take, append_assoc, length-append, arith}
 use Rattle.std.specs.Prelude.{slice_get, nat_lt, ◌||◌}
 use Rattle.std.specs.List.{Contains, flat_map}
 use Rattle.std.proofs.lemmas.Bool.{cases_Bool, both_ways, false≢true, or_parts, ltb-false}
@@ -30,7 +31,8 @@ numbers_more : (n : ℕ) (sent : List Record) (r : Record) → NumberedFrom n se
 numbers_more n [] r h e = ((omega (arith, e)), tt)
 numbers_more n (s ∷ sent) r h e = (h.0, numbers_more (n + 1) sent r h.1 (omega (arith, e)))
 
-contents_more : (sent : List Record) (r : Record) (front part : List Entry) (e : Entry) → contents sent ≡ front ++ part → content r ≡ e → contents (sent ++ r ∷ []) ≡ front ++ (part ++ e ∷ [])
+contents_more : (sent : List Record) (r : Record) (front part : List Entry) (e : Entry) → contents sent ≡ front ++ part → content r ≡ e
+    → contents (sent ++ r ∷ []) ≡ front ++ (part ++ e ∷ [])
 contents_more sent r front part e text is =
     map-append content sent (r ∷ [])
     ∙ ap (λ (z : Entry). contents sent ++ z ∷ []) is
@@ -44,7 +46,8 @@ next_more : (next : ℕ) (sent : List Record) (r : Record) → next ≡ length s
 next_more next sent r e h = added_is next 1 h ∙ omega (arith, length-append sent (r ∷ []))
 
 -- where a block is at the head the lane is open
-open_there : (goods : ℕ → Goods) (o : OutFigures) (sent : List Record) (place : ℕ) → ShowsSent goods o sent → slice_get o.queue o.head ≡ Some place → o.closed ≡ false
+open_there : (goods : ℕ → Goods) (o : OutFigures) (sent : List Record) (place : ℕ) → ShowsSent goods o sent → slice_get o.queue o.head ≡ Some place
+    → o.closed ≡ false
 open_there goods o sent place h at = elim (cases_Bool o.closed) [
   | inl closed ↦ absurd (omega (arith, (h.after closed).0, slice_get_within o.queue o.head place at))
   | inr is_open ↦ is_open
@@ -78,7 +81,8 @@ end_said anew moved said opening item place lines e f h =
     ∙ ap (λ (i : ℕ). EndOf item lines (figure_said anew moved i)) f
     ∙ ap (EndOf item lines) (said_is anew moved opening h)
 
-reset_said : (moved said opening item place : ℕ) → place ≡ item → said ≡ opening → opening + moved < 2 ^ 64 → ResetOf place (figure_said false moved said) ≡ ResetOf item (opening + moved)
+reset_said : (moved said opening item place : ℕ) → place ≡ item → said ≡ opening → opening + moved < 2 ^ 64
+    → ResetOf place (figure_said false moved said) ≡ ResetOf item (opening + moved)
 reset_said moved said opening item place e f h =
     ap (λ (i : ℕ). ResetOf i (figure_said false moved said)) e
     ∙ ap (λ (i : ℕ). ResetOf item (figure_said false moved i)) f
@@ -107,7 +111,8 @@ further_in_block goods o sent place r entry mark lines moved anew h small at num
     }
 
 -- a whole block is one more
-block_more : (goods : ℕ → Goods) (queue : List ℕ) (head place : ℕ) (part : List Entry) (e : Entry) → slice_get queue head ≡ Some place → block (goods_load (goods place)) ≡ part ++ e ∷ []
+block_more : (goods : ℕ → Goods) (queue : List ℕ) (head place : ℕ) (part : List Entry) (e : Entry) → slice_get queue head ≡ Some place
+    → block (goods_load (goods place)) ≡ part ++ e ∷ []
     → blocks goods (take head queue) ++ (part ++ e ∷ []) ≡ blocks goods (take (suc head) queue) ++ []
 block_more goods queue head place part e at is =
     let f : ℕ → List Entry = λ k. block (goods_load (goods k)) in
@@ -136,15 +141,18 @@ module _ (goods : ℕ → Goods) (o : OutFigures) (sent : List Record) (place : 
       let facts = line_is_due o.anew left.reset left.line line what in
       let delivery : Delivery = record { period = line.period; quantity = line.quantity } in
       let next : g.from o.mark ≡ delivery ∷ g.from line.after = subst (IsNextLine g.from o.mark) facts.0 rest.line in
-      let side : is_anew (reset_at o.anew g.reset) line.period ≡ false = subst (λ (z : Option ℕ). is_anew (reset_at o.anew z) line.period ≡ false) rest.reset facts.1 in
-      let pieces : o.moved + (line.quantity + total (g.from line.after)) ≤ total (g.from 0) = omega (arith, part.pieces, ap total next, total-cons delivery (g.from line.after)) in
+      let side : is_anew (reset_at o.anew g.reset) line.period ≡ false =
+      subst (λ (z : Option ℕ). is_anew (reset_at o.anew z) line.period ≡ false) rest.reset facts.1 in
+      let pieces : o.moved + (line.quantity + total (g.from line.after)) ≤ total (g.from 0) =
+      omega (arith, part.pieces, ap total next, total-cons delivery (g.from line.after)) in
       let count : suc (length (g.from line.after)) ≡ length (g.from o.mark) = sym (ap length next) in
       let lines : added o.lines 1 ≡ o.lines + 1 = added_is o.lines 1 (omega (arith, part.lines, bounds.lines, count)) in
       let moved : added o.moved line.quantity ≡ o.moved + line.quantity = added_is o.moved line.quantity (omega (arith, bounds.figures, pieces)) in
       let entry = LineOf g.item line.period line.quantity (figure_at o.anew o.moved g.opening + line.quantity) in
       let r = record_due o left (Moving line) in
       let said : content r ≡ entry =
-      line_said o.anew o.moved line.quantity left.opening g.opening g.item left.item.0 line.period rest.item rest.opening (omega (arith, bounds.figures, pieces)) in
+      line_said o.anew o.moved line.quantity left.opening g.opening g.item left.item.0 line.period rest.item rest.opening
+      (omega (arith, bounds.figures, pieces)) in
       let grown = part_line g o.mark line.after o.lines o.moved o.anew h.part delivery part next side in
       let grown_there : IsPart g line.after (added o.lines 1) (added o.moved line.quantity) o.anew (h.part ++ entry ∷ []) =
       subst (λ (m : ℕ). IsPart g line.after m (added o.moved line.quantity) o.anew (h.part ++ entry ∷ [])) (sym lines)
@@ -158,8 +166,10 @@ module _ (goods : ℕ → Goods) (o : OutFigures) (sent : List Record) (place : 
       let next = reset_is_next g.from o.mark left.reset left.line rest.line facts.1 in
       let entry = ResetOf g.item (g.opening + o.moved) in
       let r = record_due o left Restarting in
-      let old : content r ≡ ResetOf left.item.0 (figure_said false o.moved left.opening) = ap (λ (b : Bool). ResetOf left.item.0 (figure_said b o.moved left.opening)) facts.0 in
-      let said : content r ≡ entry = old ∙ reset_said o.moved left.opening g.opening g.item left.item.0 rest.item rest.opening (omega (arith, bounds.figures, part.pieces)) in
+      let old : content r ≡ ResetOf left.item.0 (figure_said false o.moved left.opening) =
+      ap (λ (b : Bool). ResetOf left.item.0 (figure_said b o.moved left.opening)) facts.0 in
+      let said : content r ≡ entry = old ∙ reset_said o.moved left.opening g.opening g.item left.item.0 rest.item rest.opening
+      (omega (arith, bounds.figures, part.pieces)) in
       let grown = part_reset g o.mark o.lines o.moved next.0 h.part part (sym rest.reset ∙ next.1) next.2 in
       further_in_block goods o sent place r entry o.mark o.lines 0 true h small at refl said grown
 
@@ -169,11 +179,13 @@ module _ (goods : ℕ → Goods) (o : OutFigures) (sent : List Record) (place : 
       let none : g.from o.mark ≡ [] = subst (IsNextLine g.from o.mark) facts.0 rest.line in
       let entry = EndOf g.item o.lines (figure_at o.anew o.moved g.opening) in
       let r = record_due o left Ending in
-      let said : content r ≡ entry = end_said o.anew o.moved left.opening g.opening g.item left.item.0 o.lines rest.item rest.opening (omega (arith, bounds.figures, part.pieces)) in
+      let said : content r ≡ entry = end_said o.anew o.moved left.opening g.opening g.item left.item.0 o.lines rest.item rest.opening
+      (omega (arith, bounds.figures, part.pieces)) in
       let whole = part_end g o.mark o.lines o.moved o.anew h.part part none (ap (reset_at o.anew) (sym rest.reset) ∙ facts.1) in
       let inside = slice_get_within o.queue o.head place at in
       let head : min (o.head + 1) (length o.queue) ≡ suc o.head = omega (arith, inside) in
-      let text = contents_more sent r (blocks goods (take o.head o.queue)) h.part entry h.text said ∙ block_more goods o.queue o.head place h.part entry at whole in
+      let text = contents_more sent r (blocks goods (take o.head o.queue)) h.part entry h.text said
+      ∙ block_more goods o.queue o.head place h.part entry at whole in
       record {
         numbers = numbers_more 1 sent r h.numbers (omega (arith, h.next));
         next = next_more o.next sent r h.next small.number;
@@ -193,13 +205,15 @@ given_if : (b : Bool) (c r : Record) → cond b None (Some c) ≡ Some r → (b 
 given_if true c r e = absurd (cc)
 given_if false c r e = (refl, cc)
 
-close_is_given : (closed : Bool) (head size : ℕ) (c r : Record) → cond (closed || nat_lt head size) None (Some c) ≡ Some r → (closed ≡ false) × (size ≤ head) × (r ≡ c)
+close_is_given : (closed : Bool) (head size : ℕ) (c r : Record) → cond (closed || nat_lt head size) None (Some c) ≡ Some r
+    → (closed ≡ false) × (size ≤ head) × (r ≡ c)
 close_is_given closed head size c r e =
     let given = given_if (closed || nat_lt head size) c r e in
     let parts = or_parts closed (nat_lt head size) given.0 in
     (parts.0, ltb-false head size parts.1, given.1)
 
-after_close : (goods : ℕ → Goods) (o : OutFigures) (sent : List Record) → ShowsSent goods o sent → IsBounded goods o → slice_get o.queue o.head ≡ None → o.closed ≡ false → o.size ≤ o.head
+after_close : (goods : ℕ → Goods) (o : OutFigures) (sent : List Record) → ShowsSent goods o sent → IsBounded goods o → slice_get o.queue o.head ≡ None
+    → o.closed ≡ false → o.size ≤ o.head
     → ShowsSent goods (stepped o None) (sent ++ Close o.next ∷ [])
 after_close goods o sent h small none is_open full =
     let past = none_there o.queue o.head none in
@@ -241,12 +255,14 @@ steps_show goods o sent (Some rest) r h small left is =
 
 -- ---- what is given
 
-due_may_be_sent : (goods : ℕ → Goods) (o : OutFigures) (left : Remainder) (what : Due) → IsQueued goods o left.item.0 → MaySend goods o (content (record_due o left what))
+due_may_be_sent : (goods : ℕ → Goods) (o : OutFigures) (left : Remainder) (what : Due) → IsQueued goods o left.item.0
+    → MaySend goods o (content (record_due o left what))
 due_may_be_sent goods o left (Moving line) h = h
 due_may_be_sent goods o left Restarting h = h
 due_may_be_sent goods o left Ending h = h
 
-may_be_sent : (goods : ℕ → Goods) (o : OutFigures) (left : Option Remainder) (r : Record) → IsWhatIsLeft goods o left → next_record o left ≡ Some r → MaySend goods o (content r)
+may_be_sent : (goods : ℕ → Goods) (o : OutFigures) (left : Option Remainder) (r : Record) → IsWhatIsLeft goods o left → next_record o left ≡ Some r
+    → MaySend goods o (content r)
 may_be_sent goods o None r left is =
     let given = close_is_given o.closed o.head o.size (Close o.next) r is in
     subst (λ (z : Record). MaySend goods o (content z)) (sym given.2) tt

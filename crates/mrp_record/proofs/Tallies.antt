@@ -31,7 +31,8 @@ start opening = record { figure = opening; closed = 0; lines = 0; next = 0; anew
 
 -- ---- the parts of a tally are those that the definitions name
 
-of_each_kind : (P : Entry → Type 0) → ((i p q c : ℕ) → P (LineOf i p q c)) → ((i n c : ℕ) → P (EndOf i n c)) → ((i c : ℕ) → P (ResetOf i c)) → P Closing → (e : Entry) → P e
+of_each_kind : (P : Entry → Type 0) → ((i p q c : ℕ) → P (LineOf i p q c)) → ((i n c : ℕ) → P (EndOf i n c)) → ((i c : ℕ) → P (ResetOf i c)) → P Closing
+    → (e : Entry) → P e
 of_each_kind P line end reset closing (LineOf i p q c) = line i p q c
 of_each_kind P line end reset closing (EndOf i n c) = end i n c
 of_each_kind P line end reset closing (ResetOf i c) = reset i c
@@ -77,7 +78,8 @@ pub closed_is : (t : Tally) (es : List Entry) → (tally t es).closed ≡ t.clos
 closed_is = summed (λ t. t.closed) closed_of (of_each_kind _ (λ i p q c t. omega arith) (λ i n c t. omega arith) (λ i c t. refl) (λ t. omega arith))
 
 pub lines_is : (t : Tally) (es : List Entry) → (tally t es).lines ≡ t.lines + count_by is_line es
-lines_is = summed (λ t. t.lines) (λ e. cond (is_line e) 1 0) (of_each_kind _ (λ i p q c t. refl) (λ i n c t. omega arith) (λ i c t. omega arith) (λ t. omega arith))
+lines_is = summed (λ t. t.lines) (λ e. cond (is_line e) 1 0) (of_each_kind _ (λ i p q c t. refl) (λ i n c t. omega arith) (λ i c t. omega arith)
+    (λ t. omega arith))
 
 pub anew_is : (t : Tally) (es : List Entry) → (tally t es).anew ≡ (t.anew || list_any is_reset es)
 anew_is = told (λ t. t.anew) is_reset

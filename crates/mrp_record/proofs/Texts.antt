@@ -1,5 +1,6 @@
 -- A shown list is a legal beginning, a closed one a whole text, and none is long.
-use Rattle.std.proofs.Common.{◌≡◌, ℕ, ◌+◌, ◌*◌, ◌≤◌, suc, true, false, Some, None, Option, List, [], ◌∷◌, ◌++◌, ◌⊎◌, inl, inr, refl, sym, ◌∙◌, ap, subst, length, get_or, map, take, drop, append_assoc, length-append, arith}
+use Rattle.std.proofs.Common.{◌≡◌, ℕ, ◌+◌, ◌*◌, ◌≤◌, suc, true, false, Some, None, Option, List, [], ◌∷◌, ◌++◌, ◌⊎◌, inl, inr, refl, sym, ◌∙◌, ap, subst}
+use Rattle.std.proofs.Common.{length, get_or, map, take, drop, append_assoc, length-append, arith}
 use Rattle.std.specs.Prelude.{slice_get}
 use Rattle.std.specs.List.{Contains, flat_map, list_any, range_with_len}
 use Rattle.std.specs.List.Sorted.{IsPermutation}
@@ -72,7 +73,8 @@ queue_is_left goods o sent h is_open = elim (cases_there (slice_get o.queue o.he
       let all : o.head ≡ length o.queue = omega (arith, h.head) in
       let empty : h.part ≡ [] = (h.between is_open all).0 in (
         [],
-        append-nil (contents sent) ∙ h.text ∙ ap (λ (z : List Entry). blocks goods (take o.head o.queue) ++ z) empty ∙ append-nil (blocks goods (take o.head o.queue))
+        append-nil (contents sent) ∙ h.text ∙ ap (λ (z : List Entry). blocks goods (take o.head o.queue) ++ z) empty
+            ∙ append-nil (blocks goods (take o.head o.queue))
             ∙ ap (blocks goods) (take_all o.head o.queue past),
       )
 ]
@@ -91,7 +93,8 @@ order_permutes d loads size queue later e h =
     subst (λ (z : List Load). IsPermutation z (map f queue ++ map f later)) (elements_are d loads size e)
     (subst (λ (z : List Load). IsPermutation (map f (range_with_len 0 size)) z) (map-append f queue later) p)
 
-blocks_agree : (goods : ℕ → Goods) (f : ℕ → Load) (places : List ℕ) → ((place : ℕ) → Contains places place → f place ≡ goods_load (goods place)) → flat_map block (map f places) ≡ blocks goods places
+blocks_agree : (goods : ℕ → Goods) (f : ℕ → Load) (places : List ℕ) → ((place : ℕ) → Contains places place → f place ≡ goods_load (goods place))
+    → flat_map block (map f places) ≡ blocks goods places
 blocks_agree goods f [] h = refl
 blocks_agree goods f (place ∷ places) h =
     ap (λ (z : Load). block z ++ flat_map block (map f places)) (h place (Contains-first place places))
@@ -102,7 +105,8 @@ abbrev pub later_blocks : Load → List Load → List ℕ → List Entry
 later_blocks d loads later = flat_map block (map (load_at d loads) later)
 
 -- what makes the queued blocks is the front of a text
-pub text_goes_on : (goods : ℕ → Goods) (o : OutFigures) (loads : List Load) (later : List ℕ) (entries : List Entry) → Agrees goods o loads → IsPermutation (range_with_len 0 o.size) (o.queue ++ later)
+pub text_goes_on : (goods : ℕ → Goods) (o : OutFigures) (loads : List Load) (later : List ℕ) (entries : List Entry) → Agrees goods o loads
+    → IsPermutation (range_with_len 0 o.size) (o.queue ++ later)
     → entries ≡ blocks goods o.queue → IsText loads (entries ++ (later_blocks (goods_load (goods 0)) loads later ++ Closing ∷ []))
 text_goes_on goods o loads later entries agrees places e =
     let d = goods_load (goods 0) in
@@ -124,14 +128,16 @@ text_goes_on goods o loads later entries agrees places e =
 -- ---- closed lists
 
 -- the list of a closed lane is all queued blocks and the closing record
-pub closed_text : (goods : ℕ → Goods) (o : OutFigures) (sent : List Record) → ShowsSent goods o sent → o.closed ≡ true → contents sent ≡ blocks goods o.queue ++ Closing ∷ []
+pub closed_text : (goods : ℕ → Goods) (o : OutFigures) (sent : List Record) → ShowsSent goods o sent → o.closed ≡ true
+    → contents sent ≡ blocks goods o.queue ++ Closing ∷ []
 closed_text goods o sent h closed =
     let after = h.after closed in
     h.text
     ∙ ap (λ (z : List Entry). blocks goods (take o.head o.queue) ++ z) after.2
     ∙ ap (λ (z : List ℕ). blocks goods z ++ Closing ∷ []) (take_all o.head o.queue (omega (arith, after.0)))
 
-pub whole_text : (goods : ℕ → Goods) (o : OutFigures) (sent : List Record) → ShowsSent goods o sent → o.closed ≡ true → (loads : List Load) → Agrees goods o loads → IsText loads (contents sent)
+pub whole_text : (goods : ℕ → Goods) (o : OutFigures) (sent : List Record) → ShowsSent goods o sent → o.closed ≡ true → (loads : List Load)
+    → Agrees goods o loads → IsText loads (contents sent)
 whole_text goods o sent h closed loads agrees =
     let after = h.after closed in
     let none : h.later ≡ [] = nil_from_length h.later (omega (arith, sizes_are o.size o.queue h.later h.places, after.1)) in
@@ -147,7 +153,8 @@ closed_shows_whole goods o sent h closed loads agrees = record { numbered = h.nu
 -- ---- legal beginnings
 
 -- what an open lane's text goes on with
-pub open_text : (goods : ℕ → Goods) (o : OutFigures) (sent : List Record) → (h : ShowsSent goods o sent) → (rest : List Entry) → contents sent ++ rest ≡ blocks goods o.queue
+pub open_text : (goods : ℕ → Goods) (o : OutFigures) (sent : List Record) → (h : ShowsSent goods o sent) → (rest : List Entry)
+    → contents sent ++ rest ≡ blocks goods o.queue
     → (loads : List Load) → Agrees goods o loads → IsText loads (contents sent ++ (rest ++ (later_blocks (goods_load (goods 0)) loads h.later ++ Closing ∷ [])))
 open_text goods o sent h rest e loads agrees =
     let d = goods_load (goods 0) in

@@ -15,7 +15,8 @@ use Rattle.mrp_record.proofs.Tallies.{Tally, after, start, OwnForm}
 some_of : (form : LaneForm) (i : FormItem) (t : Tally) (own : List Entry) → OwnForm form i t own → All (λ line. 1 ≤ line.quantity) (delivered own)
 some_of form i t [] h = All-nil (λ (line : Delivery). 1 ≤ line.quantity)
 some_of form i t (LineOf item p q c ∷ es) h =
-    All-cons (λ (line : Delivery). 1 ≤ line.quantity) (record { period = p; quantity = q }) (delivered es) h.0.some (some_of form i (after t (LineOf item p q c)) es h.1)
+    All-cons (λ (line : Delivery). 1 ≤ line.quantity) (record { period = p; quantity = q }) (delivered es) h.0.some
+    (some_of form i (after t (LineOf item p q c)) es h.1)
 some_of form i t (EndOf item n c ∷ es) h = some_of form i (after t (EndOf item n c)) es h.1
 some_of form i t (ResetOf item c ∷ es) h = some_of form i (after t (ResetOf item c)) es h.1
 some_of form i t (Closing ∷ es) h = absurd h.0
@@ -23,7 +24,8 @@ some_of form i t (Closing ∷ es) h = absurd h.0
 inside_of : (form : LaneForm) (i : FormItem) (t : Tally) (own : List Entry) → OwnForm form i t own → All (λ line. line.period < form.horizon) (delivered own)
 inside_of form i t [] h = All-nil (λ (line : Delivery). line.period < form.horizon)
 inside_of form i t (LineOf item p q c ∷ es) h =
-    All-cons (λ (line : Delivery). line.period < form.horizon) (record { period = p; quantity = q }) (delivered es) h.0.inside (inside_of form i (after t (LineOf item p q c)) es h.1)
+    All-cons (λ (line : Delivery). line.period < form.horizon) (record { period = p; quantity = q }) (delivered es) h.0.inside
+    (inside_of form i (after t (LineOf item p q c)) es h.1)
 inside_of form i t (EndOf item n c ∷ es) h = inside_of form i (after t (EndOf item n c)) es h.1
 inside_of form i t (ResetOf item c ∷ es) h = inside_of form i (after t (ResetOf item c)) es h.1
 inside_of form i t (Closing ∷ es) h = absurd h.0
@@ -56,7 +58,8 @@ pairs_of next (line ∷ lines) h =
 
 -- ---- figures
 
-figures_of : (form : LaneForm) (i : FormItem) (t : Tally) (own : List Entry) → OwnForm form i t own → t.figure + t.closed ≤ MOST → t.figure + t.closed + total (delivered own) ≤ MOST
+figures_of : (form : LaneForm) (i : FormItem) (t : Tally) (own : List Entry) → OwnForm form i t own → t.figure + t.closed ≤ MOST
+    → t.figure + t.closed + total (delivered own) ≤ MOST
 figures_of form i t [] h small = omega arith
 figures_of form i t (LineOf item p q c ∷ es) h small =
     let line : Delivery = record { period = p; quantity = q } in

@@ -1,5 +1,7 @@
--- What a list of records says of one item beside its figures: its deliveries, its lines, its next period, whether its block is open.
-use Rattle.std.specs.Prelude.{ℕ, ◌+◌, ◌&&◌, nat_lt, not, Bool, true, false, List, length, filter_map, fold, count_by, Option, Some, None}
+-- What a list of records says of one item beside its figures: its deliveries, its lines, its next period, whether its
+-- block is open.
+use Rattle.std.specs.Prelude.{ℕ, ◌+◌, ◌&&◌, nat_lt, not, Bool, true, false, List, length, filter_map, fold, count_by}
+use Rattle.std.specs.Prelude.{Option, Some, None}
 use Rattle.std.specs.List.{list_any}
 use Rattle.mrp_record.specs.Entries.{Entry, LineOf, EndOf, ResetOf, Closing, Delivery, entries_of, is_ended}
 

@@ -1,5 +1,6 @@
 -- Laws of cursors and the lists that they show.
-use Rattle.std.specs.Prelude.{◌≡◌, ℕ, ◌+◌, ◌*◌, ◌^◌, ◌≤◌, ◌<◌, true, List, [], ◌∷◌, ◌++◌, length, slice_get, Option, Some, None, Contains}
+use Rattle.std.specs.Prelude.{◌≡◌, ℕ, ◌+◌, ◌*◌, ◌^◌, ◌≤◌, ◌<◌, true, List, [], ◌∷◌, ◌++◌, length, slice_get, Option}
+use Rattle.std.specs.Prelude.{Some, None, Contains}
 use Rattle.mrp_record.specs.declared.record.Record.{Record}
 use Rattle.mrp_record.specs.Entries.{Entry, LineOf, EndOf, ResetOf, Closing, content, contents, is_closed}
 use Rattle.mrp_record.specs.Laws.{AreLoads}
@@ -125,5 +126,6 @@ abbrev pub SmallAreBounded : Type 0
 SmallAreBounded =
     (goods : ℕ → Goods) (o : OutFigures) (sent : List Record) (most : ℕ)
     → ShowsSent goods o sent
-    → ((place : ℕ) → Contains o.queue place → IsSmallGoods (goods place) × (block_length (goods_load (goods place)) ≤ most))
+    → ((place : ℕ) → Contains o.queue place → IsSmallGoods (goods place)
+    × (block_length (goods_load (goods place)) ≤ most))
     → most * o.size + 3 < 2 ^ 64 → IsBounded goods o

@@ -1,5 +1,6 @@
 -- What a lane's list can be without knowledge of any plan: each record continues those before it.
-use Rattle.std.specs.Prelude.{◌≡◌, ℕ, ◌+◌, ◌≤◌, ◌<◌, ◌==◌, ◌&&◌, nat_le, not, Bool, true, false, List, ◌∷◌, ◌++◌, length, find, All, Option, Some, None}
+use Rattle.std.specs.Prelude.{◌≡◌, ℕ, ◌+◌, ◌≤◌, ◌<◌, ◌==◌, ◌&&◌, nat_le, not, Bool, true, false, List, ◌∷◌, ◌++◌}
+use Rattle.std.specs.Prelude.{length, find, All, Option, Some, None}
 use Rattle.std.specs.Prelude.{is_some, IsSomeAnd}
 use Rattle.std.specs.List.{list_any}
 use Rattle.mrp_qty.specs.declared.quantity.TheConstants.{MOST}
@@ -35,7 +36,8 @@ is_other_open form item before = list_any (λ other. not (other.item == item) &&
 
 -- a line of the item: in the horizon, on a schedule lane after the line before it, of one piece at least,
 -- its figure the one in force and its pieces, with the closed years at most 10^15, and on its side of the reset
-pub record LineFits (form : LaneForm) (i : FormItem) (before : List Entry) (period quantity cumulative : ℕ) : Type 0 where
+pub record LineFits (form : LaneForm) (i : FormItem) (before : List Entry)
+    (period quantity cumulative : ℕ) : Type 0 where
   pub inside : period < form.horizon
   pub rises : form.rising ≡ true → next_period i.item before ≤ period
   pub some : 1 ≤ quantity

@@ -1,10 +1,12 @@
 -- Laws of texts, legal beginnings and lists in form.
-use Rattle.std.specs.Prelude.{◌≡◌, ℕ, ◌+◌, ◌≤◌, ◌<◌, ◌==◌, if◌then◌else◌, Bool, true, List, [], ◌∷◌, ◌++◌, length, map, sum_by, All, Contains, is_some, ◌⊎◌}
+use Rattle.std.specs.Prelude.{◌≡◌, ℕ, ◌+◌, ◌≤◌, ◌<◌, ◌==◌, if◌then◌else◌, Bool, true, List, [], ◌∷◌, ◌++◌, length, map}
+use Rattle.std.specs.Prelude.{sum_by, All, Contains, is_some, ◌⊎◌}
 use Rattle.std.specs.List.{AllPairs, IsDistinct}
 use Rattle.std.specs.List.Sorted.{IsNonDecreasingBy}
 use Rattle.mrp_qty.specs.declared.quantity.TheConstants.{MOST}
 use Rattle.mrp_record.specs.declared.record.Record.{Record}
-use Rattle.mrp_record.specs.Entries.{Entry, LineOf, EndOf, ResetOf, Closing, Delivery, number_of, content, contents, entries_of, is_ended, moved}
+use Rattle.mrp_record.specs.Entries.{Entry, LineOf, EndOf, ResetOf, Closing, Delivery, number_of, content, contents}
+use Rattle.mrp_record.specs.Entries.{entries_of, is_ended, moved}
 use Rattle.mrp_record.specs.Blocks.{deliveries}
 use Rattle.mrp_record.specs.Entries.{cum}
 use Rattle.mrp_record.specs.Form.{FormItem, LaneForm, IsInForm}
@@ -26,7 +28,8 @@ EmptyIsABeginning = (loads : List Load) → IsBeginning loads []
 
 -- each front of a legal beginning is one
 abbrev pub FrontsAreBeginnings : Type 0
-FrontsAreBeginnings = (loads : List Load) (front more : List Record) → IsBeginning loads (front ++ more) → IsBeginning loads front
+FrontsAreBeginnings = (loads : List Load) (front more : List Record) → IsBeginning loads (front ++ more)
+    → IsBeginning loads front
 
 -- of two fronts of one list one is a front of the other
 abbrev pub FrontsAreNested : Type 0
@@ -50,10 +53,12 @@ ClosedIsWhole =
 
 -- all texts of a lane have one length, and no legal beginning is longer
 abbrev pub TextsHaveOneLength : Type 0
-TextsHaveOneLength = (loads : List Load) (entries : List Entry) → IsText loads entries → length entries ≡ length_of_text loads
+TextsHaveOneLength = (loads : List Load) (entries : List Entry) → IsText loads entries
+    → length entries ≡ length_of_text loads
 
 abbrev pub BeginningsAreNoLonger : Type 0
-BeginningsAreNoLonger = (loads : List Load) (records : List Record) → IsBeginning loads records → length records ≤ length_of_text loads
+BeginningsAreNoLonger = (loads : List Load) (records : List Record) → IsBeginning loads records
+    → length records ≤ length_of_text loads
 
 -- ---- what is brought
 
@@ -139,7 +144,8 @@ HasSmallFigures Closing = Unit {0}
 abbrev pub FiguresAreSmall : Type 0
 FiguresAreSmall =
     (rising : Bool) (horizon : ℕ) (loads : List Load) → AreLoads loads → AreSmall rising horizon loads
-    → (records : List Record) → IsBeginning loads records → All (λ r. (number_of r ≤ MOST) × HasSmallFigures (content r)) records
+    → (records : List Record) → IsBeginning loads records
+    → All (λ r. (number_of r ≤ MOST) × HasSmallFigures (content r)) records
 
 abbrev pub CumsAreSmall : Type 0
 CumsAreSmall =

@@ -1,5 +1,6 @@
 -- Which record a cursor sends next, by what is left of the item at its head, and the cursor after a step.
-use Rattle.std.specs.Prelude.{◌≡◌, ℕ, ◌+◌, ◌-◌, ◌^◌, nat_lt, min, not, ◌&&◌, ◌||◌, if◌then◌else◌, Bool, true, false, List, [], ◌∷◌, ◌++◌, length, slice_get}
+use Rattle.std.specs.Prelude.{◌≡◌, ℕ, ◌+◌, ◌-◌, ◌^◌, nat_lt, min, not, ◌&&◌, ◌||◌, if◌then◌else◌, Bool, true, false}
+use Rattle.std.specs.Prelude.{List, [], ◌∷◌, ◌++◌, length, slice_get}
 use Rattle.std.specs.Prelude.{Option, Some, None, is_some}
 use Rattle.mrp_record.specs.declared.record.Record.{Record}
 use Rattle.mrp_record.specs.declared.record.Record.TheVariants.{Line, ItemEnd, Reset, Close}
@@ -16,7 +17,8 @@ use Rattle.mrp_record.specs.Cursor.{OutFigures, Goods}
 -- the next delivery is the first from the mark on, and the others are left from the mark after it
 abbrev pub IsNextLine : (ℕ → List Delivery) → ℕ → Option NextLine → Type 0
 IsNextLine from mark None = from mark ≡ []
-IsNextLine from mark (Some line) = from mark ≡ record { period = line.period; quantity = line.quantity } ∷ from line.after
+IsNextLine from mark (Some line) = from mark ≡ record { period = line.period; quantity = line.quantity }
+    ∷ from line.after
 
 -- what is left of the goods of a place from a mark on
 pub record IsRemainder (g : Goods) (mark : ℕ) (left : Remainder) : Type 0 where

@@ -1,5 +1,6 @@
 -- The text of a lane: the block of each of its items, in some order, and the closing record.
-use Rattle.std.specs.Prelude.{◌≡◌, ℕ, ◌+◌, nat_lt, if◌then◌else◌, List, [], ◌∷◌, ◌++◌, length, sum_by, Option, Some, None, IsPermutation}
+use Rattle.std.specs.Prelude.{◌≡◌, ℕ, ◌+◌, nat_lt, if◌then◌else◌, List, [], ◌∷◌, ◌++◌, length, sum_by, Option, Some}
+use Rattle.std.specs.Prelude.{None, IsPermutation}
 use Rattle.std.specs.List.{flat_map}
 use Rattle.mrp_record.specs.declared.record.Record.{Record}
 use Rattle.mrp_record.specs.Entries.{Entry, LineOf, EndOf, ResetOf, Closing, Delivery, number_of, contents}
@@ -34,7 +35,8 @@ late from (line ∷ lines) = if nat_lt line.period from then late from lines els
 abbrev pub body : ℕ → ℕ → Option ℕ → List Delivery → List Entry
 body item opening None lines = running item opening lines
 body item opening (Some from) lines =
-    running item opening (early from lines) ++ ResetOf item (opening + total (early from lines)) ∷ running item 0 (late from lines)
+    running item opening (early from lines) ++ ResetOf item (opening + total (early from lines))
+    ∷ running item 0 (late from lines)
 
 -- the figure in force at the item end
 abbrev pub last_figure : ℕ → Option ℕ → List Delivery → ℕ
@@ -43,7 +45,8 @@ last_figure opening (Some from) lines = total (late from lines)
 
 abbrev pub block : Load → List Entry
 block load =
-    body load.item load.opening load.reset load.lines ++ EndOf load.item (length load.lines) (last_figure load.opening load.reset load.lines) ∷ []
+    body load.item load.opening load.reset load.lines
+    ++ EndOf load.item (length load.lines) (last_figure load.opening load.reset load.lines) ∷ []
 
 abbrev pub text_of : List Load → List Entry
 text_of order = flat_map block order ++ Closing ∷ []

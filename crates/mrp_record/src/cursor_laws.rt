@@ -1,7 +1,9 @@
 //! Laws of cursors. Each is the contract of a function that does nothing.
 
-ghost use Rattle.mrp_record.specs.CursorLaws.{GivenContinues, StepsShow, StepsKeepPlaces, NoneIsLeft, QueuesShow, QueuedArePlaces, LooksAtQueued};
-ghost use Rattle.mrp_record.specs.CursorLaws.{ShownBegin, ClosedIsShown, ClosedShowsWhole, ShownAreShort, SmallAreBounded};
+ghost use Rattle.mrp_record.specs.CursorLaws.{GivenContinues, StepsShow, StepsKeepPlaces, NoneIsLeft, QueuesShow};
+ghost use Rattle.mrp_record.specs.CursorLaws.{QueuedArePlaces, LooksAtQueued};
+ghost use Rattle.mrp_record.specs.CursorLaws.{ShownBegin, ClosedIsShown, ClosedShowsWhole, ShownAreShort};
+ghost use Rattle.mrp_record.specs.CursorLaws.{SmallAreBounded};
 
 /// The record that a cursor gives may be sent: it continues the shown list to a legal beginning.
 pub fn given_continues()

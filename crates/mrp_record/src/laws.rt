@@ -1,9 +1,12 @@
 //! Laws of the texts of lanes. Each is the contract of a function that does nothing.
 
-ghost use Rattle.mrp_record.specs.Laws.{EmptyIsABeginning, FrontsAreBeginnings, FrontsAreNested, NothingFollowsClosing, ClosedIsWhole, TextsHaveOneLength};
+ghost use Rattle.mrp_record.specs.Laws.{EmptyIsABeginning, FrontsAreBeginnings, FrontsAreNested, NothingFollowsClosing};
+ghost use Rattle.mrp_record.specs.Laws.{ClosedIsWhole, TextsHaveOneLength};
 ghost use Rattle.mrp_record.specs.Laws.{BeginningsAreNoLonger};
-ghost use Rattle.mrp_record.specs.Laws.{EndedBlocksAreWhole, EndedBlocksBringDeliveries, EndedBlocksBringPeriods, EndedBlocksBringTotals, EndedItemsAreDone};
-ghost use Rattle.mrp_record.specs.Laws.{CumIsOpeningAndMoved, BeginningsAreInForm, FiguresAreSmall, CumsAreSmall, ListsInFormAreBeginnings};
+ghost use Rattle.mrp_record.specs.Laws.{EndedBlocksAreWhole, EndedBlocksBringDeliveries, EndedBlocksBringPeriods};
+ghost use Rattle.mrp_record.specs.Laws.{EndedBlocksBringTotals, EndedItemsAreDone};
+ghost use Rattle.mrp_record.specs.Laws.{CumIsOpeningAndMoved, BeginningsAreInForm, FiguresAreSmall, CumsAreSmall};
+ghost use Rattle.mrp_record.specs.Laws.{ListsInFormAreBeginnings};
 
 /// The list without records is a legal beginning, and so is each front of a legal beginning. Of two
 /// fronts of one text one is a front of the other.

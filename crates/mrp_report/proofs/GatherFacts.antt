@@ -1,5 +1,6 @@
 -- Rows that gather in a room before they are sent.
-use Rattle.std.proofs.Common.{◌≡◌, ◌<◌, ◌+◌, ◌-◌, ℕ, List, [], ◌++◌, Option, Result, Ok, Err, OnOk, OnErr, length, take, drop, get_or, subst, sym, ap, ◌∙◌, refl, arith, append-nil, append_assoc}
+use Rattle.std.proofs.Common.{◌≡◌, ◌<◌, ◌+◌, ◌-◌, ℕ, List, [], ◌++◌, Option, Result, Ok, Err, OnOk, OnErr, length, take, drop, get_or, subst, sym, ap, ◌∙◌}
+use Rattle.std.proofs.Common.{refl, arith, append-nil, append_assoc}
 use Rattle.std.specs.List.{flat_map, range_with_len}
 use Rattle.std.specs.Io.KnownBytes.{Appends}
 use Rattle.std.proofs.lemmas.Grind.{flat_map-append}
@@ -60,7 +61,8 @@ pub gathers-all : (a b c : Option (List ℕ)) (waits waits' text : List ℕ) →
 gathers-all a b c waits waits' text added sent = subst (λ t. Appends a c t) (sym added.kept) (whole-after a b c added.sent waits' added.written sent)
 
 -- or writing failed there
-pub gathers-front : (a b c : Option (List ℕ)) (waits waits' text : List ℕ) → Gathers a b waits waits' text → AppendsFront b c waits' → AppendsFront a c (waits ++ text)
+pub gathers-front : (a b c : Option (List ℕ)) (waits waits' text : List ℕ) → Gathers a b waits waits' text → AppendsFront b c waits'
+    → AppendsFront a c (waits ++ text)
 gathers-front a b c waits waits' text added front = subst (λ t. AppendsFront a c t) (sym added.kept) (front-after a b c added.sent waits' added.written front)
 
 -- all that waited was sent, or not
@@ -89,14 +91,16 @@ texts-split f n all lt =
     ∙ ap (λ k. flat_map f (range_with_len 0 k)) whole
 
 -- the text of the next number was added
-pub gathers-next : (f : ℕ → List ℕ) (a b c : Option (List ℕ)) (waits waits' waits'' : List ℕ) (n : ℕ) → Gathers a b waits waits' (flat_map f (range_with_len 0 n))
+pub gathers-next : (f : ℕ → List ℕ) (a b c : Option (List ℕ)) (waits waits' waits'' : List ℕ) (n : ℕ)
+    → Gathers a b waits waits' (flat_map f (range_with_len 0 n))
     → Gathers b c waits' waits'' (f n) → Gathers a c waits waits'' (flat_map f (range_with_len 0 (n + 1)))
 gathers-next f a b c waits waits' waits'' n so_far here =
     subst (λ t. Gathers a c waits waits'' t) (texts-more f n) (gathers-more a b c waits waits' waits'' _ (f n) so_far here)
 
 -- or writing failed there
 pub gathers-stop : (f : ℕ → List ℕ) (a b c : Option (List ℕ)) (waits waits' : List ℕ) (n all : ℕ) → n < all
-    → Gathers a b waits waits' (flat_map f (range_with_len 0 n)) → AppendsFront b c (waits' ++ f n) → AppendsFront a c (waits ++ flat_map f (range_with_len 0 all))
+    → Gathers a b waits waits' (flat_map f (range_with_len 0 n)) → AppendsFront b c (waits' ++ f n)
+    → AppendsFront a c (waits ++ flat_map f (range_with_len 0 all))
 gathers-stop f a b c waits waits' n all lt so_far front =
     subst (λ t. AppendsFront a c (waits ++ t)) (texts-split f n all lt) (cut-longer a c waits _ _ (gathers-cut a b c waits waits' _ (f n) so_far front))
 
@@ -115,7 +119,8 @@ gathers-next_of f xs d a b c waits waits' waits'' text i lt is so_far here =
 
 -- or writing failed there
 pub gathers-stop_of : {A : Type 0} (f : A → List ℕ) (xs : List A) (d : A) (a b c : Option (List ℕ)) (waits waits' text : List ℕ) (i : ℕ) → i < length xs
-    → text ≡ f (get_or xs i d) → Gathers a b waits waits' (flat_map f (take i xs)) → AppendsFront b c (waits' ++ text) → AppendsFront a c (waits ++ flat_map f xs)
+    → text ≡ f (get_or xs i d) → Gathers a b waits waits' (flat_map f (take i xs)) → AppendsFront b c (waits' ++ text)
+    → AppendsFront a c (waits ++ flat_map f xs)
 gathers-stop_of f xs d a b c waits waits' text i lt is so_far front =
     let next = rows_of-more f xs d [] (flat_map f (take i xs)) (flat_map f (take i xs) ++ text) i lt refl (ap (λ t. flat_map f (take i xs) ++ t) is) in
     subst (λ t. AppendsFront a c (waits ++ t)) (ap (λ t. t ++ flat_map f (drop (i + 1) xs)) next ∙ elements-split f xs (i + 1))

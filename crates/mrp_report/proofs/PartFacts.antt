@@ -8,7 +8,8 @@ use Rattle.mrp_sheet.specs.DateLists.{date_in}
 use Rattle.mrp_report.specs.Report.{pair_text, plan_fields}
 
 -- the row of the parts is the row of the fields
-parts_row_is : (plant item date : List ℕ) (rows : PlanRows) (t : ℕ) → parts_row (pair_part plant item) date (period_at rows t) ≡ row (plan_fields plant item date rows t)
+parts_row_is : (plant item date : List ℕ) (rows : PlanRows) (t : ℕ)
+    → parts_row (pair_part plant item) date (period_at rows t) ≡ row (plan_fields plant item date rows t)
 unfolding parts_row row
 parts_row_is plant item date rows t = simp append_assoc refl
 

@@ -37,7 +37,8 @@ pub row_asked : (N : Table) (x t : ℕ) (term : PegTerm) → (term.quantity ≡ 
 row_asked N x t term some = rw (ne_eqb term.quantity 0 some) refl
 
 -- the rows of terms that aren't zero, term by term
-kept_text : (f : PegTerm → List ℕ) (term : PegTerm) (terms : List PegTerm) (asked : Bool) → flat_map f (cond asked (term ∷ filter is_asked terms) (filter is_asked terms)) ≡ cond asked (f term) [] ++ flat_map f (filter is_asked terms)
+kept_text : (f : PegTerm → List ℕ) (term : PegTerm) (terms : List PegTerm) (asked : Bool)
+    → flat_map f (cond asked (term ∷ filter is_asked terms) (filter is_asked terms)) ≡ cond asked (f term) [] ++ flat_map f (filter is_asked terms)
 kept_text f term terms true = refl
 kept_text f term terms false = refl
 
@@ -57,4 +58,5 @@ period_split N table x t =
 pub period_parts : (N : Table) (table : List PlanRows) (x t : ℕ) (term : PegTerm) (edges : List Edge) → term ≡ demand_term N x t → edges ≡ demanders N x
     → term_text N x t term ++ edges_text N table x t edges ≡ period_pegs_text N table x t
 period_parts N table x t term edges is are =
-    ap (λ p. term_text N x t p ++ edges_text N table x t edges) is ∙ ap (λ es. term_text N x t (demand_term N x t) ++ edges_text N table x t es) are ∙ period_split N table x t
+    ap (λ p. term_text N x t p ++ edges_text N table x t edges) is ∙ ap (λ es. term_text N x t (demand_term N x t) ++ edges_text N table x t es) are
+    ∙ period_split N table x t

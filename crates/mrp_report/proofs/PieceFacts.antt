@@ -23,7 +23,8 @@ range-split a (suc m) n =
     ap (range_with_len a) more ∙ ap (λ xs. a ∷ xs) (range-split (a + 1) m n ∙ ap (λ k. range_with_len (a + 1) m ++ range_with_len k n) next)
 
 -- the rows of pairs, in two parts
-pub pairs-split_from : (N : Table) (table : List PlanRows) (first m n : ℕ) → pairs_text N table first (m + n) ≡ pairs_text N table first m ++ pairs_text N table (first + m) n
+pub pairs-split_from : (N : Table) (table : List PlanRows) (first m n : ℕ)
+    → pairs_text N table first (m + n) ≡ pairs_text N table first m ++ pairs_text N table (first + m) n
 unfolding pairs_text
 pairs-split_from N table first m n = ap (flat_map _) (range-split first m n) ∙ flat_map-append _ (range_with_len first m) (range_with_len (first + m) n)
 
@@ -34,7 +35,8 @@ pairs-split N table m n =
     pairs-split_from N table 0 m n ∙ ap (λ k. pairs_text N table 0 m ++ pairs_text N table k n) next
 
 -- the rows of the first pairs begin the report
-report-split : (N : Table) (table : List PlanRows) (m : ℕ) → m ≤ length N.pairs → plan_text N table ≡ pairs_text N table 0 m ++ pairs_text N table m (length N.pairs - m)
+report-split : (N : Table) (table : List PlanRows) (m : ℕ) → m ≤ length N.pairs
+    → plan_text N table ≡ pairs_text N table 0 m ++ pairs_text N table m (length N.pairs - m)
 unfolding plan_text pairs_text
 report-split N table m within =
     let all : length N.pairs ≡ m + (length N.pairs - m) = omega arith in
@@ -57,7 +59,8 @@ pub pieces_cut : (N : Table) (table : List PlanRows) (a b c : Option (List ℕ))
 pieces_cut N table a b c m n within sent front =
     let cut : AppendsFront a c (pairs_text N table 0 (m + n)) =
     subst (λ text. AppendsFront a c text) (sym (pairs-split N table m n)) (front-after a b c _ _ sent front) in
-    subst (λ text. AppendsFront a c text) (sym (report-split N table (m + n) within)) (front-longer a c _ (pairs_text N table (m + n) (length N.pairs - (m + n))) cut)
+    subst (λ text. AppendsFront a c text) (sym (report-split N table (m + n) within))
+    (front-longer a c _ (pairs_text N table (m + n) (length N.pairs - (m + n))) cut)
 
 -- the rows of all pairs are the report
 pub pieces_all : (N : Table) (table : List PlanRows) (a b : Option (List ℕ)) (m : ℕ) → m ≡ length N.pairs

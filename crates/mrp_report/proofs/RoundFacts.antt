@@ -1,5 +1,6 @@
 -- The plan report by rounds of pieces.
-use Rattle.std.proofs.Common.{◌≡◌, ℕ, zero, suc, ◌+◌, ◌-◌, ◌*◌, ◌<◌, ◌≤◌, min, List, [], ◌∷◌, ◌++◌, Option, length, take, drop, get_or, append-nil, subst, sym, ap, ◌∙◌, refl, arith}
+use Rattle.std.proofs.Common.{◌≡◌, ℕ, zero, suc, ◌+◌, ◌-◌, ◌*◌, ◌<◌, ◌≤◌, min, List, [], ◌∷◌, ◌++◌, Option, length, take, drop, get_or, append-nil, subst, sym}
+use Rattle.std.proofs.Common.{ap, ◌∙◌, refl, arith}
 use Rattle.std.specs.List.{concat}
 use Rattle.std.specs.Io.KnownBytes.{Appends}
 use Rattle.std.proofs.lemmas.List.{take_all, take_more, take-append-drop, take-append-le}
@@ -25,7 +26,8 @@ unfolding pairs_text
 no_rows N table first n none = ap (pairs_text N table first) none
 
 -- the rows from the first pair of a piece to its last one
-pub piece_is : (N : Table) (table : List PlanRows) (first size k start end : ℕ) → first ≤ length N.pairs → start ≡ first + min (length N.pairs - first) (k * size)
+pub piece_is : (N : Table) (table : List PlanRows) (first size k start end : ℕ) → first ≤ length N.pairs
+    → start ≡ first + min (length N.pairs - first) (k * size)
     → end ≡ start + min (length N.pairs - start) size → pairs_text N table start (end - start) ≡ piece_text N table first size k
 unfolding piece_text
 piece_is N table first size k start end within begins ends =
@@ -75,7 +77,8 @@ room_kept used size room rest same =
 -- one piece more
 concat-more : (pieces : List (List ℕ)) (i : ℕ) (d : List ℕ) → i < length pieces → concat (take (i + 1) pieces) ≡ concat (take i pieces) ++ get_or pieces i d
 concat-more pieces i d lt =
-    ap concat (take_more pieces i d lt) ∙ concat-append (take i pieces) (get_or pieces i d ∷ []) ∙ ap (λ t. concat (take i pieces) ++ t) (append-nil (get_or pieces i d))
+    ap concat (take_more pieces i d lt) ∙ concat-append (take i pieces) (get_or pieces i d ∷ [])
+    ∙ ap (λ t. concat (take i pieces) ++ t) (append-nil (get_or pieces i d))
 
 -- the pieces so far were sent, and then the next
 pub sent_more : (a b c : Option (List ℕ)) (pieces : List (List ℕ)) (i : ℕ) (d piece : List ℕ) → i < length pieces → piece ≡ get_or pieces i d

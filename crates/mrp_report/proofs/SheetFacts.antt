@@ -24,7 +24,8 @@ use Rattle.mrp_book.specs.declared.figure.LaneFigure.{LaneFigure}
 use Rattle.mrp_sheet.specs.Dates.{dates_of}
 use Rattle.mrp_report.specs.Headings.{code_names, lane_names, order_names, peg_names, pegs_names}
 use Rattle.mrp_report.specs.Lanes.{figure_fields, figure_row, lane_kind_word, lane_text}
-use Rattle.mrp_report.specs.Laws.{CodesAreReadBack, FiguresAreReadBack, LateOrdersAreReadBack, OrdersAreReadBack, PegsAreReadBack, PlanIsReadBack, PlanWithLateOrdersIsReadBack, TermsAreReadBack}
+use Rattle.mrp_report.specs.Laws.{CodesAreReadBack, FiguresAreReadBack, LateOrdersAreReadBack, OrdersAreReadBack, PegsAreReadBack, PlanIsReadBack}
+use Rattle.mrp_report.specs.Laws.{PlanWithLateOrdersIsReadBack, TermsAreReadBack}
 use Rattle.mrp_report.specs.Orders.{order_fields, planned_order_row, order_text, orders_text, pair_orders_text, spelled_supply}
 use Rattle.mrp_report.specs.Pegs.{pair_pegs_text, pegs_fields, pegs_row, pegs_text, period_pegs_text}
 use Rattle.mrp_report.specs.Report.{late_fields, late_text, pair_text, plan_fields, plan_text}
@@ -34,7 +35,8 @@ use Rattle.mrp_sheet.specs.DateLists.{date_in}
 use Rattle.mrp_sheet.specs.Names.{item_of, pairs_of, plant_of}
 use Rattle.mrp_sheet.specs.Rows.{row}
 use Rattle.mrp_sheet.specs.Sheets.{IsPlain}
-use Rattle.mrp_report.specs.Sheets.{code_sheet, lane_sheet, late_sheet, pair_orders_sheet, pair_pegs_sheet, pair_sheet, peg_sheet, pegs_sheet, period_pegs_sheet, plan_sheet}
+use Rattle.mrp_report.specs.Sheets.{code_sheet, lane_sheet, late_sheet, pair_orders_sheet, pair_pegs_sheet, pair_sheet, peg_sheet, pegs_sheet}
+use Rattle.mrp_report.specs.Sheets.{period_pegs_sheet, plan_sheet}
 use Rattle.mrp_sheet.proofs.FieldFacts.{ArePlain, headed_read, more, none, number}
 use Rattle.mrp_sheet.proofs.PlainFacts.{dates_plain, item_plain, plant_plain}
 use Rattle.mrp_report.proofs.SupplyTexts.{supply_plain}
@@ -54,7 +56,8 @@ plan_is_row plant item date rows t p i d = record {
   front = λ rest. refl;
 }
 
-pair_is_sheet : (plant item : List ℕ) (dates : List (List ℕ)) (rows : PlanRows) → pair_text plant item dates rows ≡ flat_map row (pair_sheet plant item dates rows)
+pair_is_sheet : (plant item : List ℕ) (dates : List (List ℕ)) (rows : PlanRows)
+    → pair_text plant item dates rows ≡ flat_map row (pair_sheet plant item dates rows)
 unfolding pair_text
 pair_is_sheet plant item dates rows = row_each (λ t. plan_fields plant item (date_in dates t) rows t) (range_with_len 0 (length dates))
 
@@ -82,12 +85,14 @@ plan_is_read N is table = sheet_read (plan_text N table) (plan_sheet N table) (p
 late_is_row : (plant item : List ℕ) (late : Late) → IsPlain plant → IsPlain item → IsRow (late_fields plant item late)
 unfolding row strip_bom
 late_is_row plant item late p i = record {
-  plain = let are : ArePlain (late_fields plant item late) = more refl (more p (more i (number late.period (number late.quantity (number late.by none))))) in are.all;
+  plain = let are : ArePlain (late_fields plant item late) = more refl (more p (more i (number late.period (number late.quantity (number late.by none)))))
+      in are.all;
   many = omega arith;
   front = λ rest. refl;
 }
 
-orders_are_sheet : (plant item : List ℕ) (late : List Late) → flat_map (λ l. row (late_fields plant item l)) late ≡ flat_map row (map (late_fields plant item) late)
+orders_are_sheet : (plant item : List ℕ) (late : List Late) → flat_map (λ l. row (late_fields plant item l)) late
+    ≡ flat_map row (map (late_fields plant item) late)
 orders_are_sheet plant item late = row_each (late_fields plant item) late
 
 late_is_sheet : (N : Table) (table : List PlanRows) → late_text N table ≡ flat_map row (late_sheet N table)
@@ -150,7 +155,8 @@ peg_names_are_row = record {
 
 pub peg_is_read : TermsAreReadBack
 peg_is_read N is heading terms =
-    headed_read heading peg_names peg_names_are_row (peg_text N terms) (peg_sheet N terms) (peg_is_sheet N terms) (all_map (peg_fields N) (peg_is_row N is) terms)
+    headed_read heading peg_names peg_names_are_row (peg_text N terms) (peg_sheet N terms) (peg_is_sheet N terms)
+    (all_map (peg_fields N) (peg_is_row N is) terms)
 
 -- ---- the pegging of a whole plan
 
@@ -173,7 +179,8 @@ period_pegs_are_sheet N table x t = row_each (pegs_fields N x t) (peg_terms N ta
 
 pair_pegs_are_sheet : (N : Table) (table : List PlanRows) (x : ℕ) → pair_pegs_text N table x ≡ flat_map row (pair_pegs_sheet N table x)
 unfolding pair_pegs_text
-pair_pegs_are_sheet N table x = rows_each (period_pegs_text N table x) (period_pegs_sheet N table x) (period_pegs_are_sheet N table x) (range_with_len 0 (horizon N))
+pair_pegs_are_sheet N table x = rows_each (period_pegs_text N table x) (period_pegs_sheet N table x) (period_pegs_are_sheet N table x)
+    (range_with_len 0 (horizon N))
 
 pegs_are_sheet : (N : Table) (table : List PlanRows) → pegs_text N table ≡ flat_map row (pegs_sheet N table)
 unfolding pegs_text
@@ -193,7 +200,8 @@ pegs_names_are_row = record {
 pegs_rows_are : (N : Table) → IsTable N → (table : List PlanRows) → All IsRow (pegs_sheet N table)
 pegs_rows_are N is table =
     all_each (pair_pegs_sheet N table)
-    (λ x. all_each (period_pegs_sheet N table x) (λ t. all_map (pegs_fields N x t) (pegs_is_row N is x t) (peg_terms N table x t)) (range_with_len 0 (horizon N)))
+    (λ x. all_each (period_pegs_sheet N table x) (λ t. all_map (pegs_fields N x t) (pegs_is_row N is x t) (peg_terms N table x t))
+    (range_with_len 0 (horizon N)))
     (pairs_of N)
 
 pub pegs_is_read : PegsAreReadBack
@@ -240,7 +248,8 @@ unfolding row strip_bom
 figure_is_row N is lane figure = record {
   plain =
       let are : ArePlain (figure_fields N lane figure) =
-      more refl (more (kind_plain lane.kind) (more (plant_plain N is lane.sender.0) (more (plant_plain N is lane.receiver.0) (more (item_plain N is figure.item.0)
+      more refl (more (kind_plain lane.kind) (more (plant_plain N is lane.sender.0)
+      (more (plant_plain N is lane.receiver.0) (more (item_plain N is figure.item.0)
       (number figure.opening (number figure.shipped (number figure.received (number (figure.shipped - figure.received) none)))))))) in
       are.all;
   many = omega arith;
@@ -293,7 +302,8 @@ order_names_are_row = record {
   front = λ rest. refl;
 }
 
-planned_are_sheet : (until : Option ℕ) (N : Table) (table : List PlanRows) → orders_text until N table ≡ flat_map row (flat_map (pair_orders_sheet until N table) (pairs_of N))
+planned_are_sheet : (until : Option ℕ) (N : Table) (table : List PlanRows)
+    → orders_text until N table ≡ flat_map row (flat_map (pair_orders_sheet until N table) (pairs_of N))
 unfolding orders_text pair_orders_text planned_order_row
 planned_are_sheet until N table =
     rows_each (pair_orders_text until N table) (pair_orders_sheet until N table)

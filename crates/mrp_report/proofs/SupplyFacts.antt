@@ -1,5 +1,6 @@
 -- The sources of a pair, found one after the other among its edges by where their shares begin.
-use Rattle.std.proofs.Common.{◌≡◌, ◌∙◌, ◌-◌, ◌<◌, ◌≤◌, ℕ, zero, suc, Bool, cond, eqb, List, [], ◌∷◌, ◌++◌, Option, Some, None, inl, inr, length, get_or, map, All, refl, sym, ap, subst, arith, append-nil, append_assoc}
+use Rattle.std.proofs.Common.{◌≡◌, ◌∙◌, ◌-◌, ◌<◌, ◌≤◌, ℕ, zero, suc, Bool, cond, eqb, List, [], ◌∷◌, ◌++◌, Option, Some, None, inl, inr, length, get_or, map}
+use Rattle.std.proofs.Common.{All, refl, sym, ap, subst, arith, append-nil, append_assoc}
 use Rattle.std.specs.List.{filter, find, flat_map}
 use Rattle.std.specs.Option.{unwrap_or, option_map}
 use Rattle.std.proofs.lemmas.Bool.{cases_eq, cases_Bool, eq-eqb, ne_eqb}
@@ -95,7 +96,8 @@ none_at_end : (N : Table) (ss : List SourceRow) → All (IsSourceRow N) ss → f
 none_at_end N ss rows =
     filter_none (begins_at 1000) ss (λ k d lt. let row = rows k d lt in ne_eqb (get_or ss k d).low 1000 (λ e. omega (arith, e, row.rises, row.ends)))
 
-rises_to : (N : Table) (low : ℕ) (done : List SourceRow) (s : SourceRow) (rest : List SourceRow) → AreShares low (done ++ s ∷ rest) → All (IsSourceRow N) (done ++ s ∷ rest) → low ≤ s.low
+rises_to : (N : Table) (low : ℕ) (done : List SourceRow) (s : SourceRow) (rest : List SourceRow) → AreShares low (done ++ s ∷ rest)
+    → All (IsSourceRow N) (done ++ s ∷ rest) → low ≤ s.low
 unfolding AreShares
 rises_to N low [] s rest shares rows = let at : s.low ≡ low = shares.0 in omega (arith, at)
 rises_to N low (d ∷ done) s rest shares rows =
@@ -104,7 +106,8 @@ rises_to N low (d ∷ done) s rest shares rows =
     omega (arith, at, row.rises, rises_to N d.high done s rest shares.1 (All-tail (IsSourceRow N) d (done ++ s ∷ rest) rows))
 
 -- one share begins where that of a source does
-one_begins : (N : Table) (low : ℕ) (done : List SourceRow) (s : SourceRow) (rest : List SourceRow) → AreShares low (done ++ s ∷ rest) → All (IsSourceRow N) (done ++ s ∷ rest)
+one_begins : (N : Table) (low : ℕ) (done : List SourceRow) (s : SourceRow) (rest : List SourceRow) → AreShares low (done ++ s ∷ rest)
+    → All (IsSourceRow N) (done ++ s ∷ rest)
     → filter (begins_at s.low) (done ++ s ∷ rest) ≡ s ∷ []
 unfolding AreShares
 one_begins N low [] s rest shares rows =
@@ -131,14 +134,17 @@ shares_of N x table h from = subst (λ (z : Supply). HasSupply z (sources_of_pai
 pub rows_of : (N : Table) (x : ℕ) → IsTable N → All (IsSourceRow N) (sources_of_pair N x)
 rows_of N x table = All-filter (λ s. eqb s.pair.0 x) (IsSourceRow N) N.sources table.read.sources
 
-own_edges : (N : Table) (x : ℕ) → IsTable N → IsPair N x → (pair_at N x).supply ≡ From → filter (λ e. eqb e.demander.0 x) (edges N) ≡ map (source_edge N) (sources_of_pair N x)
+own_edges : (N : Table) (x : ℕ) → IsTable N → IsPair N x → (pair_at N x).supply ≡ From
+    → filter (λ e. eqb e.demander.0 x) (edges N) ≡ map (source_edge N) (sources_of_pair N x)
 own_edges N x table h from =
     let own = filter (λ (b : BillRow). eqb b.parent.0 x) N.bills in
     let none : own ≡ [] =
     filter_none (λ b. eqb b.parent.0 x) N.bills
-    (λ k d lt. ne_eqb (get_or N.bills k d).parent.0 x (λ e. made_is (supply_kind N x) (ap (supply_kind N) (sym e) ∙ table.sourced.parents k d lt) (supply_is N x h ∙ from))) in
+    (λ k d lt. ne_eqb (get_or N.bills k d).parent.0 x (λ e. made_is (supply_kind N x) (ap (supply_kind N) (sym e) ∙ table.sourced.parents k d lt)
+    (supply_is N x h ∙ from))) in
     filter-append (λ e. eqb e.demander.0 x) (map bill_edge N.bills) (map (source_edge N) N.sources)
-    ∙ ap (λ (z : List Edge). z ++ filter (λ e. eqb e.demander.0 x) (map (source_edge N) N.sources)) (filter-map (λ e. eqb e.demander.0 x) bill_edge N.bills ∙ ap (map bill_edge) none)
+    ∙ ap (λ (z : List Edge). z ++ filter (λ e. eqb e.demander.0 x) (map (source_edge N) N.sources))
+    (filter-map (λ e. eqb e.demander.0 x) bill_edge N.bills ∙ ap (map bill_edge) none)
     ∙ filter-map (λ e. eqb e.demander.0 x) (source_edge N) N.sources
 
 -- those of which the share begins there
@@ -219,7 +225,8 @@ found_next N x table h from done s rest all =
     let key : Edge → ℕ = λ e. e.pair.0 in
     find_one (λ e. eqb e.low s.low) (source_edge N s) (suppliers N x)
     (edges_at N x s.low table h from
-    ∙ ap (λ (z : List SourceRow). sorted_by key (length N.pairs) (map (source_edge N) z)) (ap (filter (begins_at s.low)) all ∙ one_begins N 0 done s rest shares rows)
+    ∙ ap (λ (z : List SourceRow). sorted_by key (length N.pairs) (map (source_edge N) z))
+    (ap (filter (begins_at s.low)) all ∙ one_begins N 0 done s rest shares rows)
     ∙ one_sorted key (length N.pairs) (source_edge N s) is.pair)
 
 -- after the last source none is
@@ -266,10 +273,12 @@ next_source N x low before now edge table h from w found = go w.rest w.all w.sha
 
     go : (rest : List SourceRow) → sources_of_pair N x ≡ w.done ++ rest → AreShares low rest → Next N x low before now edge
     go [] all shares =
-        absurd (none_is_some (find (λ e. eqb e.low low) (suppliers N x)) edge (ap (λ (v : ℕ). find (λ e. eqb e.low v) (suppliers N x)) (last_ends low shares) ∙ found_none N x table h from) found)
+        absurd (none_is_some (find (λ e. eqb e.low low) (suppliers N x)) edge
+        (ap (λ (v : ℕ). find (λ e. eqb e.low v) (suppliers N x)) (last_ends low shares) ∙ found_none N x table h from) found)
     go (s ∷ rest) all shares =
         let at : s.low ≡ low = (first_begins low s rest shares).0 in
-        let is : source_edge N s ≡ edge = same_Some _ _ (sym (found_next N x table h from w.done s rest all) ∙ ap (λ (v : ℕ). find (λ e. eqb e.low v) (suppliers N x)) at ∙ found) in
+        let is : source_edge N s ≡ edge = same_Some _ _ (sym (found_next N x table h from w.done s rest all)
+        ∙ ap (λ (v : ℕ). find (λ e. eqb e.low v) (suppliers N x)) at ∙ found) in
         subst (λ (e : Edge). Next N x low before now e) is
         (is_next s rest all at (first_begins low s rest shares).1 (in_middle (IsSource N) w.done s rest (subst (All (IsSource N)) all (sources_are N x table))))
 
@@ -289,7 +298,8 @@ written_all N x low now table h from w none = go w.rest w.all w.shares
         (ap (λ (v : ℕ). find (λ e. eqb e.low v) (suppliers N x)) (sym at) ∙ found_next N x table h from w.done s rest all))
 
 -- the same of edges and an answer that were read
-pub next_read : (N : Table) (x low : ℕ) (before now : List ℕ) (read : List Edge) (answer : Option Edge) (edge : Edge) → IsTable N → IsPair N x → (pair_at N x).supply ≡ From
+pub next_read : (N : Table) (x low : ℕ) (before now : List ℕ) (read : List Edge) (answer : Option Edge) (edge : Edge) → IsTable N → IsPair N x
+    → (pair_at N x).supply ≡ From
     → Written N x low before now → read ≡ suppliers N x → answer ≡ find (λ e. eqb e.low low) read → answer ≡ Some edge → Next N x low before now edge
 next_read N x low before now read answer edge table h from w are found is =
     next_source N x low before now edge table h from w (ap (find (λ e. eqb e.low low)) (sym are) ∙ sym found ∙ is)

@@ -1,5 +1,6 @@
 -- What a supply is spelled as: its sources one after the other, and no byte that needs quotes.
-use Rattle.std.proofs.Common.{◌≡◌, ◌∙◌, ◌-◌, ◌<◌, ◌||◌, ℕ, Bool, true, false, cond, List, [], ◌∷◌, ◌++◌, map, All, decimal, codes, refl, ap, arith, append-nil, append_assoc}
+use Rattle.std.proofs.Common.{◌≡◌, ◌∙◌, ◌-◌, ◌<◌, ◌||◌, ℕ, Bool, true, false, cond, List, [], ◌∷◌, ◌++◌, map, All, decimal, codes, refl, ap, arith, append-nil}
+use Rattle.std.proofs.Common.{append_assoc}
 use Rattle.std.specs.List.{flat_map, join_with_byte}
 use Rattle.std.proofs.lemmas.Bool.{ne_eqb, eq-eqb}
 use Rattle.std.proofs.lemmas.List.Elements.{All-cons, All-head, All-nil, All-tail}
@@ -51,7 +52,8 @@ sources_plain N is (s ∷ t ∷ ss) = joined_plain (source_fields (map (source_s
 said_plain : (N : Table) → IsTable N → (x : ℕ) (s : Supply) → IsPlain (supply_text (supply_said N x s))
 said_plain N is x supply.Make = refl
 said_plain N is x supply.Buy = refl
-said_plain N is x supply.From = both_plain (codes "from:") (sources_text (map (source_said N) (sources_of_pair N x))) refl (sources_plain N is (sources_of_pair N x))
+said_plain N is x supply.From = both_plain (codes "from:") (sources_text (map (source_said N) (sources_of_pair N x))) refl
+    (sources_plain N is (sources_of_pair N x))
 
 pub supply_plain : (N : Table) → IsTable N → (x : ℕ) → IsPlain (spelled_supply N x)
 supply_plain N is x = said_plain N is x (pair_at N x).supply
@@ -122,8 +124,10 @@ supply_spelled N (s ∷ t ∷ ss) shares rows =
     let begins : s.low ≡ 0 = shares.0 in
     let follows : t.low ≡ s.high = shares.1.0 in
     let parts : All IsPart (s ∷ t ∷ ss) =
-    All-cons IsPart s (t ∷ ss) (omega (arith, begins, follows, next.rises, next.ends)) (later_parts N s.high (t ∷ ss) (omega (arith, row.rises)) shares.1 more) in
-    ap (λ (x : List ℕ). codes "from" ++ x) (parts_are_colons N (s ∷ t ∷ ss) parts ∙ colons_joined (plant_name N s.plant.0) (decimal (s.high - s.low) ∷ source_fields (map (source_said N) (t ∷ ss))))
+    All-cons IsPart s (t ∷ ss) (omega (arith, begins, follows, next.rises, next.ends)) (later_parts N s.high (t ∷ ss) (omega (arith, row.rises)) shares.1 more)
+    in
+    ap (λ (x : List ℕ). codes "from" ++ x) (parts_are_colons N (s ∷ t ∷ ss) parts
+    ∙ colons_joined (plant_name N s.plant.0) (decimal (s.high - s.low) ∷ source_fields (map (source_said N) (t ∷ ss))))
 
 -- a source that was added piece by piece
 pub source_added : (old colon named whole plant bytes share : List ℕ) → colon ≡ old ++ 58 ∷ [] → named ≡ colon ++ bytes → bytes ≡ plant → whole ≡ named ++ share

@@ -18,8 +18,10 @@ lane_kind_word Schedule = text_bytes "schedule"
 -- the fields of the row of a figure of that lane: opening, shipped, received, and what is in transit
 abbrev pub figure_fields : Table → Lane → LaneFigure → List (List ℕ)
 figure_fields N lane figure =
-    text_bytes "lane" ∷ lane_kind_word lane.kind ∷ name_of_plant N lane.sender ∷ name_of_plant N lane.receiver ∷ name_of_item N figure.item
-    ∷ decimal figure.opening ∷ decimal figure.shipped ∷ decimal figure.received ∷ decimal (figure.shipped - figure.received) ∷ []
+    text_bytes "lane" ∷ lane_kind_word lane.kind ∷ name_of_plant N lane.sender ∷ name_of_plant N lane.receiver
+    ∷ name_of_item N figure.item
+    ∷ decimal figure.opening ∷ decimal figure.shipped ∷ decimal figure.received
+    ∷ decimal (figure.shipped - figure.received) ∷ []
 
 -- that row
 unfoldable pub figure_row : Table → Lane → LaneFigure → List ℕ

@@ -21,12 +21,14 @@ abbrev pub PlanIsReadBack : Type 0
 PlanIsReadBack = (N : Table) → IsTable N → (table : List PlanRows) → IsReadAs (plan_text N table) (plan_sheet N table)
 
 abbrev pub LateOrdersAreReadBack : Type 0
-LateOrdersAreReadBack = (N : Table) → IsTable N → (table : List PlanRows) → IsReadAs (late_text N table) (late_sheet N table)
+LateOrdersAreReadBack = (N : Table) → IsTable N → (table : List PlanRows)
+    → IsReadAs (late_text N table) (late_sheet N table)
 
 -- the plan and then its late orders, as `mrp plan` writes them
 abbrev pub PlanWithLateOrdersIsReadBack : Type 0
 PlanWithLateOrdersIsReadBack =
-    (N : Table) → IsTable N → (table : List PlanRows) → IsReadAs (plan_text N table ++ late_text N table) (plan_sheet N table ++ late_sheet N table)
+    (N : Table) → IsTable N → (table : List PlanRows)
+    → IsReadAs (plan_text N table ++ late_text N table) (plan_sheet N table ++ late_sheet N table)
 
 -- the other reports, with the names of their columns or without
 abbrev pub TermsAreReadBack : Type 0
@@ -37,17 +39,20 @@ TermsAreReadBack =
 abbrev pub PegsAreReadBack : Type 0
 PegsAreReadBack =
     (N : Table) → IsTable N → (heading : Heading) (table : List PlanRows)
-    → IsReadAs (header_row heading pegs_names ++ pegs_text N table) (header_sheet heading pegs_names ++ pegs_sheet N table)
+    → IsReadAs (header_row heading pegs_names ++ pegs_text N table)
+    (header_sheet heading pegs_names ++ pegs_sheet N table)
 
 abbrev pub CodesAreReadBack : Type 0
 CodesAreReadBack =
     (N : Table) → IsTable N → (heading : Heading) (codes : List ℕ)
-    → IsReadAs (header_row heading code_names ++ code_text N codes) (header_sheet heading code_names ++ code_sheet N codes)
+    → IsReadAs (header_row heading code_names ++ code_text N codes)
+    (header_sheet heading code_names ++ code_sheet N codes)
 
 abbrev pub FiguresAreReadBack : Type 0
 FiguresAreReadBack =
     (N : Table) → IsTable N → (heading : Heading) (figures : List LaneFigure)
-    → IsReadAs (header_row heading lane_names ++ lane_text N figures) (header_sheet heading lane_names ++ lane_sheet N figures)
+    → IsReadAs (header_row heading lane_names ++ lane_text N figures)
+    (header_sheet heading lane_names ++ lane_sheet N figures)
 
 abbrev pub OrdersAreReadBack : Type 0
 OrdersAreReadBack =

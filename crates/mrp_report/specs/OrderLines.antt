@@ -27,7 +27,8 @@ order_line_row line order = planned_order_row line.plant.now line.item.now line.
 -- the row of the order that is due in a period, if there is one and it is released by then
 abbrev pub due_text : OrderLine → PlanRows → ℕ → List ℕ
 due_text line rows t =
-    if has_order rows t then (if is_released_by line.until (planned_order line.lead rows t) then order_line_row line (planned_order line.lead rows t) else [])
+    if has_order rows t then (if is_released_by line.until (planned_order line.lead rows t)
+    then order_line_row line (planned_order line.lead rows t) else [])
     else []
 
 -- those of all periods

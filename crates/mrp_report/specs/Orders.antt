@@ -21,11 +21,12 @@ use Rattle.mrp_sheet.specs.Rows.{row}
 abbrev pub spelled_supply : Table → ℕ → List ℕ
 spelled_supply N x = supply_text (supply_said N x (pair_at N x).supply)
 
--- the fields of the row of an order: what is ordered, when it is released and due, each with the first day of the period,
--- and how many periods are missing
+-- the fields of the row of an order: what is ordered, when it is released and due, each with the first day of the
+-- period, and how many periods are missing
 abbrev pub order_fields : List ℕ → List ℕ → List ℕ → List (List ℕ) → PlannedOrder → List (List ℕ)
 order_fields plant item supply dates order =
-    text_bytes "order" ∷ plant ∷ item ∷ supply ∷ decimal order.quantity ∷ decimal order.release ∷ date_in dates order.release
+    text_bytes "order" ∷ plant ∷ item ∷ supply ∷ decimal order.quantity ∷ decimal order.release
+    ∷ date_in dates order.release
     ∷ decimal order.due ∷ date_in dates order.due ∷ decimal order.late ∷ []
 
 -- that row
@@ -35,7 +36,8 @@ planned_order_row plant item supply dates order = row (order_fields plant item s
 -- the rows of a pair's orders that are released by then, in rising due period
 unfoldable pub pair_orders_text : Option ℕ → Table → List PlanRows → ℕ → List ℕ
 pair_orders_text until N table x =
-    flat_map (planned_order_row (plant_of N x) (item_of N x) (spelled_supply N x) (dates_of N.calendar)) (orders_by until N table x)
+    flat_map (planned_order_row (plant_of N x) (item_of N x) (spelled_supply N x) (dates_of N.calendar))
+    (orders_by until N table x)
 
 -- the orders of each pair, in table order
 unfoldable pub orders_text : Option ℕ → Table → List PlanRows → List ℕ

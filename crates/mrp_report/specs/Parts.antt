@@ -48,7 +48,8 @@ parts_text pair dates rows =
 -- the rows of so many pairs from one on, in table order
 unfoldable pub pairs_text : Table → List PlanRows → ℕ → ℕ → List ℕ
 pairs_text N table first count =
-    flat_map (λ x. pair_text (plant_of N x) (item_of N x) (dates_of N.calendar) (rows_at table x)) (range_with_len first count)
+    flat_map (λ x. pair_text (plant_of N x) (item_of N x) (dates_of N.calendar) (rows_at table x))
+    (range_with_len first count)
 
 -- the row of a late order
 unfoldable pub late_row : List ℕ → List ℕ → Late → List ℕ

@@ -9,11 +9,12 @@ use Rattle.mrp_sheet.specs.Names.{item_of, pairs_of, plant_of}
 use Rattle.mrp_sheet.specs.Rows.{row}
 use Rattle.mrp_report.specs.Terms.{source_word}
 
--- the fields of the row of a term of a pair's gross requirement in a period: the pair and the period, where the requirement comes
--- from, the pair that asks, its release, the pieces for each piece of it, and their product
+-- the fields of the row of a term of a pair's gross requirement in a period: the pair and the period, where the
+-- requirement comes from, the pair that asks, its release, the pieces for each piece of it, and their product
 abbrev pub pegs_fields : Table → ℕ → ℕ → PegTerm → List (List ℕ)
 pegs_fields N x t term =
-    text_bytes "pegs" ∷ plant_of N x ∷ item_of N x ∷ decimal t ∷ source_word term.source ∷ plant_of N term.pair.0 ∷ item_of N term.pair.0
+    text_bytes "pegs" ∷ plant_of N x ∷ item_of N x ∷ decimal t ∷ source_word term.source ∷ plant_of N term.pair.0
+    ∷ item_of N term.pair.0
     ∷ decimal term.release ∷ decimal term.per ∷ decimal term.quantity ∷ []
 
 -- that row

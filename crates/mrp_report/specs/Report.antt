@@ -9,12 +9,14 @@ use Rattle.mrp_sheet.specs.Rows.{row}
 use Rattle.mrp_sheet.specs.Dates.{dates_of}
 use Rattle.mrp_sheet.specs.Names.{item_of, pairs_of, plant_of}
 
--- the row of a pair in a period: its number and first day, gross requirement, scheduled receipts, planned order receipt,
--- planned order release and projected available
+-- the row of a pair in a period: its number and first day, gross requirement, scheduled receipts, planned order
+-- receipt, planned order release and projected available
 abbrev pub plan_fields : List ℕ → List ℕ → List ℕ → PlanRows → ℕ → List (List ℕ)
 plan_fields plant item date rows t =
-    text_bytes "plan" ∷ plant ∷ item ∷ decimal t ∷ date ∷ decimal (slice_index rows.gross t) ∷ decimal (slice_index rows.incoming t)
-    ∷ decimal (slice_index rows.order t) ∷ decimal (slice_index rows.release t) ∷ decimal (slice_index rows.available t) ∷ []
+    text_bytes "plan" ∷ plant ∷ item ∷ decimal t ∷ date ∷ decimal (slice_index rows.gross t)
+    ∷ decimal (slice_index rows.incoming t)
+    ∷ decimal (slice_index rows.order t) ∷ decimal (slice_index rows.release t) ∷ decimal (slice_index rows.available t)
+    ∷ []
 
 -- a pair's rows, one for each date, in rising period
 unfoldable pub pair_text : List ℕ → List ℕ → List (List ℕ) → PlanRows → List ℕ
@@ -28,8 +30,10 @@ plan_text N table =
 
 -- the row of a late order: its due period, its quantity and how many periods are missing
 abbrev pub late_fields : List ℕ → List ℕ → Late → List (List ℕ)
-late_fields plant item late = text_bytes "late" ∷ plant ∷ item ∷ decimal late.period ∷ decimal late.quantity ∷ decimal late.by ∷ []
+late_fields plant item late = text_bytes "late" ∷ plant ∷ item ∷ decimal late.period ∷ decimal late.quantity
+    ∷ decimal late.by ∷ []
 
 -- the report of late orders: those of each pair, in table order and in rising period
 unfoldable pub late_text : Table → List PlanRows → List ℕ
-late_text N table = flat_map (λ x. flat_map (λ late. row (late_fields (plant_of N x) (item_of N x) late)) (rows_at table x).late) (pairs_of N)
+late_text N table = flat_map (λ x. flat_map (λ late. row (late_fields (plant_of N x) (item_of N x) late))
+    (rows_at table x).late) (pairs_of N)

@@ -24,10 +24,12 @@ use Rattle.mrp_sheet.specs.Sheets.{Sheet, header_sheet}
 
 -- the plan: a row for each pair in table order and each period in rising order
 abbrev pub pair_sheet : List ℕ → List ℕ → List (List ℕ) → PlanRows → Sheet
-pair_sheet plant item dates rows = map (λ t. plan_fields plant item (date_in dates t) rows t) (range_with_len 0 (length dates))
+pair_sheet plant item dates rows = map (λ t. plan_fields plant item (date_in dates t) rows t)
+    (range_with_len 0 (length dates))
 
 abbrev pub plan_sheet : Table → List PlanRows → Sheet
-plan_sheet N table = flat_map (λ x. pair_sheet (plant_of N x) (item_of N x) (dates_of N.calendar) (rows_at table x)) (pairs_of N)
+plan_sheet N table = flat_map (λ x. pair_sheet (plant_of N x) (item_of N x) (dates_of N.calendar) (rows_at table x))
+    (pairs_of N)
 
 -- the late orders of each pair, in table order and in rising period
 abbrev pub late_sheet : Table → List PlanRows → Sheet
@@ -58,7 +60,9 @@ lane_sheet N figures = map (λ figure. figure_fields N (lane_at N figure.lane.0)
 -- the planned orders of each pair that are released by then, in table order and in rising due period
 abbrev pub pair_orders_sheet : Option ℕ → Table → List PlanRows → ℕ → Sheet
 pair_orders_sheet until N table x =
-    map (order_fields (plant_of N x) (item_of N x) (spelled_supply N x) (dates_of N.calendar)) (orders_by until N table x)
+    map (order_fields (plant_of N x) (item_of N x) (spelled_supply N x) (dates_of N.calendar))
+    (orders_by until N table x)
 
 abbrev pub order_sheet : Heading → Option ℕ → Table → List PlanRows → Sheet
-order_sheet heading until N table = header_sheet heading order_names ++ flat_map (pair_orders_sheet until N table) (pairs_of N)
+order_sheet heading until N table = header_sheet heading order_names
+    ++ flat_map (pair_orders_sheet until N table) (pairs_of N)

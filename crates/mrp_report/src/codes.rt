@@ -38,7 +38,8 @@ pub fn code_rows<W: Write>(
     out: &mut W,
 ) -> Result<(), ReportFault>
     requires { AreCodes network.now levels.now }
-    ensures text { SendsReport (W.contents out.old) (W.contents out.new) result (header_row heading code_names ++ code_text network.now levels.now) }
+    ensures text { SendsReport (W.contents out.old) (W.contents out.new) result
+        (header_row heading code_names ++ code_text network.now levels.now) }
     ensures untouched { result ≡ Err ReportFault.Memory → out.new ≡ out.old }
 {
     let text = code_text(alloc, network, levels, heading)?;
@@ -53,7 +54,8 @@ fn code_text(
     heading: Heading,
 ) -> Result<Vec<u8>, ReportFault>
     requires { AreCodes network.now levels.now }
-    ensures text { IfOk result (λ text. text.items ≡ header_row heading code_names ++ code_text network.now levels.now) }
+    ensures text { IfOk result (λ text. text.items ≡ header_row heading code_names
+        ++ code_text network.now levels.now) }
     ensures fault { IfErr result (λ fault. fault ≡ ReportFault.Memory) }
 {
     let mut rows = room_for(alloc, network.pairs(), LONGEST_ROW)?;

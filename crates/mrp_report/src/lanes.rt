@@ -41,7 +41,8 @@ pub fn lane_rows<W: Write>(
     out: &mut W,
 ) -> Result<(), ReportFault>
     requires { All (IsFigure network.now) figures.now }
-    ensures text { SendsReport (W.contents out.old) (W.contents out.new) result (header_row heading lane_names ++ lane_text network.now figures.now) }
+    ensures text { SendsReport (W.contents out.old) (W.contents out.new) result
+        (header_row heading lane_names ++ lane_text network.now figures.now) }
     ensures untouched { result ≡ Err ReportFault.Memory → out.new ≡ out.old }
 {
     let text = lane_text(alloc, network, figures, heading)?;
@@ -56,7 +57,8 @@ fn lane_text(
     heading: Heading,
 ) -> Result<Vec<u8>, ReportFault>
     requires { All (IsFigure network.now) figures.now }
-    ensures text { IfOk result (λ text. text.items ≡ header_row heading lane_names ++ lane_text network.now figures.now) }
+    ensures text { IfOk result (λ text. text.items ≡ header_row heading lane_names
+        ++ lane_text network.now figures.now) }
     ensures fault { IfErr result (λ fault. fault ≡ ReportFault.Memory) }
 {
     let mut rows = room_for(alloc, figures.len(), LONGEST_ROW)?;

@@ -78,7 +78,8 @@ fn put_orders(
     plan: &PairPlan,
 ) -> Result<(), ReportFault>
     requires { IsBetweenRows rows.old }
-    ensures rows { OnOk result (written rows.new ≡ written rows.old ++ flat_map (late_row plant.now item.now) plan.now.late) }
+    ensures rows { OnOk result (written rows.new ≡ written rows.old
+        ++ flat_map (late_row plant.now item.now) plan.now.late) }
     ensures between { OnOk result (IsBetweenRows rows.new) }
     ensures fault { IfErr result (λ fault. fault ≡ ReportFault.Memory) }
 {

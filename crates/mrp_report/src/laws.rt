@@ -1,6 +1,7 @@
 //! Laws of the reports. Each is the contract of a function that does nothing.
 ghost use Rattle.mrp_report.specs.Laws.{PlanIsReadBack, LateOrdersAreReadBack, PlanWithLateOrdersIsReadBack};
-ghost use Rattle.mrp_report.specs.Laws.{TermsAreReadBack, PegsAreReadBack, CodesAreReadBack, FiguresAreReadBack, OrdersAreReadBack};
+ghost use Rattle.mrp_report.specs.Laws.{TermsAreReadBack, PegsAreReadBack, CodesAreReadBack, FiguresAreReadBack};
+ghost use Rattle.mrp_report.specs.Laws.{OrdersAreReadBack};
 
 /// What csv reads of a report is exactly the fields that its rows are made of, row by row, and none
 /// of them needs quotes; so too of the plan rows and the late orders together, and of the others with the

@@ -72,7 +72,8 @@ pub fn order_rows<W: Write>(
     out: &mut W,
 ) -> Result<(), ReportFault>
     requires fits { Fits net.now.network plan.now }
-    ensures text { SendsReport (W.contents out.old) (W.contents out.new) result (order_text heading until net.now.network plan.now) }
+    ensures text { SendsReport (W.contents out.old) (W.contents out.new) result
+        (order_text heading until net.now.network plan.now) }
     ensures untouched { result ≡ Err ReportFault.Memory → out.new ≡ out.old }
 {
     let network = net.network();
@@ -95,7 +96,8 @@ fn order_text(
 ) -> Result<Vec<u8>, ReportFault>
     requires fits { Fits report.now.network.now report.now.plan.now }
     requires dates { report.now.dates.now ≡ dates_of report.now.network.now.calendar }
-    ensures text { IfOk result (λ text. text.items ≡ order_text heading report.now.until report.now.network.now report.now.plan.now) }
+    ensures text { IfOk result (λ text. text.items
+        ≡ order_text heading report.now.until report.now.network.now report.now.plan.now) }
     ensures fault { IfErr result (λ fault. fault ≡ ReportFault.Memory) }
 {
     // Room to begin with, which grows where there are more orders than pairs.
@@ -139,7 +141,8 @@ fn put_all_orders(
     requires between { IsBetweenRows rows.old }
     requires fits { Fits report.now.network.now report.now.plan.now }
     requires dates { report.now.dates.now ≡ dates_of report.now.network.now.calendar }
-    ensures rows { OnOk result (written rows.new ≡ written rows.old ++ orders_text report.now.until report.now.network.now report.now.plan.now) }
+    ensures rows { OnOk result (written rows.new ≡ written rows.old
+        ++ orders_text report.now.until report.now.network.now report.now.plan.now) }
     ensures between { OnOk result (IsBetweenRows rows.new) }
     ensures fault { IfErr result (λ fault. fault ≡ ReportFault.Memory) }
 {
@@ -163,7 +166,8 @@ fn put_pair_orders(
     requires dates { report.now.dates.now ≡ dates_of report.now.network.now.calendar }
     requires pair { IsPair report.now.network.now x.0 }
     requires supply { supply.now ≡ spelled_supply report.now.network.now x.0 }
-    ensures rows { OnOk result (written rows.new ≡ written rows.old ++ pair_orders_text report.now.until report.now.network.now report.now.plan.now x.0) }
+    ensures rows { OnOk result (written rows.new ≡ written rows.old
+        ++ pair_orders_text report.now.until report.now.network.now report.now.plan.now x.0) }
     ensures between { OnOk result (IsBetweenRows rows.new) }
     ensures fault { IfErr result (λ fault. fault ≡ ReportFault.Memory) }
 {

@@ -1,6 +1,7 @@
 //! The pegs rows: the pegging of the whole plan.
 
-ghost use Rattle.std.specs.Prelude.{◌≡◌, ◌+◌, ◌≤◌, ◌<◌, ◌++◌, ◌∷◌, take, drop, length, decimal, All, Err, IfOk, OnOk, IfErr, OnErr};
+ghost use Rattle.std.specs.Prelude.{◌≡◌, ◌+◌, ◌≤◌, ◌<◌, ◌++◌, ◌∷◌, take, drop, length, decimal, All, Err, IfOk, OnOk};
+ghost use Rattle.std.specs.Prelude.{IfErr, OnErr};
 ghost use Rattle.csv.specs.Writing.{comma};
 ghost use Rattle.mrp_rows.specs.Table.{IsPair, IsTable, horizon};
 ghost use Rattle.mrp_net.specs.PlanLaws.{Fits};
@@ -61,7 +62,8 @@ pub fn pegs_rows<W: Write>(
     out: &mut W,
 ) -> Result<(), ReportFault>
     requires fits { Fits net.now.network plan.now }
-    ensures text { SendsReport (W.contents out.old) (W.contents out.new) result (header_row heading pegs_names ++ pegs_text net.now.network plan.now) }
+    ensures text { SendsReport (W.contents out.old) (W.contents out.new) result
+        (header_row heading pegs_names ++ pegs_text net.now.network plan.now) }
     ensures untouched { result ≡ Err ReportFault.Memory → out.new ≡ out.old }
 {
     let mut room = Room::new(alloc, heading_text(heading))?;
@@ -89,7 +91,8 @@ fn send_pegs<W: Write>(
     out: &mut W,
 ) -> Result<(), ReportFault>
     requires fits { Fits network.now plan.now }
-    ensures text { SendsReport (W.contents out.old) (W.contents out.new) result (room.old ++ pegs_text network.now plan.now) }
+    ensures text { SendsReport (W.contents out.old) (W.contents out.new) result
+        (room.old ++ pegs_text network.now plan.now) }
     ensures fault { IfErr result (λ fault. fault ≡ ReportFault.WriteFault) }
 {
     put_pegs(room, network, plan, out)?;
@@ -104,8 +107,10 @@ fn put_pegs<W: Write>(
     out: &mut W,
 ) -> Result<(), ReportFault>
     requires fits { Fits network.now plan.now }
-    ensures rows { OnOk result (Gathers (W.contents out.old) (W.contents out.new) room.old room.new (pegs_text network.now plan.now)) }
-    ensures front { OnErr result (AppendsFront (W.contents out.old) (W.contents out.new) (room.old ++ pegs_text network.now plan.now)) }
+    ensures rows { OnOk result (Gathers (W.contents out.old) (W.contents out.new) room.old room.new
+        (pegs_text network.now plan.now)) }
+    ensures front { OnErr result (AppendsFront (W.contents out.old) (W.contents out.new)
+        (room.old ++ pegs_text network.now plan.now)) }
     ensures fault { IfErr result (λ fault. fault ≡ ReportFault.WriteFault) }
 {
     let mut names = [0; LONGEST_PAIR];
@@ -197,8 +202,10 @@ fn put_peg<W: Write>(
 ) -> Result<(), ReportFault>
     requires line { IsPegLine line.now }
     requires pair { IsPair line.now.network.now term.pair.0 }
-    ensures rows { OnOk result (Gathers (W.contents out.old) (W.contents out.new) room.old room.new (term_text line.now.network.now line.now.x.0 t term)) }
-    ensures front { OnErr result (AppendsFront (W.contents out.old) (W.contents out.new) (room.old ++ term_text line.now.network.now line.now.x.0 t term)) }
+    ensures rows { OnOk result (Gathers (W.contents out.old) (W.contents out.new) room.old room.new
+        (term_text line.now.network.now line.now.x.0 t term)) }
+    ensures front { OnErr result (AppendsFront (W.contents out.old) (W.contents out.new)
+        (room.old ++ term_text line.now.network.now line.now.x.0 t term)) }
     ensures fault { IfErr result (λ fault. fault ≡ ReportFault.WriteFault) }
 {
     if term.quantity == 0 {

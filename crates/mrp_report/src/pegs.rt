@@ -41,7 +41,8 @@ pub fn peg_rows<W: Write>(
     out: &mut W,
 ) -> Result<(), ReportFault>
     requires { All (λ term. IsPair net.now.network term.pair.0) terms.now }
-    ensures text { SendsReport (W.contents out.old) (W.contents out.new) result (header_row heading peg_names ++ peg_text net.now.network terms.now) }
+    ensures text { SendsReport (W.contents out.old) (W.contents out.new) result
+        (header_row heading peg_names ++ peg_text net.now.network terms.now) }
     ensures untouched { result ≡ Err ReportFault.Memory → out.new ≡ out.old }
 {
     let text = peg_text(alloc, net.network(), terms, heading)?;

@@ -98,7 +98,8 @@ fn send_pieces<W: Write>(
     requires fits { Fits report.now.network.now report.now.plan.now }
     requires dates { report.now.dates.now ≡ dates_of report.now.network.now.calendar }
     requires room { PAIRS_AT_ONCE * (length report.now.dates.now * LONGEST_ROW) ≤ length room.old }
-    ensures text { SendsReport (W.contents out.old) (W.contents out.new) result (plan_text report.now.network.now report.now.plan.now) }
+    ensures text { SendsReport (W.contents out.old) (W.contents out.new) result
+        (plan_text report.now.network.now report.now.plan.now) }
     ensures fault { IfErr result (λ fault. fault ≡ ReportFault.WriteFault) }
 {
     let pairs = report.network.pairs();

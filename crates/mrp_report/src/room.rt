@@ -60,8 +60,10 @@ impl Room {
         out: &mut W,
     ) -> Result<(), ReportFault>
         requires { length first.now + length second.now + 2 ≤ LONGEST_ROW }
-        ensures row { OnOk result (Gathers (W.contents out.old) (W.contents out.new) self.old self.new (row (first.now ∷ second.now ∷ []))) }
-        ensures front { OnErr result (AppendsFront (W.contents out.old) (W.contents out.new) (self.old ++ row (first.now ∷ second.now ∷ []))) }
+        ensures row { OnOk result (Gathers (W.contents out.old) (W.contents out.new) self.old self.new
+            (row (first.now ∷ second.now ∷ []))) }
+        ensures front { OnErr result (AppendsFront (W.contents out.old) (W.contents out.new)
+            (self.old ++ row (first.now ∷ second.now ∷ []))) }
         ensures fault { IfErr result (λ fault. fault ≡ ReportFault.WriteFault) }
     {
         let free = make_room(self.bytes.as_slice(), self.used, out)?;
@@ -85,7 +87,8 @@ fn make_room<W: Write>(bytes: &[u8], used: usize, out: &mut W) -> Result<usize, 
     requires used { used ≤ length bytes.now }
     requires row { LONGEST_ROW ≤ length bytes.now }
     ensures room { IfOk result (λ free. free + LONGEST_ROW ≤ length bytes.now) }
-    ensures kept { IfOk result (λ free. Gathers (W.contents out.old) (W.contents out.new) (take used bytes.now) (take free bytes.now) []) }
+    ensures kept { IfOk result (λ free. Gathers (W.contents out.old) (W.contents out.new) (take used bytes.now)
+        (take free bytes.now) []) }
     ensures front { OnErr result (AppendsFront (W.contents out.old) (W.contents out.new) (take used bytes.now)) }
     ensures fault { IfErr result (λ fault. fault ≡ ReportFault.WriteFault) }
 {

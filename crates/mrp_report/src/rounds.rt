@@ -144,7 +144,8 @@ fn send_rounds<R: Threads + Sync, W: Write>(
     requires round { IsRound report.now.network.now report.now.plan.now report.now.dates.now 0 size }
     requires some { (0 < length pieces.old) × (0 < size) }
     requires few { length pieces.old ≤ MOST_PIECES }
-    ensures text { SendsReport (W.contents out.old) (W.contents out.new) result (plan_text report.now.network.now report.now.plan.now) }
+    ensures text { SendsReport (W.contents out.old) (W.contents out.new) result
+        (plan_text report.now.network.now report.now.plan.now) }
     ensures fault { IfErr result (λ fault. fault ≡ ReportFault.WriteFault) }
 {
     let pairs = report.network.pairs();

@@ -67,7 +67,8 @@ fn share_from(edges: &[Edge], low: u64) -> Option<Edge>
 fn put_source(text: &mut Vec<u8>, network: &Network, edge: Edge) -> Result<(), ReportFault>
     requires pair { IsPair network.now edge.pair.0 }
     requires rises { edge.low < edge.high }
-    ensures part { OnOk result (text.new.items ≡ text.old.items ++ source_part (plant_of network.now edge.pair.0) (edge.high - edge.low)) }
+    ensures part { OnOk result (text.new.items ≡ text.old.items
+        ++ source_part (plant_of network.now edge.pair.0) (edge.high - edge.low)) }
     ensures fault { IfErr result (λ fault. fault ≡ ReportFault.Memory) }
 {
     let (plant, _item) = network.pair_name(edge.pair);

@@ -28,7 +28,15 @@ read_without N is =
       };
       plants = is.plants;
       items = is.items;
-      pairs = λ k d h. let r = is.pairs k d h in record { plant = r.plant; item = r.item; rule = r.rule; lead = r.lead; on_hand = r.on_hand; safety = r.safety };
+      pairs = λ k d h. let r = is.pairs k d h in record {
+        plant = r.plant;
+        item = r.item;
+        rule = r.rule;
+        lead = r.lead;
+        on_hand = r.on_hand;
+        safety =
+            r.safety;
+      };
       sources = λ k d h. let r = is.sources k d h in record { pair = r.pair; plant = r.plant; rises = r.rises; ends = r.ends };
       bills = All-nil (IsBillRow M);
       demands = All-nil (IsDemandRow M);

@@ -1,5 +1,6 @@
 -- What is found of a plant and an item.
-use Rattle.std.proofs.Common.{◌≡◌, ◌<◌, ◌==◌, ◌&&◌, ◌∙◌, ℕ, Bool, true, false, cond, List, [], ◌∷◌, ◌++◌, length, position, Option, None, Some, IfSome, option_map, refl, ap, sym, subst}
+use Rattle.std.proofs.Common.{◌≡◌, ◌<◌, ◌==◌, ◌&&◌, ◌∙◌, ℕ, Bool, true, false, cond, List, [], ◌∷◌, ◌++◌, length, position, Option, None, Some, IfSome}
+use Rattle.std.proofs.Common.{option_map, refl, ap, sym, subst}
 use Rattle.std.specs.List.{list_any}
 use Rattle.std.proofs.lemmas.Bool.{and_parts, eqb-true}
 use Rattle.std.proofs.lemmas.List.Quantifiers.{position-Some}
@@ -28,7 +29,8 @@ found_more old new pairs more row place finds fresh last grown found key =
     by false other = finds key ∙ sym (last_fails (is_at key.plant.0 key.item.0) pairs row other)
 
 -- where a pair is found, there is one
-pub pair_within : (test : PairRow → Bool) (pairs : List PairRow) (found : Option PairNo) → option_map (λ (x : PairNo). x.0) found ≡ position test pairs → IfSome found (λ x. x.0 < length pairs)
+pub pair_within : (test : PairRow → Bool) (pairs : List PairRow) (found : Option PairNo) → option_map (λ (x : PairNo). x.0) found ≡ position test pairs
+    → IfSome found (λ x. x.0 < length pairs)
 pair_within test pairs None is = tt
 pair_within test [] (Some x) is = absurd (cc)
 pair_within test (p ∷ pairs) (Some x) is = (position-Some test (p ∷ pairs) x.0 p (sym is)).0

@@ -1,5 +1,6 @@
 -- The places of keys.
-use Rattle.std.proofs.Common.{◌≡◌, ◌<◌, ℕ, get_or, ◌==◌, ◌&&◌, Bool, cond, true, false, not, ltb, List, [], ◌∷◌, map, length, position, unwrap_or, option_map, Option, None, Some, IsSome, IfSome, is_some, ◌↔◌, refl, ◌∙◌, subst, arith, rules}
+use Rattle.std.proofs.Common.{◌≡◌, ◌<◌, ℕ, get_or, ◌==◌, ◌&&◌, Bool, cond, true, false, not, ltb, List, [], ◌∷◌, map, length, position, unwrap_or, option_map}
+use Rattle.std.proofs.Common.{Option, None, Some, IsSome, IfSome, is_some, ◌↔◌, refl, ◌∙◌, subst, arith, rules}
 use Rattle.std.specs.List.{All, position_or_len, list_any}
 use Rattle.std.proofs.lemmas.List.{length-map}
 use Rattle.std.proofs.lemmas.Bool.Decides.{nat_tests}
@@ -11,7 +12,8 @@ use Rattle.std.proofs.lemmas.List.Elements.{All-head, All-tail}
 use Rattle.mrp_spell.proofs.Mapped.{list_any_keys}
 use Rattle.mrp_rows.specs.declared.numbers.PairNo.{PairNo}
 
-pub position_or_len_keys : {X K : Type 0} (f : X → K) (p : K → Bool) (q : X → Bool) → ((x : X) → p (f x) ≡ q x) → (xs : List X) → position_or_len p (map f xs) ≡ position_or_len q xs
+pub position_or_len_keys : {X K : Type 0} (f : X → K) (p : K → Bool) (q : X → Bool) → ((x : X) → p (f x) ≡ q x) → (xs : List X)
+    → position_or_len p (map f xs) ≡ position_or_len q xs
 position_or_len_keys f p q same [] = refl
 position_or_len_keys f p q same (x ∷ xs) = rw (same x, position_or_len_keys f p q same xs)
 
@@ -23,7 +25,8 @@ pub same_test : (a b : ℕ) → (a == b) ≡ (b == a)
 same_test a b = grind (arith, nat_tests)
 
 -- what a look-up of a pair says of its place
-pub found_pair : (r : Option PairNo) (o : Option ℕ) (n : ℕ) → option_map (λ x. x.0) r ≡ o → IfSome r (λ x. x.0 < n) → (IsSome r ↔ (unwrap_or o n < n)) × IfSome r (λ x. x.0 ≡ unwrap_or o n)
+pub found_pair : (r : Option PairNo) (o : Option ℕ) (n : ℕ) → option_map (λ x. x.0) r ≡ o → IfSome r (λ x. x.0 < n)
+    → (IsSome r ↔ (unwrap_or o n < n)) × IfSome r (λ x. x.0 ≡ unwrap_or o n)
 found_pair None o n e h =
     let P : Option ℕ → Type 0 = λ q. (IsSome {T = PairNo} None ↔ (unwrap_or q n < n)) × Unit {0} in
     subst P e ((λ s. search rules, λ s. absurd (omega arith)), tt)
@@ -36,7 +39,8 @@ pub lacks-found : {X : Type 0} (p : X → Bool) (xs : List X) (r : Option PairNo
     → not (is_some r) ≡ not (ltb (unwrap_or (position p xs) (length xs)) (length xs))
 lacks-found p xs r e = by (ltb (position_or_len p xs) (length xs)) r (position_or_len p xs) (length xs) refl e
   where
-    by : (b : Bool) (r : Option PairNo) (k n : ℕ) → ltb k n ≡ b → option_map (λ x. x.0) r ≡ cond b (Some k) None → not (is_some r) ≡ not (ltb (unwrap_or (cond b (Some k) None) n) n)
+    by : (b : Bool) (r : Option PairNo) (k n : ℕ) → ltb k n ≡ b → option_map (λ x. x.0) r ≡ cond b (Some k) None
+        → not (is_some r) ≡ not (ltb (unwrap_or (cond b (Some k) None) n) n)
     by true None k n t e = cc
     by true (Some x) k n t e = rw t refl
     by false None k n t e = grind (arith, nat_tests)
@@ -51,7 +55,8 @@ All-from_position p xs e k d lt = fails_before_first p xs k d (by (ltb (position
     by false t e lt = grind (arith, nat_tests)
 
 -- the first place at which a test passes
-pub position_is : {X : Type 0} (p : X → Bool) (xs : List X) (i : ℕ) (d : X) → i < length xs → ((k : ℕ) → k < i → p (get_or xs k d) ≡ false) → p (get_or xs i d) ≡ true → position p xs ≡ Some i
+pub position_is : {X : Type 0} (p : X → Bool) (xs : List X) (i : ℕ) (d : X) → i < length xs → ((k : ℕ) → k < i → p (get_or xs k d) ≡ false)
+    → p (get_or xs i d) ≡ true → position p xs ≡ Some i
 position_is p xs i d lt before here =
     let e : position_or_len p xs ≡ i = position_or_len_is p xs i d (omega arith) before (λ l. here) in
     rw (e, lt-ltb i (length xs) lt) refl
@@ -104,7 +109,8 @@ any_within p q [] same = refl
 any_within p q (x ∷ xs) same = rw (All-head (λ x. p x ≡ q x) x xs same, any_within p q xs (All-tail (λ x. p x ≡ q x) x xs same)) refl
 
 -- a look-up among the keys of rows is one among the rows
-pub position_of_keys : {X K : Type 0} (f : X → K) (p : K → Bool) (q : X → Bool) (xs : List X) → All (λ x. p (f x) ≡ q x) xs → position p (map f xs) ≡ position q xs
+pub position_of_keys : {X K : Type 0} (f : X → K) (p : K → Bool) (q : X → Bool) (xs : List X) → All (λ x. p (f x) ≡ q x) xs
+    → position p (map f xs) ≡ position q xs
 position_of_keys f p q xs same = position_keys f p (λ x. p (f x)) (λ x. refl) xs ∙ position_within (λ x. p (f x)) q xs same
 
 pub any_of_keys : {X K : Type 0} (f : X → K) (p : K → Bool) (q : X → Bool) (xs : List X) → All (λ x. p (f x) ≡ q x) xs → list_any p (map f xs) ≡ list_any q xs

@@ -1,5 +1,6 @@
 -- Names of which one more came, and where they stand.
-use Rattle.std.proofs.Common.{if◌then◌else◌, unwrap_or, ◌≡◌, ◌<◌, ℕ, true, false, get_or, List, [], ◌∷◌, ◌++◌, map, length, position, Option, None, Some, IfSome, String, Global, ap, sym, subst, ◌∙◌}
+use Rattle.std.proofs.Common.{if◌then◌else◌, unwrap_or, ◌≡◌, ◌<◌, ℕ, true, false, get_or, List, [], ◌∷◌, ◌++◌, map, length, position, Option, None, Some}
+use Rattle.std.proofs.Common.{IfSome, String, Global, ap, sym, subst, ◌∙◌}
 use Rattle.std.specs.Cmp.Lexicographic.{nat_list_eq_equiv}
 use Rattle.std.specs.List.{IsDistinct, list_any}
 use Rattle.std.specs.Str.{bytes_eq}
@@ -15,18 +16,21 @@ use Rattle.mrp_rows.specs.Table.{Table}
 use Rattle.mrp_rows.proofs.Keys.{any-from_no_position, any-from_position, position_is}
 
 -- a name more stands apart from the others
-pub distinct_name : (names : List (List ℕ)) (name : List ℕ) → IsDistinct bytes_eq names → list_any (bytes_eq name) names ≡ false → IsDistinct bytes_eq (names ++ name ∷ [])
+pub distinct_name : (names : List (List ℕ)) (name : List ℕ) → IsDistinct bytes_eq names → list_any (bytes_eq name) names ≡ false
+    → IsDistinct bytes_eq (names ++ name ∷ [])
 distinct_name names name apart fresh =
     let turned : list_any (λ n. bytes_eq n name) names ≡ list_any (bytes_eq name) names = λ i. list_any (λ n. nat_list_eq_equiv.symm n name i) names in
     distinct_push bytes_eq names name apart (turned ∙ fresh)
 
 -- where a name is found, there is a name
-pub place_within : (name : List ℕ) (names : List (List ℕ)) (found : Option ℕ) → found ≡ position (bytes_eq name) names → IfSome found (λ place. place < length names)
+pub place_within : (name : List ℕ) (names : List (List ℕ)) (found : Option ℕ) → found ≡ position (bytes_eq name) names
+    → IfSome found (λ place. place < length names)
 place_within name names None is = tt
 place_within name names (Some place) is = (position-Some (bytes_eq name) names place [] (sym is)).0
 
 -- the names after one more
-pub names_more : (names roomy more : List (String Global)) (last : String Global) (name : List ℕ) → roomy ≡ names → more ≡ roomy ++ last ∷ [] → string_bytes last ≡ name
+pub names_more : (names roomy more : List (String Global)) (last : String Global) (name : List ℕ) → roomy ≡ names → more ≡ roomy ++ last ∷ []
+    → string_bytes last ≡ name
     → map string_bytes more ≡ map string_bytes names ++ name ∷ []
 names_more names roomy more last name same grown is =
     ap (map string_bytes) (grown ∙ ap (λ (ns : List (String Global)). ns ++ last ∷ []) same)

@@ -14,7 +14,8 @@ use Rattle.mrp_rows.specs.declared.rows.CumRow.{CumRow}
 use Rattle.mrp_rows.specs.declared.rows.ResetRow.{ResetRow}
 
 -- the table of these rows
-abbrev pub table_of : CalendarTerms → List (List ℕ) → List (List ℕ) → List PairRow → List SourceRow → List BillRow → List DemandRow
+abbrev pub table_of : CalendarTerms → List (List ℕ) → List (List ℕ) → List PairRow → List SourceRow → List BillRow
+    → List DemandRow
     → List ReceiptRow → List ShipRow → List CumRow → List ResetRow → Table
 table_of calendar plants items pairs sources bills demands receipts ships cums resets = record {
   calendar = calendar;

@@ -13,4 +13,5 @@ is_at plant item p = (p.plant.0 == plant) && (p.item.0 == item)
 
 -- what is found of a plant and an item is the place of their pair
 abbrev pub FindsPairs : (PlantItem → Option PairNo) → List PairRow → Type 0
-FindsPairs found pairs = (key : PlantItem) → option_map (λ x. x.0) (found key) ≡ position (is_at key.plant.0 key.item.0) pairs
+FindsPairs found pairs = (key : PlantItem) → option_map (λ x. x.0) (found key)
+    ≡ position (is_at key.plant.0 key.item.0) pairs

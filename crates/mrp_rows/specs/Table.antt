@@ -1,5 +1,6 @@
 -- A table as its rows say it, and what every accepted table says.
-use Rattle.std.specs.Prelude.{◌≡◌, ℕ, ◌≤◌, ◌<◌, ◌==◌, ◌&&◌, Bool, true, false, List, [], ◌∷◌, length, map, filter, nat_le, All, position, unwrap_or}
+use Rattle.std.specs.Prelude.{◌≡◌, ℕ, ◌≤◌, ◌<◌, ◌==◌, ◌&&◌, Bool, true, false, List, [], ◌∷◌, length, map, filter}
+use Rattle.std.specs.Prelude.{nat_le, All, position, unwrap_or}
 use Rattle.std.specs.Prelude.{option_map, slice_get}
 use Rattle.std.specs.List.{IsDistinct, list_any}
 use Rattle.std.specs.List.Sorted.{IsNonDecreasingBy}
@@ -9,7 +10,8 @@ use Rattle.mrp_qty.specs.declared.horizon.TheConstants.{LONGEST}
 use Rattle.mrp_cal.specs.Calendar.{CalendarTerms, IsCalendar}
 use Rattle.mrp_lot.specs.Lot.{IsRule}
 use Rattle.mrp_lot.specs.declared.rule.TheConstants.{LONGEST_LEAD}
-use Rattle.mrp_qty.specs.declared.limits.TheConstants.{MOST_BILLS, MOST_IN_ROW, MOST_OF_A_KIND, MOST_PAIRS, MOST_PER, MOST_PLANTS, MOST_SOURCES}
+use Rattle.mrp_qty.specs.declared.limits.TheConstants.{MOST_BILLS, MOST_IN_ROW, MOST_OF_A_KIND, MOST_PAIRS, MOST_PER}
+use Rattle.mrp_qty.specs.declared.limits.TheConstants.{MOST_PLANTS, MOST_SOURCES}
 use Rattle.mrp_qty.specs.declared.limits.TheConstants.{MOST_SHARE, MOST_SOURCES_OF_PAIR}
 use Rattle.mrp_rows.specs.declared.rows.BillRow.{BillRow}
 use Rattle.mrp_rows.specs.declared.rows.CumRow.{CumRow}
@@ -122,8 +124,8 @@ pub record IsLimited (N : Table) : Type 0 where
   pub cums : length N.cums ≤ MOST_OF_A_KIND
   pub resets : length N.resets ≤ MOST_SOURCES
 
--- the calendar is one, there are no more rows than a table may have, names are names, and each row is in range and names
--- plants, items and pairs of the table
+-- the calendar is one, there are no more rows than a table may have, names are names, and each row is in range and
+-- names plants, items and pairs of the table
 pub record IsRead (N : Table) : Type 0 where
   pub calendar : IsCalendar N.calendar
   pub limits : IsLimited N
@@ -220,8 +222,8 @@ rises_from low (n ∷ ns) = nat_le low n && rises_from n ns
 abbrev pub is_item_of_pair : Table → ℕ → Bool
 is_item_of_pair N item = list_any (λ p. p.item.0 == item) N.pairs
 
--- where pairs come from: what is taken from plants has sources whose shares are the whole, and nothing else has any. Sources
--- stand in the order of their pairs, at most four to a pair, and none is the pair's own plant.
+-- where pairs come from: what is taken from plants has sources whose shares are the whole, and nothing else has any.
+-- Sources stand in the order of their pairs, at most four to a pair, and none is the pair's own plant.
 -- A parent is made, at its component's plant. Shipments, cumulative figures and resets are of a source of the table.
 -- The shipments of a source with a reset stand in the order of their arrival. Each item is some pair's.
 pub record IsSourced (N : Table) : Type 0 where
@@ -237,8 +239,8 @@ pub record IsSourced (N : Table) : Type 0 where
   pub resets : All (λ r. is_taken_from N r.pair.0 r.from.0 ≡ true) N.resets
   pub arrive : All (λ r. rises_from 0 (arrivals N r.from.0 r.pair.0) ≡ true) N.resets
 
--- an accepted table: its rows are in range, those of `IsOnce` stand once, pairs come from where it says, and each source
--- takes from a pair of the table
+-- an accepted table: its rows are in range, those of `IsOnce` stand once, pairs come from where it says, and each
+-- source takes from a pair of the table
 pub record IsTable (N : Table) : Type 0 where
   pub read : IsRead N
   pub source_pairs : All (λ s. IsPair N (source_pair N s)) N.sources

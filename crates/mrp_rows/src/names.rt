@@ -1,6 +1,7 @@
 //! Names in the order of a table.
 
-ghost use Rattle.std.specs.Prelude.{◌≡◌, ◌<◌, ◌++◌, ◌∷◌, [], length, map, position, slice_get, IfSome, OnErr, OnOk, Some};
+ghost use Rattle.std.specs.Prelude.{◌≡◌, ◌<◌, ◌++◌, ◌∷◌, [], length, map, position, slice_get, IfSome, OnErr, OnOk};
+ghost use Rattle.std.specs.Prelude.{Some};
 ghost use Rattle.std.specs.Str.{bytes_eq};
 ghost use Rattle.std.specs.String.{string_bytes};
 

@@ -45,18 +45,21 @@ impl Model for RowLists {
 
     ghost Value = { Table };
 
-    ghost view = { λ r. table_of r.calendar (map string_bytes r.plants.items) (map string_bytes r.items.items) r.pairs.items r.sources.items
+    ghost view = { λ r. table_of r.calendar (map string_bytes r.plants.items)
+        (map string_bytes r.items.items) r.pairs.items r.sources.items
         r.bills.items r.demands.items r.receipts.items r.ships.items r.cums.items r.resets.items };
 
     // the rows are in range, and each pair is found
-    ghost invariant = { λ r. IsRead (table_of r.calendar (map string_bytes r.plants.items) (map string_bytes r.items.items) r.pairs.items r.sources.items
+    ghost invariant = { λ r. IsRead (table_of r.calendar (map string_bytes r.plants.items)
+        (map string_bytes r.items.items) r.pairs.items r.sources.items
         r.bills.items r.demands.items r.receipts.items r.ships.items r.cums.items r.resets.items)
         × FindsPairs (get is_same_place r.pair_places) r.pairs.items };
 }
 
 impl RowLists {
     ghost use Rattle.std.specs.Prelude.{◌≡◌, ◌≤◌, ◌<◌, ◌==◌, ◌&&◌, length, option_map, position, IfOk, IfSome, OnOk};
-    ghost use Rattle.mrp_qty.specs.declared.limits.TheConstants.{MOST_BILLS, MOST_OF_A_KIND, MOST_PAIRS, MOST_PLANTS, MOST_SOURCES};
+    ghost use Rattle.mrp_qty.specs.declared.limits.TheConstants.{MOST_BILLS, MOST_OF_A_KIND, MOST_PAIRS, MOST_PLANTS};
+    ghost use Rattle.mrp_qty.specs.declared.limits.TheConstants.{MOST_SOURCES};
     ghost use Rattle.std.specs.Prelude.{false, slice_get, Some};
     ghost use Rattle.std.specs.List.{list_any};
     ghost use Rattle.std.specs.Str.{bytes_eq};
@@ -88,7 +91,7 @@ impl RowLists {
         }
     }
 
-    /// Adds a plant behind the others.
+    /// Adds a plant behind the others. That no two have one name is for the reader of a table to see to.
     pub fn add_plant(&mut self, alloc: Global, name: &str) -> Result<(), AllocError>
         requires named { IsName name.now }
         requires room { length self.old.plants < MOST_PLANTS }
@@ -98,7 +101,7 @@ impl RowLists {
         push_name(&mut self.plants, alloc, name)
     }
 
-    /// Adds an item behind the others, of which there is no pair yet.
+    /// Adds an item behind the others, whose name isn't there yet.
     pub fn add_item(&mut self, alloc: Global, name: &str) -> Result<(), AllocError>
         requires named { IsName name.now }
         requires fresh { list_any (bytes_eq name.now) self.old.items ≡ false }
@@ -209,7 +212,8 @@ impl RowLists {
 
     /// The pair of a plant and an item.
     pub fn find_pair(&self, plant: PlantNo, item: ItemNo) -> Option<PairNo>
-        ensures place { option_map (λ x. x.0) result ≡ position (λ p. (p.plant.0 == plant.0) && (p.item.0 == item.0)) self.now.pairs }
+        ensures place { option_map (λ x. x.0) result
+            ≡ position (λ p. (p.plant.0 == plant.0) && (p.item.0 == item.0)) self.now.pairs }
         ensures within { IfSome result (λ pair. pair.0 < length self.now.pairs) }
     {
         self.pair_places.get(&PlantItem { plant, item }).copied()

@@ -27,7 +27,8 @@ impl Model for Tables {
 }
 
 impl Tables {
-    ghost use Rattle.std.specs.Prelude.{◌≡◌, ◌<◌, ◌==◌, ◌&&◌, ◌↔◌, Some, IsSome, IfSome, length, option_map, position, slice_get};
+    ghost use Rattle.std.specs.Prelude.{◌≡◌, ◌<◌, ◌==◌, ◌&&◌, ◌↔◌, Some, IsSome, IfSome, length, option_map, position};
+    ghost use Rattle.std.specs.Prelude.{slice_get};
     ghost use Rattle.std.specs.Str.{bytes_eq};
     ghost use Rattle.mrp_rows.specs.Table.{IsPair, IsTable, horizon, pair_no};
 
@@ -166,7 +167,8 @@ impl Tables {
 
     /// The pair of a plant and an item, if there is one.
     pub fn find_pair(&self, plant: PlantNo, item: ItemNo) -> Option<PairNo>
-        ensures place { option_map (λ x. x.0) result ≡ position (λ p. (p.plant.0 == plant.0) && (p.item.0 == item.0)) self.now.pairs }
+        ensures place { option_map (λ x. x.0) result
+            ≡ position (λ p. (p.plant.0 == plant.0) && (p.item.0 == item.0)) self.now.pairs }
         ensures found { IsSome result ↔ IsPair self.now (pair_no self.now plant.0 item.0) }
         ensures value { IfSome result (λ x. x.0 ≡ pair_no self.now plant.0 item.0) }
     {

@@ -26,14 +26,17 @@ use Rattle.mrp_run.proofs.Placed.{in_there}
 -- ---- the record that was taken
 
 -- its lane comes in
-pub comes_in : (A : AgentState) (s t : List End) → IsAtWork A s t → (k l : ℕ) (x : End) → k < length t → x ≡ get_or t k x → l ≡ x.name.lane → incoming_place A.view l < length A.view.incoming
+pub comes_in : (A : AgentState) (s t : List End) → IsAtWork A s t → (k l : ℕ) (x : End) → k < length t → x ≡ get_or t k x → l ≡ x.name.lane
+    → incoming_place A.view l < length A.view.incoming
 comes_in A s t (N, p, w) k l x within at lane =
     let is : (get_or t k x).name.lane ≡ l = ap (λ (z : End). z.name.lane) (sym at) ∙ sym lane in
     subst (λ (n : ℕ). incoming_place A.view n < length A.view.incoming) is
-    (in_placed A.view N p (get_or t k x).name.lane w.works.view (in_there N p (get_or t k x).name.lane (lane_there N (lanes_to N p) w.taken t w.takes_are k x within))).within
+    (in_placed A.view N p (get_or t k x).name.lane w.works.view (in_there N p (get_or t k x).name.lane
+    (lane_there N (lanes_to N p) w.taken t w.takes_are k x within))).within
 
 -- the end x is looked at for its lane, the end y is taken from, and it is e then
-module _ (A : AgentState) (s t : List End) (k l : ℕ) (x y e : End) (r : Record) (within : k < length t) (at_x : x ≡ get_or t k x) (at_y : y ≡ get_or t k y) (lane : l ≡ x.name.lane)
+module _ (A : AgentState) (s t : List End) (k l : ℕ) (x y e : End) (r : Record) (within : k < length t) (at_x : x ≡ get_or t k x) (at_y : y ≡ get_or t k y)
+    (lane : l ≡ x.name.lane)
     (name_kept : e.name ≡ y.name) (list_grown : e.list ≡ y.list ++ r ∷ []) (legal : HasLegalList e) where
   same : y ≡ get_or t k x
   same = get_or_read t k y within at_y x
@@ -60,7 +63,8 @@ module _ (A : AgentState) (s t : List End) (k l : ℕ) (x y e : End) (r : Record
       (subst (λ (M : Table). IsBeginning (loads M (lane_at M e.name.lane)) e.list) network legal)
 
   -- no book refuses it
-  pub not_refused : IsAtWork A s t → ((taken : ℕ → List Record) → BooksShow A taken → IsInForm (form_of A.view (incoming_at A.view (incoming_place A.view l))) (taken l ++ r ∷ []) → ⊥) → ⊥
+  pub not_refused : IsAtWork A s t → ((taken : ℕ → List Record) → BooksShow A taken
+      → IsInForm (form_of A.view (incoming_at A.view (incoming_place A.view l))) (taken l ++ r ∷ []) → ⊥) → ⊥
   not_refused (N, p, w) refused =
       let there : IsInForm (form_of A.view (incoming_at A.view (incoming_place A.view e.name.lane))) (w.taken e.name.lane ++ r ∷ []) =
       legal_in_form N w.sized p A.view w.works.view e.name.lane (in_there N p e.name.lane (own N p w)) (w.taken e.name.lane ++ r ∷ []) (legal_there N p w) in
@@ -74,11 +78,13 @@ module _ (A : AgentState) (s t : List End) (k l : ℕ) (x y e : End) (r : Record
       let rises = lanes_rise N (comes_to N p) in
       let more = is_longer N (lanes_to N p) rises w.taken t w.takes_are k x e r within name list stamp stamps in
       let was = list_was N (lanes_to N p) rises w.taken t w.takes_are k x e r within name list in
-      subst (λ (z : List Passage). IsExplained N p (state_of w.sent (changed w.taken e.name.lane (w.taken e.name.lane ++ r ∷ [])) w.planned) (passages s) z) (sym (map-set passage t k e))
+      subst (λ (z : List Passage). IsExplained N p (state_of w.sent (changed w.taken e.name.lane (w.taken e.name.lane ++ r ∷ [])) w.planned) (passages s) z)
+      (sym (map-set passage t k e))
       (taken_is_explained N p (state_of w.sent w.taken w.planned) (passages s) (passages t) w.explained k (passage x) (passage e) r stamp more was)
 
   pub booked_kept : IsStampedOnce y.stamps e.stamps → (B : AgentState) → B.view ≡ A.view
-      → ((sent taken : ℕ → List Record) (planned : ℕ → Bool) → ShowsHistory A sent taken planned → ShowsHistory B sent (changed taken l (taken l ++ r ∷ [])) planned)
+      → ((sent taken : ℕ → List Record) (planned : ℕ → Bool) → ShowsHistory A sent taken planned
+      → ShowsHistory B sent (changed taken l (taken l ++ r ∷ [])) planned)
       → Kept A s t B s (set t k e)
   booked_kept stamped B view booked = record {
     view = view;
@@ -95,7 +101,8 @@ module _ (A : AgentState) (s t : List End) (k l : ℕ) (x y e : End) (r : Record
             changed_by (λ (z : List Record). IsBeginning (loads N (lane_at N n)) z) w.taken e.name.lane (w.taken e.name.lane ++ r ∷ []) n
             (λ here. subst (λ (j : ℕ). IsBeginning (loads N (lane_at N j)) (w.taken e.name.lane ++ r ∷ [])) (sym here) (legal_there N p w))
             (w.works.legal n there receiver);
-        shows = subst (λ (n : ℕ). ShowsHistory B w.sent (changed w.taken n (w.taken n ++ r ∷ [])) w.planned) (sym of_lane) (booked w.sent w.taken w.planned w.works.shows);
+        shows = subst (λ (n : ℕ). ShowsHistory B w.sent (changed w.taken n (w.taken n ++ r ∷ [])) w.planned) (sym of_lane)
+            (booked w.sent w.taken w.planned w.works.shows);
       };
       sends_are = w.sends_are;
       takes_are = one_more N (lanes_to N p) (lanes_rise N (comes_to N p)) w.taken t w.takes_are k x e r within name list;
@@ -105,6 +112,7 @@ module _ (A : AgentState) (s t : List End) (k l : ℕ) (x y e : End) (r : Record
 
 -- ---- nothing to take
 
-pub none_kept : (A : AgentState) (s t : List End) (k : ℕ) (y e : End) → y ≡ get_or t k y → e.name ≡ y.name → e.list ≡ y.list → e.stamps ≡ y.stamps → Kept A s t A s (set t k e)
+pub none_kept : (A : AgentState) (s t : List End) (k : ℕ) (y e : End) → y ≡ get_or t k y → e.name ≡ y.name → e.list ≡ y.list → e.stamps ≡ y.stamps
+    → Kept A s t A s (set t k e)
 none_kept A s t k y e at name list stamps =
     subst (λ (z : List End). Kept A s t A s z) (sym (put_back t k y e at name list stamps)) (nothing_done A s t)

@@ -1,5 +1,6 @@
 -- The two ends of the next lane dealt to their plants.
-use Rattle.std.proofs.Common.{◌≡◌, ◌≢◌, inl, inr, ℕ, ◌+◌, ◌<◌, ◌==◌, Bool, true, false, List, [], ◌∷◌, ◌++◌, length, get_or, set, take, drop, min, All, Vec, Global, refl, sym, ap, subst, ◌∙◌, add-one}
+use Rattle.std.proofs.Common.{◌≡◌, ◌≢◌, inl, inr, ℕ, ◌+◌, ◌<◌, ◌==◌, Bool, true, false, List, [], ◌∷◌, ◌++◌, length, get_or, set, take, drop, min, All, Vec}
+use Rattle.std.proofs.Common.{Global, refl, sym, ap, subst, ◌∙◌, add-one}
 use Rattle.std.specs.List.{filter}
 use Rattle.std.proofs.lemmas.Bool.{cases_Bool, eqb-true, eq-eqb}
 use Rattle.std.proofs.lemmas.List.{append-nil, map-append, length-set, take_at}
@@ -28,14 +29,16 @@ pub filter_own : (test : Name → Bool) (ns : List Name) (n : Name) → test n �
 filter_own test ns n own = filter-append test ns (n ∷ []) ∙ ap (λ (z : List Name). filter test ns ++ z) (kept_last test n own)
 
 pub filter_other : (test : Name → Bool) (ns : List Name) (n : Name) → test n ≡ false → filter test (ns ++ n ∷ []) ≡ filter test ns
-filter_other test ns n other = filter-append test ns (n ∷ []) ∙ ap (λ (z : List Name). filter test ns ++ z) (dropped_last test n other) ∙ append-nil (filter test ns)
+filter_other test ns n other = filter-append test ns (n ∷ []) ∙ ap (λ (z : List Name). filter test ns ++ z) (dropped_last test n other)
+    ∙ append-nil (filter test ns)
 
 pub apart : (a b : ℕ) → a ≢ b → (a == b) ≡ false
 apart a b other = elim (cases_Bool (a == b)) [ inl t ↦ absurd (other (eqb-true a b t)) | inr e ↦ e ]
 
 -- ---- the sender's end
 
-send_dealt : (N : Table) (ns ts : List Name) (p : ℕ) (P : Plant) (e : End) (new : Vec End Global) → (lane_at N e.name.lane).sender.0 ≡ p → IsEmpty e → new.items ≡ P.sends.items ++ e ∷ []
+send_dealt : (N : Table) (ns ts : List Name) (p : ℕ) (P : Plant) (e : End) (new : Vec End Global) → (lane_at N e.name.lane).sender.0 ≡ p → IsEmpty e
+    → new.items ≡ P.sends.items ++ e ∷ []
     → IsIdle N ns ts p P → IsIdle N (ns ++ e.name ∷ []) ts p (record P { sends = new })
 send_dealt N ns ts p P e new owner empty grown idle = record {
   dealt = record {
@@ -49,7 +52,8 @@ send_dealt N ns ts p P e new owner empty grown idle = record {
   taken = idle.taken;
 }
 
-send_elsewhere : (N : Table) (ns ts : List Name) (p : ℕ) (P : Plant) (n : Name) → (lane_at N n.lane).sender.0 ≢ p → IsIdle N ns ts p P → IsIdle N (ns ++ n ∷ []) ts p P
+send_elsewhere : (N : Table) (ns ts : List Name) (p : ℕ) (P : Plant) (n : Name) → (lane_at N n.lane).sender.0 ≢ p → IsIdle N ns ts p P
+    → IsIdle N (ns ++ n ∷ []) ts p P
 send_elsewhere N ns ts p P n other idle = record {
   dealt = record {
     sends_are = idle.dealt.sends_are ∙ sym (filter_other (is_from N p) ns n (apart (lane_at N n.lane).sender.0 p other));
@@ -61,8 +65,10 @@ send_elsewhere N ns ts p P n other idle = record {
   taken = idle.taken;
 }
 
-pub sends_dealt : (N : Table) (ns ts : List Name) (plants : List Plant) (at : ℕ) (P : Plant) (e : End) (new : Vec End Global) → at < length plants → P ≡ get_or plants at P
-    → new.items ≡ P.sends.items ++ e ∷ [] → (lane_at N e.name.lane).sender.0 ≡ at → IsEmpty e → AreIdle N ns ts plants → AreIdle N (ns ++ e.name ∷ []) ts (set plants at (record P { sends = new }))
+pub sends_dealt : (N : Table) (ns ts : List Name) (plants : List Plant) (at : ℕ) (P : Plant) (e : End) (new : Vec End Global) → at < length plants
+    → P ≡ get_or plants at P
+    → new.items ≡ P.sends.items ++ e ∷ [] → (lane_at N e.name.lane).sender.0 ≡ at → IsEmpty e → AreIdle N ns ts plants
+    → AreIdle N (ns ++ e.name ∷ []) ts (set plants at (record P { sends = new }))
 sends_dealt N ns ts plants at P e new within is grown owner empty idle = record {
   all_plants = length-set plants at (record P { sends = new }) ∙ idle.all_plants;
   each = each_set (IsIdle N ns ts) (IsIdle N (ns ++ e.name ∷ []) ts) plants at (record P { sends = new }) within
@@ -73,7 +79,8 @@ sends_dealt N ns ts plants at P e new within is grown owner empty idle = record 
 
 -- ---- the receiver's end
 
-take_dealt : (N : Table) (ns ts : List Name) (p : ℕ) (P : Plant) (e : End) (new : Vec End Global) → (lane_at N e.name.lane).receiver.0 ≡ p → IsEmpty e → new.items ≡ P.takes.items ++ e ∷ []
+take_dealt : (N : Table) (ns ts : List Name) (p : ℕ) (P : Plant) (e : End) (new : Vec End Global) → (lane_at N e.name.lane).receiver.0 ≡ p → IsEmpty e
+    → new.items ≡ P.takes.items ++ e ∷ []
     → IsIdle N ns ts p P → IsIdle N ns (ts ++ e.name ∷ []) p (record P { takes = new })
 take_dealt N ns ts p P e new owner empty grown idle = record {
   dealt = record {
@@ -87,7 +94,8 @@ take_dealt N ns ts p P e new owner empty grown idle = record {
   taken = All-same IsEmpty new.items (P.takes.items ++ e ∷ []) grown (All-push IsEmpty P.takes.items e idle.taken empty);
 }
 
-take_elsewhere : (N : Table) (ns ts : List Name) (p : ℕ) (P : Plant) (n : Name) → (lane_at N n.lane).receiver.0 ≢ p → IsIdle N ns ts p P → IsIdle N ns (ts ++ n ∷ []) p P
+take_elsewhere : (N : Table) (ns ts : List Name) (p : ℕ) (P : Plant) (n : Name) → (lane_at N n.lane).receiver.0 ≢ p → IsIdle N ns ts p P
+    → IsIdle N ns (ts ++ n ∷ []) p P
 take_elsewhere N ns ts p P n other idle = record {
   dealt = record {
     sends_are = idle.dealt.sends_are;
@@ -99,8 +107,10 @@ take_elsewhere N ns ts p P n other idle = record {
   taken = idle.taken;
 }
 
-pub takes_dealt : (N : Table) (ns ts : List Name) (plants : List Plant) (at : ℕ) (P : Plant) (e : End) (new : Vec End Global) → at < length plants → P ≡ get_or plants at P
-    → new.items ≡ P.takes.items ++ e ∷ [] → (lane_at N e.name.lane).receiver.0 ≡ at → IsEmpty e → AreIdle N ns ts plants → AreIdle N ns (ts ++ e.name ∷ []) (set plants at (record P { takes = new }))
+pub takes_dealt : (N : Table) (ns ts : List Name) (plants : List Plant) (at : ℕ) (P : Plant) (e : End) (new : Vec End Global) → at < length plants
+    → P ≡ get_or plants at P
+    → new.items ≡ P.takes.items ++ e ∷ [] → (lane_at N e.name.lane).receiver.0 ≡ at → IsEmpty e → AreIdle N ns ts plants
+    → AreIdle N ns (ts ++ e.name ∷ []) (set plants at (record P { takes = new }))
 takes_dealt N ns ts plants at P e new within is grown owner empty idle = record {
   all_plants = length-set plants at (record P { takes = new }) ∙ idle.all_plants;
   each = each_set (IsIdle N ns ts) (IsIdle N ns (ts ++ e.name ∷ [])) plants at (record P { takes = new }) within
@@ -111,7 +121,8 @@ takes_dealt N ns ts plants at P e new within is grown owner empty idle = record 
 
 -- ---- both ends of the next lane
 
-pub have_next : (N : Table) (capacity l : ℕ) (ns : List Name) (n m : Name) (plants : List Plant) → AreNames N l ns → All (HasMailboxRoom N capacity) ns → n.lane ≡ l → n.network ≡ N → n ≡ m
+pub have_next : (N : Table) (capacity l : ℕ) (ns : List Name) (n m : Name) (plants : List Plant) → AreNames N l ns → All (HasMailboxRoom N capacity) ns
+    → n.lane ≡ l → n.network ≡ N → n ≡ m
     → n.room ≡ min capacity (longest_text N (lane_at N l)) → AreIdle N (ns ++ n ∷ []) (ns ++ m ∷ []) plants → HaveFirst N capacity (l + 1) plants
 have_next N capacity l ns n m plants first rooms lane network same room idle = record {
   names = ns ++ n ∷ [];
@@ -127,12 +138,14 @@ have_none N capacity plants idle = record { names = []; first_lanes = refl; room
 pub in_place : (old new : List Plant) (len : ℕ) → len ≡ length old → length new ≡ length old → take len (new ++ drop (length new) old) ≡ new
 in_place old new len size same = take_at new (drop (length new) old) len (same ∙ sym size)
 
-pub first_in_place : (N : Table) (capacity before count : ℕ) (old new : List Plant) (len : ℕ) → HaveFirst N capacity before old → len ≡ length old → HaveFirst N capacity count new
+pub first_in_place : (N : Table) (capacity before count : ℕ) (old new : List Plant) (len : ℕ) → HaveFirst N capacity before old → len ≡ length old
+    → HaveFirst N capacity count new
     → HaveFirst N capacity count (take len (new ++ drop (length new) old))
 first_in_place N capacity before count old new len had size first =
     subst (HaveFirst N capacity count) (sym (in_place old new len size (first.idle.all_plants ∙ sym had.idle.all_plants))) first
 
 -- ---- plants with no ends yet
 
-pub idle_more : (N : Table) (p : ℕ) (now new : List Plant) (P : Plant) → length now ≡ p → new ≡ now ++ P ∷ [] → IsIdle N [] [] p P → EachAt (IsIdle N [] []) now → EachAt (IsIdle N [] []) new
+pub idle_more : (N : Table) (p : ℕ) (now new : List Plant) (P : Plant) → length now ≡ p → new ≡ now ++ P ∷ [] → IsIdle N [] [] p P → EachAt (IsIdle N [] []) now
+    → EachAt (IsIdle N [] []) new
 idle_more N p now new P size grown here each = subst (EachAt (IsIdle N [] [])) (sym grown) (each_push (IsIdle N [] []) now P p size each here)

@@ -1,10 +1,12 @@
 -- Lists of plants and of ends: one element changed, one more at the end, the last one taken.
-use Rattle.std.proofs.Common.{◌≡◌, ◌≢◌, ◌⊎◌, inl, inr, ℕ, ◌-◌, ◌<◌, ◌==◌, Bool, true, false, cond, List, [], ◌∷◌, ◌++◌, length, get_or, set, map, reverse, Option, None, Some, Result, Ok, refl, sym, ap, subst, ◌∙◌, arith, length-append, All}
+use Rattle.std.proofs.Common.{◌≡◌, ◌≢◌, ◌⊎◌, inl, inr, ℕ, ◌-◌, ◌<◌, ◌==◌, Bool, true, false, cond, List, [], ◌∷◌, ◌++◌, length, get_or, set, map, reverse}
+use Rattle.std.proofs.Common.{Option, None, Some, Result, Ok, refl, sym, ap, subst, ◌∙◌, arith, length-append, All}
 use Rattle.std.specs.List.{filter}
 use Rattle.std.specs.Option.{option_to_list, IsSomeAnd}
 use Rattle.std.specs.Result.{IfOk}
 use Rattle.std.proofs.lemmas.Bool.{cases_Bool, cond-true, eqb-true, eq-eqb, false≢true}
-use Rattle.std.proofs.lemmas.List.{map-append, length-map, length-set, length-reverse, reverse-append, reverse-reverse, get_or-set_same, get_or-set_other, get_or-reverse, get_or-map, get_or_append_left, get_or_at, length_push}
+use Rattle.std.proofs.lemmas.List.{map-append, length-map, length-set, length-reverse, reverse-append, reverse-reverse, get_or-set_same, get_or-set_other}
+use Rattle.std.proofs.lemmas.List.{get_or-reverse, get_or-map, get_or_append_left, get_or_at, length_push}
 use Rattle.std.proofs.lemmas.List.Elements.{All-pop, All-head, All-tail, All-cons, All-nil}
 use Rattle.mrp_run.specs.Ends.{EachAt}
 
@@ -41,7 +43,8 @@ pub pushed : {X : Type 0} (now new : List X) (x : X) (ok : Bool) → new ≡ con
 pushed now new x ok is done = is ∙ cond-true ok (now ++ x ∷ []) now done
 
 -- where each was made, each is as it was made
-pub each_made : {X E : Type 0} (P : ℕ → X → Type 0) (xs : List X) (made : List (Result X E)) → made ≡ map Ok xs → ((k : ℕ) (d : Result X E) → k < length made → IfOk (get_or made k d) (P k)) → EachAt P xs
+pub each_made : {X E : Type 0} (P : ℕ → X → Type 0) (xs : List X) (made : List (Result X E)) → made ≡ map Ok xs
+    → ((k : ℕ) (d : Result X E) → k < length made → IfOk (get_or made k d) (P k)) → EachAt P xs
 each_made {X} {E} P xs made is each k d within =
     let at : get_or made k (Ok d) ≡ Ok (get_or xs k d) = ap (λ (z : List (Result X E)). get_or z k (Ok d)) is ∙ get_or-map Ok xs k d (Ok d) within in
     subst (λ (z : Result X E). IfOk z (P k)) at (each k (Ok d) (omega (arith, ap length is, length-map {B = Result X E} xs Ok, within)))
@@ -51,7 +54,8 @@ pub each_turned : {X : Type 0} (P : ℕ → X → Type 0) (xs : List X) (n : ℕ
 each_turned P xs n size each k d h =
     let inside : k < length xs = omega (arith, h, length-reverse xs) in
     let back : n - 1 - (length xs - 1 - k) ≡ k = omega (arith, size, inside) in
-    subst (P k) (sym (get_or-reverse xs k d inside)) (subst (λ (z : ℕ). P z (get_or xs (length xs - 1 - k) d)) back (each (length xs - 1 - k) d (omega (arith, inside))))
+    subst (P k) (sym (get_or-reverse xs k d inside)) (subst (λ (z : ℕ). P z (get_or xs (length xs - 1 - k) d)) back
+    (each (length xs - 1 - k) d (omega (arith, inside))))
 
 -- ---- the last one taken
 
@@ -63,7 +67,8 @@ same_last {X} xs ys x y e =
     (sym (reverse-reverse xs) ∙ ap reverse rest ∙ reverse-reverse ys, last)
 
 -- the names of the ends end with one: it is that of the end that is popped
-pub popped : {X Y : Type 0} (f : X → Y) (Q : X → Type 0) (old new : List X) (o : Option X) (ys : List Y) (y : Y) → map f old ≡ ys ++ y ∷ [] → old ≡ new ++ option_to_list o
+pub popped : {X Y : Type 0} (f : X → Y) (Q : X → Type 0) (old new : List X) (o : Option X) (ys : List Y) (y : Y) → map f old ≡ ys ++ y ∷ []
+    → old ≡ new ++ option_to_list o
     → (o ≡ None → old ≡ []) → All Q old → (map f new ≡ ys) × All Q new × IsSomeAnd o (λ x. (f x ≡ y) × Q x)
 popped f Q old new None ys y is parts none all = absurd (omega (arith, ap length is, ap (λ z. length (map f z)) (none refl), length-append ys (y ∷ [])))
 popped f Q old new (Some x) ys y is parts none all =

@@ -24,7 +24,8 @@ use Rattle.mrp_run.proofs.DealtLists.{all_before_map, filter_through}
 pub lanes_named : (N : Table) (l : ℕ) (ns : List Name) → AreNames N l ns → map (λ n. n.lane) ns ≡ range_with_len 0 l
 lanes_named N zero ns is = ap (map (λ (n : Name). n.lane)) is
 lanes_named N (suc l) ns (before, n, is, lane, network, first) =
-    ap (map (λ (n : Name). n.lane)) is ∙ map-append (λ (n : Name). n.lane) before (n ∷ []) ∙ ap (λ (z : List ℕ). z ++ n.lane ∷ []) (lanes_named N l before first)
+    ap (map (λ (n : Name). n.lane)) is ∙ map-append (λ (n : Name). n.lane) before (n ∷ [])
+    ∙ ap (λ (z : List ℕ). z ++ n.lane ∷ []) (lanes_named N l before first)
     ∙ ap (λ (z : ℕ). range_with_len 0 l ++ z ∷ []) lane ∙ sym (range-suc l)
 
 pub network_named : (N : Table) (l : ℕ) (ns : List Name) → AreNames N l ns → All (λ n. n.network ≡ N) ns
@@ -35,7 +36,8 @@ network_named N (suc l) ns (before, n, is, lane, network, first) =
 -- ---- the ends of a plant
 
 -- the ends of the lanes that pass a test of their numbers
-tested_are_ends : (N : Table) (test : ℕ → Bool) (ns : List Name) (ends : List End) → AreNames N (length (lanes N)) ns → names ends ≡ filter (λ n. test n.lane) ns → All IsEmpty ends
+tested_are_ends : (N : Table) (test : ℕ → Bool) (ns : List Name) (ends : List End) → AreNames N (length (lanes N)) ns
+    → names ends ≡ filter (λ n. test n.lane) ns → All IsEmpty ends
     → AreEnds N (filter test (lane_numbers N)) (λ _. []) ends
 tested_are_ends N test ns ends all are empty = record {
   network = all_before_map (λ (e : End). e.name) (λ (n : Name). n.network ≡ N) ends
@@ -69,11 +71,13 @@ is_ready N ns p P sized all idle = record {
     };
     sends_are = tested_are_ends N (goes_from N p) ns P.sends.items all idle.dealt.sends_are idle.sent;
     takes_are = tested_are_ends N (comes_to N p) ns P.takes.items all idle.dealt.takes_are idle.taken;
-    explained = opening_is_explained N p (passages P.sends.items) (passages P.takes.items) (are_unused P.sends.items idle.sent) (are_unused P.takes.items idle.taken);
+    explained = opening_is_explained N p (passages P.sends.items) (passages P.takes.items) (are_unused P.sends.items idle.sent)
+        (are_unused P.takes.items idle.taken);
   };
 }
 
-pub are_ready : (N : Table) (capacity count : ℕ) (plants : List Plant) → IsSized N → count ≡ length (lanes N) → HaveFirst N capacity count plants → AreReady N plants
+pub are_ready : (N : Table) (capacity count : ℕ) (plants : List Plant) → IsSized N → count ≡ length (lanes N) → HaveFirst N capacity count plants
+    → AreReady N plants
 are_ready N capacity count plants sized is first =
     let all : AreNames N (length (lanes N)) first.names = subst (λ (k : ℕ). AreNames N k first.names) is first.first_lanes in
     record {
@@ -84,10 +88,13 @@ are_ready N capacity count plants sized is first =
     }
 
 -- the ends of a plant are some of all
-dealt_rooms : (N : Table) (capacity : ℕ) (ns : List Name) (p : ℕ) (P : Plant) → All (HasMailboxRoom N capacity) ns → IsDealt N ns ns p P → HaveMailboxRoom N capacity P
+dealt_rooms : (N : Table) (capacity : ℕ) (ns : List Name) (p : ℕ) (P : Plant) → All (HasMailboxRoom N capacity) ns → IsDealt N ns ns p P
+    → HaveMailboxRoom N capacity P
 dealt_rooms N capacity ns p P rooms dealt = record {
-  sends = All-same (HasMailboxRoom N capacity) (names P.sends.items) (filter (is_from N p) ns) dealt.sends_are (All-filter (is_from N p) (HasMailboxRoom N capacity) ns rooms);
-  takes = All-same (HasMailboxRoom N capacity) (names P.takes.items) (filter (is_to N p) ns) dealt.takes_are (All-filter (is_to N p) (HasMailboxRoom N capacity) ns rooms);
+  sends = All-same (HasMailboxRoom N capacity) (names P.sends.items) (filter (is_from N p) ns) dealt.sends_are
+      (All-filter (is_from N p) (HasMailboxRoom N capacity) ns rooms);
+  takes = All-same (HasMailboxRoom N capacity) (names P.takes.items) (filter (is_to N p) ns) dealt.takes_are
+      (All-filter (is_to N p) (HasMailboxRoom N capacity) ns rooms);
 }
 
 pub have_rooms : (N : Table) (capacity count : ℕ) (plants : List Plant) → HaveFirst N capacity count plants → All (HaveMailboxRoom N capacity) plants

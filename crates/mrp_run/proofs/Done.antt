@@ -16,7 +16,8 @@ use Rattle.mrp_run.specs.Plant.{AtWork, HasFinished, AgentIsDone, Kept, lanes_fr
 use Rattle.mrp_run.proofs.Held.{lane_there}
 use Rattle.mrp_run.proofs.Placed.{in_there, out_there}
 
-done_there : (N : Table) (p : ℕ) (A : AgentState) (s t : List End) → (w : AtWork N p A s t) → is_done A ≡ true → ((v : AtWork N p A s t) → HasDone A.view v.sent v.taken v.planned) → AgentIsDone N p A s t
+done_there : (N : Table) (p : ℕ) (A : AgentState) (s t : List End) → (w : AtWork N p A s t) → is_done A ≡ true
+    → ((v : AtWork N p A s t) → HasDone A.view v.sent v.taken v.planned) → AgentIsDone N p A s t
 done_there N p A s t w done each =
     let all = each w in
     record {
@@ -24,20 +25,24 @@ done_there N p A s t w done each =
       sent = λ k d within.
           let l : ℕ = (get_or s k d).name.lane in
           let there : Contains A.view.outgoing (outgoing_lane N l) =
-          subst (λ (V : PlantRows). Contains V.outgoing (outgoing_lane N l)) (sym w.works.view) (out_there N p l (lane_there N (lanes_from N p) w.sent s w.sends_are k d within)) in
+          subst (λ (V : PlantRows). Contains V.outgoing (outgoing_lane N l)) (sym w.works.view)
+          (out_there N p l (lane_there N (lanes_from N p) w.sent s w.sends_are k d within)) in
           subst (λ (z : List Record). is_closed (contents z) ≡ true) (sym (w.sends_are.lists k d within)) (all.outgoing (outgoing_lane N l) there);
       taken = λ k d within.
           let l : ℕ = (get_or t k d).name.lane in
           let there : Contains A.view.incoming (incoming_lane N l) =
-          subst (λ (V : PlantRows). Contains V.incoming (incoming_lane N l)) (sym w.works.view) (in_there N p l (lane_there N (lanes_to N p) w.taken t w.takes_are k d within)) in
+          subst (λ (V : PlantRows). Contains V.incoming (incoming_lane N l)) (sym w.works.view)
+          (in_there N p l (lane_there N (lanes_to N p) w.taken t w.takes_are k d within)) in
           subst (λ (z : List Record). is_closed (contents z) ≡ true) (sym (w.takes_are.lists k d within)) (all.incoming (incoming_lane N l) there);
       planned = λ v x pair.
           let there : Contains A.view.pairs (plant_pair N x) =
-          subst (λ (V : PlantRows). Contains V.pairs (plant_pair N x)) (sym w.works.view) (Contains-from_in (plant_pairs N p) (plant_pair N x) (sees_pair N p x pair)) in
+          subst (λ (V : PlantRows). Contains V.pairs (plant_pair N x)) (sym w.works.view)
+          (Contains-from_in (plant_pairs N p) (plant_pair N x) (sees_pair N p x pair)) in
           (each v).pairs (plant_pair N x) there;
       plans = λ x pair.
           let there : Contains A.view.pairs (plant_pair N x) =
-          subst (λ (V : PlantRows). Contains V.pairs (plant_pair N x)) (sym w.works.view) (Contains-from_in (plant_pairs N p) (plant_pair N x) (sees_pair N p x pair)) in
+          subst (λ (V : PlantRows). Contains V.pairs (plant_pair N x)) (sym w.works.view)
+          (Contains-from_in (plant_pairs N p) (plant_pair N x) (sees_pair N p x pair)) in
           planned_pairs_have_the_plan N w.sized.table w.sized.loop_free p A w.sent w.taken w.planned w.works x pair (all.pairs (plant_pair N x) there);
     }
 

@@ -1,5 +1,6 @@
 -- What the plants give to the plan of the network.
-use Rattle.std.proofs.Common.{◌≡◌, ◌⊎◌, inl, inr, ℕ, zero, suc, ◌<◌, ◌≤◌, ◌==◌, List, [], ◌∷◌, ◌++◌, length, get_or, map, Vec, Global, refl, sym, ap, subst, ◌∙◌, arith, length-append}
+use Rattle.std.proofs.Common.{◌≡◌, ◌⊎◌, inl, inr, ℕ, zero, suc, ◌<◌, ◌≤◌, ◌==◌, List, [], ◌∷◌, ◌++◌, length, get_or, map, Vec, Global, refl, sym, ap, subst}
+use Rattle.std.proofs.Common.{◌∙◌, arith, length-append}
 use Rattle.std.specs.List.{All, range_with_len, filter}
 use Rattle.std.proofs.lemmas.Bool.{eq-eqb}
 use Rattle.std.proofs.lemmas.List.{ext_get_or, get_or_append_left, get_or_at, get_or-map, length-map}
@@ -21,10 +22,12 @@ use Rattle.mrp_plan.specs.Given.{plans_below}
 -- ---- what an agent gives
 
 -- the plan at a place is the network's plan of the pair there
-plan_given : (N : Table) (p : ℕ) (A : AgentState) → HasPlans N p A → (k : ℕ) → k < length A.view.pairs → get_or A.plans k no_plan ≡ plan_at N (get_or A.view.pairs k no_plant_pair).number.0
+plan_given : (N : Table) (p : ℕ) (A : AgentState) → HasPlans N p A → (k : ℕ) → k < length A.view.pairs
+    → get_or A.plans k no_plan ≡ plan_at N (get_or A.view.pairs k no_plant_pair).number.0
 plan_given N p A has k within =
     let x : ℕ = (get_or A.view.pairs k no_plant_pair).number.0 in
-    let own : All (λ q. IsPairAt N p q.number.0) A.view.pairs = subst (λ (V : PlantRows). All (λ q. IsPairAt N p q.number.0) V.pairs) (sym has.view) (pairs_are_at N p) in
+    let own : All (λ q. IsPairAt N p q.number.0) A.view.pairs = subst (λ (V : PlantRows). All (λ q. IsPairAt N p q.number.0) V.pairs) (sym has.view)
+    (pairs_are_at N p) in
     let once : pairs_of_number x A.view.pairs ≤ 1 = subst (λ (V : PlantRows). pairs_of_number x V.pairs ≤ 1) (sym has.view) (numbers_stand_once N p x) in
     let place : pair_place A.view x ≡ k = place_is_only (λ (q : PlantPair). q.number.0 == x) A.view.pairs k no_plant_pair once within (eq-eqb x x refl) in
     sym (ap (λ (n : ℕ). get_or A.plans n no_plan) place) ∙ has.plans x (own k no_plant_pair within)
@@ -39,7 +42,8 @@ gives N p A has all =
     let low : k < length A.view.pairs = omega (arith, within, all) in
     let there : k < length xs = omega (arith, low, size) in
     let number : (get_or A.view.pairs k no_plant_pair).number.0 ≡ get_or xs k 0 =
-    ap (λ (z : List PlantPair). (get_or z k no_plant_pair).number.0) pairs ∙ ap (λ (q : PlantPair). q.number.0) (get_or-map (plant_pair N) xs k 0 no_plant_pair there) in
+    ap (λ (z : List PlantPair). (get_or z k no_plant_pair).number.0) pairs
+    ∙ ap (λ (q : PlantPair). q.number.0) (get_or-map (plant_pair N) xs k 0 no_plant_pair there) in
     plan_given N p A has k low ∙ ap (plan_at N) number ∙ sym (get_or-map (plan_at N) xs k 0 no_plan there))
 
 -- one plant more has given its plans
@@ -61,7 +65,8 @@ abbrev pub AreOwn : Table → List (Vec PairPlan Global) → Type 0
 AreOwn N given = EachAt (λ p v. v.items ≡ plans_below N p (length N.pairs)) given
 
 pub given_more : (N : Table) (plants before rest later : List Plant) (plant : Plant) (given : List (Vec PairPlan Global)) (plans : Vec PairPlan Global)
-    → HavePlans N plants → before ++ rest ≡ plants → rest ≡ plant ∷ later → length given ≡ length before → plans.items ≡ plant.agent.plans → length plant.agent.plans ≡ length plant.agent.view.pairs
+    → HavePlans N plants → before ++ rest ≡ plants → rest ≡ plant ∷ later → length given ≡ length before → plans.items ≡ plant.agent.plans
+    → length plant.agent.plans ≡ length plant.agent.view.pairs
     → AreOwn N given → AreOwn N (given ++ plans ∷ [])
 given_more N plants before rest later plant given plans have whole next size are all so_far =
     let place : ℕ = length given in

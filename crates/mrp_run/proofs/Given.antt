@@ -64,10 +64,12 @@ module _ (N : Table) (table : IsTable N) (planned : ℕ → Bool) (l : ℕ) (goo
       let load : Load = load_of N lane own_item in
       let read : get_or (loads N lane) q.place load ≡ load = get_or-map (load_of N lane) items q.place item load within in
       let some : Some load ≡ Some (cursor.goods_load (goods q.place)) =
-      ap (λ (z : Load). Some z) (sym read) ∙ sym (slice_get-get_or (loads N lane) q.place load (omega (arith, within, length-map items (load_of N lane)))) ∙ has.each q.place sendable in
+      ap (λ (z : Load). Some z) (sym read) ∙ sym (slice_get-get_or (loads N lane) q.place load (omega (arith, within, length-map items (load_of N lane))))
+      ∙ has.each q.place sendable in
       let loaded : load ≡ cursor.goods_load (goods q.place) = cc some in
       let same : own_item.0 ≡ item.0 = ap (λ (z : Load). z.item) loaded ∙ q.is in
-      let seen : view.load_at (outgoing_lane N l).items q.place ≡ outgoing_item N lane own_item = get_or-map (outgoing_item N lane) items q.place item view.no_load within in
+      let seen : view.load_at (outgoing_lane N l).items q.place ≡ outgoing_item N lane own_item =
+      get_or-map (outgoing_item N lane) items q.place item view.no_load within in
       let source = items_have_sources N table lane own_item there in
       let customer : (view.call_of (view.load_at (outgoing_lane N l).items q.place)).customer.0 ≡ pair_on N lane own_item =
       ap (λ (i : view.OutgoingLoad). (view.call_of i).customer.0) seen ∙ ap (λ (c : Call). c.customer.0) (call_seen N lane own_item kind) ∙ source.taker in
@@ -77,8 +79,10 @@ module _ (N : Table) (table : IsTable N) (planned : ℕ → Bool) (l : ℕ) (goo
   given_may_be_decided e may item of kind = item_is_decided item (queued_of goods o item.0 e of may) kind
 
 -- what an agent gives to send on a lane is of an item that may be sent
-pub given_is_decided : (N : Table) → IsSized N → (plant : ℕ) (A : AgentState) (sent taken : ℕ → List Record) (planned : ℕ → Bool) → WorksIn N plant A sent taken planned
-    → (k : ℕ) → k < length A.view.outgoing → (r : Record) → ContinuesSent A sent taken k r → IsDecided N planned (lane_at N (outgoing_at A.view k).number.0) (content r)
+pub given_is_decided : (N : Table) → IsSized N → (plant : ℕ) (A : AgentState) (sent taken : ℕ → List Record) (planned : ℕ → Bool)
+    → WorksIn N plant A sent taken planned
+    → (k : ℕ) → k < length A.view.outgoing → (r : Record) → ContinuesSent A sent taken k r
+    → IsDecided N planned (lane_at N (outgoing_at A.view k).number.0) (content r)
 given_is_decided N sized plant A sent taken planned w k within r continues =
     let lane : OutgoingLane = outgoing_at A.view k in
     let l : ℕ = lane.number.0 in
@@ -88,14 +92,16 @@ given_is_decided N sized plant A sent taken planned w k within r continues =
     let has : HasGoods N planned (outgoing_lane N l) (goods_at A taken k) =
     subst (λ (z : OutgoingLane). HasGoods N planned z (goods_at A taken k)) is (has_goods N sized plant A sent taken planned w k within) in
     let queued : (place : ℕ) → Contains (out_at A k).queue place → IsSendable planned (outgoing_lane N l) place =
-    subst (λ (z : OutgoingLane). (place : ℕ) → Contains (out_at A k).queue place → IsSendable planned z place) is (λ place there. ((w.shows.outs k within).queued place).0 there) in
+    subst (λ (z : OutgoingLane). (place : ℕ) → Contains (out_at A k).queue place → IsSendable planned z place) is
+    (λ place there. ((w.shows.outs k within).queued place).0 there) in
     given_may_be_decided N sized.table planned l (goods_at A taken k) (out_at A k) has queued (content r)
     (continues (loads N (lane_at N l)) (agrees_at N sized plant A sent taken planned w k within)).1
 
 -- ---- what is planned
 
 -- each pair that the agent has planned is ready, by its own plans
-pub planned_is_ready : (N : Table) → IsSized N → (plant : ℕ) (A : AgentState) (sent taken : ℕ → List Record) (planned : ℕ → Bool) → WorksIn N plant A sent taken planned
+pub planned_is_ready : (N : Table) → IsSized N → (plant : ℕ) (A : AgentState) (sent taken : ℕ → List Record) (planned : ℕ → Bool)
+    → WorksIn N plant A sent taken planned
     → PlannedAreReady N plant (state_of sent taken planned)
 planned_is_ready N sized plant A sent taken planned w x pair at done =
     let local = works N plant A sent taken planned w in

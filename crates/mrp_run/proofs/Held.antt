@@ -64,7 +64,8 @@ module _ (N : Table) (ls : List ℕ) (lists : ℕ → List Record) (ends : List 
 
 -- ---- one record more
 
-module _ (N : Table) (ls : List ℕ) (rises : AllPairs (λ x y. x < y) ls) (lists : ℕ → List Record) (ends : List End) (are : AreEnds N ls lists ends) (k : ℕ) (d e : End) (r : Record)
+module _ (N : Table) (ls : List ℕ) (rises : AllPairs (λ x y. x < y) ls) (lists : ℕ → List Record) (ends : List End) (are : AreEnds N ls lists ends) (k : ℕ)
+    (d e : End) (r : Record)
     (within : k < length ends) (name : e.name ≡ (get_or ends k d).name) (list : e.list ≡ (get_or ends k d).list ++ r ∷ []) where
   lane_same : e.name.lane ≡ (get_or ends k d).name.lane
   lane_same = ap (λ (n : Name). n.lane) name

@@ -1,5 +1,6 @@
 -- The worst of some faults, and what was brought back where there is none.
-use Rattle.std.proofs.Common.{◌≡◌, ◌⊎◌, inl, inr, List, [], ◌∷◌, ◌++◌, length, map, Option, Some, None, Ok, Err, refl, sym, ap, subst, ◌∙◌, arith, append_assoc, append-nil}
+use Rattle.std.proofs.Common.{◌≡◌, ◌⊎◌, inl, inr, List, [], ◌∷◌, ◌++◌, length, map, Option, Some, None, Ok, Err, refl, sym, ap, subst, ◌∙◌, arith, append_assoc}
+use Rattle.std.proofs.Common.{append-nil}
 use Rattle.std.specs.List.{Contains, filter_map}
 use Rattle.std.specs.Option.{option_to_list}
 use Rattle.std.proofs.lemmas.List.Elements.{All-push, All-weaker, Contains-append_left, Contains-push, filter_map-append}
@@ -23,7 +24,8 @@ worst_more worst fault result one before faults is = record {
     | inl e ↦ Contains-append_left faults (fault ∷ []) result (subst (Contains faults) (sym e) is.met)
     | inr e ↦ subst (Contains (faults ++ fault ∷ [])) (sym e) (Contains-push faults fault)
   ];
-  first = All-push (IsBefore result) faults fault (All-weaker (IsBefore worst) (IsBefore result) (λ f p. before_trans result worst f before.0 p) faults is.first) before.1;
+  first = All-push (IsBefore result) faults fault (All-weaker (IsBefore worst) (IsBefore result)
+      (λ f p. before_trans result worst f before.0 p) faults is.first) before.1;
 }
 
 pub worst_first : (before : Option RunFault) → IsWorstOf before (option_to_list before ++ [])
@@ -75,5 +77,6 @@ pub with_another : (before worst : Option RunFault) (backs : List Back) (fault :
     → IsWorstOf worst (option_to_list before ++ faults_in backs) → IsWorstOf (Some now) (option_to_list before ++ faults_in (backs ++ Err fault ∷ []))
 with_another before worst backs fault now more is =
     subst (λ (z : List RunFault). IsWorst now z)
-    (append_assoc (option_to_list before) (faults_in backs) (fault ∷ []) ∙ ap (λ (z : List RunFault). option_to_list before ++ z) (sym (faults_more backs fault)))
+    (append_assoc (option_to_list before) (faults_in backs) (fault ∷ [])
+    ∙ ap (λ (z : List RunFault). option_to_list before ++ z) (sym (faults_more backs fault)))
     (more (option_to_list before ++ faults_in backs) is)

@@ -9,7 +9,8 @@ use Rattle.mrp_run.specs.Steps.{Finishes, PlantIsAtWork}
 pub ready_work : (N : Table) (plants : List Plant) → AreReady N plants → All PlantIsAtWork plants
 ready_work N plants ready = λ k d within. (N, k, (ready.each k d within).works)
 
-pub are_through : (N : Table) (before after : List Plant) → AreReady N before → length after ≡ length before → EachAt (λ p P. Finishes (get_or before p P) P) after → AreThrough N after
+pub are_through : (N : Table) (before after : List Plant) → AreReady N before → length after ≡ length before
+    → EachAt (λ p P. Finishes (get_or before p P) P) after → AreThrough N after
 are_through N before after ready size each = record {
   names = ready.names;
   all_lanes = ready.all_lanes;

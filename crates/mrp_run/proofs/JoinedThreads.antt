@@ -1,5 +1,6 @@
 -- What threads that are joined bring back.
-use Rattle.std.proofs.Common.{◌≡◌, ℕ, ◌<◌, List, [], ◌∷◌, ◌++◌, length, get_or, map, Ok, Err, Option, Some, None, Result, Vec, Global, refl, sym, ap, subst, ◌∙◌, arith, append_assoc, append-nil, length-append, zero, suc}
+use Rattle.std.proofs.Common.{◌≡◌, ℕ, ◌<◌, List, [], ◌∷◌, ◌++◌, length, get_or, map, Ok, Err, Option, Some, None, Result, Vec, Global, refl, sym, ap, subst}
+use Rattle.std.proofs.Common.{◌∙◌, arith, append_assoc, append-nil, length-append, zero, suc}
 use Rattle.std.specs.List.{All, AllZip, Contains}
 use Rattle.std.specs.Option.{option_to_list, IfSome}
 use Rattle.std.specs.Result.{IfErr, IfOk, OnOk, result_err}
@@ -21,7 +22,8 @@ Running G S = PromisedHandle Back (Duty G S)
 abbrev pub IsByRule : (RunFault → Type 0) → Back → Type 0
 IsByRule Rule back = IfErr back Rule
 
-pub pairs_more : {X Y : Type 0} (R : X → Y → Type 0) (xs : List X) (ys : List Y) (x : X) (y : Y) → AllZip R xs ys → R x y → AllZip R (xs ++ x ∷ []) (ys ++ y ∷ [])
+pub pairs_more : {X Y : Type 0} (R : X → Y → Type 0) (xs : List X) (ys : List Y) (x : X) (y : Y) → AllZip R xs ys → R x y
+    → AllZip R (xs ++ x ∷ []) (ys ++ y ∷ [])
 pairs_more R [] [] x y all one = (one, tt)
 pairs_more R (a ∷ xs) [] x y all one = absurd all
 pairs_more R [] (b ∷ ys) x y all one = absurd all
@@ -33,7 +35,8 @@ pairs_length R (a ∷ xs) [] all = absurd all
 pairs_length R [] (b ∷ ys) all = absurd all
 pairs_length R (a ∷ xs) (b ∷ ys) all = ap suc (pairs_length R xs ys all.1)
 
-pub pairs_at : {X Y : Type 0} (R : X → Y → Type 0) (xs : List X) (ys : List Y) → AllZip R xs ys → (k : ℕ) (d : X) (e : Y) → k < length ys → R (get_or xs k d) (get_or ys k e)
+pub pairs_at : {X Y : Type 0} (R : X → Y → Type 0) (xs : List X) (ys : List Y) → AllZip R xs ys → (k : ℕ) (d : X) (e : Y) → k < length ys
+    → R (get_or xs k d) (get_or ys k e)
 pairs_at R [] [] all k d e within = absurd (omega (arith, within))
 pairs_at R (a ∷ xs) [] all k d e within = absurd all
 pairs_at R [] (b ∷ ys) all k d e within = absurd all
@@ -67,7 +70,8 @@ none_left before rest all whole none = sym (append-nil before) ∙ ap (λ z. bef
 
 -- ---- one thread more
 
-pub started_more : {G S : Type 0} (threads : List (Running G S)) (thread : Running G S) → started_plants (threads ++ thread ∷ []) ≡ started_plants threads ++ thread.promise.plant.value ∷ []
+pub started_more : {G S : Type 0} (threads : List (Running G S)) (thread : Running G S)
+    → started_plants (threads ++ thread ∷ []) ≡ started_plants threads ++ thread.promise.plant.value ∷ []
 started_more {G} {S} threads thread = map-append (λ (t : Running G S). t.promise.plant.value) threads (thread ∷ [])
 
 -- ---- all of them
@@ -77,7 +81,8 @@ faults_by_rule : (Rule : RunFault → Type 0) (backs : List Back) → AreByRule 
 faults_by_rule Rule [] each = λ k d h. absurd (omega (arith, h))
 faults_by_rule Rule (Ok plant ∷ backs) each = faults_by_rule Rule backs (All-tail (IsByRule Rule) (Ok plant) backs each)
 faults_by_rule Rule (Err fault ∷ backs) each =
-    All-cons Rule fault (faults_in backs) (All-head (IsByRule Rule) (Err fault) backs each) (faults_by_rule Rule backs (All-tail (IsByRule Rule) (Err fault) backs each))
+    All-cons Rule fault (faults_in backs) (All-head (IsByRule Rule) (Err fault) backs each)
+    (faults_by_rule Rule backs (All-tail (IsByRule Rule) (Err fault) backs each))
 
 before_by_rule : (Rule : RunFault → Type 0) (before : Option RunFault) → IfSome before Rule → All Rule (option_to_list before)
 before_by_rule Rule None is = λ k d h. absurd (omega (arith, h))
@@ -101,7 +106,8 @@ pub record AreStarted (plants front : List Plant) (refused : Option RunFault) : 
 
 pub are_started : (plants front rest : List Plant) (r : Result (Unit {0}) RunFault) (refused : Option RunFault) → plants ≡ front ++ rest → OnOk r (rest ≡ [])
     → IfErr r (λ fault. fault ≡ ThreadRefused) → refused ≡ result_err r → AreStarted plants front refused
-are_started plants front rest (Ok u) refused parts all fault is = record { rest = rest; parts = parts; all = λ _. all; fault = subst (λ (o : Option RunFault). IfSome o (λ f. f ≡ ThreadRefused)) (sym is) tt }
+are_started plants front rest (Ok u) refused parts all fault is =
+    record { rest = rest; parts = parts; all = λ _. all; fault = subst (λ (o : Option RunFault). IfSome o (λ f. f ≡ ThreadRefused)) (sym is) tt }
 are_started plants front rest (Err f) refused parts all fault is = record {
   rest = rest;
   parts = parts;
@@ -109,23 +115,27 @@ are_started plants front rest (Err f) refused parts all fault is = record {
   fault = subst (λ (o : Option RunFault). IfSome o (λ f. f ≡ ThreadRefused)) (sym is) fault;
 }
 
-pub all_back : (plants front : List Plant) (refused : Option RunFault) (backs : List Back) (out : Result (Vec Plant Global) RunFault) → AreStarted plants front refused → AllZip Finished front backs
+pub all_back : (plants front : List Plant) (refused : Option RunFault) (backs : List Back) (out : Result (Vec Plant Global) RunFault)
+    → AreStarted plants front refused → AllZip Finished front backs
     → IfOk out (λ _. refused ≡ None) → IfOk out (λ all. backs ≡ map Ok all.items) → IfOk out (λ after. AllZip Finishes plants after.items)
 all_back plants front refused backs (Err fault) at zip none all = tt
 all_back plants front refused backs (Ok after) at zip none all =
     let whole : plants ≡ front = at.parts ∙ ap (λ (z : List Plant). front ++ z) (at.all none) ∙ append-nil front in
     subst (λ (z : List Plant). AllZip Finishes z after.items) (sym whole) (all_finished front after.items backs all zip)
 
-refused_by_rule : (Rule : RunFault → Type 0) (refused : Option RunFault) → Rule ThreadRefused → IfSome refused (λ fault. fault ≡ ThreadRefused) → IfSome refused Rule
+refused_by_rule : (Rule : RunFault → Type 0) (refused : Option RunFault) → Rule ThreadRefused → IfSome refused (λ fault. fault ≡ ThreadRefused)
+    → IfSome refused Rule
 refused_by_rule Rule None rule is = tt
 refused_by_rule Rule (Some fault) rule is = rw is rule
 
 pub worst_back : (Rule : RunFault → Type 0) (refused : Option RunFault) (backs : List Back) (out : Result (Vec Plant Global) RunFault) → Rule ThreadRefused
-    → IfSome refused (λ fault. fault ≡ ThreadRefused) → AreByRule Rule backs → IfErr out (λ fault. IsWorst fault (option_to_list refused ++ faults_in backs)) → IfErr out Rule
+    → IfSome refused (λ fault. fault ≡ ThreadRefused) → AreByRule Rule backs → IfErr out (λ fault. IsWorst fault (option_to_list refused ++ faults_in backs))
+    → IfErr out Rule
 worst_back Rule refused backs (Ok after) rule fault each worst = tt
 worst_back Rule refused backs (Err f) rule fault each worst = worst_by_rule Rule refused backs f (refused_by_rule Rule refused rule fault) each worst
 
-pub back_length : (plants : List Plant) (out : Result (Vec Plant Global) RunFault) → IfOk out (λ after. AllZip Finishes plants after.items) → IfOk out (λ after. length after.items ≡ length plants)
+pub back_length : (plants : List Plant) (out : Result (Vec Plant Global) RunFault) → IfOk out (λ after. AllZip Finishes plants after.items)
+    → IfOk out (λ after. length after.items ≡ length plants)
 back_length plants (Err fault) all = tt
 back_length plants (Ok after) all = pairs_length Finishes plants after.items all
 
@@ -135,4 +145,5 @@ back_each plants (Err fault) all = tt
 back_each plants (Ok after) all = λ k d within. pairs_at Finishes plants after.items all k (get_or after.items k d) d within
 
 pub holds_next : {X : Type 0} (P : X → Type 0) (before rest later all : List X) (x : X) → before ++ rest ≡ all → rest ≡ x ∷ later → All P all → P x
-holds_next P before rest later all x whole next each = All-contains P all x each (subst (λ z. Contains z x) (ap (λ z. before ++ z) (sym next) ∙ whole) (Contains-append_right before (x ∷ later) x (0, omega arith, refl)))
+holds_next P before rest later all x whole next each = All-contains P all x each
+    (subst (λ z. Contains z x) (ap (λ z. before ++ z) (sym next) ∙ whole) (Contains-append_right before (x ∷ later) x (0, omega arith, refl)))

@@ -79,12 +79,14 @@ module _ (N : Table) (sized : IsSized N) (agents : ℕ → AgentState) (sends ta
   sent_there : (l : ℕ) → l < length (lanes N) → (e : End) → Contains (sends (lane_at N l).sender.0) e → e.name.lane ≡ l → e.list ≡ sent_by N states l
   sent_there l within e there lane =
       let p : ℕ = (lane_at N l).sender.0 in
-      All-contains (λ (z : End). z.list ≡ (states p).sent z.name.lane) (sends p) e (stands p (sender_is_there N l within)).sends_are.lists there ∙ ap (states p).sent lane
+      All-contains (λ (z : End). z.list ≡ (states p).sent z.name.lane) (sends p) e (stands p (sender_is_there N l within)).sends_are.lists there
+      ∙ ap (states p).sent lane
 
   taken_there : (l : ℕ) → l < length (lanes N) → (e : End) → Contains (takes (lane_at N l).receiver.0) e → e.name.lane ≡ l → e.list ≡ taken_in N states l
   taken_there l within e there lane =
       let p : ℕ = (lane_at N l).receiver.0 in
-      All-contains (λ (z : End). z.list ≡ (states p).taken z.name.lane) (takes p) e (stands p (receiver_is_there N l within)).takes_are.lists there ∙ ap (states p).taken lane
+      All-contains (λ (z : End). z.list ≡ (states p).taken z.name.lane) (takes p) e (stands p (receiver_is_there N l within)).takes_are.lists there
+      ∙ ap (states p).taken lane
 
   abbrev AreJoined : Type 0
   AreJoined = (l : ℕ) → l < length (lanes N) → IsJoined N l (passages (sends (lane_at N l).sender.0)) (passages (takes (lane_at N l).receiver.0))
@@ -109,13 +111,15 @@ module _ (N : Table) (sized : IsSized N) (agents : ℕ → AgentState) (sends ta
     planned = λ p within x pair.
         let at = stands p within in
         let seen : Contains (agents p).view.pairs (plant_pair N x) =
-        subst (λ (V : PlantRows). Contains V.pairs (plant_pair N x)) (sym at.shows.view) (Contains-from_in (plant_pairs N p) (plant_pair N x) (sees_pair N p x pair)) in
+        subst (λ (V : PlantRows). Contains V.pairs (plant_pair N x)) (sym at.shows.view)
+        (Contains-from_in (plant_pairs N p) (plant_pair N x) (sees_pair N p x pair)) in
         merged.planned x pair.pair ∙ ap (λ (q : ℕ). (states q).planned x) pair.at_plant ∙ at.shows.shows.planned_are (plant_pair N x) seen;
   }
 
   -- ---- within a capacity
 
-  module _ (capacity : ℕ) (order : (l : ℕ) → l < length (lanes N) → IsInOrder N capacity l (sends (lane_at N l).sender.0) (takes (lane_at N l).receiver.0)) where
+  module _ (capacity : ℕ) (order : (l : ℕ) → l < length (lanes N)
+      → IsInOrder N capacity l (sends (lane_at N l).sender.0) (takes (lane_at N l).receiver.0)) where
     joined : AreJoined
     joined l within =
         let o = order l within in
@@ -142,7 +146,8 @@ module _ (N : Table) (sized : IsSized N) (agents : ℕ → AgentState) (sends ta
 
     pub moment : 1 ≤ capacity → (s : State) × IsReached N capacity s × IsShown N agents sends takes s
     moment holds =
-        let m = explained_states_merge N sized.table sized.loop_free states (λ p. passages (sends p)) (λ p. passages (takes p)) (are_explained joined) capacity holds has_room in
+        let m = explained_states_merge N sized.table sized.loop_free states (λ p. passages (sends p)) (λ p. passages (takes p))
+        (are_explained joined) capacity holds has_room in
         (m.0, m.1, shown m.0 m.2)
 
   -- ---- once all are done
@@ -162,7 +167,8 @@ module _ (N : Table) (sized : IsSized N) (agents : ℕ → AgentState) (sends ta
             let within = owner_is_there N sized.table x pair in
             (stands p within).all_planned (done p within) x (record { pair = pair; at_plant = refl });
       } in
-      let m = finished_states_merge N sized.table sized.loop_free states (λ p. passages (sends p)) (λ p. passages (takes p)) (are_explained joined) capacity holds finished in
+      let m = finished_states_merge N sized.table sized.loop_free states (λ p. passages (sends p)) (λ p. passages (takes p))
+      (are_explained joined) capacity holds finished in
       (m.0, m.1, shown m.0 m.2, m.3)
 
 pub moments_are_reached : MomentsAreReached

@@ -26,17 +26,21 @@ use Rattle.mrp_run.proofs.Keeping.{nothing_done}
 use Rattle.mrp_run.proofs.Placed.{out_there}
 
 -- its lane has a place among those that go out
-placed : (A : AgentState) (s t : List End) (N : Table) (p : ℕ) (w : AtWork N p A s t) (k : ℕ) (d : End) → k < length s → IsPlaced A.view (get_or s k d).name.lane
+placed : (A : AgentState) (s t : List End) (N : Table) (p : ℕ) (w : AtWork N p A s t) (k : ℕ) (d : End) → k < length s
+    → IsPlaced A.view (get_or s k d).name.lane
 placed A s t N p w k d within =
-    out_placed A.view N p (get_or s k d).name.lane w.works.view (out_there N p (get_or s k d).name.lane (lane_there N (lanes_from N p) w.sent s w.sends_are k d within))
+    out_placed A.view N p (get_or s k d).name.lane w.works.view (out_there N p (get_or s k d).name.lane
+    (lane_there N (lanes_from N p) w.sent s w.sends_are k d within))
 
-pub goes_out : (A : AgentState) (s t : List End) → IsAtWork A s t → (k l : ℕ) (x : End) → k < length s → x ≡ get_or s k x → l ≡ x.name.lane → outgoing_place A.view l < length A.view.outgoing
+pub goes_out : (A : AgentState) (s t : List End) → IsAtWork A s t → (k l : ℕ) (x : End) → k < length s → x ≡ get_or s k x → l ≡ x.name.lane
+    → outgoing_place A.view l < length A.view.outgoing
 goes_out A s t (N, p, w) k l x within at lane =
     let is : (get_or s k x).name.lane ≡ l = ap (λ (z : End). z.name.lane) (sym at) ∙ sym lane in
     subst (λ (n : ℕ). outgoing_place A.view n < length A.view.outgoing) is (placed A s t N p w k x within).within
 
 -- the end x is looked at for its lane, and the record is offered at the end y
-module _ (A : AgentState) (s t : List End) (k l : ℕ) (x y : End) (r : Record) (within : k < length s) (at_x : x ≡ get_or s k x) (at_y : y ≡ get_or s k y) (lane : l ≡ x.name.lane) where
+module _ (A : AgentState) (s t : List End) (k l : ℕ) (x y : End) (r : Record) (within : k < length s) (at_x : x ≡ get_or s k x) (at_y : y ≡ get_or s k y)
+    (lane : l ≡ x.name.lane) where
   same : y ≡ get_or s k x
   same = get_or_read s k y within at_y x
 
@@ -55,14 +59,16 @@ module _ (A : AgentState) (s t : List End) (k l : ℕ) (x y : End) (r : Record) 
       let continues : ContinuesSent A w.sent w.taken j r = here w.sent w.taken w.planned w.works.shows bounded in
       let begins : IsBeginning (loads N (lane_at N (outgoing_at A.view j).number.0)) (w.sent (outgoing_at A.view j).number.0 ++ r ∷ []) =
       sent_is_legal N w.sized p A w.sent w.taken w.planned w.works j place.within r continues in
-      let on_lane : IsBeginning (loads N (lane_at N n)) (w.sent n ++ r ∷ []) = subst (λ (z : ℕ). IsBeginning (loads N (lane_at N z)) (w.sent z ++ r ∷ [])) place.number begins in
+      let on_lane : IsBeginning (loads N (lane_at N n)) (w.sent n ++ r ∷ []) =
+      subst (λ (z : ℕ). IsBeginning (loads N (lane_at N z)) (w.sent z ++ r ∷ [])) place.number begins in
       let next : IsNextRecord e r =
       subst (λ (M : Table). IsBeginning (loads M (lane_at M n)) (e.list ++ r ∷ [])) (sym (w.sends_are.network k x within))
       (subst (λ (z : List Record). IsBeginning (loads N (lane_at N n)) (z ++ r ∷ [])) (sym (w.sends_are.lists k x within)) on_lane) in
       subst (λ (z : End). IsNextRecord z r) (sym same) next
 
   -- it is of an item that may be sent
-  decided : (N : Table) (p : ℕ) (w : AtWork N p A s t) → GivenIsLegal A (outgoing_place A.view l) r → IsDecided N w.planned (lane_at N (get_or s k x).name.lane) (content r)
+  decided : (N : Table) (p : ℕ) (w : AtWork N p A s t) → GivenIsLegal A (outgoing_place A.view l) r
+      → IsDecided N w.planned (lane_at N (get_or s k x).name.lane) (content r)
   decided N p w given =
       let n : ℕ = (get_or s k x).name.lane in
       let j : ℕ = outgoing_place A.view n in
@@ -82,11 +88,13 @@ module _ (A : AgentState) (s t : List End) (k l : ℕ) (x y : End) (r : Record) 
       let was = list_was N (lanes_from N p) rises w.sent s w.sends_are k x e r within name list in
       let may : IsDecided N w.planned (lane_at N e.name.lane) (content r) =
       subst (λ (z : Name). IsDecided N w.planned (lane_at N z.lane) (content r)) (sym name) (decided N p w given) in
-      subst (λ (z : List Passage). IsExplained N p (state_of (changed w.sent e.name.lane (w.sent e.name.lane ++ r ∷ [])) w.taken w.planned) z (passages t)) (sym (map-set passage s k e))
+      subst (λ (z : List Passage). IsExplained N p (state_of (changed w.sent e.name.lane (w.sent e.name.lane ++ r ∷ [])) w.taken w.planned) z (passages t))
+      (sym (map-set passage s k e))
       (sent_is_explained N p (state_of w.sent w.taken w.planned) (passages s) (passages t) w.explained k (passage x) (passage e) r more was may)
 
   -- once it is sent the plant is at work with it
-  pub sent_kept : (e : End) → e.name ≡ y.name → e.list ≡ y.list ++ r ∷ [] → e.stamps ≡ y.stamps ++ clock_at s t ∷ [] → GivenIsLegal A (outgoing_place A.view l) r
+  pub sent_kept : (e : End) → e.name ≡ y.name → e.list ≡ y.list ++ r ∷ [] → e.stamps ≡ y.stamps ++ clock_at s t ∷ []
+      → GivenIsLegal A (outgoing_place A.view l) r
       → (B : AgentState) → B.view ≡ A.view → IsAppended A B (outgoing_place A.view l) r → Kept A s t B (set s k e) t
   sent_kept e name_kept list_grown stamped given B view appended =
       let name : e.name ≡ (get_or s k x).name = name_kept ∙ ap (λ (z : End). z.name) same in
@@ -100,9 +108,11 @@ module _ (A : AgentState) (s t : List End) (k l : ℕ) (x y : End) (r : Record) 
         takes = refl;
         works = λ N p w.
             let place = placed A s t N p w k x within in
-            let bounded : IsWithin64 A w.taken (outgoing_place A.view n) = sent_is_within_64 N w.sized p A w.sent w.taken w.planned w.works (outgoing_place A.view n) place.within in
+            let bounded : IsWithin64 A w.taken (outgoing_place A.view n) =
+            sent_is_within_64 N w.sized p A w.sent w.taken w.planned w.works (outgoing_place A.view n) place.within in
             let shows : ShowsHistory B (changed w.sent n (w.sent n ++ r ∷ [])) w.taken w.planned =
-            subst (λ (z : ℕ). ShowsHistory B (changed w.sent z (w.sent z ++ r ∷ [])) w.taken w.planned) place.number (here w.sent w.taken w.planned w.works.shows bounded) in
+            subst (λ (z : ℕ). ShowsHistory B (changed w.sent z (w.sent z ++ r ∷ [])) w.taken w.planned) place.number
+            (here w.sent w.taken w.planned w.works.shows bounded) in
             record {
               sized = w.sized;
               sent = changed w.sent e.name.lane (w.sent e.name.lane ++ r ∷ []);
@@ -111,7 +121,8 @@ module _ (A : AgentState) (s t : List End) (k l : ℕ) (x y : End) (r : Record) 
               works = record {
                 view = view ∙ w.works.view;
                 legal = w.works.legal;
-                shows = subst (λ (z : ℕ). ShowsHistory B (changed w.sent z (w.sent z ++ r ∷ [])) w.taken w.planned) (sym (ap (λ (n : Name). n.lane) name)) shows;
+                shows = subst (λ (z : ℕ). ShowsHistory B (changed w.sent z (w.sent z ++ r ∷ [])) w.taken w.planned)
+                    (sym (ap (λ (n : Name). n.lane) name)) shows;
               };
               sends_are = one_more N (lanes_from N p) (lanes_rise N (goes_from N p)) w.sent s w.sends_are k x e r within name list;
               takes_are = w.takes_are;
@@ -121,6 +132,7 @@ module _ (A : AgentState) (s t : List End) (k l : ℕ) (x y : End) (r : Record) 
 
 -- ---- no room
 
-pub refused_kept : (A : AgentState) (s t : List End) (k : ℕ) (y e : End) → y ≡ get_or s k y → e.name ≡ y.name → e.list ≡ y.list → e.stamps ≡ y.stamps → Kept A s t A (set s k e) t
+pub refused_kept : (A : AgentState) (s t : List End) (k : ℕ) (y e : End) → y ≡ get_or s k y → e.name ≡ y.name → e.list ≡ y.list → e.stamps ≡ y.stamps
+    → Kept A s t A (set s k e) t
 refused_kept A s t k y e at name list stamps =
     subst (λ (z : List End). Kept A s t A z t) (sym (put_back s k y e at name list stamps)) (nothing_done A s t)

@@ -1,5 +1,6 @@
 -- The two ends of the last lane taken from their plants.
-use Rattle.std.proofs.Common.{◌≡◌, ◌≢◌, ℕ, suc, ◌+◌, ◌-◌, ◌<◌, List, [], ◌∷◌, ◌++◌, length, get_or, set, Option, None, Vec, Global, All, refl, sym, ap, subst, ◌∙◌, arith, add-one}
+use Rattle.std.proofs.Common.{◌≡◌, ◌≢◌, ℕ, suc, ◌+◌, ◌-◌, ◌<◌, List, [], ◌∷◌, ◌++◌, length, get_or, set, Option, None, Vec, Global, All, refl, sym, ap, subst}
+use Rattle.std.proofs.Common.{◌∙◌, arith, add-one}
 use Rattle.std.specs.List.{filter}
 use Rattle.std.specs.Option.{option_to_list, IsSomeAnd}
 use Rattle.std.proofs.lemmas.Bool.{eq-eqb}
@@ -21,7 +22,8 @@ IsTheLast n o = IsSomeAnd o (λ e. (e.name ≡ n) × IsClosed e)
 -- ---- the sender's end
 
 send_popped : (N : Table) (ns ts : List Name) (n : Name) (p : ℕ) (P : Plant) (new : Vec End Global) (o : Option End) → (lane_at N n.lane).sender.0 ≡ p
-    → P.sends.items ≡ new.items ++ option_to_list o → (o ≡ None → P.sends.items ≡ []) → HasEnded N (ns ++ n ∷ []) ts p P → IsTheLast n o × HasEnded N ns ts p (record P { sends = new })
+    → P.sends.items ≡ new.items ++ option_to_list o → (o ≡ None → P.sends.items ≡ []) → HasEnded N (ns ++ n ∷ []) ts p P
+    → IsTheLast n o × HasEnded N ns ts p (record P { sends = new })
 send_popped N ns ts n p P new o owner parts none ended =
     let named = ended.dealt.sends_are ∙ filter_own (is_from N p) ns n (eq-eqb (lane_at N n.lane).sender.0 p owner) in
     let last = popped (λ (e : End). e.name) IsClosed P.sends.items new.items o (filter (is_from N p) ns) n named parts none ended.sent in (
@@ -34,7 +36,8 @@ send_popped N ns ts n p P new o owner parts none ended =
       },
     )
 
-send_kept : (N : Table) (ns ts : List Name) (n : Name) (p : ℕ) (P : Plant) → (lane_at N n.lane).sender.0 ≢ p → HasEnded N (ns ++ n ∷ []) ts p P → HasEnded N ns ts p P
+send_kept : (N : Table) (ns ts : List Name) (n : Name) (p : ℕ) (P : Plant) → (lane_at N n.lane).sender.0 ≢ p → HasEnded N (ns ++ n ∷ []) ts p P
+    → HasEnded N ns ts p P
 send_kept N ns ts n p P other ended = record {
   dealt = record {
     sends_are = ended.dealt.sends_are ∙ filter_other (is_from N p) ns n (apart (lane_at N n.lane).sender.0 p other);
@@ -45,7 +48,8 @@ send_kept N ns ts n p P other ended = record {
   plans = ended.plans;
 }
 
-pub sends_popped : (N : Table) (ns ts : List Name) (n : Name) (plants : List Plant) (at : ℕ) (P : Plant) (new : Vec End Global) (o : Option End) → at < length plants → P ≡ get_or plants at P
+pub sends_popped : (N : Table) (ns ts : List Name) (n : Name) (plants : List Plant) (at : ℕ) (P : Plant) (new : Vec End Global) (o : Option End)
+    → at < length plants → P ≡ get_or plants at P
     → P.sends.items ≡ new.items ++ option_to_list o → (o ≡ None → P.sends.items ≡ []) → (lane_at N n.lane).sender.0 ≡ at → HaveEnded N (ns ++ n ∷ []) ts plants
     → IsTheLast n o × HaveEnded N ns ts (set plants at (record P { sends = new }))
 sends_popped N ns ts n plants at P new o within is parts none owner ended =
@@ -61,7 +65,8 @@ sends_popped N ns ts n plants at P new o within is parts none owner ended =
 -- ---- the receiver's end
 
 take_popped : (N : Table) (ns ts : List Name) (n : Name) (p : ℕ) (P : Plant) (new : Vec End Global) (o : Option End) → (lane_at N n.lane).receiver.0 ≡ p
-    → P.takes.items ≡ new.items ++ option_to_list o → (o ≡ None → P.takes.items ≡ []) → HasEnded N ns (ts ++ n ∷ []) p P → IsTheLast n o × HasEnded N ns ts p (record P { takes = new })
+    → P.takes.items ≡ new.items ++ option_to_list o → (o ≡ None → P.takes.items ≡ []) → HasEnded N ns (ts ++ n ∷ []) p P
+    → IsTheLast n o × HasEnded N ns ts p (record P { takes = new })
 take_popped N ns ts n p P new o owner parts none ended =
     let named = ended.dealt.takes_are ∙ filter_own (is_to N p) ts n (eq-eqb (lane_at N n.lane).receiver.0 p owner) in
     let last = popped (λ (e : End). e.name) IsClosed P.takes.items new.items o (filter (is_to N p) ts) n named parts none ended.taken in (
@@ -74,7 +79,8 @@ take_popped N ns ts n p P new o owner parts none ended =
       },
     )
 
-take_kept : (N : Table) (ns ts : List Name) (n : Name) (p : ℕ) (P : Plant) → (lane_at N n.lane).receiver.0 ≢ p → HasEnded N ns (ts ++ n ∷ []) p P → HasEnded N ns ts p P
+take_kept : (N : Table) (ns ts : List Name) (n : Name) (p : ℕ) (P : Plant) → (lane_at N n.lane).receiver.0 ≢ p → HasEnded N ns (ts ++ n ∷ []) p P
+    → HasEnded N ns ts p P
 take_kept N ns ts n p P other ended = record {
   dealt = record {
     sends_are = ended.dealt.sends_are;
@@ -85,8 +91,10 @@ take_kept N ns ts n p P other ended = record {
   plans = ended.plans;
 }
 
-pub takes_popped : (N : Table) (ns ts : List Name) (n : Name) (plants : List Plant) (at : ℕ) (P : Plant) (new : Vec End Global) (o : Option End) → at < length plants → P ≡ get_or plants at P
-    → P.takes.items ≡ new.items ++ option_to_list o → (o ≡ None → P.takes.items ≡ []) → (lane_at N n.lane).receiver.0 ≡ at → HaveEnded N ns (ts ++ n ∷ []) plants
+pub takes_popped : (N : Table) (ns ts : List Name) (n : Name) (plants : List Plant) (at : ℕ) (P : Plant) (new : Vec End Global) (o : Option End)
+    → at < length plants → P ≡ get_or plants at P
+    → P.takes.items ≡ new.items ++ option_to_list o → (o ≡ None → P.takes.items ≡ []) → (lane_at N n.lane).receiver.0 ≡ at
+    → HaveEnded N ns (ts ++ n ∷ []) plants
     → IsTheLast n o × HaveEnded N ns ts (set plants at (record P { takes = new }))
 takes_popped N ns ts n plants at P new o within is parts none owner ended =
     let here = take_popped N ns ts n at P new o owner parts none (subst (HasEnded N ns (ts ++ n ∷ []) at) (sym is) (ended.each at P within)) in (
@@ -123,13 +131,16 @@ pub have_last : (N : Table) (l : ℕ) (plants : List Plant) → HaveLeft N (l + 
 have_last N l plants left = last_of N l left.names plants (subst (λ (k : ℕ). AreNames N k left.names) (add-one l) left.first_lanes) left.ended
 
 -- before the first lane is taken, and at each
-pub all_left : (N : Table) (ns : List Name) (plants : List Plant) → AreNames N (length (lanes N)) ns → HaveEnded N ns ns plants → HaveLeft N (length (lanes N) - 0) plants
+pub all_left : (N : Table) (ns : List Name) (plants : List Plant) → AreNames N (length (lanes N)) ns → HaveEnded N ns ns plants
+    → HaveLeft N (length (lanes N) - 0) plants
 all_left N ns plants all ended = subst (λ (k : ℕ). HaveLeft N k plants) (omega arith) record { names = ns; first_lanes = all; ended = ended }
 
-pub left_here : (N : Table) (plants : List Plant) (count done : ℕ) → count ≡ length (lanes N) → done < count → HaveLeft N (length (lanes N) - done) plants → HaveLeft N (count - 1 - done + 1) plants
+pub left_here : (N : Table) (plants : List Plant) (count done : ℕ) → count ≡ length (lanes N) → done < count → HaveLeft N (length (lanes N) - done) plants
+    → HaveLeft N (count - 1 - done + 1) plants
 left_here N plants count done is within left = subst (λ (k : ℕ). HaveLeft N k plants) (omega (arith, is, within)) left
 
-pub left_next : (N : Table) (plants : List Plant) (count done : ℕ) → count ≡ length (lanes N) → done < count → HaveLeft N (count - 1 - done) plants → HaveLeft N (length (lanes N) - (done + 1)) plants
+pub left_next : (N : Table) (plants : List Plant) (count done : ℕ) → count ≡ length (lanes N) → done < count → HaveLeft N (count - 1 - done) plants
+    → HaveLeft N (length (lanes N) - (done + 1)) plants
 left_next N plants count done is within left = subst (λ (k : ℕ). HaveLeft N k plants) (omega (arith, is, within)) left
 
 -- the plans are there throughout
@@ -148,7 +159,8 @@ none_named N ns p P none dealt = record {
 }
 
 pub no_ends : (N : Table) (plants : List Plant) (count : ℕ) → count ≡ 0 → HaveLeft N count plants → All HasNoEnds plants
-no_ends N plants count done left = λ k d h. none_named N left.names k _ (subst (λ (n : ℕ). AreNames N n left.names) done left.first_lanes) (left.ended.each k d h).dealt
+no_ends N plants count done left = λ k d h. none_named N left.names k _ (subst (λ (n : ℕ). AreNames N n left.names) done left.first_lanes)
+    (left.ended.each k d h).dealt
 
 -- both ends of the last lane, taken from its plants one after the other
 pub record HaveBoth (N : Table) (l : ℕ) (send take : End) (rest : List Plant) : Type 0 where

@@ -1,5 +1,6 @@
 -- What reconciling the two ends of a closed lane answers.
-use Rattle.std.proofs.Common.{◌≡◌, ℕ, ◌+◌, ◌-◌, true, List, [], ◌∷◌, ◌++◌, length, reverse, refl, sym, ap, subst, ◌∙◌, arith, append_assoc, take, drop, Result, Ok, Err, IfOk}
+use Rattle.std.proofs.Common.{◌≡◌, ℕ, ◌+◌, ◌-◌, true, List, [], ◌∷◌, ◌++◌, length, reverse, refl, sym, ap, subst, ◌∙◌, arith, append_assoc, take, drop, Result}
+use Rattle.std.proofs.Common.{Ok, Err, IfOk}
 use Rattle.std.proofs.lemmas.List.{length-map, length-reverse, length_push, take_at}
 use Rattle.mrp_rows.specs.Table.{Table}
 use Rattle.mrp_net.specs.Lanes.{lanes, lane_at}
@@ -32,10 +33,12 @@ pub record IsAll (all : List Load) (sent taken left : List Record) : Type 0 wher
   pub nothing : left ≡ []
   pub whole : IsWhole all sent
 
-pub all_taken : (all : List Load) (sent taken left : List Record) → IsBeginning all sent → is_closed (contents taken) ≡ true → sent ≡ taken ++ left → IsAll all sent taken left
+pub all_taken : (all : List Load) (sent taken left : List Record) → IsBeginning all sent → is_closed (contents taken) ≡ true → sent ≡ taken ++ left
+    → IsAll all sent taken left
 all_taken all sent taken left legal closed parts =
     let at = has_closing taken closed in
-    let split : sent ≡ at.before ++ at.closing ∷ (at.after ++ left) = parts ∙ ap (λ (z : List Record). z ++ left) at.is ∙ append_assoc at.before (at.closing ∷ at.after) left in
+    let split : sent ≡ at.before ++ at.closing ∷ (at.after ++ left) =
+    parts ∙ ap (λ (z : List Record). z ++ left) at.is ∙ append_assoc at.before (at.closing ∷ at.after) left in
     let none = nothing_follows_closing all at.before (at.after ++ left) at.closing at.closes (subst (IsBeginning all) split legal) in
     let behind = none_behind at.after left none in
     let is : sent ≡ at.before ++ at.closing ∷ [] = split ∙ ap (λ (z : List Record). at.before ++ at.closing ∷ z) none in
@@ -72,12 +75,21 @@ settled N l n send take r lane network name closed legal are =
       figures = are.figures ∙ (λ i. figures_on (of i) (on i) (sym are.sent i) (sym are.taken i));
     }
 
-pub settled_ok : {E : Type 0} (N : Table) (l : ℕ) (n : Name) (send take : End) (o : Result Carried E) → n.lane ≡ l → n.network ≡ N → send.name ≡ n → IsClosed take → HasLegalList send
+pub settled_ok : {E : Type 0} (N : Table) (l : ℕ) (n : Name) (send take : End) (o : Result Carried E) → n.lane ≡ l → n.network ≡ N → send.name ≡ n
+    → IsClosed take → HasLegalList send
     → IfOk o (λ r. r.network ≡ send.name.network) → IfOk o (λ r. r.lane ≡ send.name.lane) → IfOk o (λ r. r.sent ≡ send.list) → IfOk o (λ r. r.taken ≡ take.list)
-    → IfOk o (λ r. send.list ≡ take.list ++ r.left) → IfOk o (λ r. r.figures ≡ figures_on send.name.network send.name.lane send.list take.list) → IfOk o (λ r. IsSettled N l r)
+    → IfOk o (λ r. send.list ≡ take.list ++ r.left) → IfOk o (λ r. r.figures ≡ figures_on send.name.network send.name.lane send.list take.list)
+    → IfOk o (λ r. IsSettled N l r)
 settled_ok N l n send take (Err e) lane network name closed legal r_network r_lane r_sent r_taken r_left r_figures = tt
 settled_ok N l n send take (Ok r) lane network name closed legal r_network r_lane r_sent r_taken r_left r_figures =
-    settled N l n send take r lane network name closed legal record { network = r_network; lane = r_lane; sent = r_sent; taken = r_taken; left = r_left; figures = r_figures }
+    settled N l n send take r lane network name closed legal record {
+      network = r_network;
+      lane = r_lane;
+      sent = r_sent;
+      taken = r_taken;
+      left = r_left;
+      figures = r_figures;
+    }
 
 pub ok_anyway : {T E : Type 0} (o : Result T E) (P : Type 0) → P → IfOk o (λ _. P)
 ok_anyway (Ok r) P h = h
@@ -116,7 +128,8 @@ pub are_of_ends : (N : Table) (plants : List Plant) (rs : List Carried) → AreP
 are_of_ends N plants rs paired k d h = (paired.each k d h).of
 
 -- turned round in place they are in lane order
-pub paired_all : (N : Table) (plants : List Plant) (count done : ℕ) (rs now turned : List Carried) (len : ℕ) → count ≡ length (lanes N) → done ≡ count → now ≡ rs → turned ≡ reverse now → len ≡ length rs
+pub paired_all : (N : Table) (plants : List Plant) (count done : ℕ) (rs now turned : List Carried) (len : ℕ) → count ≡ length (lanes N) → done ≡ count
+    → now ≡ rs → turned ≡ reverse now → len ≡ length rs
     → ArePairedFrom N plants (length (lanes N)) done rs → ArePaired N plants (take len (turned ++ drop (length turned) rs))
 paired_all N plants count done rs now turned len is all same turns size so_far =
     let round : turned ≡ reverse rs = turns ∙ ap reverse same in

@@ -6,7 +6,9 @@ use Rattle.mrp_view.specs.View.{incoming_lane, incoming_lanes, outgoing_lane, ou
 use Rattle.mrp_run.specs.Plant.{lanes_from, lanes_to}
 
 pub out_there : (N : Table) (p l : ℕ) → Contains (lanes_from N p) l → Contains (outgoing_lanes N p) (outgoing_lane N l)
-out_there N p l own = Contains-from_in (outgoing_lanes N p) (outgoing_lane N l) (In-map (outgoing_lane N) (lanes_from N p) l (In-from_contains (lanes_from N p) l own))
+out_there N p l own = Contains-from_in (outgoing_lanes N p) (outgoing_lane N l)
+    (In-map (outgoing_lane N) (lanes_from N p) l (In-from_contains (lanes_from N p) l own))
 
 pub in_there : (N : Table) (p l : ℕ) → Contains (lanes_to N p) l → Contains (incoming_lanes N p) (incoming_lane N l)
-in_there N p l own = Contains-from_in (incoming_lanes N p) (incoming_lane N l) (In-map (incoming_lane N) (lanes_to N p) l (In-from_contains (lanes_to N p) l own))
+in_there N p l own = Contains-from_in (incoming_lanes N p) (incoming_lane N l)
+    (In-map (incoming_lane N) (lanes_to N p) l (In-from_contains (lanes_to N p) l own))

@@ -1,5 +1,6 @@
 -- What a run comes to is a run of the events: the lists that the ends of its lanes showed are those of a finished state.
-use Rattle.std.proofs.Common.{◌≡◌, ℕ, ◌<◌, inl, inr, List, [], ◌∷◌, ◌++◌, length, get_or, set, Option, None, Some, Result, Ok, Err, IfOk, IfSome, refl, sym, ap, subst, ◌∙◌, arith, Contains, Vec, Global}
+use Rattle.std.proofs.Common.{◌≡◌, ℕ, ◌<◌, inl, inr, List, [], ◌∷◌, ◌++◌, length, get_or, set, Option, None, Some, Result, Ok, Err, IfOk, IfSome, refl, sym, ap}
+use Rattle.std.proofs.Common.{subst, ◌∙◌, arith, Contains, Vec, Global}
 use Rattle.std.specs.Option.{option_to_list}
 use Rattle.std.proofs.lemmas.Bool.{cases_eq}
 use Rattle.std.proofs.lemmas.List.{get_or-set_same, get_or-set_other, get_or_read, length-set}
@@ -26,7 +27,13 @@ use Rattle.mrp_run.proofs.Moments.{finish, passage_there}
 -- ---- ends that are left
 
 pub none_taken : (plants : List Plant) → HaveLeftOf plants plants
-none_taken plants = record { size = refl; each = λ k d within. record { sends = prefix_refl (get_or plants k d).sends.items; takes = prefix_refl (get_or plants k d).takes.items } }
+none_taken plants = record {
+  size = refl;
+  each = λ k d within. record {
+    sends = prefix_refl (get_or plants k d).sends.items;
+    takes = prefix_refl (get_or plants k d).takes.items;
+  };
+}
 
 pub left_of_left : (first second third : List Plant) → HaveLeftOf first second → HaveLeftOf second third → HaveLeftOf first third
 left_of_left first second third a b = record {
@@ -41,7 +48,8 @@ left_of_left first second third a b = record {
 }
 
 -- one plant has fewer ends
-one_has_fewer : (plants : List Plant) (at : ℕ) (P new : Plant) → at < length plants → P ≡ get_or plants at P → HasLeftOf P new → HaveLeftOf plants (set plants at new)
+one_has_fewer : (plants : List Plant) (at : ℕ) (P new : Plant) → at < length plants → P ≡ get_or plants at P → HasLeftOf P new
+    → HaveLeftOf plants (set plants at new)
 one_has_fewer plants at P new within is fewer = record {
   size = length-set plants at new;
   each = λ k d inside. elim (cases_eq k at) [
@@ -58,38 +66,44 @@ one_has_fewer plants at P new within is fewer = record {
 pub send_left : (plants : List Plant) (at : ℕ) (P : Plant) (new : Vec End Global) (o : Option End) → at < length plants → P ≡ get_or plants at P
     → P.sends.items ≡ new.items ++ option_to_list o → HaveLeftOf plants (set plants at (record P { sends = new }))
 send_left plants at P new o within is parts =
-    one_has_fewer plants at P (record P { sends = new }) within is (record { sends = record { rest = option_to_list o; is = parts }; takes = prefix_refl P.takes.items })
+    one_has_fewer plants at P (record P { sends = new }) within is
+    (record { sends = record { rest = option_to_list o; is = parts }; takes = prefix_refl P.takes.items })
 
 pub take_left : (plants : List Plant) (at : ℕ) (P : Plant) (new : Vec End Global) (o : Option End) → at < length plants → P ≡ get_or plants at P
     → P.takes.items ≡ new.items ++ option_to_list o → HaveLeftOf plants (set plants at (record P { takes = new }))
 take_left plants at P new o within is parts =
-    one_has_fewer plants at P (record P { takes = new }) within is (record { sends = prefix_refl P.sends.items; takes = record { rest = option_to_list o; is = parts } })
+    one_has_fewer plants at P (record P { takes = new }) within is
+    (record { sends = prefix_refl P.sends.items; takes = record { rest = option_to_list o; is = parts } })
 
 -- the end that is popped was there
 pub was_there : (ends rest : List End) (o : Option End) → ends ≡ rest ++ option_to_list o → IfSome o (λ e. Contains ends e)
 was_there ends rest None parts = tt
 was_there ends rest (Some e) parts = subst (λ (z : List End). Contains z e) (sym parts) (Contains-push rest e)
 
-pub send_there : (plants : List Plant) (at : ℕ) (P : Plant) (rest : List End) (o : Option End) → at < length plants → P ≡ get_or plants at P → P.sends.items ≡ rest ++ option_to_list o
+pub send_there : (plants : List Plant) (at : ℕ) (P : Plant) (rest : List End) (o : Option End) → at < length plants → P ≡ get_or plants at P
+    → P.sends.items ≡ rest ++ option_to_list o
     → IfSome o (λ e. (d : Plant) → Contains (get_or plants at d).sends.items e)
 send_there plants at P rest None within is parts = tt
 send_there plants at P rest (Some e) within is parts = λ d.
     subst (λ (Q : Plant). Contains Q.sends.items e) (get_or_read plants at P within is d) (was_there P.sends.items rest (Some e) parts)
 
-pub take_there : (plants : List Plant) (at : ℕ) (P : Plant) (rest : List End) (o : Option End) → at < length plants → P ≡ get_or plants at P → P.takes.items ≡ rest ++ option_to_list o
+pub take_there : (plants : List Plant) (at : ℕ) (P : Plant) (rest : List End) (o : Option End) → at < length plants → P ≡ get_or plants at P
+    → P.takes.items ≡ rest ++ option_to_list o
     → IfSome o (λ e. (d : Plant) → Contains (get_or plants at d).takes.items e)
 take_there plants at P rest None within is parts = tt
 take_there plants at P rest (Some e) within is parts = λ d.
     subst (λ (Q : Plant). Contains Q.takes.items e) (get_or_read plants at P within is d) (was_there P.takes.items rest (Some e) parts)
 
 -- an end that is left was there before
-take_before : (before now : List Plant) (at : ℕ) (e : End) → HaveLeftOf before now → at < length before → ((d : Plant) → Contains (get_or now at d).takes.items e)
+take_before : (before now : List Plant) (at : ℕ) (e : End) → HaveLeftOf before now → at < length before
+    → ((d : Plant) → Contains (get_or now at d).takes.items e)
     → (d : Plant) → Contains (get_or before at d).takes.items e
 take_before before now at e left within there d =
     let more = (left.each at d within).takes in
     subst (λ (z : List End). Contains z e) (sym more.is) (Contains-append_left (get_or now at d).takes.items more.rest e (there d))
 
-send_before : (before now : List Plant) (at : ℕ) (e : End) → HaveLeftOf before now → at < length before → ((d : Plant) → Contains (get_or now at d).sends.items e)
+send_before : (before now : List Plant) (at : ℕ) (e : End) → HaveLeftOf before now → at < length before
+    → ((d : Plant) → Contains (get_or now at d).sends.items e)
     → (d : Plant) → Contains (get_or before at d).sends.items e
 send_before before now at e left within there d =
     let more = (left.each at d within).sends in
@@ -118,9 +132,11 @@ of_before N before now l r left of =
 
 -- ---- reconciled
 
-of_ends : (N : Table) (before middle : List Plant) (l : ℕ) (between : Lane) (n : Name) (send take : End) (r : Carried) → between ≡ lane_at N l → n.lane ≡ l → n.network ≡ N
+of_ends : (N : Table) (before middle : List Plant) (l : ℕ) (between : Lane) (n : Name) (send take : End) (r : Carried) → between ≡ lane_at N l → n.lane ≡ l
+    → n.network ≡ N
     → send.name ≡ n → take.name ≡ n → HasLegalList send → HaveLeftOf before middle → between.sender.0 < length before → between.receiver.0 < length before
-    → ((d : Plant) → Contains (get_or before between.sender.0 d).sends.items send) → ((d : Plant) → Contains (get_or middle between.receiver.0 d).takes.items take)
+    → ((d : Plant) → Contains (get_or before between.sender.0 d).sends.items send)
+    → ((d : Plant) → Contains (get_or middle between.receiver.0 d).takes.items take)
     → r.sent ≡ send.list → r.taken ≡ take.list → send.list ≡ take.list ++ r.left → send.stamps ≡ take.stamps ++ r.left_at → IsOfEnds N before l r
 of_ends N before middle l between n send take r is lane network sent_name take_name legal left there within sends_it takes_it sent taken parts stamps = record {
   sender = subst (λ (b : Lane). b.sender.0 < length before) is there;
@@ -128,28 +144,35 @@ of_ends N before middle l between n send take r is lane network sent_name take_n
   send = send;
   take = take;
   sends_it = subst (λ (b : Lane). (d : Plant) → Contains (get_or before b.sender.0 d).sends.items send) is sends_it;
-  takes_it = subst (λ (b : Lane). (d : Plant) → Contains (get_or before b.receiver.0 d).takes.items take) is (take_before before middle between.receiver.0 take left within takes_it);
+  takes_it = subst (λ (b : Lane). (d : Plant) → Contains (get_or before b.receiver.0 d).takes.items take) is
+      (take_before before middle between.receiver.0 take left within takes_it);
   send_lane = ap (λ (x : Name). x.lane) sent_name ∙ lane;
   take_lane = ap (λ (x : Name). x.lane) take_name ∙ lane;
   sent = sent;
   taken = taken;
   left = parts;
   stamps = stamps;
-  legal = subst (λ (x : Table × ℕ). IsLegal x.0 x.1 send.list) (λ i. ((ap (λ (x : Name). x.network) sent_name ∙ network) i, (ap (λ (x : Name). x.lane) sent_name ∙ lane) i)) legal;
+  legal = subst (λ (x : Table × ℕ). IsLegal x.0 x.1 send.list) (λ i.
+      ((ap (λ (x : Name). x.network) sent_name ∙ network) i, (ap (λ (x : Name). x.lane) sent_name ∙ lane) i)) legal;
 }
 
-pub of_ends_ok : {E : Type 0} (N : Table) (before middle : List Plant) (l : ℕ) (between : Lane) (n : Name) (send take : End) (o : Result Carried E) → between ≡ lane_at N l → n.lane ≡ l
-    → n.network ≡ N → send.name ≡ n → take.name ≡ n → HasLegalList send → HaveLeftOf before middle → between.sender.0 < length before → between.receiver.0 < length before
-    → ((d : Plant) → Contains (get_or before between.sender.0 d).sends.items send) → ((d : Plant) → Contains (get_or middle between.receiver.0 d).takes.items take)
+pub of_ends_ok : {E : Type 0} (N : Table) (before middle : List Plant) (l : ℕ) (between : Lane) (n : Name) (send take : End) (o : Result Carried E)
+    → between ≡ lane_at N l → n.lane ≡ l
+    → n.network ≡ N → send.name ≡ n → take.name ≡ n → HasLegalList send → HaveLeftOf before middle → between.sender.0 < length before
+    → between.receiver.0 < length before
+    → ((d : Plant) → Contains (get_or before between.sender.0 d).sends.items send)
+    → ((d : Plant) → Contains (get_or middle between.receiver.0 d).takes.items take)
     → IfOk o (λ r. r.sent ≡ send.list) → IfOk o (λ r. r.taken ≡ take.list) → IfOk o (λ r. send.list ≡ take.list ++ r.left)
     → IfOk o (λ r. (send.stamps ≡ take.stamps ++ r.left_at) × (length r.left_at ≡ length r.left)) → IfOk o (λ r. IsOfEnds N before l r)
-of_ends_ok N before middle l between n send take (Err e) is lane network sent_name take_name legal left there within sends_it takes_it sent taken parts stamps = tt
+of_ends_ok N before middle l between n send take (Err e) is lane network sent_name take_name legal left there within sends_it takes_it sent taken parts stamps =
+    tt
 of_ends_ok N before middle l between n send take (Ok r) is lane network sent_name take_name legal left there within sends_it takes_it sent taken parts stamps =
     of_ends N before middle l between n send take r is lane network sent_name take_name legal left there within sends_it takes_it sent taken parts stamps.0
 
 -- ---- the run
 
-module _ (N : Table) (sized : IsSized N) (plants : List Plant) (through : AreThrough N plants) (rs : List Carried) (settled : AreSettled N rs) (ends : EachAt (IsOfEnds N plants) rs) where
+module _ (N : Table) (sized : IsSized N) (plants : List Plant) (through : AreThrough N plants) (rs : List Carried) (settled : AreSettled N rs)
+    (ends : EachAt (IsOfEnds N plants) rs) where
   -- (any)
   abbrev no_carried : Carried
   no_carried = record { network = N; lane = 0; sent = []; taken = []; left = []; sent_at = []; taken_at = []; left_at = []; figures = [] }
@@ -161,7 +184,8 @@ module _ (N : Table) (sized : IsSized N) (plants : List Plant) (through : AreThr
     of : (l : ℕ) → l < length (lanes N) → IsOfEnds N plants l (get_or rs l no_carried)
     of l within = ends l no_carried (omega (arith, within, settled.all))
 
-    joined : (l : ℕ) → l < length (lanes N) → IsJoined N l (passages (plant (lane_at N l).sender.0).sends.items) (passages (plant (lane_at N l).receiver.0).takes.items)
+    joined : (l : ℕ) → l < length (lanes N) → IsJoined N l (passages (plant (lane_at N l).sender.0).sends.items)
+        (passages (plant (lane_at N l).receiver.0).takes.items)
     joined l within =
         let o = of l within in
         let r : Carried = get_or rs l no_carried in
@@ -193,7 +217,8 @@ module _ (N : Table) (sized : IsSized N) (plants : List Plant) (through : AreThr
     some_run : IsRun N rs
     some_run capacity holds =
         let inside : (p : ℕ) → p < length N.plants → p < length plants = λ p within. omega (arith, within, through.all_plants) in
-        let m = finish N sized (λ p. (plant p).agent) (λ p. (plant p).sends.items) (λ p. (plant p).takes.items) (λ p within. (through.each p P (inside p within)).works) joined
+        let m = finish N sized (λ p. (plant p).agent) (λ p. (plant p).sends.items) (λ p. (plant p).takes.items)
+        (λ p within. (through.each p P (inside p within)).works) joined
         (λ p within. (through.each p P (inside p within)).finished)
         (λ l within. let o = of l within in (o.take, o.takes_it P, o.take_lane)) capacity holds in
         (m.0, m.1, m.3, lists_are m.0 m.2)

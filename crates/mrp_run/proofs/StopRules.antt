@@ -18,7 +18,8 @@ pub not_stopped : {T : Type 0} (Shut : ℕ → Type 0) (plant : PlantNo) (r : Re
 not_stopped Shut plant r met stopped = subst (λ z. IfErr z (IsOf Shut never_spent plant)) stopped met
 
 -- what a plant meets that hasn't used its turns, it may meet
-may_meet : (Shut Wider Spent : ℕ → Type 0) (plant : PlantNo) (fault : RunFault) → (Shut plant.0 → Wider plant.0) → IsOf Shut never_spent plant fault → IsOf Wider Spent plant fault
+may_meet : (Shut Wider Spent : ℕ → Type 0) (plant : PlantNo) (fault : RunFault) → (Shut plant.0 → Wider plant.0) → IsOf Shut never_spent plant fault
+    → IsOf Wider Spent plant fault
 may_meet Shut Wider Spent plant Memory wider is = tt
 may_meet Shut Wider Spent plant ThreadRefused wider is = tt
 may_meet Shut Wider Spent plant (GateShut shut) wider is =
@@ -44,16 +45,19 @@ next_spent Open turns plant before next turn some within =
     (λ (late : turns < turn). subst (Open plant) (let last : turns + 1 ≡ turn = omega (arith, late, within) in last) next)
     (λ (early : turn ≤ turns). before turn some early) (cases_lt turns turn)
 
-pub by_rule : (Rule : RunFault → Type 0) (Shut Spent : ℕ → Type 0) (plant : PlantNo) (fault : RunFault) → AllowsOf Rule Shut Spent plant → IsToldOrOf Rule Shut Spent plant fault → Rule fault
+pub by_rule : (Rule : RunFault → Type 0) (Shut Spent : ℕ → Type 0) (plant : PlantNo) (fault : RunFault) → AllowsOf Rule Shut Spent plant
+    → IsToldOrOf Rule Shut Spent plant fault → Rule fault
 by_rule Rule Shut Spent plant fault rule is = elim is [ inl told ↦ told | inr met ↦ rule fault met ]
 
 -- ---- one of the first so many plants
 
-of_first : (Shut Spent : ℕ → Type 0) (plants : ℕ) (number : PlantNo) (fault : RunFault) → number.0 < plants → IsOf Shut Spent number fault → IsOfFirst Shut Spent plants fault
+of_first : (Shut Spent : ℕ → Type 0) (plants : ℕ) (number : PlantNo) (fault : RunFault) → number.0 < plants → IsOf Shut Spent number fault
+    → IsOfFirst Shut Spent plants fault
 of_first Shut Spent plants number Memory within is = tt
 of_first Shut Spent plants number ThreadRefused within is = tt
 of_first Shut Spent plants number (GateShut shut) within is = (rw (is.0) within, is.1)
 of_first Shut Spent plants number Stopped within is = (number.0, within, is)
 
-pub allows_each : (Rule : RunFault → Type 0) (Shut Spent : ℕ → Type 0) (plants : ℕ) (number : PlantNo) → number.0 < plants → AllowsOfFirst Rule Shut Spent plants → AllowsOf Rule Shut Spent number
+pub allows_each : (Rule : RunFault → Type 0) (Shut Spent : ℕ → Type 0) (plants : ℕ) (number : PlantNo) → number.0 < plants
+    → AllowsOfFirst Rule Shut Spent plants → AllowsOf Rule Shut Spent number
 allows_each Rule Shut Spent plants number within rule = λ fault is. rule fault (of_first Shut Spent plants number fault within is)

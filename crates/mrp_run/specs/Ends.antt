@@ -1,6 +1,7 @@
 -- The lanes of a network dealt to its plants: each plant has the sender's end of each lane that goes from it
 -- and the receiver's end of each that comes to it, in lane order.
-use Rattle.std.specs.Prelude.{◌≡◌, ℕ, zero, suc, ◌<◌, Bool, List, [], ◌∷◌, ◌++◌, min, length, filter, slice_index_or, All, Contains}
+use Rattle.std.specs.Prelude.{◌≡◌, ℕ, zero, suc, ◌<◌, Bool, List, [], ◌∷◌, ◌++◌, min, length, filter, slice_index_or}
+use Rattle.std.specs.Prelude.{All, Contains}
 use Rattle.mrp_rows.specs.Table.{Table}
 use Rattle.mrp_net.specs.Lanes.{lanes, lane_at}
 use Rattle.mrp_net.specs.Texts.{longest_text}
@@ -25,7 +26,8 @@ EachAt {X} P xs = (k : ℕ) (d : X) → k < length xs → P k (slice_index_or xs
 -- a name for each of the first lanes of a network, in lane order
 abbrev pub AreNames : Table → ℕ → List Name → Type 0
 AreNames N zero ns = ns ≡ []
-AreNames N (suc l) ns = (before : List Name) × (n : Name) × (ns ≡ before ++ n ∷ []) × (n.lane ≡ l) × (n.network ≡ N) × AreNames N l before
+AreNames N (suc l) ns = (before : List Name) × (n : Name) × (ns ≡ before ++ n ∷ []) × (n.lane ≡ l) × (n.network ≡ N)
+    × AreNames N l before
 
 -- a lane of that name goes from the plant, or comes to it
 abbrev pub is_from : Table → ℕ → Name → Bool

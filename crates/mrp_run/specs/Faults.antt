@@ -23,7 +23,8 @@ AllTurned Open turns plants = (plant : ℕ) → plant < plants → HasTurned Ope
 -- to one of its workers, of whom there are so many
 abbrev pub WasShut : (ℕ → ℕ → Type 0) → (ℕ → ℕ → Type 0) → (ℕ → ℕ → Type 0) → ℕ → ℕ → ℕ → Type 0
 WasShut Open Shut Worker workers turns plant =
-    ((used : ℕ) × (used < turns) × WasSpent Open used plant × Shut plant (used + 1)) ⊎ crews.WasShutToWorker Worker workers plant
+    ((used : ℕ) × (used < turns) × WasSpent Open used plant × Shut plant (used + 1))
+    ⊎ crews.WasShutToWorker Worker workers plant
 
 -- no plant has used its turns
 abbrev pub never_spent : ℕ → Type 0

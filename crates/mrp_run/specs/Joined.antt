@@ -1,5 +1,6 @@
 -- The threads of the plants, and what they bring back.
-use Rattle.std.specs.Prelude.{◌≡◌, ℕ, ◌≤◌, List, [], map, Option, Some, None, Result, Ok, Err, All, IfOk, IfErr, OnOk, filter_map}
+use Rattle.std.specs.Prelude.{◌≡◌, ℕ, ◌≤◌, List, [], map, Option, Some, None, Result, Ok, Err, All, IfOk, IfErr, OnOk}
+use Rattle.std.specs.Prelude.{filter_map}
 use Rattle.std.specs.Vec.{vec_capacity}
 use Rattle.std.specs.declared.thread.PromisedHandle.{PromisedHandle}
 use Rattle.mrp_run.specs.declared.fault.RunFault.{RunFault}
@@ -22,13 +23,15 @@ Finished before back = IfOk back (Finishes before)
 
 -- what the thread of a duty brings back: its plant, which took some of its turns and is finished, or a fault by the
 -- rule of the run's stop
-pub record FulfilsDuty {G S : Type 0} (Open : ℕ → ℕ → Type 0) (Rule : RunFault → Type 0) (duty : Duty G S) (back : Back) : Type 0 where
+pub record FulfilsDuty {G S : Type 0} (Open : ℕ → ℕ → Type 0) (Rule : RunFault → Type 0) (duty : Duty G S)
+    (back : Back) : Type 0 where
   pub finished : Finished duty.plant.value back
   pub turned : OnOk back (HasTurned Open duty.turns duty.number.0)
   pub fault : IfErr back Rule
 
 -- it is what the thread was started for
-abbrev pub HasKept : {G S : Type 0} → (ℕ → ℕ → Type 0) → (RunFault → Type 0) → PromisedHandle Back (Duty G S) → Back → Type 0
+abbrev pub HasKept : {G S : Type 0} → (ℕ → ℕ → Type 0) → (RunFault → Type 0) → PromisedHandle Back (Duty G S) → Back
+    → Type 0
 HasKept Open Rule thread back = FulfilsDuty Open Rule thread.promise back
 
 -- the plants that threads were started for
@@ -37,7 +40,8 @@ started_plants threads = map (λ thread. thread.promise.plant.value) threads
 
 -- each thread has its plant's number, and the plant has so many turns
 abbrev pub AreNumberedThreads : {G S : Type 0} → ℕ → List (PromisedHandle Back (Duty G S)) → Type 0
-AreNumberedThreads turns threads = EachAt (λ number thread. (thread.promise.number.0 ≡ number) × (thread.promise.turns ≡ turns)) threads
+AreNumberedThreads turns threads = EachAt (λ number thread. (thread.promise.number.0 ≡ number)
+    × (thread.promise.turns ≡ turns)) threads
 
 -- ---- faults
 

@@ -9,8 +9,8 @@ use Rattle.mrp_events.specs.Loads.{loads}
 use Rattle.mrp_lane.specs.Reconciled.{Carried, figures_on}
 use Rattle.mrp_run.specs.Outcome.{IsSettled}
 
--- as many records were sent and taken as the lane's texts have, and of each item shipped and received are the cumulative
--- figure of a text of the lane
+-- as many records were sent and taken as the lane's texts have, and of each item shipped and received are the
+-- cumulative figure of a text of the lane
 pub record IsCountedOn (N : Table) (l : ℕ) (r : Carried) : Type 0 where
   pub sent : length r.sent ≡ length_of_text (loads N (lane_at N l))
   pub taken : length r.taken ≡ length_of_text (loads N (lane_at N l))

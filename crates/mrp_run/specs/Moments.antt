@@ -12,8 +12,8 @@ use Rattle.mrp_lane.specs.Views.{AreStamped, IsLegal}
 use Rattle.mrp_agent.specs.State.{AgentState, pair_place}
 use Rattle.mrp_run.specs.Plant.{AtWork}
 
--- of these ends two are those of the lane, in order, as the rule of its mailbox says: what one sent is what the other has
--- taken and then what lies in the mailbox, stamps too; it is a legal beginning
+-- of these ends two are those of the lane, in order, as the rule of its mailbox says: what one sent is what the other
+-- has taken and then what lies in the mailbox, stamps too; it is a legal beginning
 pub record IsInOrder (N : Table) (capacity l : ℕ) (sends takes : List End) : Type 0 where
   pub send : End
   pub take : End

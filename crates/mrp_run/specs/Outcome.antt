@@ -30,13 +30,14 @@ pub record AreSettled (N : Table) (lanes_of : List Carried) : Type 0 where
 abbrev pub HasLists : List Carried → State → Type 0
 HasLists lanes_of s = EachAt (λ l r. (s.sent l ≡ r.sent) × (s.taken l ≡ r.taken)) lanes_of
 
--- so it is in a run of the events: whatever the capacity of a mailbox, one record at least, some events lead to a finished
--- state with these lists
+-- so it is in a run of the events: whatever the capacity of a mailbox, one record at least, some events lead to a
+-- finished state with these lists
 abbrev pub IsRun : Table → List Carried → Type 0
 IsRun N lanes_of =
     (capacity : ℕ) → 1 ≤ capacity → (s : State) × IsReached N capacity s × IsFinished N s × HasLists lanes_of s
 
--- the plans are the plan of the network, each lane carried its whole text, and the lists are those of a run of the events
+-- the plans are the plan of the network, each lane carried its whole text, and the lists are those of a run of the
+-- events
 pub record IsOutcome (N : Table) (o : Outcome) : Type 0 where
   pub plans : o.plans.items ≡ plan_of N
   pub lanes : AreSettled N o.lanes.items

@@ -81,7 +81,8 @@ abbrev pub names : List End → List Name
 names ends = map (λ e. e.name) ends
 
 -- the plant sees the same, its ends are the same, and wherever it was at work it is
-pub record Kept (A : AgentState) (sends_then takes_then : List End) (B : AgentState) (sends_now takes_now : List End) : Type 0 where
+pub record Kept (A : AgentState) (sends_then takes_then : List End) (B : AgentState)
+    (sends_now takes_now : List End) : Type 0 where
   pub view : B.view ≡ A.view
   pub sends : names sends_now ≡ names sends_then
   pub takes : names takes_now ≡ names takes_then

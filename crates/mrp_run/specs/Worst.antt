@@ -20,7 +20,8 @@ plant_in_fault Stopped = 0
 
 -- its number is lower; or the numbers are the same, and of shut gates it is that of the lower plant
 abbrev pub IsBefore : RunFault → RunFault → Type 0
-IsBefore a b = (run_fault_number a < run_fault_number b) ⊎ ((run_fault_number a ≡ run_fault_number b) × (plant_in_fault a ≤ plant_in_fault b))
+IsBefore a b = (run_fault_number a < run_fault_number b)
+    ⊎ ((run_fault_number a ≡ run_fault_number b) × (plant_in_fault a ≤ plant_in_fault b))
 
 -- one of these faults, and none of them is before it
 pub record IsWorst (fault : RunFault) (faults : List RunFault) : Type 0 where

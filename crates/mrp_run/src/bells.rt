@@ -46,8 +46,9 @@ impl Bells {
         })
     }
 
-    /// Wakes the plant at the other end of a lane over which so many records were moved, where it may wait for
-    /// them. A sender waits for room, which there was unless as many were taken as a mailbox may hold.
+    /// Puts up the sign at the other end of a lane over which so many records were moved, and wakes the plant there,
+    /// where it may wait for them. A sender that was refused found the mailbox full, and all that lies in it is taken
+    /// before its receiver finds none: so where fewer were taken, none waits for room.
     pub(crate) fn ring(&self, lane: LaneNo, lanes: Lanes, count: u64) {
         let Some(ends) = self.lanes.get(lane.0) else {
             return;
@@ -66,8 +67,8 @@ impl Bells {
         }
     }
 
-    /// Whether a lane was moved over at its other end since the plant at this one last asked.
-    pub(crate) fn has_moved(&self, lane: LaneNo, lanes: Lanes) -> bool {
+    /// Takes down the sign at a plant's end of a lane, and answers whether it was up.
+    pub(crate) fn take_sign(&self, lane: LaneNo, lanes: Lanes) -> bool {
         self.signs.take_down(lane, lanes)
     }
 

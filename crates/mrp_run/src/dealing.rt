@@ -105,7 +105,8 @@ fn deal(
 /// Deals the sender's end of a new lane.
 fn deal_send(plants: &mut [Plant], sender: PlantNo, end: SendEnd) -> Result<(), Memory>
     requires there { sender.0 < length plants.old }
-    ensures { OnOk result ((N : Table) (ns ts : List Name) → (lane_at N end.name.lane).sender.0 ≡ sender.0 → IsEmpty end → AreIdle N ns ts plants.old
+    ensures { OnOk result ((N : Table) (ns ts : List Name) → (lane_at N end.name.lane).sender.0 ≡ sender.0 → IsEmpty end
+        → AreIdle N ns ts plants.old
         → AreIdle N (ns ++ end.name ∷ []) ts plants.new) }
 {
     plants[sender.0].sends.push(end)?;
@@ -115,7 +116,8 @@ fn deal_send(plants: &mut [Plant], sender: PlantNo, end: SendEnd) -> Result<(), 
 /// Deals the receiver's end of a new lane.
 fn deal_take(plants: &mut [Plant], receiver: PlantNo, end: TakeEnd) -> Result<(), Memory>
     requires there { receiver.0 < length plants.old }
-    ensures { OnOk result ((N : Table) (ns ts : List Name) → (lane_at N end.name.lane).receiver.0 ≡ receiver.0 → IsEmpty end → AreIdle N ns ts plants.old
+    ensures { OnOk result ((N : Table) (ns ts : List Name) → (lane_at N end.name.lane).receiver.0 ≡ receiver.0
+        → IsEmpty end → AreIdle N ns ts plants.old
         → AreIdle N ns (ts ++ end.name ∷ []) plants.new) }
 {
     plants[receiver.0].takes.push(end)?;

@@ -24,18 +24,18 @@ pub(crate) enum Lanes {
 pub(crate) enum Looks {
     /// At each.
     All,
-    /// At those that were moved over at their other ends since it last looked.
-    Moved,
+    /// At those whose signs are up.
+    Signed,
 }
 
 impl Looks {
     /// At which of its lanes a plant looks in a turn, from 0: at all in the first one, and now and then in a later
-    /// one, so that a sign that isn't seen costs a moment.
+    /// one, so that a sign that isn't seen costs some turns and hangs nothing.
     pub(crate) fn in_turn(turn: u64) -> Looks {
         if turn % TURNS_BETWEEN == 0 {
             Looks::All
         } else {
-            Looks::Moved
+            Looks::Signed
         }
     }
 
@@ -80,7 +80,7 @@ fn look_at<R: Wait, S: StopRule>(
     ensures kept { KeepsPlant plant.old plant.new }
 {
     let lane = lane_of(plant, lanes, k);
-    if !is_due(lane, lanes, looks, stop) {
+    if !take_sign(lane, lanes, looks, stop) {
         return false;
     }
     let count = move_lane(rt, plant, lanes, k);
@@ -90,12 +90,12 @@ fn look_at<R: Wait, S: StopRule>(
     count > 0
 }
 
-/// Whether a plant looks at a lane; that it was moved over is known then.
-fn is_due<S: StopRule>(lane: LaneNo, lanes: Lanes, looks: Looks, stop: &Stop<S>) -> bool {
-    let moved = stop.has_moved(lane, lanes);
+/// Takes down a lane's sign, also where the plant looks at all lanes, and answers whether it looks at this one.
+fn take_sign<S: StopRule>(lane: LaneNo, lanes: Lanes, looks: Looks, stop: &Stop<S>) -> bool {
+    let was_up = stop.take_sign(lane, lanes);
     match looks {
         Looks::All => true,
-        Looks::Moved => moved,
+        Looks::Signed => was_up,
     }
 }
 

@@ -26,7 +26,8 @@ pub(crate) fn reconcile_all<R: Wait>(
     network: &Network,
     plants: &mut [Plant],
 ) -> Result<Vec<Reconciled>, Memory>
-    requires ended { (ns : List Name) × AreNames network.now (length (lanes network.now)) ns × HaveEnded network.now ns ns plants.old }
+    requires ended { (ns : List Name) × AreNames network.now (length (lanes network.now)) ns
+        × HaveEnded network.now ns ns plants.old }
     ensures lanes { IfOk result (λ all. AreSettled network.now all.items) }
     ensures ends { IfOk result (λ all. EachAt (IsOfEnds network.now plants.old) all.items) }
     ensures plans { IfOk result (λ _. HavePlans network.now plants.new) }
@@ -70,7 +71,8 @@ fn reconcile_last<R: Wait>(
 /// Takes the last sender's end of a plant.
 fn last_send(plants: &mut [Plant], sender: PlantNo) -> Option<SendEnd>
     requires there { sender.0 < length plants.old }
-    ensures last { (N : Table) (ns ts : List Name) (n : Name) → (lane_at N n.lane).sender.0 ≡ sender.0 → HaveEnded N (ns ++ n ∷ []) ts plants.old
+    ensures last { (N : Table) (ns ts : List Name) (n : Name) → (lane_at N n.lane).sender.0 ≡ sender.0
+        → HaveEnded N (ns ++ n ∷ []) ts plants.old
         → IsSomeAnd result (λ e. (e.name ≡ n) × IsClosed e) × HaveEnded N ns ts plants.new }
     ensures there { IfSome result (λ e. IsSendEndOf plants.old sender.0 e) }
     ensures left { HaveLeftOf plants.old plants.new }
@@ -81,7 +83,8 @@ fn last_send(plants: &mut [Plant], sender: PlantNo) -> Option<SendEnd>
 /// Takes the last receiver's end of a plant.
 fn last_take(plants: &mut [Plant], receiver: PlantNo) -> Option<TakeEnd>
     requires there { receiver.0 < length plants.old }
-    ensures last { (N : Table) (ns ts : List Name) (n : Name) → (lane_at N n.lane).receiver.0 ≡ receiver.0 → HaveEnded N ns (ts ++ n ∷ []) plants.old
+    ensures last { (N : Table) (ns ts : List Name) (n : Name) → (lane_at N n.lane).receiver.0 ≡ receiver.0
+        → HaveEnded N ns (ts ++ n ∷ []) plants.old
         → IsSomeAnd result (λ e. (e.name ≡ n) × IsClosed e) × HaveEnded N ns ts plants.new }
     ensures there { IfSome result (λ e. IsTakeEndOf plants.old receiver.0 e) }
     ensures left { HaveLeftOf plants.old plants.new }

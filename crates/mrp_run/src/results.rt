@@ -1,5 +1,6 @@
 //! What the threads of the plants bring back, and which fault is answered.
-ghost use Rattle.std.specs.Prelude.{◌≡◌, ◌≤◌, ◌⊎◌, ◌++◌, ◌∷◌, [], List, Ok, None, IfOk, IfErr, length, map, option_to_list, vec_capacity};
+ghost use Rattle.std.specs.Prelude.{◌≡◌, ◌≤◌, ◌⊎◌, ◌++◌, ◌∷◌, [], List, Ok, None, IfOk, IfErr, length, map};
+ghost use Rattle.std.specs.Prelude.{option_to_list, vec_capacity};
 ghost use Rattle.mrp_run.specs.declared.fault.RunFault.{RunFault};
 ghost use Rattle.mrp_run.specs.Worst.{IsBefore, IsWorst, IsWorstOf};
 ghost use Rattle.mrp_run.specs.Joined.{faults_in};

@@ -52,7 +52,8 @@ pub fn run_plant<R: Threads + Wait + Sync, G: Gate, S: StopRule>(
 ) -> Result<(Agent, Vec<SendEnd>, Vec<TakeEnd>), RunFault>
     requires work { at.IsAtWork agent sends.items takes.items }
     requires horizon { crew.old.horizon ≡ agent.view.horizon }
-    requires rule { AllowsOf S.holds (WasShut G.turn_open G.turn_shut G.worker_shut crew.old.workers turns) (WasSpent G.turn_open turns) plant }
+    requires rule { AllowsOf S.holds (WasShut G.turn_open G.turn_shut G.worker_shut crew.old.workers turns)
+        (WasSpent G.turn_open turns) plant }
     ensures crew { crew.new ≡ crew.old }
     ensures kept { IfOk result (λ r. at.Kept agent sends.items takes.items r.0 r.1.items r.2.items) }
     ensures finished { IfOk result (λ r. at.HasFinished agent sends.items takes.items r.0 r.1.items r.2.items) }
@@ -85,7 +86,8 @@ pub(crate) fn run_owned<R: Threads + Wait + Sync, G: Gate, S: StopRule>(
 ) -> Result<Plant, RunFault>
     requires work { PlantIsAtWork plant }
     requires horizon { crew.old.horizon ≡ plant.agent.view.horizon }
-    requires rule { AllowsOf S.holds (WasShut G.turn_open G.turn_shut G.worker_shut crew.old.workers turns) (WasSpent G.turn_open turns) number }
+    requires rule { AllowsOf S.holds (WasShut G.turn_open G.turn_shut G.worker_shut crew.old.workers turns)
+        (WasSpent G.turn_open turns) number }
     ensures crew { crew.new ≡ crew.old }
     ensures finishes { IfOk result (λ after. Finishes plant after) }
     ensures turned { OnOk result (HasTurned G.turn_open turns number.0) }
@@ -116,7 +118,8 @@ fn work<R: Threads + Wait + Sync, G: Gate, S: StopRule>(
     ensures crew { crew.new ≡ crew.old }
     ensures finishes { OnOk result (Finishes plant.old plant.new) }
     ensures turned { OnOk result (HasTurned G.turn_open turns number.0) }
-    ensures fault { IfErr result (IsToldOrOf S.holds (WasShut G.turn_open G.turn_shut G.worker_shut crew.old.workers turns)
+    ensures fault { IfErr result (IsToldOrOf S.holds
+        (WasShut G.turn_open G.turn_shut G.worker_shut crew.old.workers turns)
         (WasSpent G.turn_open turns) number) }
     ensures unfinished { result ≡ Err RunFault.Stopped → IsUnfinished plant.old plant.new }
 {

@@ -6,8 +6,8 @@ use mrp_qty::Memory;
 use std::alloc::Global;
 use std::sync::atomic::{AtomicBool, Ordering};
 
-/// A sign at each end of each lane: who moves records over a lane puts up the one at its other end, and who looks
-/// there takes it down. Nothing is claimed of when a sign is seen.
+/// A sign at each end of each lane. A sender puts up the receiver's, and a receiver the sender's where as many were
+/// taken as the mailbox may hold; who looks at its own end takes the sign down. Nothing is claimed of when one is seen.
 #[derive(Drop)]
 pub(crate) struct Signs {
     /// At the receivers, by the numbers of the lanes: records were sent.
@@ -29,7 +29,7 @@ impl Signs {
         })
     }
 
-    /// Puts up the sign at the other end of a lane over which records were moved.
+    /// Puts up the sign at the other end of a lane over which a plant moved records.
     pub(crate) fn put_up(&self, lane: LaneNo, moved: Lanes) {
         let there = match moved {
             Lanes::Outgoing => &self.came,

@@ -70,11 +70,11 @@ impl<S: StopRule> Stop<S> {
         }
     }
 
-    /// Whether a lane was moved over at its other end since the plant at this one last asked; where there are no bells,
-    /// nobody can tell, and it may have been.
-    pub(crate) fn has_moved(&self, lane: LaneNo, lanes: Lanes) -> bool {
+    /// Takes down the sign at a plant's end of a lane, and answers whether it was up. Without bells there are no signs,
+    /// and each counts as up.
+    pub(crate) fn take_sign(&self, lane: LaneNo, lanes: Lanes) -> bool {
         match &self.bells {
-            Some(bells) => bells.has_moved(lane, lanes),
+            Some(bells) => bells.take_sign(lane, lanes),
             None => true,
         }
     }

@@ -1,5 +1,6 @@
 //! How the threads of the plants are started and joined.
-ghost use Rattle.std.specs.Prelude.{◌≡◌, ◌≤◌, ◌++◌, [], List, All, IfErr, IfOk, IfSome, OnOk, length, slice_index_or, vec_capacity};
+ghost use Rattle.std.specs.Prelude.{◌≡◌, ◌≤◌, ◌++◌, [], List, All, IfErr, IfOk, IfSome, OnOk, length, slice_index_or};
+ghost use Rattle.std.specs.Prelude.{vec_capacity};
 ghost use Rattle.std.specs.List.{AllZip};
 ghost use Rattle.mrp_qty.specs.declared.limits.TheConstants.{MOST_WORKERS};
 ghost use Rattle.mrp_run.specs.declared.fault.RunFault.{RunFault};
@@ -54,7 +55,8 @@ pub(crate) fn run_plants<R: Threads + Wait + Sync, G: Gate, S: StopRule + Send +
 ) -> Result<Vec<Plant>, RunFault>
     requires work { All PlantIsAtWork plants.items }
     requires workers { (1 ≤ workers) × (workers ≤ MOST_WORKERS) }
-    requires rule { AllowsOfFirst S.holds (WasShut G.turn_open G.turn_shut G.worker_shut workers turns) (WasSpent G.turn_open turns) (length plants.items) }
+    requires rule { AllowsOfFirst S.holds (WasShut G.turn_open G.turn_shut G.worker_shut workers turns)
+        (WasSpent G.turn_open turns) (length plants.items) }
     ensures all { IfOk result (λ after. length after.items ≡ length plants.items) }
     ensures each { IfOk result (λ after. EachAt (λ p P. Finishes (slice_index_or plants.items p P) P) after.items) }
     ensures turned { OnOk result (AllTurned G.turn_open turns (length plants.items)) }
@@ -76,7 +78,8 @@ fn run_until<R: Threads + Wait + Sync, G: Gate, S: StopRule + Send + Sync>(
 ) -> Result<Vec<Plant>, RunFault>
     requires work { All PlantIsAtWork plants.items }
     requires workers { (1 ≤ workers) × (workers ≤ MOST_WORKERS) }
-    requires rule { AllowsOfFirst S.holds (WasShut G.turn_open G.turn_shut G.worker_shut workers turns) (WasSpent G.turn_open turns) (length plants.items) }
+    requires rule { AllowsOfFirst S.holds (WasShut G.turn_open G.turn_shut G.worker_shut workers turns)
+        (WasSpent G.turn_open turns) (length plants.items) }
     ensures each { IfOk result (λ after. AllZip Finishes plants.items after.items) }
     ensures turned { OnOk result (AllTurned G.turn_open turns (length plants.items)) }
     ensures fault { IfErr result S.holds }
@@ -87,7 +90,8 @@ fn run_until<R: Threads + Wait + Sync, G: Gate, S: StopRule + Send + Sync>(
         move |scope| -> Result<Vec<Plant>, RunFault>
             requires work { All PlantIsAtWork plants.items }
             requires workers { (1 ≤ workers) × (workers ≤ MOST_WORKERS) }
-            requires rule { AllowsOfFirst S.holds (WasShut G.turn_open G.turn_shut G.worker_shut workers turns) (WasSpent G.turn_open turns)
+            requires rule { AllowsOfFirst S.holds (WasShut G.turn_open G.turn_shut G.worker_shut workers turns)
+                (WasSpent G.turn_open turns)
                 (length plants.items) }
             ensures each { IfOk result (λ after. AllZip Finishes plants.items after.items) }
             ensures turned { OnOk result (AllTurned G.turn_open turns (length plants.items)) }
@@ -129,7 +133,8 @@ fn run_beside<'s, E, R: Threads + Wait + Sync, G: Gate, S: StopRule + Send + Syn
 ) -> Result<Vec<Plant>, RunFault>
     requires work { All PlantIsAtWork plants.items }
     requires workers { (1 ≤ workers) × (workers ≤ MOST_WORKERS) }
-    requires rule { AllowsOfFirst S.holds (WasShut G.turn_open G.turn_shut G.worker_shut workers turns) (WasSpent G.turn_open turns) (length plants.items) }
+    requires rule { AllowsOfFirst S.holds (WasShut G.turn_open G.turn_shut G.worker_shut workers turns)
+        (WasSpent G.turn_open turns) (length plants.items) }
     ensures each { IfOk result (λ after. AllZip Finishes plants.items after.items) }
     ensures turned { OnOk result (AllTurned G.turn_open turns (length plants.items)) }
     ensures fault { IfErr result S.holds }
@@ -174,9 +179,11 @@ fn start_all<'s, E, R: Threads + Wait + Sync, G: Gate, S: StopRule + Send + Sync
 ) -> Result<(), RunFault>
     requires work { All PlantIsAtWork plants.items }
     requires workers { (1 ≤ workers) × (workers ≤ MOST_WORKERS) }
-    requires rule { AllowsOfFirst S.holds (WasShut G.turn_open G.turn_shut G.worker_shut workers turns) (WasSpent G.turn_open turns) (length plants.items) }
+    requires rule { AllowsOfFirst S.holds (WasShut G.turn_open G.turn_shut G.worker_shut workers turns)
+        (WasSpent G.turn_open turns) (length plants.items) }
     requires room { (threads.old.items ≡ []) × (length plants.items ≤ vec_capacity threads.old) }
-    ensures started { (rest : List Plant) × (plants.items ≡ started_plants threads.new.items ++ rest) × OnOk result (rest ≡ []) }
+    ensures started { (rest : List Plant) × (plants.items ≡ started_plants threads.new.items ++ rest)
+        × OnOk result (rest ≡ []) }
     ensures numbered { AreNumberedThreads turns threads.new.items }
     ensures refused { IfErr result (λ fault. fault ≡ RunFault.ThreadRefused) }
 {
@@ -205,7 +212,8 @@ fn start<'s, E, R: Threads + Wait + Sync, G: Gate, S: StopRule + Send + Sync>(
 ) -> Option<Running<G, S>>
     requires work { PlantIsAtWork plant }
     requires workers { (1 ≤ workers) × (workers ≤ MOST_WORKERS) }
-    requires rule { AllowsOf S.holds (WasShut G.turn_open G.turn_shut G.worker_shut workers turns) (WasSpent G.turn_open turns) number }
+    requires rule { AllowsOf S.holds (WasShut G.turn_open G.turn_shut G.worker_shut workers turns)
+        (WasSpent G.turn_open turns) number }
     ensures plant { IfSome result (λ thread. thread.promise.plant.value ≡ plant) }
     ensures number { IfSome result (λ thread. thread.promise.number ≡ number) }
     ensures turns { IfSome result (λ thread. thread.promise.turns ≡ turns) }
@@ -222,7 +230,8 @@ fn start<'s, E, R: Threads + Wait + Sync, G: Gate, S: StopRule + Send + Sync>(
         move || -> Back
             requires work { PlantIsAtWork plant }
             requires workers { (1 ≤ workers) × (workers ≤ MOST_WORKERS) }
-            requires rule { AllowsOf S.holds (WasShut G.turn_open G.turn_shut G.worker_shut workers turns) (WasSpent G.turn_open turns) number }
+            requires rule { AllowsOf S.holds (WasShut G.turn_open G.turn_shut G.worker_shut workers turns)
+                (WasSpent G.turn_open turns) number }
         { run_alone(rt, alloc, number, plant, workers, gate, stop, turns) },
     );
     started.ok()
@@ -241,7 +250,8 @@ fn run_alone<R: Threads + Wait + Sync, G: Gate, S: StopRule>(
 ) -> Back
     requires work { PlantIsAtWork plant }
     requires workers { (1 ≤ workers) × (workers ≤ MOST_WORKERS) }
-    requires rule { AllowsOf S.holds (WasShut G.turn_open G.turn_shut G.worker_shut workers turns) (WasSpent G.turn_open turns) number }
+    requires rule { AllowsOf S.holds (WasShut G.turn_open G.turn_shut G.worker_shut workers turns)
+        (WasSpent G.turn_open turns) number }
     ensures plant { Finished plant result }
     ensures turned { OnOk result (HasTurned G.turn_open turns number.0) }
     ensures fault { IfErr result S.holds }

@@ -1,5 +1,6 @@
 -- Amounts of periods as deliveries: those of an early and a late part, and their pieces.
-use Rattle.std.proofs.Common.{◌≡◌, ℕ, zero, suc, ◌+◌, ◌-◌, ◌<◌, ◌≤◌, ◌==◌, not, Bool, true, false, cond, List, [], ◌∷◌, ◌++◌, length, inl, inr, refl, sym, ap, ◌∙◌, append_assoc, arith}
+use Rattle.std.proofs.Common.{◌≡◌, ℕ, zero, suc, ◌+◌, ◌-◌, ◌<◌, ◌≤◌, ◌==◌, not, Bool, true, false, cond, List, [], ◌∷◌, ◌++◌, length, inl, inr, refl, sym, ap}
+use Rattle.std.proofs.Common.{◌∙◌, append_assoc, arith}
 use Rattle.std.specs.Prelude.{nat_lt, Option, Some, None, filter_map}
 use Rattle.std.proofs.lemmas.Bool.{cases_eq, eq-eqb, ne_eqb, lt-ltb, le-ltb, cond-true, cond-false}
 use Rattle.std.proofs.lemmas.List.{append-nil}
@@ -84,7 +85,8 @@ late_by f (suc k) a (suc n) h =
     let same : a + suc k ≡ (a + 1) + k = omega arith in
     let less : n - k ≡ suc n - suc k = omega arith in
     let rest : late (a + suc k) (amounts f (a + 1) n) ≡ amounts f (a + suc k) (suc n - suc k) =
-    ap (λ (z : ℕ). late z (amounts f (a + 1) n)) same ∙ late_by f k (a + 1) n (omega arith) ∙ ap (λ (z : ℕ). amounts f z (n - k)) (sym same) ∙ ap (amounts f (a + suc k)) less in
+    ap (λ (z : ℕ). late z (amounts f (a + 1) n)) same ∙ late_by f k (a + 1) n (omega arith) ∙ ap (λ (z : ℕ). amounts f z (n - k)) (sym same)
+    ∙ ap (amounts f (a + suc k)) less in
     elim (cases_eq (f a) 0) [
       | inl none ↦ ap (late (a + suc k)) (amount_skipped f a n none) ∙ rest
       | inr some ↦
@@ -133,10 +135,12 @@ body_lines_anew item figure from calls =
     let before = running item figure (early from calls) in
     let closed = figure + total (early from calls) in
     filter_map-append (line_of (Some from)) before (ResetOf item closed ∷ running item 0 (late from calls))
-    ∙ ap (λ (z : List ScheduleLine). z ++ filter_map (line_of (Some from)) (ResetOf item closed ∷ running item 0 (late from calls))) (running_lines (Some from) item figure (early from calls))
+    ∙ ap (λ (z : List ScheduleLine). z ++ filter_map (line_of (Some from)) (ResetOf item closed ∷ running item 0 (late from calls)))
+    (running_lines (Some from) item figure (early from calls))
     ∙ ap (λ (z : List ScheduleLine). call_lines figure (early from calls) ++ Reset from closed ∷ z) (running_lines (Some from) item 0 (late from calls))
 
-pub block_lines : (reset : Option ℕ) (load : Load) → filter_map (line_of reset) (block load) ≡ filter_map (line_of reset) (body load.item load.opening load.reset load.lines)
+pub block_lines : (reset : Option ℕ) (load : Load) → filter_map (line_of reset) (block load)
+    ≡ filter_map (line_of reset) (body load.item load.opening load.reset load.lines)
 block_lines reset load =
     let front = body load.item load.opening load.reset load.lines in
     let last = EndOf load.item (length load.lines) (last_figure load.opening load.reset load.lines) ∷ [] in

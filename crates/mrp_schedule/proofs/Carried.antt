@@ -27,11 +27,13 @@ begins : (N : Table) (lane : Lane) (records : List Record) → IsWhole (loads N 
 begins N lane records h = record { numbered = h.numbered; rest = []; text = whole_text N lane records h }
 
 -- the item's records of a whole text are its block
-whole_block : (N : Table) → IsTable N → (lane : Lane) (records : List Record) → IsWhole (loads N lane) records → (item : ItemNo) → Contains (lane_items N lane) item
+whole_block : (N : Table) → IsTable N → (lane : Lane) (records : List Record) → IsWhole (loads N lane) records → (item : ItemNo)
+    → Contains (lane_items N lane) item
     → entries_of item.0 (contents records) ≡ block (load_of N lane item)
 whole_block N table lane records h item there =
     sym (append-nil (entries_of item.0 (contents records)))
-    ∙ own_block (loads N lane) (loads_stand_once N table lane) (load_of N lane item) (load_is_there N lane item there) (contents records) [] (whole_text N lane records h)
+    ∙ own_block (loads N lane) (loads_stand_once N table lane) (load_of N lane item) (load_is_there N lane item there) (contents records) []
+    (whole_text N lane records h)
 
 pub texts_carry_schedules : TextsCarrySchedules
 texts_carry_schedules N table lane records h item there =
@@ -46,7 +48,13 @@ pieces_carried from (LineOf i p q c ∷ es) =
 pieces_carried from (EndOf i n c ∷ es) = omega (arith, sum_by-cons quantity_of (EndOf i n c) es, pieces_carried from es)
 pieces_carried None (ResetOf i c ∷ es) = omega (arith, sum_by-cons quantity_of (ResetOf i c) es, pieces_carried None es)
 pieces_carried (Some from) (ResetOf i c ∷ es) =
-    omega (arith, sum_by-cons quantity_of (ResetOf i c) es, sum_by-cons pieces_of (Reset from c) (filter_map (line_of (Some from)) es), pieces_carried (Some from) es)
+    omega (
+      arith,
+      sum_by-cons quantity_of (ResetOf i c) es,
+      sum_by-cons pieces_of (Reset from c) (filter_map (line_of (Some from)) es),
+      pieces_carried
+          (Some from) es,
+    )
 pieces_carried from (Closing ∷ es) = omega (arith, sum_by-cons quantity_of Closing es, pieces_carried from es)
 
 pub figures_add_up : FiguresAddUp
@@ -56,7 +64,8 @@ figures_add_up N table l records h item there =
     let entries = block (load_of N lane item) in
     omega (
       arith,
-      cum_is_opening_and_moved (loads N lane) (loads_stand_once N table lane) records (begins N lane records h) (load_of N lane item) (load_is_there N lane item there),
+      cum_is_opening_and_moved (loads N lane) (loads_stand_once N table lane) records (begins N lane records h) (load_of N lane item)
+          (load_is_there N lane item there),
       ap (sum_by quantity_of) (whole_block N table lane records h item there),
       pieces_carried from entries,
       sum_by-cons pieces_of (Opening (in_transit N lane item) (opening N lane item)) (filter_map (line_of from) entries),

@@ -26,7 +26,8 @@ module _ (s : SourceRow) (release : List ℕ) (t to : ℕ) (within : t < to) whe
   no_call pieces is none = opened ∙ amount_skipped (share_in s release) t (to - (t + 1)) (omega (arith, is, none))
 
   pub next_call : (figure pieces reached : ℕ) (sofar after : List ScheduleLine) → pieces ≡ share_in s release t → 0 < pieces → reached ≡ figure + pieces
-      → after ≡ sofar ++ Call t pieces reached ∷ [] → sofar ++ call_lines figure (calls_by s release t to) ≡ after ++ call_lines reached (calls_by s release (t + 1) to)
+      → after ≡ sofar ++ Call t pieces reached ∷ [] → sofar ++ call_lines figure (calls_by s release t to)
+      ≡ after ++ call_lines reached (calls_by s release (t + 1) to)
   next_call figure pieces reached sofar after is some sum pushed =
       let share = share_in s release t in
       let rest = calls_by s release (t + 1) to in

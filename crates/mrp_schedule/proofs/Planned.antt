@@ -37,14 +37,17 @@ use Rattle.mrp_schedule.proofs.Periods.{share_in}
 
 pub source_row : (N : Table) → IsTable N → (lane : Lane) (item : ItemNo) → Contains (lane_items N lane) item → IsSourceRow N (source_on N lane item)
 source_row N table lane item there =
-    All-in (IsSourceRow N) N.sources (source_on N lane item) table.read.sources (In-from_contains N.sources (source_on N lane item) (items_have_sources N table lane item there).source)
+    All-in (IsSourceRow N) N.sources (source_on N lane item) table.read.sources
+    (In-from_contains N.sources (source_on N lane item) (items_have_sources N table lane item there).source)
 
 -- ---- resets are in the horizon
 
-found_before : (n x supplier : ℕ) (rows : List ResetRow) → All (λ r. r.period < n) rows → IfSome (option_map (λ (r : ResetRow). r.period) (find (is_reset_of x supplier) rows)) (λ from. from < n)
+found_before : (n x supplier : ℕ) (rows : List ResetRow) → All (λ r. r.period < n) rows
+    → IfSome (option_map (λ (r : ResetRow). r.period) (find (is_reset_of x supplier) rows)) (λ from. from < n)
 found_before n x supplier [] inside = tt
 found_before n x supplier (r ∷ rows) inside =
-    elim (is_reset_of x supplier r) as (λ b. IfSome (option_map (λ (r : ResetRow). r.period) (cond b (Some r) (find (is_reset_of x supplier) rows))) (λ from. from < n)) [
+    elim (is_reset_of x supplier r) as (λ b. IfSome (option_map (λ (r : ResetRow). r.period) (cond b (Some r) (find (is_reset_of x supplier) rows)))
+    (λ from. from < n)) [
       | true ↦ All-head (λ (r : ResetRow). r.period < n) r rows inside
       | false ↦ found_before n x supplier rows (All-tail (λ (r : ResetRow). r.period < n) r rows inside)
     ]
@@ -64,19 +67,31 @@ reset_within N table lane item = within (horizon N) (reset N lane item) (reset_b
 opened_by : (N : Table) (lane : Lane) (item : ItemNo) (kind : LaneKind) → lane.kind ≡ kind → kind ≡ Schedule
     → opening N lane item ≡ figure N (pair_on N lane item) (supplier_of lane) + shipped_from N (pair_on N lane item) (supplier_of lane)
 opened_by N lane item kind e schedule =
-    ap (λ (k : LaneKind). elim k as (λ _. ℕ) [ Despatch ↦ figure N (pair_on N lane item) (supplier_of lane) | Schedule ↦ figure N (pair_on N lane item) (supplier_of lane) + shipped_from N (pair_on N lane item) (supplier_of lane) ]) (e ∙ schedule)
+    ap (λ (k : LaneKind). elim k as (λ _. ℕ) [
+      | Despatch ↦ figure N (pair_on N lane item) (supplier_of lane)
+      | Schedule ↦ figure N (pair_on N lane item)
+          (supplier_of lane) + shipped_from N (pair_on N lane item) (supplier_of lane)
+    ]) (e ∙ schedule)
 
 -- what is in transit is what the opening counts beyond the figure before the shipments
-pub transit_is : (N : Table) (lane : Lane) (item : ItemNo) → lane.kind ≡ Schedule → opening N lane item - figure N (pair_on N lane item) (supplier_of lane) ≡ in_transit N lane item
+pub transit_is : (N : Table) (lane : Lane) (item : ItemNo) → lane.kind ≡ Schedule
+    → opening N lane item - figure N (pair_on N lane item) (supplier_of lane) ≡ in_transit N lane item
 transit_is N lane item schedule =
-    omega (arith, opened_by N lane item lane.kind refl schedule, shipped_total N lane item, sum_map (λ (d : Delivery). d.quantity) delivery_of (shipments N lane item))
+    omega (
+      arith,
+      opened_by N lane item lane.kind refl schedule,
+      shipped_total N lane item,
+      sum_map (λ (d : Delivery). d.quantity) delivery_of
+          (shipments N lane item),
+    )
 
 pub opening_within : (N : Table) → IsSized N → (lane : Lane) (item : ItemNo) → Contains (lane_items N lane) item → opening N lane item ≤ MOST
 opening_within N sized lane item there = omega (arith, (load_is_small N sized lane item there).figures)
 
 -- ---- its calls
 
-module _ (N : Table) (sized : IsSized N) (lane : Lane) (item : ItemNo) (there : Contains (lane_items N lane) item) (schedule : lane.kind ≡ Schedule) (table : List PlanRows) (fits : Fits N table) where
+module _ (N : Table) (sized : IsSized N) (lane : Lane) (item : ItemNo) (there : Contains (lane_items N lane) item) (schedule : lane.kind ≡ Schedule)
+    (table : List PlanRows) (fits : Fits N table) where
   abbrev s : SourceRow
   s = source_on N lane item
 

@@ -34,19 +34,23 @@ use Rattle.mrp_schedule.proofs.Amounts.{earlier_has_none, has_amount}
 
 -- ---- the source of a pair and a plant
 
-apart_in : (s : SourceRow) (rows : List SourceRow) (r : SourceRow) → AllByRecursion (λ q. is_same_source s q ≡ false) rows → In rows r → is_same_source s r ≡ true → ⊥
+apart_in : (s : SourceRow) (rows : List SourceRow) (r : SourceRow) → AllByRecursion (λ q. is_same_source s q ≡ false) rows → In rows r
+    → is_same_source s r ≡ true → ⊥
 apart_in s [] r apart h same = h
 apart_in s (q ∷ rows) r apart h same = elim h [
   | inl e ↦ false≢true (sym apart.0 ∙ ap (is_same_source s) e ∙ same)
   | inr g ↦ apart_in s rows r apart.1 g same
 ]
 
-same_source : (rows : List SourceRow) → IsDistinct is_same_source rows → (r s : SourceRow) → In rows r → In rows s → r.plant.0 ≡ s.plant.0 → r.pair.0 ≡ s.pair.0 → r ≡ s
+same_source : (rows : List SourceRow) → IsDistinct is_same_source rows → (r s : SourceRow) → In rows r → In rows s → r.plant.0 ≡ s.plant.0 → r.pair.0 ≡ s.pair.0
+    → r ≡ s
 unfolding IsDistinct
 same_source [] once r s h g plant pair = absurd h
 same_source (q ∷ rows) once r s h g plant pair =
-    let same : is_same_source r s ≡ true = and_from (r.plant.0 == s.plant.0) (r.pair.0 == s.pair.0) (eq-eqb r.plant.0 s.plant.0 plant) (eq-eqb r.pair.0 s.pair.0 pair) in
-    let turned : is_same_source s r ≡ true = and_from (s.plant.0 == r.plant.0) (s.pair.0 == r.pair.0) (eq-eqb s.plant.0 r.plant.0 (sym plant)) (eq-eqb s.pair.0 r.pair.0 (sym pair)) in
+    let same : is_same_source r s ≡ true = and_from (r.plant.0 == s.plant.0) (r.pair.0 == s.pair.0) (eq-eqb r.plant.0 s.plant.0 plant)
+    (eq-eqb r.pair.0 s.pair.0 pair) in
+    let turned : is_same_source s r ≡ true = and_from (s.plant.0 == r.plant.0) (s.pair.0 == r.pair.0) (eq-eqb s.plant.0 r.plant.0 (sym plant))
+    (eq-eqb s.pair.0 r.pair.0 (sym pair)) in
     elim h [
       | inl first ↦ elim g [
         | inl second ↦ sym first ∙ second
@@ -65,7 +69,8 @@ source_of_schedule N table s there =
     let both = All-in (HasBothLanes N) N.sources s (sources_have_lanes N table) there in
     let has = items_have_sources N table lane (item_of_source N s) both.scheduled in
     let row : IsSourceRow N s = All-in (IsSourceRow N) N.sources s table.read.sources there in
-    same_source N.sources table.once.sources (source_on N lane (item_of_source N s)) s (In-from_contains N.sources (source_on N lane (item_of_source N s)) has.source) there has.plant
+    same_source N.sources table.once.sources (source_on N lane (item_of_source N s)) s
+    (In-from_contains N.sources (source_on N lane (item_of_source N s)) has.source) there has.plant
     (has.taker ∙ pairs_are_found N table s.pair.0 row.pair)
 
 -- ---- what a schedule calls for in a period
@@ -86,7 +91,8 @@ pieces_called (Some from) t (ResetOf i c ∷ es) =
     omega (arith, sum_by-cons (line_pieces_in t) (Reset from c) (filter_map (line_of (Some from)) es), pieces_called (Some from) t es)
 pieces_called from t (Closing ∷ es) = pieces_called from t es
 
-schedule_calls : (N : Table) → IsTable N → (s : SourceRow) → In N.sources s → (t : ℕ) → called_for_in t (schedule_by N s) ≡ quantity_in t (by_period (called_in N s) (horizon N))
+schedule_calls : (N : Table) → IsTable N → (s : SourceRow) → In N.sources s → (t : ℕ)
+    → called_for_in t (schedule_by N s) ≡ quantity_in t (by_period (called_in N s) (horizon N))
 schedule_calls N table s there t =
     let lane = schedule_lane N s in
     let item = item_of_source N s in

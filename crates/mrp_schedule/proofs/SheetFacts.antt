@@ -18,7 +18,8 @@ use Rattle.mrp_sheet.proofs.PlainFacts.{dates_plain, item_plain, plant_plain}
 use Rattle.mrp_sheet.proofs.ReadBack.{IsRow, all_each, all_map, row_each, rows_each}
 use Rattle.mrp_schedule.specs.declared.line.ScheduleLine.{ScheduleLine}
 use Rattle.mrp_schedule.specs.declared.line.ScheduleLine.TheVariants.{Call, Opening, Reset}
-use Rattle.mrp_schedule.specs.Rows.{customer_name, is_between, item_text, lane_schedule_text, lanes_text, schedule_line_fields, schedule_line_row, schedule_names, schedule_text, supplier_name}
+use Rattle.mrp_schedule.specs.Rows.{customer_name, is_between, item_text, lane_schedule_text, lanes_text, schedule_line_fields, schedule_line_row}
+use Rattle.mrp_schedule.specs.Rows.{schedule_names, schedule_text, supplier_name}
 use Rattle.mrp_schedule.specs.Schedule.{schedule_of}
 use Rattle.mrp_schedule.specs.Sheets.{SchedulesAreReadBack, item_sheet, lanes_sheet}
 

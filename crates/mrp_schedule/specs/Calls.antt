@@ -19,4 +19,5 @@ calls_by s release from to = amounts (λ t. share_of s.low s.high (slice_index r
 -- each as a line with the figure that it comes to
 abbrev pub call_lines : ℕ → List Delivery → List ScheduleLine
 call_lines figure [] = []
-call_lines figure (call ∷ calls) = Call call.period call.quantity (figure + call.quantity) ∷ call_lines (figure + call.quantity) calls
+call_lines figure (call ∷ calls) = Call call.period call.quantity (figure + call.quantity)
+    ∷ call_lines (figure + call.quantity) calls

@@ -1,5 +1,6 @@
 -- The report of delivery schedules.
-use Rattle.std.specs.Prelude.{ℕ, ◌==◌, ◌&&◌, Bool, true, false, List, [], ◌∷◌, ◌++◌, filter, slice_index_or, decimal, codes as text_bytes, Option, Some, None}
+use Rattle.std.specs.Prelude.{ℕ, ◌==◌, ◌&&◌, Bool, true, false, List, [], ◌∷◌, ◌++◌, filter, slice_index_or, decimal}
+use Rattle.std.specs.Prelude.{codes as text_bytes, Option, Some, None}
 use Rattle.std.specs.List.{flat_map}
 use Rattle.mrp_rows.specs.declared.numbers.ItemNo.{ItemNo}
 use Rattle.mrp_rows.specs.declared.numbers.PlantNo.{PlantNo}
@@ -21,7 +22,8 @@ use Rattle.mrp_schedule.specs.Schedule.{schedule_of}
 -- the names of the columns
 abbrev pub schedule_names : List (List ℕ)
 schedule_names =
-    text_bytes "row" ∷ text_bytes "kind" ∷ text_bytes "supplier" ∷ text_bytes "customer" ∷ text_bytes "item" ∷ text_bytes "period"
+    text_bytes "row" ∷ text_bytes "kind" ∷ text_bytes "supplier" ∷ text_bytes "customer" ∷ text_bytes "item"
+    ∷ text_bytes "period"
     ∷ text_bytes "date" ∷ text_bytes "quantity" ∷ text_bytes "cumulative" ∷ []
 
 -- ---- the rows of an item
@@ -29,12 +31,15 @@ schedule_names =
 -- the fields of a line between two plants: the opening stands in no period, and a reset has no pieces
 abbrev pub schedule_line_fields : List ℕ → List ℕ → List ℕ → List (List ℕ) → ScheduleLine → List (List ℕ)
 schedule_line_fields supplier customer item dates (Opening transit figure) =
-    text_bytes "schedule" ∷ text_bytes "opening" ∷ supplier ∷ customer ∷ item ∷ [] ∷ [] ∷ decimal transit ∷ decimal figure ∷ []
+    text_bytes "schedule" ∷ text_bytes "opening" ∷ supplier ∷ customer ∷ item ∷ [] ∷ [] ∷ decimal transit
+    ∷ decimal figure ∷ []
 schedule_line_fields supplier customer item dates (Call period quantity cumulative) =
-    text_bytes "schedule" ∷ text_bytes "call" ∷ supplier ∷ customer ∷ item ∷ decimal period ∷ date_in dates period ∷ decimal quantity
+    text_bytes "schedule" ∷ text_bytes "call" ∷ supplier ∷ customer ∷ item ∷ decimal period ∷ date_in dates period
+    ∷ decimal quantity
     ∷ decimal cumulative ∷ []
 schedule_line_fields supplier customer item dates (Reset period closed) =
-    text_bytes "schedule" ∷ text_bytes "reset" ∷ supplier ∷ customer ∷ item ∷ decimal period ∷ date_in dates period ∷ [] ∷ decimal closed ∷ []
+    text_bytes "schedule" ∷ text_bytes "reset" ∷ supplier ∷ customer ∷ item ∷ decimal period ∷ date_in dates period ∷ []
+    ∷ decimal closed ∷ []
 
 -- that row
 unfoldable pub schedule_line_row : List ℕ → List ℕ → List ℕ → List (List ℕ) → ScheduleLine → List ℕ
@@ -50,7 +55,8 @@ customer_name N lane = slice_index_or N.plants (customer_of lane) []
 -- the rows of the schedule of an item of a lane
 unfoldable pub item_text : Table → Lane → ItemNo → List ℕ
 item_text N lane item =
-    flat_map (schedule_line_row (supplier_name N lane) (customer_name N lane) (name_of_item N item) (dates_of N.calendar)) (schedule_of N lane item)
+    flat_map (schedule_line_row (supplier_name N lane) (customer_name N lane) (name_of_item N item)
+    (dates_of N.calendar)) (schedule_of N lane item)
 
 -- ---- the report
 
@@ -70,7 +76,8 @@ is_asked_for (Some asked) plant = asked.0 == plant
 
 -- the schedules of the lane are asked for: those that go to the one supplier and come from the one customer
 abbrev pub is_between : Option PlantNo → Option PlantNo → Lane → Bool
-is_between from to lane = is_schedule lane.kind && is_asked_for from (supplier_of lane) && is_asked_for to (customer_of lane)
+is_between from to lane = is_schedule lane.kind && is_asked_for from (supplier_of lane)
+    && is_asked_for to (customer_of lane)
 
 -- the lanes whose schedules are asked for, in lane order
 unfoldable pub lanes_text : Option PlantNo → Option PlantNo → Table → List ℕ

@@ -11,7 +11,8 @@ use Rattle.mrp_events.specs.Loads.{load_of}
 use Rattle.mrp_schedule.specs.declared.line.ScheduleLine.{ScheduleLine}
 use Rattle.mrp_schedule.specs.declared.line.ScheduleLine.TheVariants.{Opening, Call, Reset}
 
--- a line is a call, a reset stands at the period from which the figures start anew, and an end and a closing are no line
+-- a line is a call, a reset stands at the period from which the figures start anew, and an end and a closing are no
+-- line
 abbrev pub line_of : Option ℕ → Entry → Option ScheduleLine
 line_of reset (LineOf item period quantity cumulative) = Some (Call period quantity cumulative)
 line_of reset (EndOf item lines cumulative) = None
@@ -25,4 +26,5 @@ in_transit N lane item = sum_by (λ s. s.quantity) (shipments N lane item)
 -- what is in transit and the figure with it, then the calls and the reset in the order of the item's records
 abbrev pub schedule_of : Table → Lane → ItemNo → List ScheduleLine
 schedule_of N lane item =
-    Opening (in_transit N lane item) (opening N lane item) ∷ filter_map (line_of (reset N lane item)) (block (load_of N lane item))
+    Opening (in_transit N lane item) (opening N lane item)
+    ∷ filter_map (line_of (reset N lane item)) (block (load_of N lane item))

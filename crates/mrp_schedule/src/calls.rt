@@ -27,7 +27,8 @@ pub(crate) fn add_calls(
     requires room { length lines.old.items + length release.now + 1 ≤ vec_capacity lines.old }
     requires small { figure + total (calls_by source release.now 0 (length release.now)) ≤ MOST }
     ensures lines { (item : ℕ) → lines.new.items
-        ≡ lines.old.items ++ filter_map (line_of reset) (body item figure reset (calls_by source release.now 0 (length release.now))) }
+        ≡ lines.old.items ++ filter_map (line_of reset)
+        (body item figure reset (calls_by source release.now 0 (length release.now))) }
     ensures capacity { vec_capacity lines.new ≡ vec_capacity lines.old }
 {
     let periods = release.len();

@@ -11,7 +11,8 @@ ghost use Rattle.mrp_sheet.specs.Headings.{header_row};
 ghost use Rattle.mrp_sheet.specs.Writing.{IsBetweenRows, written};
 ghost use Rattle.mrp_sheet.specs.Sent.{SendsReport};
 ghost use Rattle.mrp_schedule.specs.declared.line.ScheduleLine.TheVariants.{Opening, Call, Reset};
-ghost use Rattle.mrp_schedule.specs.Rows.{is_asked_for, is_between, item_text, lane_schedule_text, lanes_text, schedule_names, schedule_text};
+ghost use Rattle.mrp_schedule.specs.Rows.{is_asked_for, is_between, item_text, lane_schedule_text, lanes_text};
+ghost use Rattle.mrp_schedule.specs.Rows.{schedule_names, schedule_text};
 ghost use Rattle.mrp_schedule.specs.ItemRows.{AreOfItem, IsLineWithin, asked_text, item_row};
 
 use crate::{ScheduleLine, add_schedule};
@@ -78,7 +79,8 @@ pub fn schedule_rows<W: Write>(
     out: &mut W,
 ) -> Result<(), ReportFault>
     requires fits { Fits net.now.network plan.now }
-    ensures text { SendsReport (W.contents out.old) (W.contents out.new) result (schedule_text heading from to net.now.network) }
+    ensures text { SendsReport (W.contents out.old) (W.contents out.new) result
+        (schedule_text heading from to net.now.network) }
     ensures untouched { result ≡ Err ReportFault.Memory → out.new ≡ out.old }
 {
     let dates = date_texts(alloc, net.network().calendar())?;
@@ -101,7 +103,8 @@ fn schedule_text(
 ) -> Result<Vec<u8>, ReportFault>
     requires fits { Fits report.now.net.now.network report.now.plan.now }
     requires dates { report.now.dates.now ≡ dates_of report.now.net.now.network.calendar }
-    ensures text { IfOk result (λ text. text.items ≡ schedule_text heading report.now.from report.now.to report.now.net.now.network) }
+    ensures text { IfOk result (λ text. text.items
+        ≡ schedule_text heading report.now.from report.now.to report.now.net.now.network) }
     ensures fault { IfErr result (λ fault. fault ≡ ReportFault.Memory) }
 {
     // Room to begin with, which grows where there are more rows than lanes.
@@ -144,7 +147,8 @@ fn put_lanes(
     requires between { IsBetweenRows rows.old }
     requires fits { Fits report.now.net.now.network report.now.plan.now }
     requires dates { report.now.dates.now ≡ dates_of report.now.net.now.network.calendar }
-    ensures rows { OnOk result (written rows.new ≡ written rows.old ++ lanes_text report.now.from report.now.to report.now.net.now.network) }
+    ensures rows { OnOk result (written rows.new ≡ written rows.old
+        ++ lanes_text report.now.from report.now.to report.now.net.now.network) }
     ensures between { OnOk result (IsBetweenRows rows.new) }
     ensures fault { IfErr result (λ fault. fault ≡ ReportFault.Memory) }
 {
@@ -167,7 +171,8 @@ fn put_lane(
     requires dates { report.now.dates.now ≡ dates_of report.now.net.now.network.calendar }
     requires lane { lane.0 < length (lanes report.now.net.now.network) }
     ensures rows { OnOk result (written rows.new ≡ written rows.old
-        ++ asked_text report.now.from report.now.to report.now.net.now.network (lane_at report.now.net.now.network lane.0)) }
+        ++ asked_text report.now.from report.now.to report.now.net.now.network
+        (lane_at report.now.net.now.network lane.0)) }
     ensures between { OnOk result (IsBetweenRows rows.new) }
     ensures fault { IfErr result (λ fault. fault ≡ ReportFault.Memory) }
 {

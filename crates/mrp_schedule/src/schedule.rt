@@ -37,7 +37,8 @@ pub fn add_schedule(
     requires lane { lane.0 < length (lanes net.now.network) }
     requires schedule { (lane_at net.now.network lane.0).kind ≡ Schedule }
     requires item { Contains (lane_items net.now.network (lane_at net.now.network lane.0)) item }
-    ensures lines { IfOk result (λ _. lines.new.items ≡ lines.old.items ++ schedule_of net.now.network (lane_at net.now.network lane.0) item) }
+    ensures lines { IfOk result (λ _. lines.new.items ≡ lines.old.items
+        ++ schedule_of net.now.network (lane_at net.now.network lane.0) item) }
     ensures refused { IfErr result (λ _. lines.new.items ≡ lines.old.items) }
     ensures room { length lines.old.items + horizon net.now.network + 2 ≤ vec_capacity lines.old → IsOk result }
     ensures capacity { vec_capacity lines.old ≤ vec_capacity lines.new }
@@ -79,7 +80,8 @@ fn opening_line(network: &Network, lane: LaneNo, item: ItemNo) -> ScheduleLine
     requires lane { lane.0 < length (lanes network.now) }
     requires schedule { (lane_at network.now lane.0).kind ≡ Schedule }
     requires item { Contains (lane_items network.now (lane_at network.now lane.0)) item }
-    ensures { result ≡ Opening (in_transit network.now (lane_at network.now lane.0) item) (opening network.now (lane_at network.now lane.0) item) }
+    ensures { result ≡ Opening (in_transit network.now (lane_at network.now lane.0) item)
+        (opening network.now (lane_at network.now lane.0) item) }
 {
     let figure = network.opening(lane, item);
     let before = network.figure(lane, item);

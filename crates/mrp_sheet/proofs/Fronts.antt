@@ -29,8 +29,12 @@ whole-after a b c text next = appends-more a b c text next
 -- a front after the first part of a text
 pub front-after : (a b c : Option (List ℕ)) (text next : List ℕ) → Appends a b text → AppendsFront b c next → AppendsFront a c (text ++ next)
 front-after a b c text next whole front =
-    let P : List ℕ → Type 0 = λ t. Appends a c t in
-    (length text + front.0, omega (arith, front.1, length-append text next), subst P (sym (take-append-add text next front.0)) (appends-more a b c text _ whole front.2))
+    let P : List ℕ → Type 0 = λ t. Appends a c t in (
+      length text + front.0,
+      omega (arith, front.1, length-append text next),
+      subst P (sym (take-append-add text next front.0))
+          (appends-more a b c text _ whole front.2),
+    )
 
 -- a front of the first part of a text
 pub front-longer : (a b : Option (List ℕ)) (text rest : List ℕ) → AppendsFront a b text → AppendsFront a b (text ++ rest)

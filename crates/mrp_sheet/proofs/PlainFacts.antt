@@ -1,5 +1,6 @@
 -- Names, numbers, dates and words need no quotes: none of their bytes comes before the dash.
-use Rattle.std.proofs.Common.{◌≡◌, ◌≤◌, ◌<◌, ◌+◌, ◌/◌, ◌%◌, ◌&&◌, ℕ, zero, suc, Bool, true, false, List, [], ◌∷◌, length, get_or, decimal, All, unsigned_abs, cond, eqb, ltb, refl, sym, subst, arith, ⊎_elim}
+use Rattle.std.proofs.Common.{◌≡◌, ◌≤◌, ◌<◌, ◌+◌, ◌/◌, ◌%◌, ◌&&◌, ℕ, zero, suc, Bool, true, false, List, [], ◌∷◌, length, get_or, decimal, All, unsigned_abs}
+use Rattle.std.proofs.Common.{cond, eqb, ltb, refl, sym, subst, arith, ⊎_elim}
 use Rattle.std.specs.List.{list_all, range_with_len}
 use Rattle.std.proofs.lemmas.Bool.{cases_lt, ne_eqb}
 use Rattle.std.proofs.lemmas.Bool.Decides.{nat_tests}
@@ -95,4 +96,5 @@ unfolding period_date
 period_plain calendar t = let p = day_parts (unsigned_abs (first_day calendar t)) in date_plain p.year p.month p.day
 
 pub dates_plain : (calendar : CalendarTerms) (t : ℕ) → IsPlain (date_in (dates_of calendar) t)
-dates_plain calendar t = plain_at (dates_of calendar) t (All-map IsPlain (period_date calendar) (range_with_len 0 calendar.periods) (λ k d lt. period_plain calendar (get_or (range_with_len 0 calendar.periods) k d)))
+dates_plain calendar t = plain_at (dates_of calendar) t (All-map IsPlain (period_date calendar) (range_with_len 0 calendar.periods)
+    (λ k d lt. period_plain calendar (get_or (range_with_len 0 calendar.periods) k d)))

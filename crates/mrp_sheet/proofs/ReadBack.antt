@@ -1,5 +1,6 @@
 -- What csv reads of rows of plain fields: those fields.
-use Rattle.std.proofs.Common.{◌≡◌, ◌≤◌, ◌<◌, ◌+◌, ℕ, zero, suc, List, [], ◌∷◌, ◌++◌, Some, None, length, map, All, refl, sym, ap, subst, ◌∙◌, arith, length-append}
+use Rattle.std.proofs.Common.{◌≡◌, ◌≤◌, ◌<◌, ◌+◌, ℕ, zero, suc, List, [], ◌∷◌, ◌++◌, Some, None, length, map, All, refl, sym, ap, subst, ◌∙◌, arith}
+use Rattle.std.proofs.Common.{length-append}
 use Rattle.std.specs.List.{flat_map}
 use Rattle.std.proofs.lemmas.Grind.{flat_map-append}
 use Rattle.std.proofs.lemmas.List.Elements.{All-append, All-head, All-map, All-nil, All-tail}
@@ -31,7 +32,8 @@ fields_same (field ∷ rest) plain =
     ∙ ap (λ t. field ++ t) (fields_same rest (All-tail IsPlain field rest plain)))
 
 -- csv's writer gives them no quotes
-row_same : (first next : List ℕ) (rest : List (List ℕ)) → All IsPlain (first ∷ next ∷ rest) → row_text default_writer (first ∷ next ∷ rest) ≡ row (first ∷ next ∷ rest)
+row_same : (first next : List ℕ) (rest : List (List ℕ)) → All IsPlain (first ∷ next ∷ rest)
+    → row_text default_writer (first ∷ next ∷ rest) ≡ row (first ∷ next ∷ rest)
 unfolding is_blank
 row_same first next rest plain =
     ap (λ t. t ++ line_feed ∷ []) (ap (λ t. t ++ fields_text default_writer (next ∷ rest)) (field_same first (All-head IsPlain first (next ∷ rest) plain))

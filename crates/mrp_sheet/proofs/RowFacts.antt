@@ -1,5 +1,6 @@
 -- What csv's writer adds, and rows one after the other.
-use Rattle.std.proofs.Common.{◌≡◌, ℕ, zero, suc, ◌+◌, ◌<◌, ◌≤◌, List, [], ◌∷◌, ◌++◌, Option, Some, length, take, drop, get_or, subst, sym, ap, ◌∙◌, arith, append-nil}
+use Rattle.std.proofs.Common.{◌≡◌, ℕ, zero, suc, ◌+◌, ◌<◌, ◌≤◌, List, [], ◌∷◌, ◌++◌, Option, Some, length, take, drop, get_or, subst, sym, ap, ◌∙◌, arith}
+use Rattle.std.proofs.Common.{append-nil}
 use Rattle.std.proofs.lemmas.List.{flat_map_more, take_more}
 use Rattle.std.proofs.Math.Seq.{take-add}
 use Rattle.std.specs.List.{flat_map, range_with_len}
@@ -62,7 +63,8 @@ rows-more f before now after n so_far more =
     more ∙ ap (λ xs. xs ++ f n) so_far ∙ flat_map_more f before (range_with_len 0 n) n ∙ ap (λ xs. before ++ flat_map f xs) (sym range)
 
 -- the same from any number on
-pub rows-more_from : (f : ℕ → List ℕ) (before now after : List ℕ) (a n next : ℕ) → a + n ≡ next → now ≡ before ++ flat_map f (range_with_len a n) → after ≡ now ++ f next
+pub rows-more_from : (f : ℕ → List ℕ) (before now after : List ℕ) (a n next : ℕ) → a + n ≡ next → now ≡ before ++ flat_map f (range_with_len a n)
+    → after ≡ now ++ f next
     → after ≡ before ++ flat_map f (range_with_len a (n + 1))
 rows-more_from f before now after a n next here so_far more =
     let one : n + 1 ≡ suc n = omega arith in

@@ -5,8 +5,8 @@ use Rattle.mrp_sheet.specs.declared.fault.ReportFault.{ReportFault}
 use Rattle.mrp_sheet.specs.declared.fault.ReportFault.TheVariants.{WriteFault, Memory}
 use Rattle.mrp_sheet.specs.Sending.{AppendsFront}
 
--- the whole text was written, or a front of it that lacks something at a failed write. Of want of memory it says nothing:
--- the writer is then as it was
+-- the whole text was written, or a front of it that lacks something at a failed write. Of want of memory it says
+-- nothing: the writer is then as it was
 abbrev pub SendsReport : {U : Type 0} → Option (List ℕ) → Option (List ℕ) → Result U ReportFault → List ℕ → Type 0
 SendsReport old new (Ok _) text = Appends old new text
 SendsReport old new (Err WriteFault) text = AppendsFront old new text

@@ -4,7 +4,8 @@ use Rattle.std.specs.List.{join_with_byte}
 use Rattle.std.specs.declared.alloc.Global.{Global}
 use Rattle.csv.specs.declared.writer.Writer.{Writer}
 use Rattle.csv.specs.declared.writer.WriterBuilder.{WriterBuilder}
-use Rattle.csv.specs.Writing.{comma, default_writer, with_style, writer_setup, fields_written, has_written, writer_under, writer_pending}
+use Rattle.csv.specs.Writing.{comma, default_writer, with_style, writer_setup, fields_written, has_written}
+use Rattle.csv.specs.Writing.{writer_under, writer_pending}
 use Rattle.csv.specs.declared.writer.QuoteStyle.TheVariants as style
 
 -- fields with commas between them

@@ -57,7 +57,8 @@ pub fn put_names(
 ) -> Result<(), ReportFault>
     requires between { IsBetweenRows rows.old }
     requires many { 2 ≤ length names.now }
-    ensures names { OnOk result (written rows.new ≡ written rows.old ++ header_row heading (map (λ name. name.now) names.now)) }
+    ensures names { OnOk result (written rows.new ≡ written rows.old
+        ++ header_row heading (map (λ name. name.now) names.now)) }
     ensures between { OnOk result (IsBetweenRows rows.new) }
     ensures fault { IfErr result (λ fault. fault ≡ ReportFault.Memory) }
 {

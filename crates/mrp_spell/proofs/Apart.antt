@@ -31,7 +31,8 @@ unfolding IsDistinct
 no_sources = record { few = omega arith; each = λ k d lt. absurd (omega arith); apart = tt }
 
 -- one source more, of another plant
-pub sources_push : (xs : List SpelledSource) (y : SpelledSource) → AreSources xs → length xs + 1 ≤ 4 → IsSource y → names_plant (map source_view xs) y.plant.now ≡ false → AreSources (xs ++ y ∷ [])
+pub sources_push : (xs : List SpelledSource) (y : SpelledSource) → AreSources xs → length xs + 1 ≤ 4 → IsSource y
+    → names_plant (map source_view xs) y.plant.now ≡ false → AreSources (xs ++ y ∷ [])
 sources_push xs y are few is other =
     let fresh : list_any (is_same_spelled_plant y) xs ≡ false =
     sym (list_any_keys source_view (λ s. bytes_eq s.plant y.plant.now) (is_same_spelled_plant y) (λ x. bytes_symm x.plant.now y.plant.now) xs) ∙ other in

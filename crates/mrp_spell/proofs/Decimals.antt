@@ -1,5 +1,6 @@
 -- A number has one text: its digits, without a zero before them.
-use Rattle.std.proofs.Common.{◌≡◌, ◌≢◌, ◌<◌, ◌≤◌, ◌^◌, ◌==◌, ◌&&◌, ◌||◌, ℕ, zero, suc, Bool, true, false, not, leb, if◌then◌else◌, get_or, List, length, Option, Some, None, MatchOption, refl, ap, sym, ◌∙◌, subst, arith, rules}
+use Rattle.std.proofs.Common.{◌≡◌, ◌≢◌, ◌<◌, ◌≤◌, ◌^◌, ◌==◌, ◌&&◌, ◌||◌, ℕ, zero, suc, Bool, true, false, not, leb, if◌then◌else◌, get_or, List, length, Option}
+use Rattle.std.proofs.Common.{Some, None, MatchOption, refl, ap, sym, ◌∙◌, subst, arith, rules}
 use Rattle.std.specs.Char.{is_ascii_digit}
 use Rattle.std.specs.Fmt.{decimal}
 use Rattle.std.specs.List.{list_all}
@@ -76,6 +77,7 @@ number-written n small =
     rw is (ap (λ (m : ℕ). Some m) (digits_value-decimal own n fits))
 
 -- the answer of a reader of numbers says whose text it was
-pub number-exact : (text : List ℕ) (o : Option ℕ) → spelled_number text ≡ o → MatchOption o ((n : ℕ) → n < 10 ^ 16 → text ≢ decimal n) (λ n. (text ≡ decimal n) × (n < 10 ^ 16))
+pub number-exact : (text : List ℕ) (o : Option ℕ) → spelled_number text ≡ o
+    → MatchOption o ((n : ℕ) → n < 10 ^ 16 → text ≢ decimal n) (λ n. (text ≡ decimal n) × (n < 10 ^ 16))
 number-exact text None e = λ n small same. let read = ap spelled_number same ∙ number-written n small in absurd (cc)
 number-exact text (Some n) e = number-spelled text n e

@@ -5,12 +5,14 @@ use Rattle.std.proofs.lemmas.Bool.{or_parts}
 use Rattle.std.proofs.lemmas.List.Elements.{All-append, All-from_recursion, recursion_from_All, All-nil, All-cons, All-head, All-tail, All-weaker}
 use Rattle.std.proofs.lemmas.Map.Keys.{IsDistinct-cons, IsDistinct-from_apart, IsDistinct-head, IsDistinct-tail}
 
-pub distinct_append : {X : Type 0} (e : X → X → Bool) (xs ys : List X) → IsDistinct e xs → IsDistinct e ys → All (λ x. All (λ y. e x y ≡ false) ys) xs → IsDistinct e (xs ++ ys)
+pub distinct_append : {X : Type 0} (e : X → X → Bool) (xs ys : List X) → IsDistinct e xs → IsDistinct e ys → All (λ x. All (λ y. e x y ≡ false) ys) xs
+    → IsDistinct e (xs ++ ys)
 distinct_append e [] ys d h apart = h
 distinct_append e (x ∷ xs) ys d h apart =
     IsDistinct-cons e x (xs ++ ys)
     (recursion_from_All (λ y. e x y ≡ false) (xs ++ ys)
-    (All-append (λ y. e x y ≡ false) xs ys (All-from_recursion (λ y. e x y ≡ false) xs (IsDistinct-head e x xs d)) (All-head (λ x. All (λ y. e x y ≡ false) ys) x xs apart)))
+    (All-append (λ y. e x y ≡ false) xs ys (All-from_recursion (λ y. e x y ≡ false) xs (IsDistinct-head e x xs d))
+    (All-head (λ x. All (λ y. e x y ≡ false) ys) x xs apart)))
     (distinct_append e xs ys (IsDistinct-tail e x xs d) h (All-tail (λ x. All (λ y. e x y ≡ false) ys) x xs apart))
 
 pub IsDistinct-nil : {X : Type 0} (e : X → X → Bool) → IsDistinct e []

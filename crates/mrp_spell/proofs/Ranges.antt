@@ -1,5 +1,6 @@
 -- What a text spells is in the range that was asked for, and a number in that range is spelled by its text.
-use Rattle.std.proofs.Common.{◌≡◌, ◌≤◌, ◌<◌, ◌^◌, ℕ, ◌&&◌, Bool, true, false, leb, if◌then◌else◌, List, Option, Some, None, option_map, refl, ap, ◌∙◌, subst, arith}
+use Rattle.std.proofs.Common.{◌≡◌, ◌≤◌, ◌<◌, ◌^◌, ℕ, ◌&&◌, Bool, true, false, leb, if◌then◌else◌, List, Option, Some, None, option_map, refl, ap, ◌∙◌, subst}
+use Rattle.std.proofs.Common.{arith}
 use Rattle.std.specs.Fmt.{decimal}
 use Rattle.std.proofs.lemmas.Bool.{and_from}
 use Rattle.std.proofs.lemmas.Bool.Decides.{nat_tests}
@@ -59,13 +60,15 @@ rule_of_one : (f : ℕ → Rule) (o : Option ℕ) (r : Rule) → ((n : ℕ) → 
 rule_of_one f (Some n) r is e = subst IsRule (same_Some (f n) r e) (is n refl)
 rule_of_one f None r is e = absurd (cc)
 
-rule_of_two : (a b : Option ℕ) (r : Rule) → ((n : ℕ) → a ≡ Some n → Within 1 MOST_IN_RULE n) → ((n : ℕ) → b ≡ Some n → Within 1 MOST_IN_RULE n) → min_rule a b ≡ Some r → IsRule r
+rule_of_two : (a b : Option ℕ) (r : Rule) → ((n : ℕ) → a ≡ Some n → Within 1 MOST_IN_RULE n) → ((n : ℕ) → b ≡ Some n → Within 1 MOST_IN_RULE n)
+    → min_rule a b ≡ Some r → IsRule r
 rule_of_two (Some m) (Some k) r is also e = subst IsRule (same_Some (MinMultiple m k) r e) (is m refl, also k refl)
 rule_of_two (Some m) None r is also e = absurd (cc)
 rule_of_two None b r is also e = absurd (cc)
 
 min_is : (o : Option (List ℕ × List ℕ)) (r : Rule) → min_rule_of o ≡ Some r → IsRule r
-min_is (Some p) r e = rule_of_two (number_within p.0 1 MOST_IN_RULE) (number_within p.1 1 MOST_IN_RULE) r (within_range p.0 1 MOST_IN_RULE) (within_range p.1 1 MOST_IN_RULE) e
+min_is (Some p) r e = rule_of_two (number_within p.0 1 MOST_IN_RULE) (number_within p.1 1 MOST_IN_RULE) r (within_range p.0 1 MOST_IN_RULE)
+    (within_range p.1 1 MOST_IN_RULE) e
 min_is None r e = absurd (cc)
 
 numbered_is : (word numbers : List ℕ) (r : Rule) → numbered_rule word numbers ≡ Some r → IsRule r

@@ -1,5 +1,6 @@
 -- A lot rule has one text, and that text is read as it.
-use Rattle.std.proofs.Common.{◌≡◌, ◌≢◌, ℕ, Bool, true, false, if◌then◌else◌, List, ◌∷◌, ◌++◌, Option, Some, None, option_map, MatchOption, refl, ap, ◌∙◌, subst, arith}
+use Rattle.std.proofs.Common.{◌≡◌, ◌≢◌, ℕ, Bool, true, false, if◌then◌else◌, List, ◌∷◌, ◌++◌, Option, Some, None, option_map, MatchOption, refl, ap, ◌∙◌, subst}
+use Rattle.std.proofs.Common.{arith}
 use Rattle.std.specs.Fmt.{decimal}
 use Rattle.std.specs.Prelude.{codes}
 use Rattle.std.specs.Str.{bytes_eq}
@@ -38,7 +39,8 @@ min_text numbers r e = by (cut numbers) refl e
     by None c e = absurd (cc)
     by (Some p) c e =
         ap (λ l. codes "min:" ++ l) (cut_text numbers p c)
-        ∙ two_numbers (number_within p.0 1 MOST_IN_RULE) (number_within p.1 1 MOST_IN_RULE) p.0 p.1 r (number_is p.0 1 MOST_IN_RULE) (number_is p.1 1 MOST_IN_RULE) e
+        ∙ two_numbers (number_within p.0 1 MOST_IN_RULE) (number_within p.1 1 MOST_IN_RULE) p.0 p.1 r (number_is p.0 1 MOST_IN_RULE)
+        (number_is p.1 1 MOST_IN_RULE) e
 
 numbered_text : (word numbers : List ℕ) (r : Rule) → numbered_rule word numbers ≡ Some r → word ++ (58 ∷ numbers) ≡ rule_text r
 unfolding numbered_rule

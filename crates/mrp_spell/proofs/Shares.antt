@@ -1,5 +1,6 @@
 -- The reader of plants with their shares goes from one to the next.
-use Rattle.std.proofs.Common.{◌≡◌, ℕ, ◌+◌, ◌-◌, ◌<◌, ◌≤◌, ◌==◌, ◌&&◌, ◌||◌, not, Bool, true, false, leb, ltb, if◌then◌else◌, List, [], ◌∷◌, ◌++◌, length, Option, Some, None, refl, sym, ap, ◌∙◌, subst, arith}
+use Rattle.std.proofs.Common.{◌≡◌, ℕ, ◌+◌, ◌-◌, ◌<◌, ◌≤◌, ◌==◌, ◌&&◌, ◌||◌, not, Bool, true, false, leb, ltb, if◌then◌else◌, List, [], ◌∷◌, ◌++◌, length}
+use Rattle.std.proofs.Common.{Option, Some, None, refl, sym, ap, ◌∙◌, subst, arith}
 use Rattle.std.specs.List.{All, after_first, before_first, list_all, list_any, position_or_len, slice_split, sum_by}
 use Rattle.std.specs.Str.{bytes_eq}
 use Rattle.std.proofs.lemmas.Bool.{and_left, and_right, ne_eqb}
@@ -16,7 +17,8 @@ use Rattle.mrp_spell.specs.Parsing.{cut, is_colon, number_within}
 use Rattle.mrp_spell.specs.Steps.{may_come, share_in, share_step, shared_in, shared_source, sources_with, with_later}
 use Rattle.mrp_spell.proofs.Ranges.{same_Some, within_range}
 use Rattle.mrp_spell.specs.Supplies.{SourceTerms}
-use Rattle.mrp_spell.specs.SupplyParsing.{are_different, are_whole, in_a_row, names_plant, plant_shares, PlantShare, share_before, sources_of, split_sources, whole_in_a_row}
+use Rattle.mrp_spell.specs.SupplyParsing.{are_different, are_whole, in_a_row, names_plant, plant_shares, PlantShare, share_before, sources_of, split_sources}
+use Rattle.mrp_spell.specs.SupplyParsing.{whole_in_a_row}
 
 -- ---- a text that is cut at its first colon, and at all
 
@@ -25,7 +27,8 @@ unfolding cut
 fields_alone text e = by (ltb (position_or_len is_colon text) (length text)) refl e
   where
     by : (b : Bool) → ltb (position_or_len is_colon text) (length text) ≡ b
-        → ◌≡◌ {A = Option (List ℕ × List ℕ)} (if b then Some (before_first is_colon text, after_first is_colon text) else None) None → slice_split is_colon text ≡ text ∷ []
+        → ◌≡◌ {A = Option (List ℕ × List ℕ)} (if b then Some (before_first is_colon text, after_first is_colon text) else None) None
+        → slice_split is_colon text ≡ text ∷ []
     by true t e = absurd (cc)
     by false t e = slice_split_none is_colon text (λ k d l. fails_before_first is_colon text k d (grind (arith, nat_tests)))
 
@@ -34,11 +37,13 @@ unfolding cut
 fields_after text p e = by (ltb (position_or_len is_colon text) (length text)) refl e
   where
     by : (b : Bool) → ltb (position_or_len is_colon text) (length text) ≡ b
-        → ◌≡◌ {A = Option (List ℕ × List ℕ)} (if b then Some (before_first is_colon text, after_first is_colon text) else None) (Some p) → slice_split is_colon text ≡ p.0 ∷ slice_split is_colon p.1
+        → ◌≡◌ {A = Option (List ℕ × List ℕ)} (if b then Some (before_first is_colon text, after_first is_colon text) else None) (Some p)
+        → slice_split is_colon text ≡ p.0 ∷ slice_split is_colon p.1
     by false t e = absurd (cc)
     by true t e =
         let parts = some_pair_parts (before_first is_colon text) p.0 (after_first is_colon text) p.1 e in
-        slice_split_first is_colon text 0 (grind (arith, nat_tests)) ∙ ap (λ a. a ∷ slice_split is_colon (after_first is_colon text)) parts.0 ∙ ap (λ b. p.0 ∷ slice_split is_colon b) parts.1
+        slice_split_first is_colon text 0 (grind (arith, nat_tests)) ∙ ap (λ a. a ∷ slice_split is_colon (after_first is_colon text)) parts.0
+        ∙ ap (λ b. p.0 ∷ slice_split is_colon b) parts.1
 
 -- ---- one plant with its share
 
@@ -57,19 +62,29 @@ record IsRead (text : List ℕ) (low : ℕ) (s : SourceTerms) (later : Option (L
   name : is_name plant ≡ true
   source : made plant low share ≡ s
 
-read_made : (text : List ℕ) (low : ℕ) (plant : List ℕ) (o : Option ℕ) (now later : Option (List ℕ)) (s : SourceTerms) → plant_shares (slice_split is_colon text) ≡ share_before plant o (plant_shares (fields_of now))
+read_made : (text : List ℕ) (low : ℕ) (plant : List ℕ) (o : Option ℕ) (now later : Option (List ℕ)) (s : SourceTerms)
+    → plant_shares (slice_split is_colon text) ≡ share_before plant o (plant_shares (fields_of now))
     → share_step plant low o now ≡ Some (s, later) → IsRead text low s later
 read_made text low plant None now later s f e = absurd (cc)
 read_made text low plant (Some share) now later s f e = by (is_name plant) (leb (low + share) MOST_SHARE) refl e
   where
-    by : (b c : Bool) → is_name plant ≡ b → ◌≡◌ {A = Option (SourceTerms × Option (List ℕ))} (if b && c then Some (made plant low share, now) else None) (Some (s, later)) → IsRead text low s later
+    by : (b c : Bool) → is_name plant ≡ b → ◌≡◌ {A = Option (SourceTerms × Option (List ℕ))} (if b && c then Some (made plant low share, now)
+        else None) (Some (s, later)) → IsRead text low s later
     by true true t e =
         let parts = some_pair_parts {A = SourceTerms} {B = Option (List ℕ)} (made plant low share) s now later e in
-        record { plant = plant; share = share; fields = f ∙ ap (λ l. share_before plant (Some share) (plant_shares (fields_of l))) parts.1; name = t; source = parts.0 }
+        record {
+          plant = plant;
+          share = share;
+          fields = f ∙ ap (λ l. share_before plant (Some share) (plant_shares (fields_of l))) parts.1;
+          name = t;
+          source =
+              parts.0;
+        }
     by true false t e = absurd (cc)
     by false c t e = absurd (cc)
 
-read_rest : (text : List ℕ) (low : ℕ) (p : List ℕ × List ℕ) (o : Option (List ℕ × List ℕ)) (s : SourceTerms) (later : Option (List ℕ)) → cut text ≡ Some p → cut p.1 ≡ o → share_in p.0 low p.1 o ≡ Some (s, later) → IsRead text low s later
+read_rest : (text : List ℕ) (low : ℕ) (p : List ℕ × List ℕ) (o : Option (List ℕ × List ℕ)) (s : SourceTerms) (later : Option (List ℕ)) → cut text ≡ Some p
+    → cut p.1 ≡ o → share_in p.0 low p.1 o ≡ Some (s, later) → IsRead text low s later
 read_rest text low p None s later c d e =
     read_made text low p.0 (number_within p.1 1 (MOST_SHARE - 1)) None later s
     (ap plant_shares (fields_after text p c) ∙ ap (λ fs. plant_shares (p.0 ∷ fs)) (fields_alone p.1 d)) e
@@ -95,7 +110,8 @@ shares_in_range [] ss e = subst (All InRange) (same_Some [] ss e) (All-nil InRan
 shares_in_range (f ∷ []) ss e = absurd (cc)
 shares_in_range (f ∷ g ∷ fs) ss e = by (number_within g 1 (MOST_SHARE - 1)) (plant_shares fs) (within_range g 1 (MOST_SHARE - 1)) (shares_in_range fs) e
   where
-    by : (o : Option ℕ) (r : Option (List PlantShare)) → ((n : ℕ) → o ≡ Some n → (1 ≤ n) × (n ≤ MOST_SHARE - 1)) → ((later : List PlantShare) → r ≡ Some later → All InRange later)
+    by : (o : Option ℕ) (r : Option (List PlantShare)) → ((n : ℕ) → o ≡ Some n → (1 ≤ n) × (n ≤ MOST_SHARE - 1))
+        → ((later : List PlantShare) → r ≡ Some later → All InRange later)
         → share_before f o r ≡ Some ss → All InRange ss
     by None r range are e = absurd (cc)
     by (Some n) None range are e = absurd (cc)
@@ -127,38 +143,51 @@ too_much : (low : ℕ) (s : PlantShare) (ss : List PlantShare) → MOST_SHARE < 
 too_much low s ss over = let more = sum_first s ss in ne_eqb _ MOST_SHARE (λ e. omega (arith, e, more, over))
 
 -- which test fails
-bad_first : (n : ℕ) (before : List SourceTerms) (low : ℕ) (s : PlantShare) (ss : List PlantShare) → (is_name s.plant && not (names_plant before s.plant)) ≡ false → may_come n before low (s ∷ ss) ≡ false
+bad_first : (n : ℕ) (before : List SourceTerms) (low : ℕ) (s : PlantShare) (ss : List PlantShare)
+    → (is_name s.plant && not (names_plant before s.plant)) ≡ false → may_come n before low (s ∷ ss) ≡ false
 bad_first n before low s ss e =
-    third_fails (leb 1 (length (s ∷ ss))) (leb (length (s ∷ ss)) n) (list_all (λ x. is_name x.plant && not (names_plant before x.plant)) (s ∷ ss)) (are_different (s ∷ ss)) (low + sum_by (λ x. x.share) (s ∷ ss) == MOST_SHARE)
+    third_fails (leb 1 (length (s ∷ ss))) (leb (length (s ∷ ss)) n) (list_all (λ x. is_name x.plant && not (names_plant before x.plant)) (s ∷ ss))
+    (are_different (s ∷ ss)) (low + sum_by (λ x. x.share) (s ∷ ss) == MOST_SHARE)
     (and_left (is_name s.plant && not (names_plant before s.plant)) (list_all (λ x. is_name x.plant && not (names_plant before x.plant)) ss) e)
 
-bad_count : (n : ℕ) (before : List SourceTerms) (low : ℕ) (s : PlantShare) (ss : List PlantShare) → leb (length (s ∷ ss)) n ≡ false → may_come n before low (s ∷ ss) ≡ false
+bad_count : (n : ℕ) (before : List SourceTerms) (low : ℕ) (s : PlantShare) (ss : List PlantShare) → leb (length (s ∷ ss)) n ≡ false
+    → may_come n before low (s ∷ ss) ≡ false
 bad_count n before low s ss e =
-    second_fails (leb 1 (length (s ∷ ss))) (leb (length (s ∷ ss)) n) (list_all (λ x. is_name x.plant && not (names_plant before x.plant)) (s ∷ ss)) (are_different (s ∷ ss)) (low + sum_by (λ x. x.share) (s ∷ ss) == MOST_SHARE) e
+    second_fails (leb 1 (length (s ∷ ss))) (leb (length (s ∷ ss)) n) (list_all (λ x. is_name x.plant && not (names_plant before x.plant)) (s ∷ ss))
+    (are_different (s ∷ ss)) (low + sum_by (λ x. x.share) (s ∷ ss) == MOST_SHARE) e
 
-bad_sum : (n : ℕ) (before : List SourceTerms) (low : ℕ) (s : PlantShare) (ss : List PlantShare) → MOST_SHARE < low + s.share → may_come n before low (s ∷ ss) ≡ false
+bad_sum : (n : ℕ) (before : List SourceTerms) (low : ℕ) (s : PlantShare) (ss : List PlantShare) → MOST_SHARE < low + s.share
+    → may_come n before low (s ∷ ss) ≡ false
 bad_sum n before low s ss over =
-    and_right (leb 1 (length (s ∷ ss)) && leb (length (s ∷ ss)) n && list_all (λ x. is_name x.plant && not (names_plant before x.plant)) (s ∷ ss) && are_different (s ∷ ss)) (low + sum_by (λ x. x.share) (s ∷ ss) == MOST_SHARE)
+    and_right (leb 1 (length (s ∷ ss)) && leb (length (s ∷ ss)) n && list_all (λ x. is_name x.plant && not (names_plant before x.plant)) (s ∷ ss)
+    && are_different (s ∷ ss)) (low + sum_by (λ x. x.share) (s ∷ ss) == MOST_SHARE)
     (too_much low s ss over)
 
-stopped : (n : ℕ) (before : List SourceTerms) (low : ℕ) (plant : List ℕ) (o : Option ℕ) (now : Option (List ℕ)) (r : Option (List PlantShare)) → share_step plant low o now ≡ None
+stopped : (n : ℕ) (before : List SourceTerms) (low : ℕ) (plant : List ℕ) (o : Option ℕ) (now : Option (List ℕ)) (r : Option (List PlantShare))
+    → share_step plant low o now ≡ None
     → with_later n before low (share_before plant o r) ≡ None
 stopped n before low plant None now r e = refl
 stopped n before low plant (Some share) now None e = refl
 stopped n before low plant (Some share) now (Some ss) e = by (is_name plant) (leb (low + share) MOST_SHARE) refl refl e
   where
-    by : (b c : Bool) → is_name plant ≡ b → leb (low + share) MOST_SHARE ≡ c → ◌≡◌ {A = Option (SourceTerms × Option (List ℕ))} (if b && c then Some (made plant low share, now) else None) None
+    by : (b c : Bool) → is_name plant ≡ b → leb (low + share) MOST_SHARE ≡ c
+        → ◌≡◌ {A = Option (SourceTerms × Option (List ℕ))} (if b && c then Some (made plant low share, now) else None) None
         → with_later n before low (Some (with_share plant share ∷ ss)) ≡ None
     by true true t u e = absurd (cc)
-    by true false t u e = kept (may_come n before low (with_share plant share ∷ ss)) (Some (before ++ in_a_row low (with_share plant share ∷ ss))) (bad_sum n before low (with_share plant share) ss (grind (arith, nat_tests)))
-    by false c t u e = kept (may_come n before low (with_share plant share ∷ ss)) (Some (before ++ in_a_row low (with_share plant share ∷ ss))) (bad_first n before low (with_share plant share) ss (and_left (is_name plant) (not (names_plant before plant)) t))
+    by true false t u e = kept (may_come n before low (with_share plant share ∷ ss)) (Some (before ++ in_a_row low (with_share plant share ∷ ss)))
+        (bad_sum n before low (with_share plant share) ss (grind (arith, nat_tests)))
+    by false c t u e = kept (may_come n before low (with_share plant share ∷ ss)) (Some (before ++ in_a_row low (with_share plant share ∷ ss)))
+        (bad_first n before low (with_share plant share) ss (and_left (is_name plant) (not (names_plant before plant)) t))
 
-stop_rest : (n : ℕ) (before : List SourceTerms) (low : ℕ) (text : List ℕ) (p : List ℕ × List ℕ) (o : Option (List ℕ × List ℕ)) → cut text ≡ Some p → cut p.1 ≡ o → share_in p.0 low p.1 o ≡ None → with_later n before low (plant_shares (slice_split is_colon text)) ≡ None
+stop_rest : (n : ℕ) (before : List SourceTerms) (low : ℕ) (text : List ℕ) (p : List ℕ × List ℕ) (o : Option (List ℕ × List ℕ)) → cut text ≡ Some p → cut p.1 ≡ o
+    → share_in p.0 low p.1 o ≡ None → with_later n before low (plant_shares (slice_split is_colon text)) ≡ None
 stop_rest n before low text p None c d e =
-    ap (λ fs. with_later n before low (plant_shares fs)) (fields_after text p c) ∙ ap (λ fs. with_later n before low (plant_shares (p.0 ∷ fs))) (fields_alone p.1 d)
+    ap (λ fs. with_later n before low (plant_shares fs)) (fields_after text p c)
+    ∙ ap (λ fs. with_later n before low (plant_shares (p.0 ∷ fs))) (fields_alone p.1 d)
     ∙ stopped n before low p.0 (number_within p.1 1 (MOST_SHARE - 1)) None (Some []) e
 stop_rest n before low text p (Some q) c d e =
-    ap (λ fs. with_later n before low (plant_shares fs)) (fields_after text p c) ∙ ap (λ fs. with_later n before low (plant_shares (p.0 ∷ fs))) (fields_after p.1 q d)
+    ap (λ fs. with_later n before low (plant_shares fs)) (fields_after text p c)
+    ∙ ap (λ fs. with_later n before low (plant_shares (p.0 ∷ fs))) (fields_after p.1 q d)
     ∙ stopped n before low p.0 (number_within q.0 1 (MOST_SHARE - 1)) (Some q.1) (plant_shares (slice_split is_colon q.1)) e
 
 -- ---- where one plant with its share comes after others
@@ -172,12 +201,15 @@ apart true false true false t = refl
 apart true false false r t = refl
 
 all_new : (before : List SourceTerms) (s : SourceTerms) (ss : List PlantShare)
-    → list_all (λ x. is_name x.plant && not (names_plant (before ++ s ∷ []) x.plant)) ss ≡ (list_all (λ x. is_name x.plant && not (names_plant before x.plant)) ss && not (list_any (λ x. bytes_eq s.plant x.plant) ss))
+    → list_all (λ x. is_name x.plant && not (names_plant (before ++ s ∷ []) x.plant)) ss
+    ≡ (list_all (λ x. is_name x.plant && not (names_plant before x.plant)) ss && not (list_any (λ x. bytes_eq s.plant x.plant) ss))
 all_new before s [] = refl
 all_new before s (x ∷ xs) =
-    ap (λ b. (is_name x.plant && not b) && list_all (λ x. is_name x.plant && not (names_plant (before ++ s ∷ []) x.plant)) xs) (list_any-append (λ t. bytes_eq t.plant x.plant) before (s ∷ []))
+    ap (λ b. (is_name x.plant && not b) && list_all (λ x. is_name x.plant && not (names_plant (before ++ s ∷ []) x.plant)) xs)
+    (list_any-append (λ t. bytes_eq t.plant x.plant) before (s ∷ []))
     ∙ ap (λ r. (is_name x.plant && not (names_plant before x.plant || (bytes_eq s.plant x.plant || false))) && r) (all_new before s xs)
-    ∙ apart (is_name x.plant) (names_plant before x.plant) (bytes_eq s.plant x.plant) (list_all (λ x. is_name x.plant && not (names_plant before x.plant)) xs) (list_any (λ x. bytes_eq s.plant x.plant) xs)
+    ∙ apart (is_name x.plant) (names_plant before x.plant) (bytes_eq s.plant x.plant) (list_all (λ x. is_name x.plant && not (names_plant before x.plant)) xs)
+    (list_any (λ x. bytes_eq s.plant x.plant) xs)
 
 in_turn : (b q t d u : Bool) → (b && q && (not t && d) && u) ≡ (b && (q && not t) && d && u)
 in_turn false q t d u = refl
@@ -204,7 +236,8 @@ module _ (n : ℕ) (before : List SourceTerms) (low : ℕ) (plant : List ℕ) (s
   come_more : (x : PlantShare) (xs : List PlantShare) → names_plant before plant ≡ false
       → may_come n before low (with_share plant share ∷ x ∷ xs) ≡ may_come (n - 1) (before ++ made plant low share ∷ []) (low + share) (x ∷ xs)
   come_more x xs new =
-      same_tests _ _ _ _ (list_all (λ x. is_name x.plant && not (names_plant before x.plant)) (x ∷ xs)) (list_any (λ t. bytes_eq plant t.plant) (x ∷ xs)) (are_different (x ∷ xs)) _ _ _ _ _
+      same_tests _ _ _ _ (list_all (λ x. is_name x.plant && not (names_plant before x.plant)) (x ∷ xs)) (list_any (λ t. bytes_eq plant t.plant) (x ∷ xs))
+      (are_different (x ∷ xs)) _ _ _ _ _
       (grind (arith, nat_tests)) (grind (arith, nat_tests))
       (leb_same (length (with_share plant share ∷ x ∷ xs)) n (length (x ∷ xs)) (n - 1) (λ h. omega (arith, h, some)) (λ h. omega (arith, h, some)))
       name new (all_new before (made plant low share) (x ∷ xs))
@@ -214,10 +247,12 @@ module _ (n : ℕ) (before : List SourceTerms) (low : ℕ) (plant : List ℕ) (s
   come_last new =
       last_tests _ _ _ _ _ _ refl (grind (arith, nat_tests)) name new (ap (λ k. low + k == MOST_SHARE) (sum_last (with_share plant share)))
 
-twice : (n : ℕ) (before : List SourceTerms) (low : ℕ) (plant : List ℕ) (share : ℕ) (r : Option (List PlantShare)) → names_plant before plant ≡ true → with_later n before low (share_before plant (Some share) r) ≡ None
+twice : (n : ℕ) (before : List SourceTerms) (low : ℕ) (plant : List ℕ) (share : ℕ) (r : Option (List PlantShare)) → names_plant before plant ≡ true
+    → with_later n before low (share_before plant (Some share) r) ≡ None
 twice n before low plant share None known = refl
 twice n before low plant share (Some ss) known =
-    kept (may_come n before low (with_share plant share ∷ ss)) (Some (before ++ in_a_row low (with_share plant share ∷ ss))) (bad_first n before low (with_share plant share) ss (and_right (is_name plant) (not (names_plant before plant)) (ap not known)))
+    kept (may_come n before low (with_share plant share ∷ ss)) (Some (before ++ in_a_row low (with_share plant share ∷ ss)))
+    (bad_first n before low (with_share plant share) ss (and_right (is_name plant) (not (names_plant before plant)) (ap not known)))
 
 -- ---- sources, and those that a text spells after them
 
@@ -232,13 +267,16 @@ some_plant [] l e = absurd (omega arith)
 some_plant (f ∷ []) l e = absurd (cc)
 some_plant (f ∷ g ∷ fs) l e = not_none f (number_within g 1 (MOST_SHARE - 1)) (plant_shares fs) e
 
-go_on : (n : ℕ) (before : List SourceTerms) (low : ℕ) (plant : List ℕ) (share : ℕ) (r : Option (List PlantShare)) → 0 < n → is_name plant ≡ true → names_plant before plant ≡ false → (r ≡ Some [] → ⊥)
+go_on : (n : ℕ) (before : List SourceTerms) (low : ℕ) (plant : List ℕ) (share : ℕ) (r : Option (List PlantShare)) → 0 < n → is_name plant ≡ true
+    → names_plant before plant ≡ false → (r ≡ Some [] → ⊥)
     → with_later n before low (share_before plant (Some share) r) ≡ with_later (n - 1) (before ++ made plant low share ∷ []) (low + share) r
 go_on n before low plant share None some name new filled = refl
 go_on n before low plant share (Some []) some name new filled = absurd (filled refl)
 go_on n before low plant share (Some (x ∷ xs)) some name new filled =
-    ap (λ b. let r : Option (List SourceTerms) = if b then Some (before ++ made plant low share ∷ in_a_row (low + share) (x ∷ xs)) else None in r) (come_more n before low plant share some name x xs new)
-    ∙ ap (λ ss. let r : Option (List SourceTerms) = if may_come (n - 1) (before ++ made plant low share ∷ []) (low + share) (x ∷ xs) then Some ss else None in r)
+    ap (λ b. let r : Option (List SourceTerms) = if b then Some (before ++ made plant low share ∷ in_a_row (low + share) (x ∷ xs))
+    else None in r) (come_more n before low plant share some name x xs new)
+    ∙ ap (λ ss. let r : Option (List SourceTerms) = if may_come (n - 1) (before ++ made plant low share ∷ []) (low + share) (x ∷ xs) then Some ss
+    else None in r)
     (sym (append_assoc before (made plant low share ∷ []) (in_a_row (low + share) (x ∷ xs))))
 
 pub sources_with-none : (n : ℕ) (before : List SourceTerms) (low : ℕ) (text : List ℕ) → n ≡ 0 → sources_with n before low text ≡ None
@@ -261,7 +299,8 @@ module _ (n : ℕ) (before : List SourceTerms) (low : ℕ) (text : List ℕ) whe
       by None c e = ap (λ fs. with_later n before low (plant_shares fs)) (fields_alone text c)
       by (Some p) c e = stop_rest n before low text p (cut p.1) c refl e
 
-  pub sources_with-twice : (s : SourceTerms) (later : Option (List ℕ)) → shared_source text low ≡ Some (s, later) → names_plant before s.plant ≡ true → sources_with n before low text ≡ None
+  pub sources_with-twice : (s : SourceTerms) (later : Option (List ℕ)) → shared_source text low ≡ Some (s, later) → names_plant before s.plant ≡ true
+      → sources_with n before low text ≡ None
   unfolding sources_with
   sources_with-twice s later is known =
       let r = source_read text low s later is in
@@ -302,7 +341,8 @@ none_before (s ∷ ss) = rw (none_before ss) (by (is_name s.plant))
 several : (s t : PlantShare) (ss : List PlantShare) → may_come MOST_SOURCES_OF_PAIR [] 0 (s ∷ t ∷ ss) ≡ are_whole (s ∷ t ∷ ss)
 several s t ss =
     let l = s ∷ t ∷ ss in
-    ap (λ b. b && leb (length l) MOST_SOURCES_OF_PAIR && list_all (λ s. is_name s.plant && not (names_plant [] s.plant)) l && are_different l && 0 + sum_by (λ s. s.share) l == MOST_SHARE)
+    ap (λ b. b && leb (length l) MOST_SOURCES_OF_PAIR && list_all (λ s. is_name s.plant && not (names_plant [] s.plant)) l && are_different l
+    && 0 + sum_by (λ s. s.share) l == MOST_SHARE)
     (leb_same 1 (length l) 2 (length l) (λ h. omega arith) (λ h. omega arith))
     ∙ ap (λ b. leb 2 (length l) && leb (length l) MOST_SOURCES_OF_PAIR && b && are_different l && 0 + sum_by (λ s. s.share) l == MOST_SHARE) (none_before l)
     ∙ ap (λ n. leb 2 (length l) && leb (length l) MOST_SOURCES_OF_PAIR && list_all (λ s. is_name s.plant) l && are_different l && n == MOST_SHARE) (omega arith)
@@ -318,11 +358,14 @@ sources_with-all text = by (plant_shares (slice_split is_colon text)) (shares_in
         let one : InRange s = All-head InRange s [] (range (s ∷ []) refl) in
         let same = sum_last s in
         kept (may_come MOST_SOURCES_OF_PAIR [] 0 (s ∷ [])) (Some (in_a_row 0 (s ∷ [])))
-        (and_right (leb 1 (length (s ∷ [])) && leb (length (s ∷ [])) MOST_SOURCES_OF_PAIR && list_all (λ x. is_name x.plant && not (names_plant [] x.plant)) (s ∷ []) && are_different (s ∷ [])) (0 + sum_by (λ x. x.share) (s ∷ []) == MOST_SHARE)
+        (and_right (leb 1 (length (s ∷ [])) && leb (length (s ∷ [])) MOST_SOURCES_OF_PAIR
+        && list_all (λ x. is_name x.plant && not (names_plant [] x.plant)) (s ∷ []) && are_different (s ∷ []))
+        (0 + sum_by (λ x. x.share) (s ∷ []) == MOST_SHARE)
         (ne_eqb _ MOST_SHARE (λ e. omega (arith, e, same, one.1))))
     by (Some (s ∷ t ∷ ss)) range = ap (λ b. let o : Option (List SourceTerms) = if b then Some (in_a_row 0 (s ∷ t ∷ ss)) else None in o) (several s t ss)
 
 pub sources_of-split : (text : List ℕ) → is_name text ≡ false → sources_of text ≡ sources_with MOST_SOURCES_OF_PAIR [] 0 text
 unfolding sources_of
 sources_of-split text other =
-    ap (λ b. let r : Option (List SourceTerms) = if b then Some (record { plant = text; low = 0; high = MOST_SHARE } ∷ []) else split_sources text in r) other ∙ sym (sources_with-all text)
+    ap (λ b. let r : Option (List SourceTerms) = if b then Some (record { plant = text; low = 0; high = MOST_SHARE } ∷ []) else split_sources text in r) other
+    ∙ sym (sources_with-all text)

@@ -1,5 +1,6 @@
 -- The sources that a supply names: other plants each, and shares that follow one another to the whole.
-use Rattle.std.proofs.Common.{◌≡◌, ◌≤◌, ℕ, ◌+◌, ◌==◌, ◌&&◌, not, Bool, true, false, leb, if◌then◌else◌, List, [], ◌∷◌, length, Option, Some, None, refl, subst, arith}
+use Rattle.std.proofs.Common.{◌≡◌, ◌≤◌, ℕ, ◌+◌, ◌==◌, ◌&&◌, not, Bool, true, false, leb, if◌then◌else◌, List, [], ◌∷◌, length, Option, Some, None, refl, subst}
+use Rattle.std.proofs.Common.{arith}
 use Rattle.std.specs.List.{All, IsDistinct, list_all, list_any, slice_split, sum_by}
 use Rattle.std.specs.Prelude.{codes}
 use Rattle.std.specs.Str.{bytes_eq}
@@ -12,7 +13,8 @@ use Rattle.mrp_qty.specs.declared.limits.TheConstants.{MOST_SHARE, MOST_SOURCES_
 use Rattle.mrp_spell.specs.Spelling.{is_name}
 use Rattle.mrp_spell.specs.Parsing.{cut, is_colon}
 use Rattle.mrp_spell.specs.Supplies.{BuyTerms, FromTerms, MakeTerms, SourceTerms, SupplyTerms}
-use Rattle.mrp_spell.specs.SupplyParsing.{are_different, are_whole, AreWhole, from_terms, HasName, in_a_row, is_same_plant, IsShare, IsWholeSupply, plant_shares, PlantShare, ShareFrom, sources_of, split_sources, supply_in, supply_of, whole_in_a_row}
+use Rattle.mrp_spell.specs.SupplyParsing.{are_different, are_whole, AreWhole, from_terms, HasName, in_a_row, is_same_plant, IsShare, IsWholeSupply}
+use Rattle.mrp_spell.specs.SupplyParsing.{plant_shares, PlantShare, ShareFrom, sources_of, split_sources, supply_in, supply_of, whole_in_a_row}
 use Rattle.mrp_spell.proofs.Lists.{All-from_any, All_one, IsDistinct-nil, distinct_one}
 use Rattle.mrp_spell.proofs.Ranges.{same_Some}
 use Rattle.mrp_spell.proofs.Shares.{InRange, shares_in_range}
@@ -42,9 +44,11 @@ row_names low (s ∷ ss) e =
     let parts = and_parts (is_name s.plant) (list_all (λ s. is_name s.plant) ss) e in
     All-cons HasName (record { plant = s.plant; low = low; high = low + s.share }) (in_a_row (low + s.share) ss) parts.0 (row_names (low + s.share) ss parts.1)
 
-row_new : (plant : List ℕ) (low : ℕ) (ss : List PlantShare) → list_any (λ t. bytes_eq plant t.plant) ss ≡ false → list_any (λ t. bytes_eq plant t.plant) (in_a_row low ss) ≡ false
+row_new : (plant : List ℕ) (low : ℕ) (ss : List PlantShare) → list_any (λ t. bytes_eq plant t.plant) ss ≡ false
+    → list_any (λ t. bytes_eq plant t.plant) (in_a_row low ss) ≡ false
 row_new plant low [] e = refl
-row_new plant low (s ∷ ss) e = let parts = or_parts (bytes_eq plant s.plant) (list_any (λ t. bytes_eq plant t.plant) ss) e in or_from _ _ parts.0 (row_new plant (low + s.share) ss parts.1)
+row_new plant low (s ∷ ss) e = let parts = or_parts (bytes_eq plant s.plant) (list_any (λ t. bytes_eq plant t.plant) ss) e
+    in or_from _ _ parts.0 (row_new plant (low + s.share) ss parts.1)
 
 row_apart : (low : ℕ) (ss : List PlantShare) → are_different ss ≡ true → IsDistinct is_same_plant (in_a_row low ss)
 row_apart low [] e = IsDistinct-nil is_same_plant
@@ -58,11 +62,13 @@ row_apart low (s ∷ ss) e =
 
 row_follows : (low high : ℕ) (ss : List PlantShare) → low + sum_by (λ s. s.share) ss ≡ high → ShareFrom low (in_a_row low ss) high
 row_follows low high [] e = omega (arith, e)
-row_follows low high (s ∷ ss) e = let sums = sum_by-cons (λ (x : PlantShare). x.share) s ss in (refl, row_follows (low + s.share) high ss (omega (arith, sums, e)))
+row_follows low high (s ∷ ss) e = let sums = sum_by-cons (λ (x : PlantShare). x.share) s ss
+    in (refl, row_follows (low + s.share) high ss (omega (arith, sums, e)))
 
 row_whole : (ss : List PlantShare) → All InRange ss → are_whole ss ≡ true → AreWhole (in_a_row 0 ss)
 row_whole ss range e =
-    let a = and_parts (leb 2 (length ss) && leb (length ss) MOST_SOURCES_OF_PAIR && list_all (λ s. is_name s.plant) ss && are_different ss) (sum_by (λ s. s.share) ss == MOST_SHARE) e in
+    let a = and_parts (leb 2 (length ss) && leb (length ss) MOST_SOURCES_OF_PAIR && list_all (λ s. is_name s.plant) ss && are_different ss)
+    (sum_by (λ s. s.share) ss == MOST_SHARE) e in
     let b = and_parts (leb 2 (length ss) && leb (length ss) MOST_SOURCES_OF_PAIR && list_all (λ s. is_name s.plant) ss) (are_different ss) a.0 in
     let c = and_parts (leb 2 (length ss) && leb (length ss) MOST_SOURCES_OF_PAIR) (list_all (λ s. is_name s.plant) ss) b.0 in
     let d = and_parts (leb 2 (length ss)) (leb (length ss) MOST_SOURCES_OF_PAIR) c.0 in
@@ -76,7 +82,8 @@ row_whole ss range e =
       shares = row_follows 0 MOST_SHARE ss (omega (arith, sums));
     }
 
-whole_row : (r : Option (List PlantShare)) (ts : List SourceTerms) → ((ss : List PlantShare) → r ≡ Some ss → All InRange ss) → whole_in_a_row r ≡ Some ts → AreWhole ts
+whole_row : (r : Option (List PlantShare)) (ts : List SourceTerms) → ((ss : List PlantShare) → r ≡ Some ss → All InRange ss) → whole_in_a_row r ≡ Some ts
+    → AreWhole ts
 whole_row None ts range e = absurd (cc)
 whole_row (Some ss) ts range e = by (are_whole ss) refl e
   where
@@ -92,10 +99,18 @@ sources_are : (text : List ℕ) (ss : List SourceTerms) → sources_of text ≡ 
 unfolding sources_of
 sources_are text ss e = by (is_name text) refl e
   where
-    by : (b : Bool) → is_name text ≡ b → ◌≡◌ {A = Option (List SourceTerms)} (if b then Some (record { plant = text; low = 0; high = MOST_SHARE } ∷ []) else split_sources text) (Some ss) → AreWhole ss
+    by : (b : Bool) → is_name text ≡ b → ◌≡◌ {A = Option (List SourceTerms)} (if b then Some (record { plant = text; low = 0; high = MOST_SHARE } ∷ [])
+        else split_sources text) (Some ss) → AreWhole ss
     by true name e =
         let one : SourceTerms = record { plant = text; low = 0; high = MOST_SHARE } in
-        subst AreWhole (same_Some (one ∷ []) ss e) (record { few = omega arith; names = All_one HasName one name; each = All_one IsShare one (record { rises = omega arith; ends = omega arith }); apart = distinct_one is_same_plant one; shares = (refl, refl) })
+        subst AreWhole (same_Some (one ∷ []) ss e) (record {
+          few = omega arith;
+          names = All_one HasName one name;
+          each =
+              All_one IsShare one (record { rises = omega arith; ends = omega arith });
+          apart = distinct_one is_same_plant one;
+          shares = (refl, refl);
+        })
     by false name e = split_are text ss e
 
 -- ---- the supply of a pair row

@@ -1,5 +1,6 @@
 -- A supply has one text, and that text is read as it.
-use Rattle.std.proofs.Common.{◌≡◌, ◌≤◌, ℕ, ◌+◌, ◌-◌, ◌==◌, ◌&&◌, not, Bool, true, false, leb, if◌then◌else◌, List, [], ◌∷◌, ◌++◌, length, map, Option, Some, None, Result, Ok, Err, refl, sym, ap, ◌∙◌, subst, arith}
+use Rattle.std.proofs.Common.{◌≡◌, ◌≤◌, ℕ, ◌+◌, ◌-◌, ◌==◌, ◌&&◌, not, Bool, true, false, leb, if◌then◌else◌, List, [], ◌∷◌, ◌++◌, length, map, Option, Some}
+use Rattle.std.proofs.Common.{None, Result, Ok, Err, refl, sym, ap, ◌∙◌, subst, arith}
 use Rattle.std.specs.Fmt.{decimal}
 use Rattle.std.specs.List.{All, IsDistinct, join_with_byte, list_all, list_any, slice_split, sum_by}
 use Rattle.std.specs.Prelude.{codes}
@@ -16,7 +17,8 @@ use Rattle.mrp_qty.specs.declared.limits.TheConstants.{MOST_SHARE, MOST_SOURCES_
 use Rattle.mrp_spell.specs.Spelling.{is_name, is_name_byte}
 use Rattle.mrp_spell.specs.Parsing.{cut, is_colon, number_within}
 use Rattle.mrp_spell.specs.Supplies.{BuyTerms, FromTerms, MakeTerms, source_fields, sources_text, SourceTerms, supply_text, SupplyTerms}
-use Rattle.mrp_spell.specs.SupplyParsing.{are_different, are_whole, AreWhole, BeginsFrom, from_terms, HasName, in_a_row, is_same_plant, IsShare, IsWholeSupply, plant_shares, PlantShare, share_before, ShareFrom, sources_of, split_sources, supply_in, supply_of, whole_in_a_row}
+use Rattle.mrp_spell.specs.SupplyParsing.{are_different, are_whole, AreWhole, BeginsFrom, from_terms, HasName, in_a_row, is_same_plant, IsShare, IsWholeSupply}
+use Rattle.mrp_spell.specs.SupplyParsing.{plant_shares, PlantShare, share_before, ShareFrom, sources_of, split_sources, supply_in, supply_of, whole_in_a_row}
 use Rattle.mrp_spell.specs.declared.supplies.SpelledSupply.{SpelledSupply}
 use Rattle.mrp_spell.specs.declared.supplies.SupplyFault.{SupplyFault}
 use Rattle.mrp_spell.specs.declared.supplies.SupplyFault.TheVariants.{NotASupply, Memory}
@@ -38,7 +40,8 @@ fields_are [] ss e = subst (λ l. [] ≡ share_fields l) (same_Some [] ss e) ref
 fields_are (f ∷ []) ss e = absurd (cc)
 fields_are (f ∷ g ∷ fs) ss e = by (number_within g 1 (MOST_SHARE - 1)) (plant_shares fs) (number_is g 1 (MOST_SHARE - 1)) (fields_are fs) e
   where
-    by : (o : Option ℕ) (r : Option (List PlantShare)) → ((n : ℕ) → o ≡ Some n → g ≡ decimal n) → ((later : List PlantShare) → r ≡ Some later → fs ≡ share_fields later)
+    by : (o : Option ℕ) (r : Option (List PlantShare)) → ((n : ℕ) → o ≡ Some n → g ≡ decimal n)
+        → ((later : List PlantShare) → r ≡ Some later → fs ≡ share_fields later)
         → share_before f o r ≡ Some ss → f ∷ g ∷ fs ≡ share_fields ss
     by None r is are e = absurd (cc)
     by (Some n) None is are e = absurd (cc)
@@ -60,7 +63,8 @@ row_text (s ∷ t ∷ ss) many = refl
 
 two_at_least : (ss : List PlantShare) → are_whole ss ≡ true → 2 ≤ length ss
 two_at_least ss e =
-    let a = and_parts (leb 2 (length ss) && leb (length ss) MOST_SOURCES_OF_PAIR && list_all (λ s. is_name s.plant) ss && are_different ss) (sum_by (λ s. s.share) ss == MOST_SHARE) e in
+    let a = and_parts (leb 2 (length ss) && leb (length ss) MOST_SOURCES_OF_PAIR && list_all (λ s. is_name s.plant) ss && are_different ss)
+    (sum_by (λ s. s.share) ss == MOST_SHARE) e in
     let b = and_parts (leb 2 (length ss) && leb (length ss) MOST_SOURCES_OF_PAIR && list_all (λ s. is_name s.plant) ss) (are_different ss) a.0 in
     let c = and_parts (leb 2 (length ss) && leb (length ss) MOST_SOURCES_OF_PAIR) (list_all (λ s. is_name s.plant) ss) b.0 in
     let d = and_parts (leb 2 (length ss)) (leb (length ss) MOST_SOURCES_OF_PAIR) c.0 in
@@ -70,7 +74,8 @@ split_text : (text : List ℕ) (ts : List SourceTerms) → split_sources text �
 unfolding split_sources
 split_text text ts e = by (plant_shares (slice_split is_colon text)) (fields_are (slice_split is_colon text)) e
   where
-    by : (r : Option (List PlantShare)) → ((ss : List PlantShare) → r ≡ Some ss → slice_split is_colon text ≡ share_fields ss) → whole_in_a_row r ≡ Some ts → text ≡ sources_text ts
+    by : (r : Option (List PlantShare)) → ((ss : List PlantShare) → r ≡ Some ss → slice_split is_colon text ≡ share_fields ss) → whole_in_a_row r ≡ Some ts
+        → text ≡ sources_text ts
     by None are e = absurd (cc)
     by (Some ss) are e = at (are_whole ss) refl e
       where
@@ -85,7 +90,8 @@ sources_are_text : (text : List ℕ) (ts : List SourceTerms) → sources_of text
 unfolding sources_of
 sources_are_text text ts e = by (is_name text) e
   where
-    by : (b : Bool) → ◌≡◌ {A = Option (List SourceTerms)} (if b then Some (record { plant = text; low = 0; high = MOST_SHARE } ∷ []) else split_sources text) (Some ts) → text ≡ sources_text ts
+    by : (b : Bool) → ◌≡◌ {A = Option (List SourceTerms)} (if b then Some (record { plant = text; low = 0; high = MOST_SHARE } ∷ [])
+        else split_sources text) (Some ts) → text ≡ sources_text ts
     by true e = subst (λ l. text ≡ sources_text l) (same_Some (record { plant = text; low = 0; high = MOST_SHARE } ∷ []) ts e) refl
     by false e = split_text text ts e
 
@@ -93,18 +99,21 @@ pub supply_is_text : (text : List ℕ) (s : SupplyTerms) → supply_of text ≡ 
 unfolding supply_of
 supply_is_text text s e = by (cut text) refl e
   where
-    word : (b c : Bool) → bytes_eq text (codes "make") ≡ b → bytes_eq text (codes "buy") ≡ c → ◌≡◌ {A = Option SupplyTerms} (if b then Some MakeTerms else if c then Some BuyTerms else None) (Some s) → text ≡ supply_text s
+    word : (b c : Bool) → bytes_eq text (codes "make") ≡ b → bytes_eq text (codes "buy") ≡ c
+        → ◌≡◌ {A = Option SupplyTerms} (if b then Some MakeTerms else if c then Some BuyTerms else None) (Some s) → text ≡ supply_text s
     word true c m b e = subst (λ s. text ≡ supply_text s) (same_Some MakeTerms s e) ((bytes_eq-Decides text (codes "make")).0 m)
     word false true m b e = subst (λ s. text ≡ supply_text s) (same_Some BuyTerms s e) ((bytes_eq-Decides text (codes "buy")).0 b)
     word false false m b e = absurd (cc)
 
-    named : (p : List ℕ × List ℕ) → cut text ≡ Some p → p.0 ≡ codes "from" → (r : Option (List SourceTerms)) → ((ts : List SourceTerms) → r ≡ Some ts → p.1 ≡ sources_text ts) → from_terms r ≡ Some s → text ≡ supply_text s
+    named : (p : List ℕ × List ℕ) → cut text ≡ Some p → p.0 ≡ codes "from" → (r : Option (List SourceTerms))
+        → ((ts : List SourceTerms) → r ≡ Some ts → p.1 ≡ sources_text ts) → from_terms r ≡ Some s → text ≡ supply_text s
     named p c from None are e = absurd (cc)
     named p c from (Some ts) are e =
         subst (λ s. text ≡ supply_text s) (same_Some (FromTerms ts) s e)
         (cut_text text p c ∙ ap (λ w. w ++ (58 ∷ p.1)) from ∙ ap (λ l. codes "from" ++ (58 ∷ l)) (are ts refl))
 
-    sources : (p : List ℕ × List ℕ) (b : Bool) → cut text ≡ Some p → bytes_eq p.0 (codes "from") ≡ b → ◌≡◌ {A = Option SupplyTerms} (if b then from_terms (sources_of p.1) else None) (Some s) → text ≡ supply_text s
+    sources : (p : List ℕ × List ℕ) (b : Bool) → cut text ≡ Some p → bytes_eq p.0 (codes "from") ≡ b
+        → ◌≡◌ {A = Option SupplyTerms} (if b then from_terms (sources_of p.1) else None) (Some s) → text ≡ supply_text s
     sources p true c f e = named p c ((bytes_eq-Decides p.0 (codes "from")).0 f) (sources_of p.1) (sources_are_text p.1) e
     sources p false c f e = absurd (cc)
 
@@ -172,7 +181,8 @@ fields_plain [] names are = All-nil IsPlain
 fields_plain (s ∷ ss) names are =
     let one : IsPart s = All-head IsPart s ss are in
     All-cons IsPlain s.plant (decimal (s.high - s.low) ∷ source_fields ss) (plain_name s.plant (All-head HasName s ss names))
-    (All-cons IsPlain (decimal (s.high - s.low)) (source_fields ss) (plain_share (s.high - s.low) one.1) (fields_plain ss (All-tail HasName s ss names) (All-tail IsPart s ss are)))
+    (All-cons IsPlain (decimal (s.high - s.low)) (source_fields ss) (plain_share (s.high - s.low) one.1)
+    (fields_plain ss (All-tail HasName s ss names) (All-tail IsPart s ss are)))
 
 same_length : (ss : List SourceTerms) → length (map plant_share ss) ≡ length ss
 same_length [] = refl
@@ -187,7 +197,8 @@ all_different [] apart = refl
 all_different (s ∷ ss) apart =
     let new = list_any_none (is_same_plant s) ss (All-from_recursion (λ t. is_same_plant s t ≡ false) ss (IsDistinct-head is_same_plant s ss apart)) in
     let same = list_any_keys plant_share (λ t. bytes_eq s.plant t.plant) (is_same_plant s) (λ t. refl) ss in
-    and_from (not (list_any (λ t. bytes_eq s.plant t.plant) (map plant_share ss))) (are_different (map plant_share ss)) (not_from_false _ (same ∙ new)) (all_different ss (IsDistinct-tail is_same_plant s ss apart))
+    and_from (not (list_any (λ t. bytes_eq s.plant t.plant) (map plant_share ss))) (are_different (map plant_share ss)) (not_from_false _ (same ∙ new))
+    (all_different ss (IsDistinct-tail is_same_plant s ss apart))
 
 sums_to : (low high : ℕ) (ss : List SourceTerms) → All IsShare ss → ShareFrom low ss high → low + sum_by (λ s. s.share) (map plant_share ss) ≡ high
 sums_to low high [] each shares = omega (arith, shares)
@@ -217,9 +228,11 @@ whole_again ss many h =
     let two : leb 2 (length l) ≡ true = grind (arith, nat_tests) in
     let four : leb (length l) MOST_SOURCES_OF_PAIR ≡ true = grind (arith, nat_tests) in
     let total : (sum_by (λ s. s.share) l == MOST_SHARE) ≡ true = grind (arith, nat_tests) in
-    and_from (leb 2 (length l) && leb (length l) MOST_SOURCES_OF_PAIR && list_all (λ s. is_name s.plant) l && are_different l) (sum_by (λ s. s.share) l == MOST_SHARE)
+    and_from (leb 2 (length l) && leb (length l) MOST_SOURCES_OF_PAIR && list_all (λ s. is_name s.plant) l && are_different l)
+    (sum_by (λ s. s.share) l == MOST_SHARE)
     (and_from (leb 2 (length l) && leb (length l) MOST_SOURCES_OF_PAIR && list_all (λ s. is_name s.plant) l) (are_different l)
-    (and_from (leb 2 (length l) && leb (length l) MOST_SOURCES_OF_PAIR) (list_all (λ s. is_name s.plant) l) (and_from (leb 2 (length l)) (leb (length l) MOST_SOURCES_OF_PAIR) two four) (all_named ss h.names))
+    (and_from (leb 2 (length l) && leb (length l) MOST_SOURCES_OF_PAIR) (list_all (λ s. is_name s.plant) l)
+    (and_from (leb 2 (length l)) (leb (length l) MOST_SOURCES_OF_PAIR) two four) (all_named ss h.names))
     (all_different ss h.apart)) total
 
 split_written : (s t : SourceTerms) (ss : List SourceTerms) → AreWhole (s ∷ t ∷ ss) → split_sources (sources_text (s ∷ t ∷ ss)) ≡ Some (s ∷ t ∷ ss)
@@ -238,14 +251,16 @@ sources_written [] h = let none = h.shares in absurd (omega (arith, none))
 sources_written (s ∷ []) h =
     let begins = h.shares.0 in
     let ends = h.shares.1 in
-    ap (λ b. let o : Option (List SourceTerms) = if b then Some (record { plant = s.plant; low = 0; high = MOST_SHARE } ∷ []) else split_sources s.plant in o) (All-head HasName s [] h.names)
+    ap (λ b. let o : Option (List SourceTerms) = if b then Some (record { plant = s.plant; low = 0; high = MOST_SHARE } ∷ [])
+    else split_sources s.plant in o) (All-head HasName s [] h.names)
     ∙ ap (λ l. let o : Option (List SourceTerms) = Some (record { plant = s.plant; low = l; high = MOST_SHARE } ∷ []) in o) (sym begins)
     ∙ ap (λ u. let o : Option (List SourceTerms) = Some (record { plant = s.plant; low = s.low; high = u } ∷ []) in o) ends
 sources_written (s ∷ t ∷ ss) h =
     let l = s ∷ t ∷ ss in
     let are = parts s t ss h.each h.shares in
     let fields = split_joined s.plant (decimal (s.high - s.low) ∷ source_fields (t ∷ ss)) (fields_plain l h.names are) in
-    ap (λ b. let o : Option (List SourceTerms) = if b then Some (record { plant = sources_text l; low = 0; high = MOST_SHARE } ∷ []) else split_sources (sources_text l) in o)
+    ap (λ b. let o : Option (List SourceTerms) = if b then Some (record { plant = sources_text l; low = 0; high = MOST_SHARE } ∷ [])
+    else split_sources (sources_text l) in o)
     (not_name (sources_text l) s.plant (decimal (s.high - s.low)) (source_fields (t ∷ ss)) fields)
     ∙ split_written s t ss h
 
@@ -263,7 +278,8 @@ begins_from text word plants c is =
     (plants, cut_text text (word, plants) c ∙ ap (λ w. w ++ (58 ∷ plants)) ((bytes_eq-Decides word (codes "from")).0 is))
 
 -- the answer of a reader of supplies says whose text it was
-pub tells_written : (text : List ℕ) (r : Result SpelledSupply SupplyFault) → TellsSpelled supply_view r (supply_of text) → (r ≡ Err Memory → BeginsFrom text) → TellsWritten text r
+pub tells_written : (text : List ℕ) (r : Result SpelledSupply SupplyFault) → TellsSpelled supply_view r (supply_of text) → (r ≡ Err Memory → BeginsFrom text)
+    → TellsWritten text r
 tells_written text (Ok x) e begins = (supply_is_text text (supply_view x) e, supply_is text (supply_view x) e)
 tells_written text (Err NotASupply) e begins = λ s whole same. let read = sym e ∙ ap supply_of same ∙ supply_written s whole in absurd (cc)
 tells_written text (Err Memory) e begins = begins refl

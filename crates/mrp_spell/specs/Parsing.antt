@@ -1,5 +1,6 @@
 -- Which number and which lot rule a text spells.
-use Rattle.std.specs.Prelude.{ℕ, ◌<◌, ◌^◌, ◌+◌, ◌-◌, ◌*◌, ◌==◌, ◌&&◌, ◌||◌, not, nat_lt, nat_le, Bool, if◌then◌else◌, List, [], ◌∷◌, length}
+use Rattle.std.specs.Prelude.{ℕ, ◌<◌, ◌^◌, ◌+◌, ◌-◌, ◌*◌, ◌==◌, ◌&&◌, ◌||◌, not, nat_lt, nat_le, Bool, if◌then◌else◌}
+use Rattle.std.specs.Prelude.{List, [], ◌∷◌, length}
 use Rattle.std.specs.Prelude.{slice_index, codes, Option, Some, None, option_map}
 use Rattle.std.specs.Char.{is_ascii_digit}
 use Rattle.std.specs.List.{before_first, after_first, position_or_len, list_all}
@@ -11,7 +12,8 @@ use Rattle.mrp_lot.specs.declared.rule.TheConstants.{MOST_IN_RULE}
 
 -- a number is `0`, or 1 to 16 digits of which the first is not `0`
 abbrev pub is_number : List ℕ → Bool
-is_number text = nat_le 1 (length text) && nat_le (length text) 16 && (not (slice_index text 0 == 48) || length text == 1) && list_all is_ascii_digit text
+is_number text = nat_le 1 (length text) && nat_le (length text) 16
+    && (not (slice_index text 0 == 48) || length text == 1) && list_all is_ascii_digit text
 
 -- the greatest number that is read has 16 digits
 abbrev pub IsShort : ℕ → Type 0
@@ -39,7 +41,8 @@ is_colon b = b == 58
 
 -- a text cut at its first colon
 unfoldable pub cut : List ℕ → Option (List ℕ × List ℕ)
-cut text = if nat_lt (position_or_len is_colon text) (length text) then Some (before_first is_colon text, after_first is_colon text) else None
+cut text = if nat_lt (position_or_len is_colon text) (length text)
+    then Some (before_first is_colon text, after_first is_colon text) else None
 
 abbrev pub min_rule : Option ℕ → Option ℕ → Option Rule
 min_rule None k = None

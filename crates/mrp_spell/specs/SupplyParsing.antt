@@ -1,5 +1,6 @@
 -- Which supply a text spells, and what every supply that is spelled says.
-use Rattle.std.specs.Prelude.{◌≡◌, ◌≤◌, ◌<◌, ℕ, ◌+◌, ◌-◌, ◌==◌, ◌&&◌, not, nat_le, Bool, true, if◌then◌else◌, List, [], ◌∷◌, ◌++◌, codes, length}
+use Rattle.std.specs.Prelude.{◌≡◌, ◌≤◌, ◌<◌, ℕ, ◌+◌, ◌-◌, ◌==◌, ◌&&◌, not, nat_le, Bool, true, if◌then◌else◌, List, []}
+use Rattle.std.specs.Prelude.{◌∷◌, ◌++◌, codes, length}
 use Rattle.std.specs.Prelude.{Option, Some, None, option_map, All}
 use Rattle.std.specs.List.{IsDistinct, list_all, list_any, slice_split, sum_by}
 use Rattle.std.specs.Str.{bytes_eq}
@@ -54,7 +55,8 @@ split_sources text = whole_in_a_row (plant_shares (slice_split is_colon text))
 
 -- one plant, or two to four plants with their shares
 unfoldable pub sources_of : List ℕ → Option (List SourceTerms)
-sources_of text = if is_name text then Some (record { plant = text; low = 0; high = MOST_SHARE } ∷ []) else split_sources text
+sources_of text = if is_name text then Some (record { plant = text; low = 0; high = MOST_SHARE } ∷ [])
+    else split_sources text
 
 abbrev pub from_terms : Option (List SourceTerms) → Option SupplyTerms
 from_terms sources = option_map FromTerms sources

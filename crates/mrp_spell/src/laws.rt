@@ -17,7 +17,8 @@ pub fn supplies_are_whole()
 /// with their shares, as they are written.
 pub fn supplies_have_one_text()
     ensures read { (supply : SupplyTerms) → IsWholeSupply supply → supply_of (supply_text supply) ≡ Some supply }
-    ensures text { (text : List ℕ) (supply : SupplyTerms) → supply_of text ≡ Some supply → (text ≡ supply_text supply) × IsWholeSupply supply }
+    ensures text { (text : List ℕ) (supply : SupplyTerms) → supply_of text ≡ Some supply
+        → (text ≡ supply_text supply) × IsWholeSupply supply }
 {}
 
 /// A lot rule has one text, `lot`, `fixed:Q`, `periods:K` or `min:M:K` with its own numbers, and that

@@ -36,7 +36,8 @@ fn read(text: &str) -> Option<u64>
 /// below 10^16 has just one such text.
 pub fn number(text: &str) -> Option<u64>
     ensures value { result ≡ spelled_number text.now }
-    ensures spelled { MatchOption result ((n : ℕ) → IsShort n → text.now ≢ number_text n) (λ n. (text.now ≡ number_text n) × IsShort n) }
+    ensures spelled { MatchOption result ((n : ℕ) → IsShort n
+        → text.now ≢ number_text n) (λ n. (text.now ≡ number_text n) × IsShort n) }
 {
     read(text)
 }

@@ -1,9 +1,11 @@
 //! How it is spelled where a pair comes from.
 
-ghost use Rattle.std.specs.Prelude.{◌≡◌, ◌+◌, ◌-◌, ◌==◌, ◌≤◌, if◌then◌else◌, length, map, option_map, Err, IfOk, IfSome, Some, None};
+ghost use Rattle.std.specs.Prelude.{◌≡◌, ◌+◌, ◌-◌, ◌==◌, ◌≤◌, if◌then◌else◌, length, map, option_map, Err, IfOk};
+ghost use Rattle.std.specs.Prelude.{IfSome, Some, None};
 ghost use Rattle.std.specs.List.{list_any};
 ghost use Rattle.std.specs.Str.{bytes_eq};
-ghost use Rattle.mrp_spell.specs.Spelled.{share_view, source_view, supply_view, AreSources, HasSources, IsSource, TellsSpelled, TellsWritten};
+ghost use Rattle.mrp_spell.specs.Spelled.{share_view, source_view, supply_view, AreSources, HasSources, IsSource};
+ghost use Rattle.mrp_spell.specs.Spelled.{TellsSpelled, TellsWritten};
 ghost use Rattle.mrp_spell.specs.Parsing.{number_within};
 ghost use Rattle.mrp_spell.specs.Steps.{share_step, shared_source, sources_with};
 ghost use Rattle.mrp_spell.specs.SupplyParsing.{BeginsFrom, names_plant, sources_of, supply_of};
@@ -131,7 +133,8 @@ fn shared_sources<'r>(
     requires within { low ≤ 1000 }
     requires few { length sources.items + left ≤ 4 }
     requires sources { AreSources sources.items }
-    ensures exact { TellsSpelled (λ found. map source_view found.items) result (sources_with left (map source_view sources.entry.items) low text.now) }
+    ensures exact { TellsSpelled (λ found. map source_view found.items) result
+        (sources_with left (map source_view sources.entry.items) low text.now) }
     ensures sources { IfOk result (λ found. AreSources found.items) }
 {
     if left == 0 {
@@ -188,7 +191,8 @@ fn share_of<'r>(
     later: Option<&'r str>,
 ) -> Option<(SpelledSource<'r>, Option<&'r str>)>
     requires within { low ≤ 1000 }
-    ensures exact { share_view result ≡ share_step plant.now low (number_within share.now 1 (MOST_SHARE - 1)) (option_map (λ t. t.now) later.entry) }
+    ensures exact { share_view result ≡ share_step plant.now low (number_within share.now 1 (MOST_SHARE - 1))
+        (option_map (λ t. t.now) later.entry) }
     ensures source { IfSome result (λ found. IsSource found.0) }
 {
     let share = number_within(share, 1, MOST_SHARE - 1)?;

@@ -19,7 +19,8 @@ one_record N r s is hr hs same =
     let both : ◌≡◌ {A = Result Record RecordFaultKind} (Ok r) (Ok s) = sym (record_read N r is hr) ∙ ap (record_of N) same ∙ record_read N s is hs in
     cc
 
-same_records : (N : Table) (rs ss : List Record) → IsTable N → All (HasRow N) rs → All (HasRow N) ss → map (record_fields N) rs ≡ map (record_fields N) ss → rs ≡ ss
+same_records : (N : Table) (rs ss : List Record) → IsTable N → All (HasRow N) rs → All (HasRow N) ss → map (record_fields N) rs ≡ map (record_fields N) ss
+    → rs ≡ ss
 same_records N [] [] is hr hs same = refl
 same_records N [] (s ∷ ss) is hr hs same = absurd (cc)
 same_records N (r ∷ rs) [] is hr hs same = absurd (cc)
@@ -30,7 +31,8 @@ same_records N (r ∷ rs) (s ∷ ss) is hr hs same =
     let others = same_records N rs ss is (All-tail (HasRow N) r rs hr) (All-tail (HasRow N) s ss hs) rest in
     ap (λ x. x ∷ rs) first ∙ ap (λ xs. s ∷ xs) others
 
-pub reads_back : (N : Table) → IsTable N → (written : List Record) → All (HasRow N) written → (read : List Record) → AreRowsOf N (rows_of_text (records_text N written)) read → read ≡ written
+pub reads_back : (N : Table) → IsTable N → (written : List Record) → All (HasRow N) written → (read : List Record)
+    → AreRowsOf N (rows_of_text (records_text N written)) read → read ≡ written
 reads_back N is written have read are = same_records N read written is are.have_rows have (sym are.rows_are ∙ written_rows N written is have)
 
 -- a row among those of records is one of theirs
@@ -43,7 +45,8 @@ row_among N (r ∷ rs) (x ∷ xs) row rest have same =
     let more : map (record_fields N) rs ≡ xs ++ row ∷ rest = cc in
     row_among N rs xs row rest (All-tail (HasRow N) r rs have) more
 
-no_fault_among : (N : Table) (written : List Record) (front rest : List (List (List ℕ))) (k : RecordFaultKind) → IsTable N → All (HasRow N) written → map (record_fields N) written ≡ front ++ rest
+no_fault_among : (N : Table) (written : List Record) (front rest : List (List (List ℕ))) (k : RecordFaultKind) → IsTable N → All (HasRow N) written
+    → map (record_fields N) written ≡ front ++ rest
     → StartsWithFault N rest k → ⊥
 no_fault_among N written front rest k is have same (row, others, at, bad) =
     let found = row_among N written front row others have (same ∙ ap (λ rows. front ++ rows) at) in
@@ -51,12 +54,14 @@ no_fault_among N written front rest k is have same (row, others, at, bad) =
     let both : ◌≡◌ {A = Result Record RecordFaultKind} (Ok found.0) (Err k) = sym good ∙ bad in
     absurd (cc)
 
-fault_is : (N : Table) (count : ℕ) (rows : List (List (List ℕ))) (k : RecordFaultKind) → StopsAfter count N rows k → (StartsWithFault N rows k → ⊥) → (k ≡ fault.ReadFault) ⊎ (k ≡ fault.Memory)
+fault_is : (N : Table) (count : ℕ) (rows : List (List (List ℕ))) (k : RecordFaultKind) → StopsAfter count N rows k → (StartsWithFault N rows k → ⊥)
+    → (k ≡ fault.ReadFault) ⊎ (k ≡ fault.Memory)
 fault_is N count rows fault.ReadFault stops none = inl refl
 fault_is N count rows fault.Memory stops none = inr refl
 fault_is N count rows k stops none = absurd (none stops.1)
 
-pub has_no_fault : (N : Table) → IsTable N → (written : List Record) → All (HasRow N) written → (e : RecordFault) → HasFault N (rows_of_text (records_text N written)) e
+pub has_no_fault : (N : Table) → IsTable N → (written : List Record) → All (HasRow N) written → (e : RecordFault)
+    → HasFault N (rows_of_text (records_text N written)) e
     → (e.kind ≡ fault.ReadFault) ⊎ (e.kind ≡ fault.Memory)
 has_no_fault N is written have e has =
     fault_is N (length has.before) has.rest e.kind has.stops

@@ -11,7 +11,8 @@ use Rattle.mrp_stream.specs.declared.fault.RecordFaultKind.{RecordFaultKind}
 use Rattle.mrp_stream.specs.declared.fault.RecordFaultKind.TheVariants as fault
 use Rattle.mrp_stream.specs.declared.kind.Kind.{Kind}
 use Rattle.mrp_stream.specs.declared.kind.Kind.TheVariants as kind
-use Rattle.mrp_stream.specs.Grammar.{spelled_close, spelled_end, record_is_empty_from, item_field, item_named, record_kind_of, spelled_line, number_field, of_kind, record_of, spelled_reset, record_row_kind, spelled_record, record_fields_used}
+use Rattle.mrp_stream.specs.Grammar.{spelled_close, spelled_end, record_is_empty_from, item_field, item_named, record_kind_of, spelled_line, number_field}
+use Rattle.mrp_stream.specs.Grammar.{of_kind, record_of, spelled_reset, record_row_kind, spelled_record, record_fields_used}
 use Rattle.mrp_stream.specs.Laws.{row_faults}
 
 module _ (P : RecordFaultKind → Type 0) where
@@ -24,11 +25,13 @@ module _ (P : RecordFaultKind → Type 0) where
   line-of : (N : Table) (row : List (List ℕ)) → P fault.BadNumber → P fault.UnknownItem → IfErr (spelled_line N row) P
   unfolding spelled_line
   line-of N row n u =
-      steps P _ _ (number row 1 n) (λ first. steps P _ _ (number row 3 n) (λ period. steps P _ _ (number row 4 n) (λ quantity. steps P _ _ (number row 5 n) (λ cumulative. steps P _ _ (item N row u) (λ item. tt)))))
+      steps P _ _ (number row 1 n) (λ first. steps P _ _ (number row 3 n)
+      (λ period. steps P _ _ (number row 4 n) (λ quantity. steps P _ _ (number row 5 n) (λ cumulative. steps P _ _ (item N row u) (λ item. tt)))))
 
   end-of : (N : Table) (row : List (List ℕ)) → P fault.BadNumber → P fault.UnknownItem → IfErr (spelled_end N row) P
   unfolding spelled_end
-  end-of N row n u = steps P _ _ (number row 1 n) (λ first. steps P _ _ (number row 3 n) (λ lines. steps P _ _ (number row 4 n) (λ cumulative. steps P _ _ (item N row u) (λ item. tt))))
+  end-of N row n u = steps P _ _ (number row 1 n) (λ first. steps P _ _ (number row 3 n)
+      (λ lines. steps P _ _ (number row 4 n) (λ cumulative. steps P _ _ (item N row u) (λ item. tt))))
 
   reset-of : (N : Table) (row : List (List ℕ)) → P fault.BadNumber → P fault.UnknownItem → IfErr (spelled_reset N row) P
   unfolding spelled_reset
@@ -46,19 +49,23 @@ module _ (P : RecordFaultKind → Type 0) where
 
   row-kind : (row : List (List ℕ)) → P fault.FieldCount → P fault.UnknownKind → IfErr (record_row_kind row) P
   unfolding record_row_kind
-  row-kind row c k = steps P _ _ (tested P (length row == 6) _ c) (λ six. steps P _ _ (found P (record_kind_of (field row 0)) _ k) (λ x. chosen P (record_is_empty_from row (record_fields_used x)) x fault.FieldCount c))
+  row-kind row c k = steps P _ _ (tested P (length row == 6) _ c)
+      (λ six. steps P _ _ (found P (record_kind_of (field row 0)) _ k) (λ x. chosen P (record_is_empty_from row (record_fields_used x)) x fault.FieldCount c))
 
-  spelled-record : (N : Table) (row : List (List ℕ)) → P fault.FieldCount → P fault.UnknownKind → P fault.BadNumber → P fault.UnknownItem → IfErr (spelled_record N row) P
+  spelled-record : (N : Table) (row : List (List ℕ)) → P fault.FieldCount → P fault.UnknownKind → P fault.BadNumber → P fault.UnknownItem
+      → IfErr (spelled_record N row) P
   unfolding spelled_record
   spelled-record N row c k n u = steps P _ _ (row-kind row c k) (λ x. of-kind N row x n u)
 
-  record-of : (N : Table) (row : List (List ℕ)) → P fault.NotUtf8 → P fault.FieldCount → P fault.UnknownKind → P fault.BadNumber → P fault.UnknownItem → IfErr (record_of N row) P
+  record-of : (N : Table) (row : List (List ℕ)) → P fault.NotUtf8 → P fault.FieldCount → P fault.UnknownKind → P fault.BadNumber → P fault.UnknownItem
+      → IfErr (record_of N row) P
   unfolding record_of
   record-of N row t c k n u = steps P _ _ (tested P (list_all is_utf8 row) _ t) (λ text. spelled-record N row c k n u)
 
 -- the list
 pub listed : (N : Table) (row : List (List ℕ)) → IfErr (record_of N row) (Contains row_faults)
-listed N row = record-of (Contains row_faults) N row (0, omega arith, refl) (1, omega arith, refl) (2, omega arith, refl) (3, omega arith, refl) (4, omega arith, refl)
+listed N row = record-of (Contains row_faults) N row (0, omega arith, refl) (1, omega arith, refl) (2, omega arith, refl) (3, omega arith, refl)
+    (4, omega arith, refl)
 
 -- a row whose fields are text is never refused for a failed read
 abbrev IsNoReadFault : RecordFaultKind → Type 0

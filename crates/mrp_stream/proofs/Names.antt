@@ -1,5 +1,6 @@
 -- The places of names.
-use Rattle.std.proofs.Common.{◌≡◌, ◌<◌, ◌+◌, ◌==◌, ℕ, nat_lt, Bool, cond, true, false, if◌then◌else◌, get_or, List, length, position, slice_get, option_map, [], Option, Some, None, refl, sym, ap, subst, ◌∙◌, arith}
+use Rattle.std.proofs.Common.{◌≡◌, ◌<◌, ◌+◌, ◌==◌, ℕ, nat_lt, Bool, cond, true, false, if◌then◌else◌, get_or, List, length, position, slice_get, option_map, []}
+use Rattle.std.proofs.Common.{Option, Some, None, refl, sym, ap, subst, ◌∙◌, arith}
 use Rattle.std.proofs.lemmas.Bool.{eqb-true, false≢true}
 use Rattle.std.proofs.lemmas.Bool.Decides.{nat_tests}
 use Rattle.std.proofs.lemmas.List.Quantifiers.{position-Some}
@@ -17,7 +18,8 @@ use Rattle.mrp_stream.specs.Rows.{record_item_name}
 use Rattle.mrp_stream.specs.Grammar.{item_named}
 
 -- where no name stands twice, a name has one place
-pub place_of_name : (names : List (List ℕ)) (name : List ℕ) (i : ℕ) → IsDistinct bytes_eq names → slice_get names i ≡ Some name → position (bytes_eq name) names ≡ Some i
+pub place_of_name : (names : List (List ℕ)) (name : List ℕ) (i : ℕ) → IsDistinct bytes_eq names → slice_get names i ≡ Some name
+    → position (bytes_eq name) names ≡ Some i
 place_of_name names name i once here =
     let within : i < length names = slice_get_within names i name here in
     let is : get_or names i [] ≡ name = get_or_from_slice_get names i name [] here in
@@ -87,19 +89,22 @@ found_more names x name i old new once here so_far is =
     ∙ turned (bytes_eq x name) (below i (position (bytes_eq name) names))
     ∙ sym (ap (option_map (λ i. record { 0 = i })) (below_more names x name i once here))
   where
-    turned : (b : Bool) (o : Option ℕ) → cond b (Some (let n : ItemNo = record { 0 = i } in n)) (option_map (λ i. record { 0 = i }) o) ≡ option_map (λ i. record { 0 = i }) (cond b (Some i) o)
+    turned : (b : Bool) (o : Option ℕ) → cond b (Some (let n : ItemNo = record { 0 = i } in n)) (option_map (λ i. record { 0 = i }) o)
+        ≡ option_map (λ i. record { 0 = i }) (cond b (Some i) o)
     turned true o = refl
     turned false o = refl
 
 -- the item of its own name
 pub item_of_name : (N : Table) (item : ItemNo) → IsTable N → item.0 < length N.items → item_named N (record_item_name N item) ≡ Some item
-item_of_name N item is within = ap (option_map (λ i. record { 0 = i })) (place_of_name N.items (record_item_name N item) item.0 is.once.items (slice_get-get_or N.items item.0 [] within))
+item_of_name N item is within = ap (option_map (λ i. record { 0 = i }))
+    (place_of_name N.items (record_item_name N item) item.0 is.once.items (slice_get-get_or N.items item.0 [] within))
 
 -- the name of an item that was found
 pub name_of_item : (N : Table) (name : List ℕ) (item : ItemNo) → item_named N name ≡ Some item → (item.0 < length N.items) × (name ≡ record_item_name N item)
 name_of_item N name item is = by (position (bytes_eq name) N.items) refl is
   where
-    by : (at : Option ℕ) → position (bytes_eq name) N.items ≡ at → option_map (λ i. record { 0 = i }) at ≡ Some item → (item.0 < length N.items) × (name ≡ record_item_name N item)
+    by : (at : Option ℕ) → position (bytes_eq name) N.items ≡ at → option_map (λ i. record { 0 = i }) at ≡ Some item
+        → (item.0 < length N.items) × (name ≡ record_item_name N item)
     by None at e = absurd (cc)
     by (Some i) at e =
         let same : i ≡ item.0 = cc in

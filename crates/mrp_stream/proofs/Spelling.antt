@@ -1,5 +1,6 @@
 -- A row that is read as a record is the row of that record.
-use Rattle.std.proofs.Common.{◌≡◌, ◌<◌, ◌==◌, ℕ, Bool, true, false, if◌then◌else◌, List, [], ◌∷◌, length, codes, Some, None, Result, Ok, Err, refl, ap, subst, ◌∙◌, arith}
+use Rattle.std.proofs.Common.{◌≡◌, ◌<◌, ◌==◌, ℕ, Bool, true, false, if◌then◌else◌, List, [], ◌∷◌, length, codes, Some, None, Result, Ok, Err, refl, ap, subst}
+use Rattle.std.proofs.Common.{◌∙◌, arith}
 use Rattle.std.specs.List.{All, list_all}
 use Rattle.std.specs.Str.{bytes_eq, is_utf8}
 use Rattle.std.proofs.lemmas.List.Elements.{All-cons, All-nil}
@@ -21,7 +22,8 @@ use Rattle.mrp_stream.specs.declared.fault.RecordFaultKind.TheVariants as fault
 use Rattle.mrp_stream.specs.declared.kind.Kind.{Kind}
 use Rattle.mrp_stream.specs.declared.kind.Kind.TheVariants as kind
 use Rattle.mrp_stream.specs.Rows.{HasRow, record_item_name, record_fields}
-use Rattle.mrp_stream.specs.Grammar.{spelled_close, spelled_end, record_is_empty_from, item_field, item_named, record_kind_of, spelled_line, number_field, of_kind, record_of, spelled_reset, record_row_kind, spelled_record, record_fields_used, with_record_fields}
+use Rattle.mrp_stream.specs.Grammar.{spelled_close, spelled_end, record_is_empty_from, item_field, item_named, record_kind_of, spelled_line, number_field}
+use Rattle.mrp_stream.specs.Grammar.{of_kind, record_of, spelled_reset, record_row_kind, spelled_record, record_fields_used, with_record_fields}
 use Rattle.mrp_stream.proofs.Bytes.{both_true}
 use Rattle.mrp_stream.proofs.Names.{name_of_item}
 
@@ -37,10 +39,13 @@ found_word : (word : List ℕ) (k l : Kind) → bytes_eq word (word_of l) ≡ tr
 found_word word k l test e = (bytes_eq-Decides word (word_of l)).0 test ∙ ap word_of (same_Some l k e)
 
 kind_word : (word : List ℕ) (k : Kind) → record_kind_of word ≡ Some k → word ≡ word_of k
-kind_word word k e = by (bytes_eq word (codes "line")) (bytes_eq word (codes "end")) (bytes_eq word (codes "reset")) (bytes_eq word (codes "close")) refl refl refl refl e
+kind_word word k e = by (bytes_eq word (codes "line")) (bytes_eq word (codes "end")) (bytes_eq word (codes "reset"))
+    (bytes_eq word (codes "close")) refl refl refl refl e
   where
-    by : (a b c d : Bool) → bytes_eq word (codes "line") ≡ a → bytes_eq word (codes "end") ≡ b → bytes_eq word (codes "reset") ≡ c → bytes_eq word (codes "close") ≡ d
-        → (if a then Some kind.Line else if b then Some kind.ItemEnd else if c then Some kind.Reset else if d then Some kind.Close else None) ≡ Some k → word ≡ word_of k
+    by : (a b c d : Bool) → bytes_eq word (codes "line") ≡ a → bytes_eq word (codes "end") ≡ b → bytes_eq word (codes "reset") ≡ c
+        → bytes_eq word (codes "close") ≡ d
+        → (if a then Some kind.Line else if b then Some kind.ItemEnd else if c then Some kind.Reset else if d then Some kind.Close else None) ≡ Some k
+        → word ≡ word_of k
     by true b c d ea eb ec ed e = found_word word k kind.Line ea e
     by false true c d ea eb ec ed e = found_word word k kind.ItemEnd eb e
     by false false true d ea eb ec ed e = found_word word k kind.Reset ec e
@@ -56,7 +61,8 @@ pub record IsOfKind (row : List (List ℕ)) (k : Kind) : Type 0 where
 free_kind : (row : List (List ℕ)) (k l : Kind) → with_record_fields row l ≡ Ok k → (record_is_empty_from row (record_fields_used k) ≡ true) × (l ≡ k)
 free_kind row k l e = by (record_is_empty_from row (record_fields_used l)) refl e
   where
-    by : (b : Bool) → record_is_empty_from row (record_fields_used l) ≡ b → (if b then Ok l else Err fault.FieldCount) ≡ Ok k → (record_is_empty_from row (record_fields_used k) ≡ true) × (l ≡ k)
+    by : (b : Bool) → record_is_empty_from row (record_fields_used l) ≡ b → (if b then Ok l else Err fault.FieldCount) ≡ Ok k
+        → (record_is_empty_from row (record_fields_used k) ≡ true) × (l ≡ k)
     by true free e = let same : l ≡ k = cc in (subst (λ m. record_is_empty_from row (record_fields_used m) ≡ true) same free, same)
     by false free e = absurd (cc)
 
@@ -85,7 +91,8 @@ six_fields (a ∷ b ∷ c ∷ d ∷ x ∷ []) e = absurd (cc)
 six_fields (a ∷ b ∷ c ∷ d ∷ x ∷ y ∷ []) e = refl
 six_fields (a ∷ b ∷ c ∷ d ∷ x ∷ y ∷ z ∷ rest) e = let same = eqb-true (length (a ∷ b ∷ c ∷ d ∷ x ∷ y ∷ z ∷ rest)) 6 e in absurd (omega (arith, same))
 
-row_is : (row : List (List ℕ)) (a b c d x y : List ℕ) → (length row == 6) ≡ true → field row 0 ≡ a → field row 1 ≡ b → field row 2 ≡ c → field row 3 ≡ d → field row 4 ≡ x → field row 5 ≡ y
+row_is : (row : List (List ℕ)) (a b c d x y : List ℕ) → (length row == 6) ≡ true → field row 0 ≡ a → field row 1 ≡ b → field row 2 ≡ c → field row 3 ≡ d
+    → field row 4 ≡ x → field row 5 ≡ y
     → row ≡ a ∷ b ∷ c ∷ d ∷ x ∷ y ∷ []
 row_is row a b c d x y six ea eb ec ed ex ey = six_fields row six ∙ rw (ea, eb, ec, ed, ex, ey) refl
 
@@ -100,14 +107,16 @@ record NumberRead (row : List (List ℕ)) (i : ℕ) (made : ℕ → Result Recor
   short : IsShort number
   rest : made number ≡ Ok r
 
-number_read : (row : List (List ℕ)) (i : ℕ) (made : ℕ → Result Record RecordFaultKind) (r : Record) → (number_field row i >>= made) ≡ Ok r → NumberRead row i made r
+number_read : (row : List (List ℕ)) (i : ℕ) (made : ℕ → Result Record RecordFaultKind) (r : Record) → (number_field row i >>= made) ≡ Ok r
+    → NumberRead row i made r
 number_read row i made r e =
     let n = after_some (spelled_number (field row i)) _ made r e in
     let is = number-spelled (field row i) n.0 n.1 in
     record { number = n.0; field_is = is.0; short = is.1; rest = n.2 }
 
 -- the two numbers of each record on an item
-two_read : (row : List (List ℕ)) (made : ℕ → ℕ → Result Record RecordFaultKind) (r : Record) → (number_field row 1 >>= λ n. number_field row 3 >>= λ m. made n m) ≡ Ok r
+two_read : (row : List (List ℕ)) (made : ℕ → ℕ → Result Record RecordFaultKind) (r : Record)
+    → (number_field row 1 >>= λ n. number_field row 3 >>= λ m. made n m) ≡ Ok r
     → (n : NumberRead row 1 (λ n. number_field row 3 >>= λ m. made n m) r) × NumberRead row 3 (made n.number) r
 two_read row made r e = let n = number_read row 1 (λ n. number_field row 3 >>= λ m. made n m) r e in (n, number_read row 3 (made n.number) r n.rest)
 
@@ -118,7 +127,8 @@ record ItemRead (N : Table) (row : List (List ℕ)) (made : ItemNo → Record) (
   field_is : field row 2 ≡ record_item_name N item
   is_made : made item ≡ r
 
-item_read : (N : Table) (row : List (List ℕ)) (made : ItemNo → Record) (r : Record) → (item_field N row >>= λ item. Ok (made item)) ≡ Ok r → ItemRead N row made r
+item_read : (N : Table) (row : List (List ℕ)) (made : ItemNo → Record) (r : Record) → (item_field N row >>= λ item. Ok (made item)) ≡ Ok r
+    → ItemRead N row made r
 item_read N row made r e =
     let i = after_some (item_named N (field row 2)) _ _ r e in
     let is = name_of_item N (field row 2) i.0 i.1 in
@@ -185,7 +195,8 @@ close_is N row r k e =
     let three = both_true (is_empty (field row 2)) (is_empty (field row 3)) four.0 in
     subst (Spells N row) (same_Ok _ r n.rest) (
       record { numbers = short_one n.number n.short; item = tt },
-      row_is row _ _ _ _ _ _ k.six k.word n.field_is (empty_is (field row 2) three.0) (empty_is (field row 3) three.1) (empty_is (field row 4) four.1) (empty_is (field row 5) five.1),
+      row_is row _ _ _ _ _ _ k.six k.word n.field_is (empty_is (field row 2) three.0) (empty_is (field row 3) three.1) (empty_is (field row 4) four.1)
+          (empty_is (field row 5) five.1),
     )
 
 of_kind_is : (N : Table) (row : List (List ℕ)) (r : Record) (k : Kind) → IsOfKind row k → of_kind N row k ≡ Ok r → Spells N row r

@@ -21,7 +21,8 @@ use Rattle.mrp_stream.specs.Reading.{StartsWithFault}
 use Rattle.mrp_stream.specs.Left.{record_fault_of, is_of_row, StopsReading, TellsBad, TellsTakenRecord}
 
 -- a read that found a row or none
-pub found_or_not : {R : Type 0} (rem : R → Option (List ℕ)) (old new : Reader R) (row : List (List ℕ)) (found : Bool) → GivesAll old → ReadRecord rem old new found row
+pub found_or_not : {R : Type 0} (rem : R → Option (List ℕ)) (old new : Reader R) (row : List (List ℕ)) (found : Bool) → GivesAll old
+    → ReadRecord rem old new found row
     → (N : Table) → TellsTakenRecord N (rows_left rem old) (rows_left rem new) row (Ok found)
 found_or_not rem old new row true gives r N = takes_row rem old new row gives r
 found_or_not rem old new row false gives r N = ends_rows rem old new row gives r
@@ -44,9 +45,11 @@ explains-bad rem old new (error.Serialize text) gives r N = tt
 explains-bad rem old new (error.Deserialize pos e) gives r N = tt
 explains-bad rem old new error.OutOfMemory gives r N = tt
 
-pub explains_as_kind : {R : Type 0} (rem : R → Option (List ℕ)) (old new : Reader R) (why kind : ErrorKind) (told : RecordFaultKind) → GivesAll old → (reader_trim old ≡ trim.None → Ready old → ExplainsRead rem old new true why)
+pub explains_as_kind : {R : Type 0} (rem : R → Option (List ℕ)) (old new : Reader R) (why kind : ErrorKind) (told : RecordFaultKind) → GivesAll old
+    → (reader_trim old ≡ trim.None → Ready old → ExplainsRead rem old new true why)
     → kind ≡ why → told ≡ record_fault_of kind → (N : Table) → TellsBad N (rows_left rem old) told
-explains_as_kind rem old new why kind told gives explained same is N = rw (is ∙ ap record_fault_of same) (explains-bad rem old new why gives (explained gives.1 gives.2) N)
+explains_as_kind rem old new why kind told gives explained same is N =
+    rw (is ∙ ap record_fault_of same) (explains-bad rem old new why gives (explained gives.1 gives.2) N)
 
 -- ---- a row more than may be read
 
@@ -59,10 +62,12 @@ row_taken None after row takes = tt
 row_taken (Some rows) None row takes = absurd takes
 row_taken (Some rows) (Some rest) row takes = some_row rows rest row takes
 
-row_bad : (N : Table) (before : Option (List (List (List ℕ)))) (k : RecordFaultKind) → OfLeft before (λ rows. StartsWithFault N rows k) → OfLeft before (λ rows. 0 < length rows)
+row_bad : (N : Table) (before : Option (List (List (List ℕ)))) (k : RecordFaultKind) → OfLeft before (λ rows. StartsWithFault N rows k)
+    → OfLeft before (λ rows. 0 < length rows)
 row_bad N before k bad = of_left_from before (λ rows. StartsWithFault N rows k) (λ rows. 0 < length rows) (λ rows s. some_row rows s.1 s.0 s.2) bad
 
-row_there : (N : Table) (before after : Option (List (List (List ℕ)))) (row : List (List ℕ)) (answer : Result Bool RecordFaultKind) → is_of_row answer ≡ true → TellsTakenRecord N before after row answer
+row_there : (N : Table) (before after : Option (List (List (List ℕ)))) (row : List (List ℕ)) (answer : Result Bool RecordFaultKind) → is_of_row answer ≡ true
+    → TellsTakenRecord N before after row answer
     → OfLeft before (λ rows. 0 < length rows)
 row_there N before after row (Ok true) own taken = row_taken before after row taken
 row_there N before after row (Ok false) own taken = absurd (false≢true own)
@@ -71,7 +76,8 @@ row_there N before after row (Err fault.Memory) own taken = absurd (false≢true
 row_there N before after row (Err k) own taken = row_bad N before k taken
 
 -- a row more than may be read
-pub one_more : (before after : Option (List (List (List ℕ)))) (row : List (List ℕ)) (answer : Result Bool RecordFaultKind) (kind : RecordFaultKind) (failed full : Bool) → full ≡ true → is_of_row answer ≡ true
+pub one_more : (before after : Option (List (List (List ℕ)))) (row : List (List ℕ)) (answer : Result Bool RecordFaultKind) (kind : RecordFaultKind)
+    (failed full : Bool) → full ≡ true → is_of_row answer ≡ true
     → ((N : Table) → TellsTakenRecord N before after row answer) → StopsReading kind failed (full ≡ true) 0 before
 one_more before after row answer kind failed full is own taken same = inr (is, row_there none before after row answer own (taken none))
   where

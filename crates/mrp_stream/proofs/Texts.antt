@@ -46,8 +46,16 @@ item_plain N item is within = name_plain (record_item_name N item) (All-get_or I
 
 pub record_plain : (N : Table) (r : Record) → IsTable N → HasRow N r → AllPlain (record_fields N r)
 record_plain N (Line number item period quantity cumulative) is has =
-    let s = four_short number period quantity cumulative has.numbers in
-    (refl, (number_text_plain number s.0, (item_plain N item is has.item, (number_text_plain period s.1, (number_text_plain quantity s.2, (number_text_plain cumulative s.3, tt))))))
+    let s = four_short number period quantity cumulative has.numbers in (
+      refl,
+      (
+        number_text_plain number s.0,
+        (
+          item_plain N item is has.item,
+          (number_text_plain period s.1, (number_text_plain quantity s.2, (number_text_plain cumulative s.3, tt))),
+        ),
+      ),
+    )
 record_plain N (ItemEnd number item lines cumulative) is has =
     let s = three_short number lines cumulative has.numbers in
     (refl, (number_text_plain number s.0, (item_plain N item is has.item, (number_text_plain lines s.1, (number_text_plain cumulative s.2, (refl, tt))))))
@@ -57,32 +65,39 @@ record_plain N (Reset number item closed) is has =
 record_plain N (Close number) is has =
     (refl, (number_text_plain number (All-head IsShort number [] has.numbers), (refl, (refl, (refl, (refl, tt))))))
 
-line_read : (N : Table) (a b c d e : List ℕ) (number : ℕ) (item : ItemNo) (period quantity cumulative : ℕ) → spelled_number a ≡ Some number → item_named N b ≡ Some item → spelled_number c ≡ Some period
-    → spelled_number d ≡ Some quantity → spelled_number e ≡ Some cumulative → spelled_record N (codes "line" ∷ a ∷ b ∷ c ∷ d ∷ e ∷ []) ≡ Ok (Line number item period quantity cumulative)
+line_read : (N : Table) (a b c d e : List ℕ) (number : ℕ) (item : ItemNo) (period quantity cumulative : ℕ) → spelled_number a ≡ Some number
+    → item_named N b ≡ Some item → spelled_number c ≡ Some period
+    → spelled_number d ≡ Some quantity → spelled_number e ≡ Some cumulative
+    → spelled_record N (codes "line" ∷ a ∷ b ∷ c ∷ d ∷ e ∷ []) ≡ Ok (Line number item period quantity cumulative)
 unfolding spelled_record record_row_kind spelled_line field_at
 line_read N a b c d e number item period quantity cumulative ha hb hc hd he = rw (ha, hc, hd, he, hb) refl
 
-end_read : (N : Table) (a b c d : List ℕ) (number : ℕ) (item : ItemNo) (lines cumulative : ℕ) → spelled_number a ≡ Some number → item_named N b ≡ Some item → spelled_number c ≡ Some lines
+end_read : (N : Table) (a b c d : List ℕ) (number : ℕ) (item : ItemNo) (lines cumulative : ℕ) → spelled_number a ≡ Some number → item_named N b ≡ Some item
+    → spelled_number c ≡ Some lines
     → spelled_number d ≡ Some cumulative → spelled_record N (codes "end" ∷ a ∷ b ∷ c ∷ d ∷ [] ∷ []) ≡ Ok (ItemEnd number item lines cumulative)
 unfolding spelled_record record_row_kind spelled_end field_at
 end_read N a b c d number item lines cumulative ha hb hc hd = rw (ha, hc, hd, hb) refl
 
-reset_read : (N : Table) (a b c : List ℕ) (number : ℕ) (item : ItemNo) (closed : ℕ) → spelled_number a ≡ Some number → item_named N b ≡ Some item → spelled_number c ≡ Some closed
+reset_read : (N : Table) (a b c : List ℕ) (number : ℕ) (item : ItemNo) (closed : ℕ) → spelled_number a ≡ Some number → item_named N b ≡ Some item
+    → spelled_number c ≡ Some closed
     → spelled_record N (codes "reset" ∷ a ∷ b ∷ c ∷ [] ∷ [] ∷ []) ≡ Ok (Reset number item closed)
 unfolding spelled_record record_row_kind spelled_reset field_at
 reset_read N a b c number item closed ha hb hc = rw (ha, hc, hb) refl
 
-close_read : (N : Table) (a : List ℕ) (number : ℕ) → spelled_number a ≡ Some number → spelled_record N (codes "close" ∷ a ∷ [] ∷ [] ∷ [] ∷ [] ∷ []) ≡ Ok (Close number)
+close_read : (N : Table) (a : List ℕ) (number : ℕ) → spelled_number a ≡ Some number
+    → spelled_record N (codes "close" ∷ a ∷ [] ∷ [] ∷ [] ∷ [] ∷ []) ≡ Ok (Close number)
 unfolding spelled_record record_row_kind spelled_close field_at
 close_read N a number ha = rw ha refl
 
 spelled_read : (N : Table) (r : Record) → IsTable N → HasRow N r → spelled_record N (record_fields N r) ≡ Ok r
 spelled_read N (Line number item period quantity cumulative) is has =
     let s = four_short number period quantity cumulative has.numbers in
-    line_read N _ _ _ _ _ number item period quantity cumulative (number-written number s.0) (item_of_name N item is has.item) (number-written period s.1) (number-written quantity s.2) (number-written cumulative s.3)
+    line_read N _ _ _ _ _ number item period quantity cumulative (number-written number s.0) (item_of_name N item is has.item) (number-written period s.1)
+    (number-written quantity s.2) (number-written cumulative s.3)
 spelled_read N (ItemEnd number item lines cumulative) is has =
     let s = three_short number lines cumulative has.numbers in
-    end_read N _ _ _ _ number item lines cumulative (number-written number s.0) (item_of_name N item is has.item) (number-written lines s.1) (number-written cumulative s.2)
+    end_read N _ _ _ _ number item lines cumulative (number-written number s.0) (item_of_name N item is has.item) (number-written lines s.1)
+    (number-written cumulative s.2)
 spelled_read N (Reset number item closed) is has =
     let s = two_short number closed has.numbers in
     reset_read N _ _ _ number item closed (number-written number s.0) (item_of_name N item is has.item) (number-written closed s.1)
@@ -107,8 +122,10 @@ row_next : (x y : List ℕ) (ys : List (List ℕ)) (tail : List ℕ) → AllPlai
     → next_record default_config StartRecord [] [] (record_line (x ∷ y ∷ ys) ++ tail) ≡ Some (x ∷ y ∷ ys, StartRecord, tail)
 row_next x y ys tail plain = ap (λ t. next_record default_config StartRecord [] [] (t ++ tail)) (sym (row_plain x y ys plain)) ∙ read-write-many x y ys tail
 
-pub record_next : (N : Table) (r : Record) (tail : List ℕ) → IsTable N → HasRow N r → next_record default_config StartRecord [] [] (record_text N r ++ tail) ≡ Some (record_fields N r, StartRecord, tail)
-record_next N (Line number item period quantity cumulative) tail is has = row_next _ _ _ tail (record_plain N (Line number item period quantity cumulative) is has)
+pub record_next : (N : Table) (r : Record) (tail : List ℕ) → IsTable N → HasRow N r
+    → next_record default_config StartRecord [] [] (record_text N r ++ tail) ≡ Some (record_fields N r, StartRecord, tail)
+record_next N (Line number item period quantity cumulative) tail is has =
+    row_next _ _ _ tail (record_plain N (Line number item period quantity cumulative) is has)
 record_next N (ItemEnd number item lines cumulative) tail is has = row_next _ _ _ tail (record_plain N (ItemEnd number item lines cumulative) is has)
 record_next N (Reset number item closed) tail is has = row_next _ _ _ tail (record_plain N (Reset number item closed) is has)
 record_next N (Close number) tail is has = row_next _ _ _ tail (record_plain N (Close number) is has)
@@ -119,10 +136,12 @@ none_more : records default_config [] ≡ []
 unfolding next_record
 none_more = none_left default_config StartRecord [] refl
 
-rows_read : (N : Table) (written : List Record) → IsTable N → All (HasRow N) written → records default_config (records_text N written) ≡ map (record_fields N) written
+rows_read : (N : Table) (written : List Record) → IsTable N → All (HasRow N) written
+    → records default_config (records_text N written) ≡ map (record_fields N) written
 rows_read N [] is have = none_more
 rows_read N (r ∷ rs) is have =
-    one_left default_config StartRecord (records_text N (r ∷ rs)) (record_fields N r, StartRecord, records_text N rs) (record_next N r (records_text N rs) is (All-head (HasRow N) r rs have))
+    one_left default_config StartRecord (records_text N (r ∷ rs)) (record_fields N r, StartRecord, records_text N rs)
+    (record_next N r (records_text N rs) is (All-head (HasRow N) r rs have))
     ∙ ap (λ rows. record_fields N r ∷ rows) (rows_read N rs is (All-tail (HasRow N) r rs have))
 
 -- no text of records begins with a byte order mark
@@ -134,5 +153,6 @@ no_mark N (ItemEnd number item lines cumulative ∷ rs) = refl
 no_mark N (Reset number item closed ∷ rs) = refl
 no_mark N (Close number ∷ rs) = refl
 
-pub written_rows : (N : Table) (written : List Record) → IsTable N → All (HasRow N) written → records default_config (strip_bom (records_text N written)) ≡ map (record_fields N) written
+pub written_rows : (N : Table) (written : List Record) → IsTable N → All (HasRow N) written
+    → records default_config (strip_bom (records_text N written)) ≡ map (record_fields N) written
 written_rows N written is have = ap (records default_config) (no_mark N written) ∙ rows_read N written is have

@@ -43,4 +43,5 @@ WrittenReadsBack =
 abbrev pub WrittenHasNoFault : Type 0
 WrittenHasNoFault =
     (N : Table) → IsTable N → (written : List Record) → All (HasRow N) written
-    → (e : RecordFault) → HasFault N (rows_of_text (records_text N written)) e → (e.kind ≡ fault.ReadFault) ⊎ (e.kind ≡ fault.Memory)
+    → (e : RecordFault) → HasFault N (rows_of_text (records_text N written)) e
+    → (e.kind ≡ fault.ReadFault) ⊎ (e.kind ≡ fault.Memory)

@@ -1,5 +1,6 @@
 -- The rows that a reader has left, and what the steps of the reading answer of them.
-use Rattle.std.specs.Prelude.{◌≡◌, ◌⊎◌, ℕ, ◌<◌, Bool, true, false, List, [], ◌∷◌, ◌++◌, length, map, Option, Some, None, Result, Ok, Err}
+use Rattle.std.specs.Prelude.{◌≡◌, ◌⊎◌, ℕ, ◌<◌, Bool, true, false, List, [], ◌∷◌, ◌++◌, length, map, Option, Some, None}
+use Rattle.std.specs.Prelude.{Result, Ok, Err}
 use Rattle.csv.specs.declared.error.ErrorKind.{ErrorKind}
 use Rattle.csv.specs.declared.error.ErrorKind.TheVariants as error
 use Rattle.mrp_rows.specs.Table.{Table}
@@ -20,9 +21,11 @@ record_fault_of (error.Serialize text) = fault.ReadFault
 record_fault_of (error.Deserialize pos e) = fault.ReadFault
 record_fault_of error.OutOfMemory = fault.Memory
 
--- a fault is ReadFault only where the reader has failed, or where all rows that may be read were read, and there are more than so many
+-- a fault is ReadFault only where the reader has failed, or where all rows that may be read were read, and there are
+-- more than so many
 abbrev pub StopsReading : RecordFaultKind → Bool → Type 0 → ℕ → Option (List (List (List ℕ))) → Type 0
-StopsReading kind failed full most left = kind ≡ fault.ReadFault → (failed ≡ true) ⊎ (full × OfLeft left (λ rows. most < length rows))
+StopsReading kind failed full most left = kind ≡ fault.ReadFault
+    → (failed ≡ true) ⊎ (full × OfLeft left (λ rows. most < length rows))
 
 -- a row that isn't text has that as its first fault
 abbrev pub TellsBad : Table → Option (List (List (List ℕ))) → RecordFaultKind → Type 0
@@ -31,7 +34,8 @@ TellsBad N before fault.Memory = Unit {0}
 TellsBad N before k = OfLeft before (λ rows. StartsWithFault N rows k)
 
 -- what taking a row answers
-abbrev pub TellsTakenRecord : Table → Option (List (List (List ℕ))) → Option (List (List (List ℕ))) → List (List ℕ) → Result Bool RecordFaultKind → Type 0
+abbrev pub TellsTakenRecord : Table → Option (List (List (List ℕ))) → Option (List (List (List ℕ))) → List (List ℕ)
+    → Result Bool RecordFaultKind → Type 0
 TellsTakenRecord N before after row (Ok true) = TakesRow before after row
 TellsTakenRecord N before after row (Ok false) = OfLeft before (λ rows. rows ≡ [])
 TellsTakenRecord N before after row (Err k) = TellsBad N before k
@@ -57,7 +61,8 @@ TellsRecordFault N before count fault.ReadFault = Unit {0}
 TellsRecordFault N before count fault.Memory = Unit {0}
 TellsRecordFault N before count k = (count < MOST_RECORDS) × OfLeft before (λ rows. StartsWithFault N rows k)
 
-abbrev pub TellsNextRecord : Table → Option (List (List (List ℕ))) → Option (List (List (List ℕ))) → List Record → List Record
+abbrev pub TellsNextRecord : Table → Option (List (List (List ℕ))) → Option (List (List (List ℕ))) → List Record
+    → List Record
     → Result Bool RecordFaultKind → Type 0
 TellsNextRecord N before after old new (Ok true) = AddsRecord N before after old new
 TellsNextRecord N before after old new (Ok false) = (new ≡ old) × OfLeft before (λ rows. rows ≡ [])

@@ -17,7 +17,8 @@ pub record AreRowsOf (N : Table) (rows : List (List (List ℕ))) (records : List
 
 -- the first of the rows has that first fault
 abbrev pub StartsWithFault : Table → List (List (List ℕ)) → RecordFaultKind → Type 0
-StartsWithFault N rows k = (row : List (List ℕ)) × (rest : List (List (List ℕ))) × (rows ≡ row ∷ rest) × (record_of N row ≡ Err k)
+StartsWithFault N rows k = (row : List (List ℕ)) × (rest : List (List (List ℕ))) × (rows ≡ row ∷ rest)
+    × (record_of N row ≡ Err k)
 
 -- the first of the rows, after so many, may be read and has that first fault. That the reader failed,
 -- that the row is one too many, or that memory was wanting, says nothing of it

@@ -1,5 +1,6 @@
 -- The row of a record: its fields, and its bytes.
-use Rattle.std.specs.Prelude.{◌≡◌, ℕ, ◌<◌, List, [], ◌∷◌, ◌++◌, length, slice_index_or, codes, All, Option, Some, None, IfSome}
+use Rattle.std.specs.Prelude.{◌≡◌, ℕ, ◌<◌, List, [], ◌∷◌, ◌++◌, length, slice_index_or, codes, All, Option, Some, None}
+use Rattle.std.specs.Prelude.{IfSome}
 use Rattle.std.specs.List.{flat_map, join_with_byte}
 use Rattle.csv.specs.Machine.{line_feed}
 use Rattle.csv.specs.Writing.{comma}
@@ -31,7 +32,8 @@ close_fields number = codes "close" ∷ number_text number ∷ [] ∷ [] ∷ [] 
 
 -- the fields of a record
 abbrev pub record_fields : Table → Record → List (List ℕ)
-record_fields N (Line number item period quantity cumulative) = line_fields number (record_item_name N item) period quantity cumulative
+record_fields N (Line number item period quantity cumulative) =
+    line_fields number (record_item_name N item) period quantity cumulative
 record_fields N (ItemEnd number item lines cumulative) = end_fields number (record_item_name N item) lines cumulative
 record_fields N (Reset number item closed) = reset_record_fields number (record_item_name N item) closed
 record_fields N (Close number) = close_fields number

@@ -1,6 +1,8 @@
 -- The tests of a row, one for each fault that it may have, whatever the others answer; of what isn't there a test says
--- anything, since an earlier one tells that it isn't. The first test of the list that a row fails is the fault that it has.
-use Rattle.std.specs.Prelude.{◌≡◌, ℕ, ◌==◌, ◌&&◌, not, Bool, true, false, List, [], ◌∷◌, length, find, Option, Some, None, is_some, Result, Ok, Err}
+-- anything, since an earlier one tells that it isn't. The first test of the list that a row fails is the fault that it
+-- has.
+use Rattle.std.specs.Prelude.{◌≡◌, ℕ, ◌==◌, ◌&&◌, not, Bool, true, false, List, [], ◌∷◌, length, find, Option, Some}
+use Rattle.std.specs.Prelude.{None, is_some, Result, Ok, Err}
 use Rattle.std.specs.List.{list_all}
 use Rattle.std.specs.Str.{is_utf8}
 use Rattle.mrp_spell.specs.Parsing.{spelled_number}
@@ -64,4 +66,5 @@ record_refusal (Err e) = Some e
 
 -- a row is refused for the first fault of the list whose test it fails, and taken where it passes all of them
 abbrev pub RowsHaveTheirFirstFault : Type 0
-RowsHaveTheirFirstFault = (N : Table) (row : List (List ℕ)) → record_refusal (record_of N row) ≡ find (λ e. not (record_passes N row e)) row_faults
+RowsHaveTheirFirstFault = (N : Table) (row : List (List ℕ))
+    → record_refusal (record_of N row) ≡ find (λ e. not (record_passes N row e)) row_faults

@@ -24,7 +24,8 @@ impl<'n> Model for NamedItems<'n> {
 
     ghost view = { λ n. n.network.now };
 
-    ghost invariant = { λ n. (name : List ℕ) → get_by (λ k. bytes_eq name k.now) n.items ≡ item_named n.network.now name };
+    ghost invariant = { λ n. (name : List ℕ) → get_by (λ k. bytes_eq name k.now) n.items
+        ≡ item_named n.network.now name };
 }
 
 impl<'n> NamedItems<'n> {

@@ -1,6 +1,7 @@
 //! Laws of the text of records. Each is the contract of a function that does nothing.
 
-ghost use Rattle.mrp_stream.specs.Laws.{RecordsHaveOneRow, RowsHaveListedFaults, WrittenHasNoFault, WrittenReadsBack, WrittenRowsAreRead};
+ghost use Rattle.mrp_stream.specs.Laws.{RecordsHaveOneRow, RowsHaveListedFaults, WrittenHasNoFault, WrittenReadsBack};
+ghost use Rattle.mrp_stream.specs.Laws.{WrittenRowsAreRead};
 ghost use Rattle.mrp_stream.specs.Tests.{RowsHaveTheirFirstFault};
 
 /// Each record has one row, and only that row is read as it.

@@ -33,8 +33,10 @@ pub fn read_records<R: Read + Drop>(
     network: &Network,
     reader: R,
 ) -> Result<Vec<Record>, RecordFault>
-    ensures records { IfOk result (λ records. OfRecords (option_map strip_bom (R.remaining reader)) (λ rows. AreRowsOf network.now rows records.items)) }
-    ensures fault { IfErr result (λ fault. OfRecords (option_map strip_bom (R.remaining reader)) (λ rows. HasFault network.now rows fault)) }
+    ensures records { IfOk result (λ records. OfRecords (option_map strip_bom (R.remaining reader))
+        (λ rows. AreRowsOf network.now rows records.items)) }
+    ensures fault { IfErr result (λ fault. OfRecords (option_map strip_bom (R.remaining reader))
+        (λ rows. HasFault network.now rows fault)) }
     ensures few { IfOk result (λ records. length records.items ≤ MOST_RECORDS) }
 {
     let items = match NamedItems::of(alloc, network) {
@@ -60,10 +62,13 @@ fn read_rows<R: Read>(
 ) -> Result<(), RecordFault>
     requires gives { GivesAll rows.old }
     requires none { records.old.items ≡ [] }
-    ensures records { OnOk result (OfLeft (rows_left R.remaining rows.old) (λ rows. AreRowsOf items.now rows records.new.items)) }
-    ensures fault { IfErr result (λ fault. OfLeft (rows_left R.remaining rows.old) (λ rows. HasFault items.now rows fault)) }
+    ensures records { OnOk result (OfLeft (rows_left R.remaining rows.old)
+        (λ rows. AreRowsOf items.now rows records.new.items)) }
+    ensures fault { IfErr result (λ fault. OfLeft (rows_left R.remaining rows.old)
+        (λ rows. HasFault items.now rows fault)) }
     ensures row { IfErr result (λ fault. fault.row ≡ length records.new.items + 1) }
-    ensures failed { IfErr result (λ e. StopsReading e.kind (has_failed rows.new) (e.row ≡ MOST_RECORDS + 1) MOST_RECORDS (rows_left R.remaining rows.old)) }
+    ensures failed { IfErr result (λ e. StopsReading e.kind (has_failed rows.new)
+        (e.row ≡ MOST_RECORDS + 1) MOST_RECORDS (rows_left R.remaining rows.old)) }
     ensures few { OnOk result (length records.new.items ≤ MOST_RECORDS) }
 {
     let mut row = StringRecord::new(alloc);
@@ -86,9 +91,11 @@ fn read_next<R: Read>(
 ) -> Result<bool, RecordFaultKind>
     requires gives { GivesAll rows.old }
     ensures gives { OnOk result (GivesAll rows.new) }
-    ensures exact { TellsNextRecord items.now (rows_left R.remaining rows.old) (rows_left R.remaining rows.new) records.old.items records.new.items result }
+    ensures exact { TellsNextRecord items.now (rows_left R.remaining rows.old)
+        (rows_left R.remaining rows.new) records.old.items records.new.items result }
     ensures kept { OnErr result (records.new.items ≡ records.old.items) }
-    ensures failed { IfErr result (λ kind. StopsReading kind (has_failed rows.new) (MOST_RECORDS ≤ length records.old.items) 0
+    ensures failed { IfErr result (λ kind. StopsReading kind (has_failed rows.new)
+        (MOST_RECORDS ≤ length records.old.items) 0
         (rows_left R.remaining rows.old)) }
 {
     let full = MOST_RECORDS <= records.len() as u64;
@@ -108,8 +115,10 @@ fn next_row<R: Read>(
     requires gives { GivesAll rows.old }
     ensures gives { OnOk result (GivesAll rows.new) }
     ensures text { OnOk result (AllText (fields_of row.new)) }
-    ensures exact { (N : Table) → TellsTakenRecord N (rows_left R.remaining rows.old) (rows_left R.remaining rows.new) (fields_of row.new) result }
-    ensures failed { IfErr result (λ kind. StopsReading kind (has_failed rows.new) (full ≡ true) 0 (rows_left R.remaining rows.old)) }
+    ensures exact { (N : Table) → TellsTakenRecord N (rows_left R.remaining rows.old) (rows_left R.remaining rows.new)
+        (fields_of row.new) result }
+    ensures failed { IfErr result (λ kind. StopsReading kind (has_failed rows.new) (full ≡ true) 0
+        (rows_left R.remaining rows.old)) }
     ensures room { full ≡ true → is_of_row result ≡ false }
 {
     let answer = take_row(rows, row);
@@ -135,7 +144,8 @@ fn take_row<R: Read>(rows: &mut Reader<R>, row: &mut StringRecord) -> Result<boo
     requires gives { GivesAll rows.old }
     ensures gives { OnOk result (GivesAll rows.new) }
     ensures text { OnOk result (AllText (fields_of row.new)) }
-    ensures exact { (N : Table) → TellsTakenRecord N (rows_left R.remaining rows.old) (rows_left R.remaining rows.new) (fields_of row.new) result }
+    ensures exact { (N : Table) → TellsTakenRecord N (rows_left R.remaining rows.old) (rows_left R.remaining rows.new)
+        (fields_of row.new) result }
     ensures failed { IfErr result (λ kind. kind ≡ RecordFaultKind.ReadFault → has_failed rows.new ≡ true) }
 {
     match rows.read_record(row) {

@@ -1,7 +1,8 @@
 //! Records written as csv rows.
 
 ghost use Rattle.std.specs.Prelude.{◌≡◌, ◌++◌, ◌∷◌, map, OnOk, OnErr};
-ghost use Rattle.mrp_stream.specs.Rows.{close_fields, end_fields, Grows, HasRow, line_fields, record_text, reset_record_fields, record_line};
+ghost use Rattle.mrp_stream.specs.Rows.{close_fields, end_fields, Grows, HasRow, line_fields, record_text};
+ghost use Rattle.mrp_stream.specs.Rows.{reset_record_fields, record_line};
 
 use itoa::Buffer;
 use mrp_net::Network;
@@ -68,7 +69,8 @@ fn put_line(
     cumulative: u64,
     out: &mut Vec<u8>,
 ) -> Result<(), Memory>
-    ensures written { OnOk result (out.new.items ≡ out.old.items ++ record_line (line_fields number item.now period quantity cumulative)) }
+    ensures written { OnOk result (out.new.items
+        ≡ out.old.items ++ record_line (line_fields number item.now period quantity cumulative)) }
     ensures kept { OnErr result (Grows out.old.items out.new.items) }
 {
     let mut place = Buffer::new();
@@ -96,7 +98,8 @@ fn put_end(
     cumulative: u64,
     out: &mut Vec<u8>,
 ) -> Result<(), Memory>
-    ensures written { OnOk result (out.new.items ≡ out.old.items ++ record_line (end_fields number item.now lines cumulative)) }
+    ensures written { OnOk result (out.new.items
+        ≡ out.old.items ++ record_line (end_fields number item.now lines cumulative)) }
     ensures kept { OnErr result (Grows out.old.items out.new.items) }
 {
     let mut place = Buffer::new();
@@ -117,7 +120,8 @@ fn put_end(
 
 /// Puts the row of a reset behind a text, or a front of it.
 fn put_reset(number: u64, item: &str, closed: u64, out: &mut Vec<u8>) -> Result<(), Memory>
-    ensures written { OnOk result (out.new.items ≡ out.old.items ++ record_line (reset_record_fields number item.now closed)) }
+    ensures written { OnOk result (out.new.items
+        ≡ out.old.items ++ record_line (reset_record_fields number item.now closed)) }
     ensures kept { OnErr result (Grows out.old.items out.new.items) }
 {
     let mut place = Buffer::new();
@@ -150,7 +154,8 @@ fn put_close(number: u64, out: &mut Vec<u8>) -> Result<(), Memory>
 
 /// Puts a row behind a text, or a front of it: a word and the fields after it.
 fn put_row(word: &[u8], fields: &[&[u8]], out: &mut Vec<u8>) -> Result<(), Memory>
-    ensures written { OnOk result (out.new.items ≡ out.old.items ++ record_line (word.now ∷ map (λ field. field.now) fields.now)) }
+    ensures written { OnOk result (out.new.items
+        ≡ out.old.items ++ record_line (word.now ∷ map (λ field. field.now) fields.now)) }
     ensures kept { OnErr result (Grows out.old.items out.new.items) }
 {
     out.extend_from_slice(word)?;

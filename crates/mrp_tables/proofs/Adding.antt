@@ -19,11 +19,13 @@ pub added : (old new : Draft) (number : ℕ) (row : List (List ℕ)) (answer : R
 added old new number row (Ok v) r u same e tells = tells
 added old new number row (Err k) r u same e tells = absurd (cc)
 
-refused_as : (before : Option (List (List (List ℕ)))) (number : ℕ) (s : Table × Kind) (e f : TableFault) → f ≡ e → OfRows e.kind (Unit {0}) (OfLeft before (λ rows. rows_after number s rows ≡ Err e))
+refused_as : (before : Option (List (List (List ℕ)))) (number : ℕ) (s : Table × Kind) (e f : TableFault) → f ≡ e
+    → OfRows e.kind (Unit {0}) (OfLeft before (λ rows. rows_after number s rows ≡ Err e))
     → OfRows f.kind (Unit {0}) (OfLeft before (λ rows. rows_after number s rows ≡ Err f))
 refused_as before number s e f same says = rw same says
 
-pub refused : (before after : Option (List (List (List ℕ)))) (old new : Draft) (number : ℕ) (row : List (List ℕ)) (answer : Result (Unit {0}) TableFaultKind) (r : Result (Unit {0}) TableFault) (e : TableFault)
+pub refused : (before after : Option (List (List (List ℕ)))) (old new : Draft) (number : ℕ) (row : List (List ℕ)) (answer : Result (Unit {0}) TableFaultKind)
+    (r : Result (Unit {0}) TableFault) (e : TableFault)
     → MatchResult answer (λ value. r ≡ Ok value) (λ kind. r ≡ Err (record { row = number; kind = kind })) → r ≡ Err e → TellsAdded old new answer row
     → TakesRow before after row → OfRows e.kind (Unit {0}) (OfLeft before (λ rows. rows_after number (draft_state old) rows ≡ Err e))
 refused before after old new number row (Ok v) r e same is tells takes = absurd (cc)
@@ -32,8 +34,10 @@ refused before after old new number row (Err k) r e same is tells takes =
     refused_as before number (draft_state old) (record { row = number; kind = k }) e f (stops_row before after number (draft_state old) k row takes tells)
 
 -- a fault of a row is never a failed read
-pub refused_own : (old new : Draft) (number : ℕ) (row : List (List ℕ)) (answer : Result (Unit {0}) TableFaultKind) (r : Result (Unit {0}) TableFault) (e : TableFault)
-    → MatchResult answer (λ value. r ≡ Ok value) (λ kind. r ≡ Err (record { row = number; kind = kind })) → r ≡ Err e → TellsAdded old new answer row → e.kind ≡ fault.ReadFault → ⊥
+pub refused_own : (old new : Draft) (number : ℕ) (row : List (List ℕ)) (answer : Result (Unit {0}) TableFaultKind) (r : Result (Unit {0}) TableFault)
+    (e : TableFault)
+    → MatchResult answer (λ value. r ≡ Ok value) (λ kind. r ≡ Err (record { row = number; kind = kind })) → r ≡ Err e → TellsAdded old new answer row
+    → e.kind ≡ fault.ReadFault → ⊥
 refused_own old new number row (Ok v) r e same is tells failed = absurd (cc)
 refused_own old new number row (Err k) r e same is tells failed =
     let f : e ≡ record { row = number; kind = k } = cc in

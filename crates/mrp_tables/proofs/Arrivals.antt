@@ -1,10 +1,12 @@
 -- The shipments of each source.
-use Rattle.std.proofs.Common.{◌≡◌, ◌≢◌, ◌*◌, ◌<◌, ◌==◌, ◌&&◌, ◌||◌, ℕ, nat_le, nat_lt, not, Bool, true, false, List, [], ◌∷◌, ◌++◌, length, map, get_or, set, position, Option, Some, None, IsSome, refl, sym, ap, ◌∙◌, subst, ⊎_elim, arith}
+use Rattle.std.proofs.Common.{◌≡◌, ◌≢◌, ◌*◌, ◌<◌, ◌==◌, ◌&&◌, ◌||◌, ℕ, nat_le, nat_lt, not, Bool, true, false, List, [], ◌∷◌, ◌++◌, length, map, get_or, set}
+use Rattle.std.proofs.Common.{position, Option, Some, None, IsSome, refl, sym, ap, ◌∙◌, subst, ⊎_elim, arith}
 use Rattle.std.specs.Cmp.{IsEquivalence}
 use Rattle.std.specs.List.{All, IsDistinct, filter, list_all, list_any}
 use Rattle.std.proofs.lemmas.Bool.{eq-eqb, eqb-true, false≢true}
 use Rattle.std.proofs.lemmas.Bool.Decides.{eqb_tells, nat_tests}
-use Rattle.std.proofs.lemmas.List.{append-nil, ext_get_or, get_or-map as read-map, get_or-set_other, get_or-set_same, length-map, length-set, length_push, map-append}
+use Rattle.std.proofs.lemmas.List.{append-nil, ext_get_or, get_or-map as read-map, get_or-set_other, get_or-set_same, length-map, length-set, length_push}
+use Rattle.std.proofs.lemmas.List.{map-append}
 use Rattle.std.proofs.lemmas.List.Elements.{All-head, All-tail, filter-append}
 use Rattle.std.proofs.lemmas.List.Folds.{list_all-append, list_any-append, list_any_at}
 use Rattle.std.proofs.lemmas.Map.Made.{length-le_from_is_member}
@@ -50,14 +52,16 @@ abbrev key : PlantNo → PairNo → LaneKey
 key f x = record { from = f; pair = x }
 
 -- the source of a plant and a pair at its place
-pub source_there : (f : PlantNo) (x : PairNo) (sources : List SourceRow) (k : ℕ) (d : SourceRow) → position (λ s. (s.plant.0 == f.0) && (s.pair.0 == x.0)) sources ≡ Some k
+pub source_there : (f : PlantNo) (x : PairNo) (sources : List SourceRow) (k : ℕ) (d : SourceRow)
+    → position (λ s. (s.plant.0 == f.0) && (s.pair.0 == x.0)) sources ≡ Some k
     → (k < length sources) × (lane_of (get_or sources k d) ≡ key f x)
 source_there f x sources k d at =
     let p = position-Some (λ (s : SourceRow). (s.plant.0 == f.0) && (s.pair.0 == x.0)) sources k d at in
     (p.0, same_lane (lane_of (get_or sources k d)) (key f x) p.1)
 
 -- no other source is of that plant and that pair
-other_source : (keys : List LaneKey) (sources : List SourceRow) (j k : ℕ) (d : SourceRow) → keys ≡ map lane_of sources → IsDistinct is_same_lane keys → j < length sources → k < length sources → j ≢ k
+other_source : (keys : List LaneKey) (sources : List SourceRow) (j k : ℕ) (d : SourceRow) → keys ≡ map lane_of sources → IsDistinct is_same_lane keys
+    → j < length sources → k < length sources → j ≢ k
     → is_same_lane (lane_of (get_or sources j d)) (lane_of (get_or sources k d)) ≡ false
 other_source keys sources j k d is apart jn kn ne =
     let distinct : IsDistinct is_same_lane (map lane_of sources) = subst (IsDistinct is_same_lane) is apart in
@@ -67,11 +71,13 @@ other_source keys sources j k d is apart jn kn ne =
     let h = apart_from_distinct is_same_lane (map lane_of sources) a b (lane_of d) distinct ab (omega arith) in
     subst (λ (l : LaneKey). is_same_lane (lane_of (get_or sources a d)) l ≡ false) (get_or-map lane_of sources b d)
     (subst (λ (l : LaneKey). is_same_lane l (get_or (map lane_of sources) b (lane_of d)) ≡ false) (get_or-map lane_of sources a d) h) in
-    let cases : (j < k → is_same_lane (lane_of (get_or sources j d)) (lane_of (get_or sources k d)) ≡ false) × (k < j → is_same_lane (lane_of (get_or sources j d)) (lane_of (get_or sources k d)) ≡ false) =
+    let cases : (j < k → is_same_lane (lane_of (get_or sources j d)) (lane_of (get_or sources k d)) ≡ false)
+    × (k < j → is_same_lane (lane_of (get_or sources j d)) (lane_of (get_or sources k d)) ≡ false) =
     (λ lt. ordered j k lt kn, λ lt. same_lane_laws.symm (lane_of (get_or sources j d)) (lane_of (get_or sources k d)) ∙ ordered k j lt jn) in
     by (nat_lt j k) refl cases
   where
-    by : (b : Bool) → nat_lt j k ≡ b → ((j < k → is_same_lane (lane_of (get_or sources j d)) (lane_of (get_or sources k d)) ≡ false) × (k < j → is_same_lane (lane_of (get_or sources j d)) (lane_of (get_or sources k d)) ≡ false))
+    by : (b : Bool) → nat_lt j k ≡ b → ((j < k → is_same_lane (lane_of (get_or sources j d)) (lane_of (get_or sources k d)) ≡ false)
+        × (k < j → is_same_lane (lane_of (get_or sources j d)) (lane_of (get_or sources k d)) ≡ false))
         → is_same_lane (lane_of (get_or sources j d)) (lane_of (get_or sources k d)) ≡ false
     by true e cases = cases.0 (grind (arith, nat_tests))
     by false e cases = cases.1 (grind (arith, nat_tests))
@@ -118,7 +124,8 @@ module _ (ships : List ShipRow) (y : ShipRow) (s : SourceRow) where
       let p = ships_on s.plant s.pair in
       let test : p y ≡ true = rw (same_test y.from.0 s.plant.0, same_test y.pair.0 s.pair.0) same in
       let kept = filter-append p ships (y ∷ []) ∙ ap (λ more. filter p ships ++ more) (filter_one p y test) in
-      let all : arrivals_of (ships ++ y ∷ []) s.plant.0 s.pair.0 ≡ arrivals_of ships s.plant.0 s.pair.0 ++ y.period ∷ [] = ap (map (λ (r : ShipRow). r.period)) kept ∙ map-append (λ (r : ShipRow). r.period) (filter p ships) (y ∷ []) in
+      let all : arrivals_of (ships ++ y ∷ []) s.plant.0 s.pair.0 ≡ arrivals_of ships s.plant.0 s.pair.0 ++ y.period ∷ [] =
+      ap (map (λ (r : ShipRow). r.period)) kept ∙ map-append (λ (r : ShipRow). r.period) (filter p ships) (y ∷ []) in
       ap arrivals_state all ∙ state_push (arrivals_of ships s.plant.0 s.pair.0) y.period
 
   miss : is_same_lane (lane_of s) (key y.from y.pair) ≡ false → lane_state (ships ++ y ∷ []) s ≡ lane_state ships s
@@ -131,7 +138,8 @@ module _ (ships : List ShipRow) (y : ShipRow) (s : SourceRow) where
 
 -- what is known of each source after one shipment more
 pub states_ship : (ships : List ShipRow) (y : ShipRow) (keys : List LaneKey) (sources : List SourceRow) (states : List Lane) (k : ℕ) (d : SourceRow) (l : Lane)
-    → keys ≡ map lane_of sources → IsDistinct is_same_lane keys → states ≡ map (lane_state ships) sources → position (λ s. (s.plant.0 == y.from.0) && (s.pair.0 == y.pair.0)) sources ≡ Some k
+    → keys ≡ map lane_of sources → IsDistinct is_same_lane keys → states ≡ map (lane_state ships) sources
+    → position (λ s. (s.plant.0 == y.from.0) && (s.pair.0 == y.pair.0)) sources ≡ Some k
     → l ≡ get_or states k l → set states k (after_ship l y.period) ≡ map (lane_state (ships ++ y ∷ [])) sources
 states_ship ships y keys sources states k d l is apart each at there =
     let f = lane_state ships in
@@ -143,13 +151,15 @@ states_ship ships y keys sources states k d l is apart each at there =
     let n2 = length-map sources g in
     let n3 = ap length each in
     let n4 = length-set states k v in
-    let old : (i : ℕ) → i < length sources → get_or states i l ≡ f (get_or sources i d) = λ i lt. ap (λ (ls : List Lane). get_or ls i l) each ∙ read-map f sources i d l lt in
+    let old : (i : ℕ) → i < length sources → get_or states i l ≡ f (get_or sources i d) =
+    λ i lt. ap (λ (ls : List Lane). get_or ls i l) each ∙ read-map f sources i d l lt in
     let new : (i : ℕ) → i < length sources → get_or (map g sources) i l ≡ g (get_or sources i d) = λ i lt. read-map g sources i d l lt in
     let kn : k < length states = omega (arith, p.0, n1, n3) in
     let here : get_or (set states k v) k l ≡ get_or (map g sources) k l =
     get_or-set_same states k v l kn
     ∙ ap (λ (m : Lane). after_ship m y.period) (there ∙ old k p.0)
-    ∙ sym (hit ships y (get_or sources k d) (subst (λ (m : LaneKey). is_same_lane m (key y.from y.pair) ≡ true) (sym same) (lane_with_itself (key y.from y.pair))))
+    ∙ sym (hit ships y (get_or sources k d) (subst (λ (m : LaneKey). is_same_lane m (key y.from y.pair) ≡ true) (sym same)
+    (lane_with_itself (key y.from y.pair))))
     ∙ sym (new k p.0) in
     let elsewhere : (i : ℕ) → i < length sources → i ≢ k → get_or (set states k v) i l ≡ get_or (map g sources) i l =
     λ i lt ne.
@@ -163,7 +173,8 @@ states_ship ships y keys sources states k d l is apart each at there =
 
 -- what is known of the source of a plant and a pair
 pub state_there : (ships : List ShipRow) (f : PlantNo) (x : PairNo) (sources : List SourceRow) (states : List Lane) (k : ℕ) (l : Lane) (d : SourceRow)
-    → states ≡ map (lane_state ships) sources → position (λ s. (s.plant.0 == f.0) && (s.pair.0 == x.0)) sources ≡ Some k → l ≡ get_or states k l → l ≡ arrivals_state (arrivals_of ships f.0 x.0)
+    → states ≡ map (lane_state ships) sources → position (λ s. (s.plant.0 == f.0) && (s.pair.0 == x.0)) sources ≡ Some k → l ≡ get_or states k l
+    → l ≡ arrivals_state (arrivals_of ships f.0 x.0)
 unfolding lane_state
 state_there ships f x sources states k l d each at there =
     let p = source_there f x sources k d at in
@@ -187,7 +198,8 @@ unfolding lane_state
 new_state ships s below = ap arrivals_state (no_arrivals s.plant s.pair ships below)
 
 -- a source that is found is among the keys
-pub found_lane : (f : PlantNo) (x : PairNo) (keys : List LaneKey) (sources : List SourceRow) (o : Option ℕ) (d : SourceRow) → keys ≡ map lane_of sources → position (λ s. (s.plant.0 == f.0) && (s.pair.0 == x.0)) sources ≡ o → IsSome o
+pub found_lane : (f : PlantNo) (x : PairNo) (keys : List LaneKey) (sources : List SourceRow) (o : Option ℕ) (d : SourceRow) → keys ≡ map lane_of sources
+    → position (λ s. (s.plant.0 == f.0) && (s.pair.0 == x.0)) sources ≡ o → IsSome o
     → has_lane keys (key f x) ≡ true
 found_lane f x keys sources None d is at found = absurd (false≢true found)
 found_lane f x keys sources (Some k) d is at found =
@@ -201,7 +213,8 @@ among_lanes keys (k ∷ ks) q all any =
     let p = both (has_lane keys k) (list_all (has_lane keys) ks) all in
     by (is_same_lane q k) refl any p.0 (λ later. among_lanes keys ks q p.1 later)
   where
-    by : (b : Bool) → is_same_lane q k ≡ b → (b || list_any (is_same_lane q) ks) ≡ true → has_lane keys k ≡ true → (list_any (is_same_lane q) ks ≡ true → has_lane keys q ≡ true) → has_lane keys q ≡ true
+    by : (b : Bool) → is_same_lane q k ≡ b → (b || list_any (is_same_lane q) ks) ≡ true → has_lane keys k ≡ true
+        → (list_any (is_same_lane q) ks ≡ true → has_lane keys q ≡ true) → has_lane keys q ≡ true
     by true e any here later = subst (λ (m : LaneKey). has_lane keys m ≡ true) (sym (same_lane q k e)) here
     by false e any here later = later any
 
@@ -210,9 +223,11 @@ pub lanes_push : (keys some : List LaneKey) (k : LaneKey) → AreLanes keys some
 lanes_push keys some k all here = list_all-append (has_lane keys) some (k ∷ []) ∙ rw (all, here) refl
 
 -- so there is room for one reset row more
-pub resets_room : (keys some : List LaneKey) (k : LaneKey) → IsDistinct is_same_lane (some ++ k ∷ []) → AreLanes keys some → has_lane keys k ≡ true → length some < length keys
+pub resets_room : (keys some : List LaneKey) (k : LaneKey) → IsDistinct is_same_lane (some ++ k ∷ []) → AreLanes keys some → has_lane keys k ≡ true
+    → length some < length keys
 resets_room keys some k distinct all here =
-    let few = length-le_from_is_member same_lane_laws (some ++ k ∷ []) keys distinct (λ q m. among_lanes keys (some ++ k ∷ []) q (lanes_push keys some k all here) m) in
+    let few = length-le_from_is_member same_lane_laws (some ++ k ∷ []) keys distinct
+    (λ q m. among_lanes keys (some ++ k ∷ []) q (lanes_push keys some k all here) m) in
     omega (arith, few, length_push some k)
 
 -- what were sources are so with one more
@@ -224,7 +239,8 @@ lanes_more keys (q ∷ qs) k all =
     rw (more, lanes_more keys qs k p.1) refl
 
 -- what is known of the sources with one more, of a pair that no shipment names
-pub source_fit : (N M : Table) (s : SourceRow) (keys more : List LaneKey) (states made : List Lane) → M ≡ with_source N s → more ≡ keys ++ lane_of s ∷ [] → IsDistinct is_same_lane more → made ≡ states ++ record { last = 0; falls = false } ∷ []
+pub source_fit : (N M : Table) (s : SourceRow) (keys more : List LaneKey) (states made : List Lane) → M ≡ with_source N s → more ≡ keys ++ lane_of s ∷ []
+    → IsDistinct is_same_lane more → made ≡ states ++ record { last = 0; falls = false } ∷ []
     → FitsRows N keys states → All (λ r. r.pair.0 < s.pair.0) N.ships → length N.sources < 4 * length N.pairs → FitsRows M more made
 source_fit N M s keys more states made is grown apart pushed fits below room =
     let longer = length_push N.sources s in
@@ -235,7 +251,8 @@ source_fit N M s keys more states made is grown apart pushed fits below room =
       lane_keys = grown ∙ ap (λ (ks : List LaneKey). ks ++ lane_of s ∷ []) fits.lane_keys ∙ sym (map-append lane_of N.sources (s ∷ []));
       apart = apart;
       each = pushed ∙ ap (λ (ls : List Lane). ls ++ blank ∷ []) fits.each
-          ∙ ap (λ (l : Lane). map (lane_state N.ships) N.sources ++ l ∷ []) (sym (new_state N.ships s below)) ∙ sym (map-append (lane_state N.ships) N.sources (s ∷ []));
+          ∙ ap (λ (l : Lane). map (lane_state N.ships) N.sources ++ l ∷ []) (sym (new_state N.ships s below))
+          ∙ sym (map-append (lane_state N.ships) N.sources (s ∷ []));
       lanes = omega (arith, m, n, longer, fits.lanes);
       sources = omega (arith, longer, room);
       items = fits.items;

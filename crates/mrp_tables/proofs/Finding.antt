@@ -1,5 +1,6 @@
 -- What the reading finds of the names of a row on a lane is what the grammar says of them.
-use Rattle.std.proofs.Common.{◌≡◌, ℕ, ◌<◌, ◌≤◌, ◌==◌, ◌&&◌, nat_lt, Bool, not, List, length, Option, Some, None, IfSome, option_map, arith, Ok, Err, true, false, refl, sym, ap, ◌∙◌}
+use Rattle.std.proofs.Common.{◌≡◌, ℕ, ◌<◌, ◌≤◌, ◌==◌, ◌&&◌, nat_lt, Bool, not, List, length, Option, Some, None, IfSome, option_map, arith, Ok, Err, true}
+use Rattle.std.proofs.Common.{false, refl, sym, ap, ◌∙◌}
 use Rattle.std.proofs.lemmas.Bool.Decides.{nat_tests}
 use Rattle.mrp_rows.specs.declared.numbers.PairNo.{PairNo}
 use Rattle.mrp_rows.specs.declared.numbers.PlantNo.{PlantNo}
@@ -10,7 +11,8 @@ use Rattle.mrp_grammar.specs.declared.fault.TableFaultKind.{TableFaultKind}
 use Rattle.mrp_grammar.specs.declared.fault.TableFaultKind.TheVariants as fault
 use Rattle.mrp_tables.specs.declared.lanes.KnownLane.{KnownLane}
 use Rattle.mrp_tables.specs.declared.lanes.NamedLane.{NamedLane}
-use Rattle.mrp_grammar.specs.Grammar.{cum_between, cum_of, cum_terms, has_cum, has_reset, known_lane, LaneTerms, reset_between, reset_in_row, reset_terms, seen, ship_of, ship_terms}
+use Rattle.mrp_grammar.specs.Grammar.{cum_between, cum_of, cum_terms, has_cum, has_reset, known_lane, LaneTerms, reset_between, reset_in_row, reset_terms, seen}
+use Rattle.mrp_grammar.specs.Grammar.{ship_of, ship_terms}
 use Rattle.mrp_tables.specs.Lists.{Finds, known_found, source_at, source_named}
 use Rattle.mrp_rows.proofs.Keys.{any-from_no_position, any-from_position}
 
@@ -18,7 +20,8 @@ use Rattle.mrp_rows.proofs.Keys.{any-from_no_position, any-from_position}
 abbrev pub lane_ends : KnownLane → PlantNo × PairNo
 lane_ends l = (l.from, l.pair)
 
-known_by : (N : Table) (t : LaneTerms) (from to : Option PlantNo) (pair : Option PairNo) (place : Option ℕ) → Finds N t (record { from = from; to = to; pair = pair; place = place })
+known_by : (N : Table) (t : LaneTerms) (from to : Option PlantNo) (pair : Option PairNo) (place : Option ℕ)
+    → Finds N t (record { from = from; to = to; pair = pair; place = place })
     → seen lane_ends (known_found (record { from = from; to = to; pair = pair; place = place })) ≡ known_lane N t
 unfolding known_lane known_found
 known_by N t None to pair place f = rw (← f.from) refl
@@ -49,12 +52,14 @@ known_ok N t l k f is = sym (known_as N t l f) ∙ ap (seen lane_ends) (sym is)
 
 -- ---- rows of a lane that isn't there
 
-pub ship_unknown : (N : Table) (row : List (List ℕ)) (periods : ℕ) (t : LaneTerms × ℕ × ℕ) (l : NamedLane) (e : TableFaultKind) → Ok t ≡ ship_terms row periods → periods ≡ horizon N → Finds N t.0 l
+pub ship_unknown : (N : Table) (row : List (List ℕ)) (periods : ℕ) (t : LaneTerms × ℕ × ℕ) (l : NamedLane) (e : TableFaultKind) → Ok t ≡ ship_terms row periods
+    → periods ≡ horizon N → Finds N t.0 l
     → Err e ≡ known_found l → Err e ≡ ship_of N row
 unfolding ship_of
 ship_unknown N row periods t l e spelled same finds is = let terms = spelled ∙ ap (ship_terms row) same in rw (← terms, known_err N t.0 l e finds is) refl
 
-cum_fresh : (N : Table) (t : LaneTerms) (l : NamedLane) → Finds N t l → false ≡ cum_between N (option_map (λ p. p.0) l.from) (option_map (λ x. x.0) l.pair) → has_cum N t ≡ false
+cum_fresh : (N : Table) (t : LaneTerms) (l : NamedLane) → Finds N t l → false ≡ cum_between N (option_map (λ p. p.0) l.from) (option_map (λ x. x.0) l.pair)
+    → has_cum N t ≡ false
 cum_fresh N t l f h =
     sym (h ∙ ap (λ (o : Option ℕ). cum_between N o (option_map (λ x. x.0) l.pair)) f.from ∙ ap (λ (o : Option ℕ). cum_between N (plant_no N t.from) o) f.pair)
 
@@ -67,15 +72,25 @@ full : (count most : ℕ) → most ≤ count → nat_lt count most ≡ false
 full count most le = grind (arith, nat_tests)
 
 pub cum_full : (N : Table) (row : List (List ℕ)) (t : LaneTerms × ℕ) (l : NamedLane) (k : KnownLane) → Ok t ≡ cum_terms row → Finds N t.0 l
-    → false ≡ cum_between N (option_map (λ p. p.0) l.from) (option_map (λ x. x.0) l.pair) → Ok k ≡ known_found l → MOST_OF_A_KIND ≤ length N.cums → Err fault.TooMany ≡ cum_of N row
+    → false ≡ cum_between N (option_map (λ p. p.0) l.from) (option_map (λ x. x.0) l.pair) → Ok k ≡ known_found l → MOST_OF_A_KIND ≤ length N.cums
+    → Err fault.TooMany ≡ cum_of N row
 unfolding cum_of
-cum_full N row t l k spelled finds new is most = rw (← spelled, cum_fresh N t.0 l finds new, known_ok N t.0 l k finds is, full (length N.cums) MOST_OF_A_KIND most) refl
+cum_full N row t l k spelled finds new is most = rw (
+  ← spelled,
+  cum_fresh N t.0 l finds new,
+  known_ok N t.0 l k finds is,
+  full
+      (length N.cums) MOST_OF_A_KIND most,
+) refl
 
-reset_fresh : (N : Table) (t : LaneTerms) (l : NamedLane) → Finds N t l → false ≡ reset_between N (option_map (λ p. p.0) l.from) (option_map (λ x. x.0) l.pair) → has_reset N t ≡ false
+reset_fresh : (N : Table) (t : LaneTerms) (l : NamedLane) → Finds N t l → false ≡ reset_between N (option_map (λ p. p.0) l.from) (option_map (λ x. x.0) l.pair)
+    → has_reset N t ≡ false
 reset_fresh N t l f h =
-    sym (h ∙ ap (λ (o : Option ℕ). reset_between N o (option_map (λ x. x.0) l.pair)) f.from ∙ ap (λ (o : Option ℕ). reset_between N (plant_no N t.from) o) f.pair)
+    sym (h ∙ ap (λ (o : Option ℕ). reset_between N o (option_map (λ x. x.0) l.pair)) f.from
+    ∙ ap (λ (o : Option ℕ). reset_between N (plant_no N t.from) o) f.pair)
 
-pub reset_unknown : (N : Table) (row : List (List ℕ)) (periods : ℕ) (t : LaneTerms × ℕ) (l : NamedLane) (e : TableFaultKind) → Ok t ≡ reset_terms row periods → periods ≡ horizon N → Finds N t.0 l
+pub reset_unknown : (N : Table) (row : List (List ℕ)) (periods : ℕ) (t : LaneTerms × ℕ) (l : NamedLane) (e : TableFaultKind) → Ok t ≡ reset_terms row periods
+    → periods ≡ horizon N → Finds N t.0 l
     → false ≡ reset_between N (option_map (λ p. p.0) l.from) (option_map (λ x. x.0) l.pair) → Err e ≡ known_found l → Err e ≡ reset_in_row N row
 unfolding reset_in_row
 reset_unknown N row periods t l e spelled same finds new is =
@@ -87,14 +102,16 @@ reset_unknown N row periods t l e spelled same finds new is =
 few : (count most : ℕ) → count < most → nat_lt count most ≡ true
 few count most lt = grind (arith, nat_tests)
 
-pub ship_full : (N : Table) (row : List (List ℕ)) (periods : ℕ) (t : LaneTerms × ℕ × ℕ) (l : NamedLane) (k : KnownLane) → Ok t ≡ ship_terms row periods → periods ≡ horizon N → Finds N t.0 l
+pub ship_full : (N : Table) (row : List (List ℕ)) (periods : ℕ) (t : LaneTerms × ℕ × ℕ) (l : NamedLane) (k : KnownLane) → Ok t ≡ ship_terms row periods
+    → periods ≡ horizon N → Finds N t.0 l
     → Ok k ≡ known_found l → MOST_OF_A_KIND ≤ length N.ships → Err fault.TooMany ≡ ship_of N row
 unfolding ship_of
 ship_full N row periods t l k spelled same finds is most =
     let terms = spelled ∙ ap (ship_terms row) same in
     rw (← terms, known_ok N t.0 l k finds is, full (length N.ships) MOST_OF_A_KIND most) refl
 
-pub ship_known : (N : Table) (row : List (List ℕ)) (periods : ℕ) (t : LaneTerms × ℕ × ℕ) (l : NamedLane) (k : KnownLane) → Ok t ≡ ship_terms row periods → periods ≡ horizon N → Finds N t.0 l
+pub ship_known : (N : Table) (row : List (List ℕ)) (periods : ℕ) (t : LaneTerms × ℕ × ℕ) (l : NamedLane) (k : KnownLane) → Ok t ≡ ship_terms row periods
+    → periods ≡ horizon N → Finds N t.0 l
     → Ok k ≡ known_found l → length N.ships < MOST_OF_A_KIND → Ok (record { from = k.from; pair = k.pair; period = t.1; quantity = t.2 }) ≡ ship_of N row
 unfolding ship_of
 ship_known N row periods t l k spelled same finds is room =
@@ -102,20 +119,31 @@ ship_known N row periods t l k spelled same finds is room =
     rw (← terms, known_ok N t.0 l k finds is, few (length N.ships) MOST_OF_A_KIND room) refl
 
 pub cum_known : (N : Table) (row : List (List ℕ)) (t : LaneTerms × ℕ) (l : NamedLane) (k : KnownLane) → Ok t ≡ cum_terms row → Finds N t.0 l
-    → false ≡ cum_between N (option_map (λ p. p.0) l.from) (option_map (λ x. x.0) l.pair) → Ok k ≡ known_found l → length N.cums < MOST_OF_A_KIND → Ok (record { from = k.from; pair = k.pair; figure = t.1 }) ≡ cum_of N row
+    → false ≡ cum_between N (option_map (λ p. p.0) l.from) (option_map (λ x. x.0) l.pair) → Ok k ≡ known_found l → length N.cums < MOST_OF_A_KIND
+    → Ok (record { from = k.from; pair = k.pair; figure = t.1 }) ≡ cum_of N row
 unfolding cum_of
-cum_known N row t l k spelled finds new is room = rw (← spelled, cum_fresh N t.0 l finds new, known_ok N t.0 l k finds is, few (length N.cums) MOST_OF_A_KIND room) refl
+cum_known N row t l k spelled finds new is room = rw (
+  ← spelled,
+  cum_fresh N t.0 l finds new,
+  known_ok N t.0 l k finds is,
+  few
+      (length N.cums) MOST_OF_A_KIND room,
+) refl
 
-pub reset_known : (N : Table) (row : List (List ℕ)) (periods : ℕ) (t : LaneTerms × ℕ) (l : NamedLane) (k : KnownLane) → Ok t ≡ reset_terms row periods → periods ≡ horizon N → Finds N t.0 l
-    → false ≡ reset_between N (option_map (λ p. p.0) l.from) (option_map (λ x. x.0) l.pair) → Ok k ≡ known_found l → rises_from 0 (arrivals N k.from.0 k.pair.0) ≡ true
+pub reset_known : (N : Table) (row : List (List ℕ)) (periods : ℕ) (t : LaneTerms × ℕ) (l : NamedLane) (k : KnownLane) → Ok t ≡ reset_terms row periods
+    → periods ≡ horizon N → Finds N t.0 l
+    → false ≡ reset_between N (option_map (λ p. p.0) l.from) (option_map (λ x. x.0) l.pair) → Ok k ≡ known_found l
+    → rises_from 0 (arrivals N k.from.0 k.pair.0) ≡ true
     → Ok (record { from = k.from; pair = k.pair; period = t.1 }) ≡ reset_in_row N row
 unfolding reset_in_row
 reset_known N row periods t l k spelled same finds new is rises =
     let terms = spelled ∙ ap (reset_terms row) same in
     rw (← terms, reset_fresh N t.0 l finds new, known_ok N t.0 l k finds is, rises) refl
 
-pub reset_falls : (N : Table) (row : List (List ℕ)) (periods : ℕ) (t : LaneTerms × ℕ) (l : NamedLane) (k : KnownLane) → Ok t ≡ reset_terms row periods → periods ≡ horizon N → Finds N t.0 l
-    → false ≡ reset_between N (option_map (λ p. p.0) l.from) (option_map (λ x. x.0) l.pair) → Ok k ≡ known_found l → rises_from 0 (arrivals N k.from.0 k.pair.0) ≡ false
+pub reset_falls : (N : Table) (row : List (List ℕ)) (periods : ℕ) (t : LaneTerms × ℕ) (l : NamedLane) (k : KnownLane) → Ok t ≡ reset_terms row periods
+    → periods ≡ horizon N → Finds N t.0 l
+    → false ≡ reset_between N (option_map (λ p. p.0) l.from) (option_map (λ x. x.0) l.pair) → Ok k ≡ known_found l
+    → rises_from 0 (arrivals N k.from.0 k.pair.0) ≡ false
     → Err fault.ResetOrder ≡ reset_in_row N row
 unfolding reset_in_row
 reset_falls N row periods t l k spelled same finds new is falls =
@@ -131,6 +159,7 @@ from_not false s is = ap not (sym is)
 pub of_found : {A : Type 0} (o : Option A) (x : A) (P : A → Type 0) → IfSome o P → o ≡ Some x → P x
 of_found o x P holds is = rw is at holds
 
-pub placed : (N : Table) (l : NamedLane) (k : KnownLane) → l.place ≡ source_named N (option_map (λ p. p.0) l.from) (option_map (λ x. x.0) l.pair) → l.from ≡ Some k.from → l.pair ≡ Some k.pair → l.place ≡ Some k.place
+pub placed : (N : Table) (l : NamedLane) (k : KnownLane) → l.place ≡ source_named N (option_map (λ p. p.0) l.from) (option_map (λ x. x.0) l.pair)
+    → l.from ≡ Some k.from → l.pair ≡ Some k.pair → l.place ≡ Some k.place
     → source_at N k.from.0 k.pair.0 ≡ Some k.place
 placed N l k named from pair place = sym (rw (from, pair) at named) ∙ place

@@ -1,5 +1,6 @@
 -- What is found with one more plant, item or pair.
-use Rattle.std.proofs.Common.{◌≡◌, ◌<◌, ◌∙◌, ℕ, ltb, Bool, not, true, false, true≢false, if◌then◌else◌, unwrap_or, List, [], ◌∷◌, ◌++◌, length, position, slice_get, Option, Some, refl, ap, sym, subst, arith}
+use Rattle.std.proofs.Common.{◌≡◌, ◌<◌, ◌∙◌, ℕ, ltb, Bool, not, true, false, true≢false, if◌then◌else◌, unwrap_or, List, [], ◌∷◌, ◌++◌, length, position}
+use Rattle.std.proofs.Common.{slice_get, Option, Some, refl, ap, sym, subst, arith}
 use Rattle.std.specs.List.{IsDistinct, list_any, position_or_len}
 use Rattle.std.specs.Str.{bytes_eq}
 use Rattle.std.proofs.lemmas.Bool.{or_parts}
@@ -8,7 +9,7 @@ use Rattle.mrp_rows.specs.Growing.{add_item, with_item, with_pair, with_plant}
 use Rattle.mrp_rows.specs.Table.{IsName, IsRead, Table}
 use Rattle.mrp_rows.specs.declared.rows.PairRow.{PairRow}
 use Rattle.mrp_rows.proofs.Keys.{any-from_no_position}
-use Rattle.mrp_tables.specs.Keys.{FindsAll, FindsNames, FindsPairs, key_of, Knows}
+use Rattle.mrp_tables.specs.Keys.{FindsAll, FindsNames, ArePairKeys, key_of, Knows}
 use Rattle.mrp_tables.specs.contracts.name_key.NameKeyPartialEq.TheImpl.{eq-value as same_name}
 use Rattle.mrp_tables.specs.declared.name_key.NameKey.{NameKey}
 use Rattle.mrp_tables.specs.declared.name_key.PairKey.{PairKey}
@@ -25,35 +26,38 @@ plant_more N M k l name knows named fresh made plants items pairs =
     let more : Knows (with_plant N name) l = record {
       plants = subst (FindsNames (N.plants ++ name ∷ [])) (sym plants) (names_with N.plants k.plants.keys name knows.plants named fresh);
       items = subst (FindsNames N.items) (sym items) knows.items;
-      pairs = subst (FindsPairs N.items N.pairs) (sym pairs) knows.pairs;
+      pairs = subst (ArePairKeys N.items N.pairs) (sym pairs) knows.pairs;
     } in
     subst (λ (T : Table). Knows T l) (sym made) more
 
-pub item_more : (N M : Table) (k l : KnownNames) (name : List ℕ) → IsRead N → Knows N k → IsName name → list_any (bytes_eq name) N.items ≡ false → M ≡ with_item N name
+pub item_more : (N M : Table) (k l : KnownNames) (name : List ℕ) → IsRead N → Knows N k → IsName name → list_any (bytes_eq name) N.items ≡ false
+    → M ≡ with_item N name
     → l.plants.keys ≡ k.plants.keys → l.items.keys ≡ k.items.keys ++ key_of name ∷ [] → l.pairs.keys ≡ k.pairs.keys → Knows M l
 item_more N M k l name read knows named fresh made plants items pairs =
     let grown : add_item N.items name ≡ N.items ++ name ∷ [] = ap (λ b. if b then N.items else N.items ++ name ∷ []) fresh in
     let more : FindsAll N.plants (N.items ++ name ∷ []) N.pairs l = record {
       plants = subst (FindsNames N.plants) (sym plants) knows.plants;
       items = subst (FindsNames (N.items ++ name ∷ [])) (sym items) (names_with N.items k.items.keys name knows.items named fresh);
-      pairs = subst (FindsPairs (N.items ++ name ∷ []) N.pairs) (sym pairs) (pairs_with_item N k.pairs.keys name knows.pairs read fresh);
+      pairs = subst (ArePairKeys (N.items ++ name ∷ []) N.pairs) (sym pairs) (pairs_with_item N k.pairs.keys name knows.pairs read fresh);
     } in
     subst (λ (T : Table). Knows T l) (sym made) (subst (λ (is : List (List ℕ)). FindsAll N.plants is N.pairs l) (sym grown) more)
 
-pub item_same : (N : Table) (k l : KnownNames) → Knows N k → l.plants.keys ≡ k.plants.keys → l.items.keys ≡ k.items.keys → l.pairs.keys ≡ k.pairs.keys → Knows N l
+pub item_same : (N : Table) (k l : KnownNames) → Knows N k → l.plants.keys ≡ k.plants.keys → l.items.keys ≡ k.items.keys → l.pairs.keys ≡ k.pairs.keys
+    → Knows N l
 item_same N k l knows plants items pairs = record {
   plants = subst (FindsNames N.plants) (sym plants) knows.plants;
   items = subst (FindsNames N.items) (sym items) knows.items;
-  pairs = subst (FindsPairs N.items N.pairs) (sym pairs) knows.pairs;
+  pairs = subst (ArePairKeys N.items N.pairs) (sym pairs) knows.pairs;
 }
 
 pub pair_more : (N M : Table) (k l : KnownNames) (row : PairRow) (name : List ℕ) → Knows N k → slice_get N.items row.item.0 ≡ Some name → M ≡ with_pair N row
-    → l.plants.keys ≡ k.plants.keys → l.items.keys ≡ k.items.keys → l.pairs.keys ≡ k.pairs.keys ++ (record { plant = row.plant; item = key_of name }) ∷ [] → Knows M l
+    → l.plants.keys ≡ k.plants.keys → l.items.keys ≡ k.items.keys → l.pairs.keys ≡ k.pairs.keys ++ (record { plant = row.plant; item = key_of name }) ∷ []
+    → Knows M l
 pair_more N M k l row name knows at made plants items pairs =
     let more : Knows (with_pair N row) l = record {
       plants = subst (FindsNames N.plants) (sym plants) knows.plants;
       items = subst (FindsNames N.items) (sym items) knows.items;
-      pairs = subst (FindsPairs N.items (N.pairs ++ row ∷ [])) (sym pairs) (pairs_with N.items N.pairs k.pairs.keys row name knows.pairs at);
+      pairs = subst (ArePairKeys N.items (N.pairs ++ row ∷ [])) (sym pairs) (pairs_with N.items N.pairs k.pairs.keys row name knows.pairs at);
     } in
     subst (λ (T : Table). Knows T l) (sym made) more
 
@@ -83,7 +87,8 @@ pub table_same : (N : Table) (name : List ℕ) → list_any (bytes_eq name) N.it
 table_same N name known = ap (λ b. let M : Table = record N { items = if b then N.items else N.items ++ name ∷ [] } in M) (sym known)
 
 -- the place of a name that is there, by its key
-pub place_by_key : (name : List ℕ) (names : List (List ℕ)) (keys : List NameKey) (key : NameKey) (place : ℕ) → FindsNames names keys → IsName name → key ≡ key_of name
+pub place_by_key : (name : List ℕ) (names : List (List ℕ)) (keys : List NameKey) (key : NameKey) (place : ℕ) → FindsNames names keys → IsName name
+    → key ≡ key_of name
     → list_any (bytes_eq name) names ≡ true → place ≡ position_or_len (same_name.it key) keys → place ≡ unwrap_or (position (bytes_eq name) names) 0
 place_by_key name names keys key place finds named is known at =
     at ∙ some_passes (same_name.it key) keys (any_by_key name names keys key finds named is ∙ known)
@@ -91,8 +96,10 @@ place_by_key name names keys key place finds named is known at =
     ∙ ap (λ (o : Option ℕ). unwrap_or o 0) (place_of_name name names keys (name_bytes name named) finds)
 
 -- the place of a name that came last
-pub place_of_last : (name : List ℕ) (names : List (List ℕ)) (keys : List NameKey) (key : NameKey) (place : ℕ) → FindsNames names keys → IsName name → key ≡ key_of name
-    → list_any (bytes_eq name) names ≡ false → place ≡ position_or_len (same_name.it key) keys → place ≡ unwrap_or (position (bytes_eq name) (add_item names name)) 0
+pub place_of_last : (name : List ℕ) (names : List (List ℕ)) (keys : List NameKey) (key : NameKey) (place : ℕ) → FindsNames names keys → IsName name
+    → key ≡ key_of name
+    → list_any (bytes_eq name) names ≡ false → place ≡ position_or_len (same_name.it key) keys
+    → place ≡ unwrap_or (position (bytes_eq name) (add_item names name)) 0
 place_of_last name names keys key place finds named is fresh at =
     at ∙ none_passes (same_name.it key) keys (any_by_key name names keys key finds named is ∙ fresh) ∙ ap length finds.in_order ∙ length-map names key_of
     ∙ sym (ap (λ (o : Option ℕ). unwrap_or o 0) (ap (position (bytes_eq name)) grown ∙ new_place names name fresh))
@@ -119,6 +126,6 @@ pub no_names : (keys : List NameKey) → length keys ≡ 0 → FindsNames [] key
 unfolding IsDistinct
 no_names keys none = record { named = λ k d lt. absurd (omega (arith, lt)); apart = tt; in_order = nothing keys none }
 
-pub no_pairs : (keys : List PairKey) → length keys ≡ 0 → FindsPairs [] [] keys
+pub no_pairs : (keys : List PairKey) → length keys ≡ 0 → ArePairKeys [] [] keys
 unfolding IsDistinct
 no_pairs keys none = record { apart = tt; in_order = nothing keys none }

@@ -1,5 +1,6 @@
 -- A pair row with its item and its sources.
-use Rattle.std.proofs.Common.{◌≡◌, ◌+◌, ◌<◌, ◌≤◌, ◌==◌, ◌&&◌, ℕ, Bool, true, false, if◌then◌else◌, List, [], ◌∷◌, ◌++◌, length, map, get_or, take, position, unwrap_or, Option, Some, None, refl, sym, ap, ◌∙◌, subst, append_assoc, arith}
+use Rattle.std.proofs.Common.{◌≡◌, ◌+◌, ◌<◌, ◌≤◌, ◌==◌, ◌&&◌, ℕ, Bool, true, false, if◌then◌else◌, List, [], ◌∷◌, ◌++◌, length, map, get_or, take, position}
+use Rattle.std.proofs.Common.{unwrap_or, Option, Some, None, refl, sym, ap, ◌∙◌, subst, append_assoc, arith}
 use Rattle.std.specs.List.{list_any}
 use Rattle.std.specs.Str.{bytes_eq}
 use Rattle.std.proofs.lemmas.Bool.{eqb-true, false≢true}
@@ -33,7 +34,8 @@ any_default : {X : Type 0} (xs : List X) (k : ℕ) (a b : X) → k < length xs �
 any_default xs k a b lt = get_or_from_slice_get xs k (get_or xs k b) a (slice_get-get_or xs k b lt)
 
 -- a name that is there has a place
-known_place : (name : List ℕ) (names : List (List ℕ)) (o : Option ℕ) → position (bytes_eq name) names ≡ o → list_any (bytes_eq name) names ≡ true → (o ≡ Some (unwrap_or o 0)) × (get_or names (unwrap_or o 0) [] ≡ name)
+known_place : (name : List ℕ) (names : List (List ℕ)) (o : Option ℕ) → position (bytes_eq name) names ≡ o → list_any (bytes_eq name) names ≡ true
+    → (o ≡ Some (unwrap_or o 0)) × (get_or names (unwrap_or o 0) [] ≡ name)
 known_place name names None at there = absurd (false≢true (sym (list_any_none (bytes_eq name) names (All-from_position (bytes_eq name) names at)) ∙ there))
 known_place name names (Some k) at there =
     let p = position-Some (bytes_eq name) names k [] at in
@@ -66,17 +68,21 @@ and_false b c e = rw e refl
 
 module _ (N M : Table) (x : ℕ) (ss : List SourceTerms) (i : ℕ) (d : SourceTerms) (is : M ≡ with_sources N x (take i ss)) where
   pub sources_known : knows_sources N ss ≡ true → i < length ss → has_plant M (get_or ss i d).plant ≡ true
-  sources_known known lt = subst (λ (T : Table). has_plant T (get_or ss i d).plant ≡ true) (sym is) (AllPass-from_list_all (λ (s : SourceTerms). has_plant N s.plant) ss known i d lt)
+  sources_known known lt = subst (λ (T : Table). has_plant T (get_or ss i d).plant ≡ true) (sym is)
+      (AllPass-from_list_all (λ (s : SourceTerms). has_plant N s.plant) ss known i d lt)
 
-  pub sources_fresh : IsNewPair N x → knows_sources N ss ≡ true → ((j : ℕ) → j < i → bytes_eq (get_or ss j d).plant (get_or ss i d).plant ≡ false) → i < length ss
+  pub sources_fresh : IsNewPair N x → knows_sources N ss ≡ true → ((j : ℕ) → j < i → bytes_eq (get_or ss j d).plant (get_or ss i d).plant ≡ false)
+      → i < length ss
       → is_taken_from M x (source_row M x (get_or ss i d)).plant.0 ≡ false
   sources_fresh new known apart lt =
       let q = unwrap_or (plant_no N (get_or ss i d).plant) 0 in
       let test : SourceRow → Bool = λ s. (s.plant.0 == q) && (s.pair.0 == x) in
-      let old : list_any test N.sources ≡ false = list_any_none test N.sources (λ k e kn. misses ((get_or N.sources k e).plant.0 == q) (get_or N.sources k e).pair.0 x (new.sources k e kn)) in
+      let old : list_any test N.sources ≡ false = list_any_none test N.sources
+      (λ k e kn. misses ((get_or N.sources k e).plant.0 == q) (get_or N.sources k e).pair.0 x (new.sources k e kn)) in
       let rows = map (source_row N x) (take i ss) in
       let view : SourceTerms → Bool = λ s. (unwrap_or (plant_no N s.plant) 0 == q) && (x == x) in
-      let all : (k : ℕ) → k < length ss → has_plant N (get_or ss k d).plant ≡ true = λ k kn. AllPass-from_list_all (λ (s : SourceTerms). has_plant N s.plant) ss known k d kn in
+      let all : (k : ℕ) → k < length ss → has_plant N (get_or ss k d).plant ≡ true =
+      λ k kn. AllPass-from_list_all (λ (s : SourceTerms). has_plant N s.plant) ss known k d kn in
       let size = length-take-le i ss (omega arith) in
       let none : list_any view (take i ss) ≡ false =
       list_any_none view (take i ss) (λ k e kn.
@@ -94,7 +100,8 @@ module _ (N M : Table) (x : ℕ) (ss : List SourceTerms) (i : ℕ) (d : SourceTe
       let step : N.sources ++ map f (take i ss) ++ f (get_or ss i d) ∷ [] ≡ N.sources ++ map f (take (i + 1) ss) =
       append_assoc N.sources (map f (take i ss)) (f (get_or ss i d) ∷ [])
       ∙ ap (λ (more : List SourceRow). N.sources ++ more) (sym (map-append f (take i ss) (get_or ss i d ∷ [])) ∙ ap (map f) (sym (take_more ss i d lt))) in
-      made ∙ ap (λ (T : Table). with_source T (source_row T x (get_or ss i d))) is ∙ ap (λ (rows : List SourceRow). let T : Table = record N { sources = rows } in T) step
+      made ∙ ap (λ (T : Table). with_source T (source_row T x (get_or ss i d))) is
+      ∙ ap (λ (rows : List SourceRow). let T : Table = record N { sources = rows } in T) step
 
   pub sources_all : length ss ≤ i → M ≡ with_sources N x ss
   sources_all le = is ∙ ap (with_sources N x) (take_all i ss le)
@@ -112,7 +119,8 @@ abbrev at_key : ℕ → ℕ → PairRow → Bool
 at_key plant item p = (p.plant.0 == plant) && (p.item.0 == item)
 
 -- where a name stands among the items with it
-pub new_place : (items : List (List ℕ)) (name : List ℕ) → list_any (bytes_eq name) items ≡ false → position (bytes_eq name) (items ++ name ∷ []) ≡ Some (length items)
+pub new_place : (items : List (List ℕ)) (name : List ℕ) → list_any (bytes_eq name) items ≡ false
+    → position (bytes_eq name) (items ++ name ∷ []) ≡ Some (length items)
 new_place items name fresh =
     position_is (bytes_eq name) (items ++ name ∷ []) (length items) [] (omega (arith, length_push items name))
     (λ k lt. subst (λ (n : List ℕ). bytes_eq name n ≡ false) (sym (left items (name ∷ []) k lt)) (fails k lt))
@@ -131,24 +139,31 @@ new_place items name fresh =
         by true e = absurd (false≢true (sym fresh ∙ list_any_at (bytes_eq name) items k [] lt e))
         by false e = refl
 
-pub fresh_pair : (N : Table) (plant : ℕ) (name : List ℕ) (item : ℕ) → IsRead N → pair_named N (Some plant) name ≡ None → item ≡ unwrap_or (position (bytes_eq name) (add_item N.items name)) 0
+pub fresh_pair : (N : Table) (plant : ℕ) (name : List ℕ) (item : ℕ) → IsRead N → pair_named N (Some plant) name ≡ None
+    → item ≡ unwrap_or (position (bytes_eq name) (add_item N.items name)) 0
     → list_any (λ p. (p.plant.0 == plant) && (p.item.0 == item)) N.pairs ≡ false
 fresh_pair N plant name item read lacks is = by (list_any (bytes_eq name) N.items) refl refl
   where
-    by : (b : Bool) → list_any (bytes_eq name) N.items ≡ b → unwrap_or (position (bytes_eq name) (add_item N.items name)) 0 ≡ unwrap_or (position (bytes_eq name) (if list_any (bytes_eq name) N.items then N.items else N.items ++ name ∷ [])) 0
+    by : (b : Bool) → list_any (bytes_eq name) N.items ≡ b → unwrap_or (position (bytes_eq name) (add_item N.items name)) 0
+        ≡ unwrap_or (position (bytes_eq name) (if list_any (bytes_eq name) N.items then N.items else N.items ++ name ∷ [])) 0
         → list_any (at_key plant item) N.pairs ≡ false
     by true e q =
         let known = known_place name N.items (position (bytes_eq name) N.items) refl e in
-        let here : item ≡ unwrap_or (position (bytes_eq name) N.items) 0 = is ∙ q ∙ ap (λ b. unwrap_or (position (bytes_eq name) (if b then N.items else N.items ++ name ∷ [])) 0) e in
+        let here : item ≡ unwrap_or (position (bytes_eq name) N.items) 0 =
+        is ∙ q ∙ ap (λ b. unwrap_or (position (bytes_eq name) (if b then N.items else N.items ++ name ∷ [])) 0) e in
         let none : position (at_key plant (unwrap_or (position (bytes_eq name) N.items) 0)) N.pairs ≡ None = sym (ap (pair_of_item N plant) known.0) ∙ lacks in
-        subst (λ k. list_any (at_key plant k) N.pairs ≡ false) (sym here) (none_position None (at_key plant (unwrap_or (position (bytes_eq name) N.items) 0)) N.pairs none refl)
-    by false e q =
-        let here : item ≡ length N.items = is ∙ q ∙ ap (λ b. unwrap_or (position (bytes_eq name) (if b then N.items else N.items ++ name ∷ [])) 0) e ∙ ap (λ (o : Option ℕ). unwrap_or o 0) (new_place N.items name e) in
         subst (λ k. list_any (at_key plant k) N.pairs ≡ false) (sym here)
-        (list_any_none (at_key plant (length N.items)) N.pairs (λ k d lt. misses ((get_or N.pairs k d).plant.0 == plant) (get_or N.pairs k d).item.0 (length N.items) (read.pairs k d lt).item))
+        (none_position None (at_key plant (unwrap_or (position (bytes_eq name) N.items) 0)) N.pairs none refl)
+    by false e q =
+        let here : item ≡ length N.items = is ∙ q ∙ ap (λ b. unwrap_or (position (bytes_eq name) (if b then N.items else N.items ++ name ∷ [])) 0) e
+        ∙ ap (λ (o : Option ℕ). unwrap_or o 0) (new_place N.items name e) in
+        subst (λ k. list_any (at_key plant k) N.pairs ≡ false) (sym here)
+        (list_any_none (at_key plant (length N.items)) N.pairs (λ k d lt. misses ((get_or N.pairs k d).plant.0 == plant) (get_or N.pairs k d).item.0
+        (length N.items) (read.pairs k d lt).item))
 
 -- the table after a pair, its item and its sources
-pub pair_table : (N N1 N2 N3 : Table) (p : PlantNo) (t : PairTerms) (row : PairRow) (x : ℕ) (ss : List SourceTerms) → N1 ≡ with_item N t.item → N2 ≡ with_pair N1 row → N3 ≡ with_sources N2 x ss
+pub pair_table : (N N1 N2 N3 : Table) (p : PlantNo) (t : PairTerms) (row : PairRow) (x : ℕ) (ss : List SourceTerms) → N1 ≡ with_item N t.item
+    → N2 ≡ with_pair N1 row → N3 ≡ with_sources N2 x ss
     → x ≡ length N.pairs → ss ≡ named_sources t.supply → row ≡ pair_with N1.items p t → N3 ≡ with_pair_terms N p t
 pair_table N N1 N2 N3 p t row x ss e1 e2 e3 at same is =
     let row_is : row ≡ pair_with (add_item N.items t.item) p t = is ∙ ap (λ (T : Table). pair_with T.items p t) e1 in
@@ -158,7 +173,8 @@ pair_table N N1 N2 N3 p t row x ss e1 e2 e3 at same is =
     ∙ ap (λ (l : List SourceTerms). with_sources (with_pair (with_item N t.item) (pair_with (add_item N.items t.item) p t)) (length N.pairs) l) same
 
 -- what is known of the sources stays when a pair and its item are added
-pub pair_fit : (N N1 N2 : Table) (name : List ℕ) (row : PairRow) (keys : List LaneKey) (states : List Lane) → N1 ≡ with_item N name → N2 ≡ with_pair N1 row → FitsRows N keys states → FitsRows N2 keys states
+pub pair_fit : (N N1 N2 : Table) (name : List ℕ) (row : PairRow) (keys : List LaneKey) (states : List Lane) → N1 ≡ with_item N name → N2 ≡ with_pair N1 row
+    → FitsRows N keys states → FitsRows N2 keys states
 pair_fit N N1 N2 name row keys states e1 e2 fits =
     let longer : length (N.pairs ++ row ∷ []) ≡ length N.pairs + 1 = length_push N.pairs row in
     let bounds = length-add_item-le N.items name in
@@ -173,11 +189,16 @@ pair_fit N N1 N2 name row keys states e1 e2 fits =
     subst (λ (T : Table). FitsRows T keys states) (sym (e2 ∙ ap (λ (T : Table). with_pair T row) e1)) made
 
 -- the pair after the last is new
-pub pair_new : (N N1 N2 : Table) (name : List ℕ) (row : PairRow) (x : ℕ) → N1 ≡ with_item N name → N2 ≡ with_pair N1 row → x ≡ length N.pairs → IsRead N → IsNewPair N2 x
+pub pair_new : (N N1 N2 : Table) (name : List ℕ) (row : PairRow) (x : ℕ) → N1 ≡ with_item N name → N2 ≡ with_pair N1 row → x ≡ length N.pairs → IsRead N
+    → IsNewPair N2 x
 pair_new N N1 N2 name row x e1 e2 at read =
-    let made : IsNewPair (with_pair (with_item N name) row) (length N.pairs) = record { sources = λ k d lt. (read.sources k d lt).pair; ships = λ k d lt. (read.ships k d lt).pair } in
-    subst (λ (T : Table). IsNewPair T x) (sym (e2 ∙ ap (λ (T : Table). with_pair T row) e1)) (subst (λ k. IsNewPair (with_pair (with_item N name) row) k) (sym at) made)
+    let made : IsNewPair (with_pair (with_item N name) row) (length N.pairs) =
+    record { sources = λ k d lt. (read.sources k d lt).pair; ships = λ k d lt. (read.ships k d lt).pair } in
+    subst (λ (T : Table). IsNewPair T x) (sym (e2 ∙ ap (λ (T : Table). with_pair T row) e1))
+    (subst (λ k. IsNewPair (with_pair (with_item N name) row) k) (sym at) made)
 
-pub pair_knows : (N N1 N2 : Table) (name : List ℕ) (row : PairRow) (ss ts : List SourceTerms) → N1 ≡ with_item N name → N2 ≡ with_pair N1 row → ss ≡ ts → knows_sources N ts ≡ true → knows_sources N2 ss ≡ true
+pub pair_knows : (N N1 N2 : Table) (name : List ℕ) (row : PairRow) (ss ts : List SourceTerms) → N1 ≡ with_item N name → N2 ≡ with_pair N1 row → ss ≡ ts
+    → knows_sources N ts ≡ true → knows_sources N2 ss ≡ true
 pair_knows N N1 N2 name row ss ts e1 e2 same known =
-    subst (λ (T : Table). knows_sources T ss ≡ true) (sym (e2 ∙ ap (λ (T : Table). with_pair T row) e1)) (subst (λ (l : List SourceTerms). knows_sources N l ≡ true) (sym same) known)
+    subst (λ (T : Table). knows_sources T ss ≡ true) (sym (e2 ∙ ap (λ (T : Table). with_pair T row) e1))
+    (subst (λ (l : List SourceTerms). knows_sources N l ≡ true) (sym same) known)

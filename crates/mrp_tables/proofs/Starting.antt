@@ -59,7 +59,8 @@ module _ (row : List (List ℕ)) (text : AllText row) where
   pub first-bad_order : (k : Kind) → row_kind row ≡ Ok k → is_run k ≡ false → Starts row (Err fault.KindOrder)
   first-bad_order k is other = starts-refused (first_terms row) fault.KindOrder (first-other row text k is other)
 
-  pub first-calendar : (k : Kind) (start : Result Table TableFaultKind) → row_kind row ≡ Ok k → is_run k ≡ true → StartsWith (run_terms row) start → Starts row start
+  pub first-calendar : (k : Kind) (start : Result Table TableFaultKind) → row_kind row ≡ Ok k → is_run k ≡ true → StartsWith (run_terms row) start
+      → Starts row start
   first-calendar k start is run with_run = subst (λ (r : Result RunTerms TableFaultKind). StartsWith r start) (sym (first-run row text k is run)) with_run
 
 -- a derived test for the run
@@ -90,7 +91,8 @@ run_kind k h = by (is_run k) (h ∙ ap not (same_run k))
 
 -- ---- the rows after the first
 
-tells_fault : {A B : Type 0} (e : TableFaultKind) (part : Result A TableFaultKind) (read : Result B TableFaultKind) → TellsFault part e → (part ≡ Err e → read ≡ Err e) → TellsFault read e
+tells_fault : {A B : Type 0} (e : TableFaultKind) (part : Result A TableFaultKind) (read : Result B TableFaultKind) → TellsFault part e
+    → (part ≡ Err e → read ≡ Err e) → TellsFault read e
 tells_fault fault.Memory part read h f = tt
 tells_fault _ part read h f = f h
 
@@ -103,11 +105,14 @@ module _ (N : Table) (last : Kind) (row : List (List ℕ)) (text : AllText row) 
   unfolding row_after
   after-bad_order k is other = rw (text_kind row text, is, other) refl
 
-  after-kind : (k : Kind) (made : Result Table TableFaultKind) → row_kind row ≡ Ok k → may_follow k last ≡ true → row_of_kind k N row ≡ made → row_after (N, last) row ≡ (made >>= λ M. Ok (M, k))
+  after-kind : (k : Kind) (made : Result Table TableFaultKind) → row_kind row ≡ Ok k → may_follow k last ≡ true → row_of_kind k N row ≡ made
+      → row_after (N, last) row ≡ (made >>= λ M. Ok (M, k))
   unfolding row_after
-  after-kind k made is follows of = rw (text_kind row text, is, follows) (ap (λ (r : Result Table TableFaultKind). let s : Result (Table × Kind) TableFaultKind = r >>= λ M. Ok (M, k) in s) of)
+  after-kind k made is follows of = rw (text_kind row text, is, follows)
+      (ap (λ (r : Result Table TableFaultKind). let s : Result (Table × Kind) TableFaultKind = r >>= λ M. Ok (M, k) in s) of)
 
-  pub after-fault : (k : Kind) (e : TableFaultKind) → row_kind row ≡ Ok k → may_follow k last ≡ true → TellsFault (row_of_kind k N row) e → TellsFault (row_after (N, last) row) e
+  pub after-fault : (k : Kind) (e : TableFaultKind) → row_kind row ≡ Ok k → may_follow k last ≡ true → TellsFault (row_of_kind k N row) e
+      → TellsFault (row_after (N, last) row) e
   after-fault k e is follows tells = tells_fault e (row_of_kind k N row) (row_after (N, last) row) tells (λ of. after-kind k (Err e) is follows of)
 
   pub after-made : (k : Kind) (M : Table) → row_kind row ≡ Ok k → may_follow k last ≡ true → row_of_kind k N row ≡ Ok M → row_after (N, last) row ≡ Ok (M, k)

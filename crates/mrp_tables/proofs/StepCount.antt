@@ -24,7 +24,8 @@ of_each (Ok N) says each = tt
 of_each (Err e) says each = each e
 
 -- a missing pair alone is told
-pub when_missing : (r : Result Table TableFault) (says : TableFault → Type 0) → IfErr r (λ e. e.kind ≡ fault.UnknownPair) → IfErr r (λ e. UnlessMissing e.kind (says e))
+pub when_missing : (r : Result Table TableFault) (says : TableFault → Type 0) → IfErr r (λ e. e.kind ≡ fault.UnknownPair)
+    → IfErr r (λ e. UnlessMissing e.kind (says e))
 when_missing (Ok N) says is = tt
 when_missing (Err e) says is = rw is tt
 

@@ -16,7 +16,8 @@ none_lacks N (s ∷ ss) passes =
     let here : lacks_pair N s ≡ false = passes 0 s (omega arith) in
     rw here (none_lacks N ss (λ k d lt. passes (suc k) d (omega arith)))
 
-first_lacks : (N : Table) (ss : List SourceRow) (i : ℕ) (d : SourceRow) → i < length ss → lacks_pair N (get_or ss i d) ≡ true → ((k : ℕ) → k < i → lacks_pair N (get_or ss k d) ≡ false)
+first_lacks : (N : Table) (ss : List SourceRow) (i : ℕ) (d : SourceRow) → i < length ss → lacks_pair N (get_or ss i d) ≡ true
+    → ((k : ℕ) → k < i → lacks_pair N (get_or ss k d) ≡ false)
     → first_lacking N ss ≡ Some (get_or ss i d).pair.0
 unfolding first_lacking
 first_lacks N [] i d lt lacks before = absurd (omega arith)
@@ -41,7 +42,8 @@ pub waits_at : (N : Table) (i row : ℕ) (d : SourceRow) → position (lacks_pai
 waits_at N i row d found same = one_waits N i d found ∙ ap (λ (r : ℕ). Err (record { row = r; kind = fault.UnknownPair })) (sym same)
 
 -- the row that it names is one of the table's
-pub above_count : (N : Table) (i row : ℕ) (d : SourceRow) → IsRead N → position (lacks_pair N) N.sources ≡ Some i → row ≡ pair_row_number N (get_or N.sources i d).pair.0 → row ≤ row_count N
+pub above_count : (N : Table) (i row : ℕ) (d : SourceRow) → IsRead N → position (lacks_pair N) N.sources ≡ Some i
+    → row ≡ pair_row_number N (get_or N.sources i d).pair.0 → row ≤ row_count N
 above_count N i row d is found same =
     let p = position-Some (lacks_pair N) N.sources i d found in
     let here = is.sources i d p.0 in

@@ -1,5 +1,6 @@
 -- Names are equal where their keys are.
-use Rattle.std.proofs.Common.{◌≡◌, ◌<◌, ◌≤◌, ℕ, Bool, true, false, nat_le, ◌==◌, ◌&&◌, eq-eqb, if◌then◌else◌, Option, Some, None, zero, suc, ◌+◌, ◌*◌, List, [], ◌∷◌, ◌++◌, length, take, drop, get_or, refl, ap, sym, ◌∙◌, subst, arith, Fits, w8}
+use Rattle.std.proofs.Common.{◌≡◌, ◌<◌, ◌≤◌, ℕ, Bool, true, false, nat_le, ◌==◌, ◌&&◌, eq-eqb, if◌then◌else◌, Option, Some, None, zero, suc, ◌+◌, ◌*◌, List, []}
+use Rattle.std.proofs.Common.{◌∷◌, ◌++◌, length, take, drop, get_or, refl, ap, sym, ◌∙◌, subst, arith, Fits, w8}
 use Rattle.std.specs.List.{All}
 use Rattle.std.proofs.lemmas.List.Elements.{All-cons, All-head, All-tail, All-take, All-drop}
 use Rattle.std.proofs.lemmas.List.{take-append-drop, take_all, drop_all, drop-drop}
@@ -74,7 +75,8 @@ parts_of s =
 pub key_same : (s t : List ℕ) → All IsByte s → All IsByte t → key_of s ≡ key_of t → s ≡ t
 key_same s t hs ht e =
     let first = word_same (take 7 s) (take 7 t) (All-take IsByte 7 s hs) (All-take IsByte 7 t ht) (ap (λ (k : NameKey). k.first) e) in
-    let second = word_same (take 7 (drop 7 s)) (take 7 (drop 7 t)) (All-take IsByte 7 (drop 7 s) (All-drop IsByte 7 s hs)) (All-take IsByte 7 (drop 7 t) (All-drop IsByte 7 t ht))
+    let second = word_same (take 7 (drop 7 s)) (take 7 (drop 7 t)) (All-take IsByte 7 (drop 7 s) (All-drop IsByte 7 s hs))
+    (All-take IsByte 7 (drop 7 t) (All-drop IsByte 7 t ht))
     (ap (λ (k : NameKey). k.second) e) in
     let third = word_same (drop 14 s) (drop 14 t) (All-drop IsByte 14 s hs) (All-drop IsByte 14 t ht) (ap (λ (k : NameKey). k.third) e) in
     sym (parts_of s) ∙ (λ i. first i ++ (second i ++ third i)) ∙ parts_of t
@@ -90,7 +92,8 @@ key_short s few =
 
 pub short_key_is : (s : List ℕ) (word : ℕ) → length s ≤ 7 → word ≡ word_of s
     → (Some (let k : NameKey = record { first = word; second = 0; third = 0 } in k)) ≡ (if nat_le (length s) 20 then Some (key_of s) else None)
-short_key_is s word few is = rw (within (length s) few) (ap (λ (k : NameKey). Some k) ((λ i. record { first = is i; second = 0; third = 0 }) ∙ sym (key_short s few)))
+short_key_is s word few is = rw (within (length s) few) (ap (λ (k : NameKey). Some k) ((λ i. record { first = is i; second = 0; third = 0 })
+    ∙ sym (key_short s few)))
   where
     within : (n : ℕ) → n ≤ 7 → nat_le n 20 ≡ true
     within n le = grind (arith, nat_tests)
@@ -102,7 +105,8 @@ small_byte b e = grind (arith, nat_tests)
 
 small_bytes : (text : List ℕ) → list_all is_name_byte text ≡ true → All IsByte text
 small_bytes [] e = λ k d lt. absurd (omega (arith, lt))
-small_bytes (b ∷ bs) e = let parts = and_parts (is_name_byte b) (list_all is_name_byte bs) e in All-cons IsByte b bs (small_byte b parts.0) (small_bytes bs parts.1)
+small_bytes (b ∷ bs) e = let parts = and_parts (is_name_byte b) (list_all is_name_byte bs) e
+    in All-cons IsByte b bs (small_byte b parts.0) (small_bytes bs parts.1)
 
 pub name_bytes : (text : List ℕ) → IsName text → All IsByte text
 name_bytes text named = small_bytes text (and_parts _ (list_all is_name_byte text) named).1
@@ -134,7 +138,8 @@ key_test s t hs ht = by (bytes_eq s t) refl (same_name.it (key_of s) (key_of t))
     by false e false f = f ∙ sym e
     by true e false f =
         let same : s ≡ t = (bytes_eq-Decides s t).0 e in
-        let alike : same_name.it (key_of s) (key_of t) ≡ true = subst (λ (u : List ℕ). same_name.it (key_of s) (key_of u) ≡ true) same (keys_alike (key_of s)) in
+        let alike : same_name.it (key_of s) (key_of t) ≡ true = subst (λ (u : List ℕ). same_name.it (key_of s) (key_of u) ≡ true) same (keys_alike (key_of s))
+        in
         alike ∙ sym e
     by false e true f =
         let same : s ≡ t = key_same s t hs ht (keys_equal (key_of s) (key_of t) f) in

@@ -15,7 +15,11 @@ word_of (b ∷ bs) = word_of bs * 512 + b + 1
 
 -- the bytes of a name, seven to a word
 abbrev pub key_of : List ℕ → NameKey
-key_of text = record { first = word_of (take 7 text); second = word_of (take 7 (drop 7 text)); third = word_of (drop 14 text) }
+key_of text = record {
+  first = word_of (take 7 text);
+  second = word_of (take 7 (drop 7 text));
+  third = word_of (drop 14 text);
+}
 
 -- words as one, for a hash
 abbrev pub mixed_with : ℕ → ℕ → ℕ
@@ -35,7 +39,7 @@ pub record FindsNames (names : List (List ℕ)) (keys : List NameKey) : Type 0 w
   pub in_order : keys ≡ map key_of names
 
 -- each item's name stands once, and the keys are those of the pairs in their order
-pub record FindsPairs (items : List (List ℕ)) (pairs : List PairRow) (keys : List PairKey) : Type 0 where
+pub record ArePairKeys (items : List (List ℕ)) (pairs : List PairRow) (keys : List PairKey) : Type 0 where
   pub apart : IsDistinct bytes_eq items
   pub in_order : keys ≡ map (pair_key items) pairs
 
@@ -43,7 +47,7 @@ pub record FindsPairs (items : List (List ℕ)) (pairs : List PairRow) (keys : L
 pub record FindsAll (plant_names item_names : List (List ℕ)) (rows : List PairRow) (k : KnownNames) : Type 0 where
   pub plants : FindsNames plant_names k.plants.keys
   pub items : FindsNames item_names k.items.keys
-  pub pairs : FindsPairs item_names rows k.pairs.keys
+  pub pairs : ArePairKeys item_names rows k.pairs.keys
 
 -- the plants, the items and the pairs of the table are found
 abbrev pub Knows : Table → KnownNames → Type 0

@@ -1,5 +1,6 @@
 -- What is true of the rows while they are read.
-use Rattle.std.specs.Prelude.{◌≡◌, ℕ, ◌+◌, ◌*◌, ◌≤◌, ◌<◌, ◌==◌, ◌&&◌, ◌||◌, ◌∷◌, [], List, length, map, IfSome, Bool, true, not, nat_lt}
+use Rattle.std.specs.Prelude.{◌≡◌, ℕ, ◌+◌, ◌*◌, ◌≤◌, ◌<◌, ◌==◌, ◌&&◌, ◌||◌, ◌∷◌, [], List, length, map, IfSome, Bool}
+use Rattle.std.specs.Prelude.{true, not, nat_lt}
 use Rattle.std.specs.Prelude.{Option, Some, None, is_some, option_map, position, ok_or, Result, Ok}
 use Rattle.std.specs.List.{IsDistinct, list_all, list_any}
 use Rattle.mrp_rows.specs.Names.{pair_named, plant_no}

@@ -3,7 +3,8 @@ use Rattle.std.specs.Prelude.{◌≡◌, ◌⊎◌, ℕ, ◌+◌, max, List, len
 use Rattle.mrp_grammar.specs.declared.fault.TableFaultKind.{TableFaultKind}
 use Rattle.mrp_grammar.specs.declared.fault.TableFaultKind.TheVariants as fault
 
--- a missing pair may be told after the last row, whichever row it names; each other fault is told at the row that it names
+-- a missing pair may be told after the last row, whichever row it names; each other fault is told at the row that it
+-- names
 abbrev pub UnlessMissing : TableFaultKind → Type 0 → Type 0
 UnlessMissing fault.UnknownPair says = Unit {0}
 UnlessMissing e says = says

@@ -107,7 +107,8 @@ impl Draft {
     /// Whether there is a bill row of the two pairs.
     fn has_bill(&self, parent: Option<PairNo>, component: Option<PairNo>) -> bool
         requires draft { IsDraft self.now }
-        ensures exact { result ≡ has_bill self.now.lists (option_map (λ x. x.0) parent) (option_map (λ x. x.0) component) }
+        ensures exact { result ≡ has_bill self.now.lists (option_map (λ x. x.0) parent)
+            (option_map (λ x. x.0) component) }
     {
         match (parent, component) {
             (Some(parent), Some(component)) => {

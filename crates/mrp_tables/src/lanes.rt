@@ -68,7 +68,8 @@ impl Draft {
         requires draft { IsDraft self.now }
         ensures exact { Finds self.now.lists (lane_view names.now) result }
         ensures named { IsNamedLane self.now result }
-        ensures place { result.place ≡ source_named self.now.lists (option_map (λ p. p.0) result.from) (option_map (λ x. x.0) result.pair) }
+        ensures place { result.place ≡ source_named self.now.lists (option_map (λ p. p.0) result.from)
+            (option_map (λ x. x.0) result.pair) }
     {
         let from = self.find_plant_near(names.from, self.near_from);
         let to = self.find_plant_near(names.to, self.near);
@@ -176,7 +177,8 @@ impl Draft {
     /// Whether there is a cumulative figure of the plant and the pair.
     fn has_cum(&self, named: NamedLane) -> bool
         requires draft { IsDraft self.now }
-        ensures exact { result ≡ cum_between self.now.lists (option_map (λ p. p.0) named.from) (option_map (λ x. x.0) named.pair) }
+        ensures exact { result ≡ cum_between self.now.lists (option_map (λ p. p.0) named.from)
+            (option_map (λ x. x.0) named.pair) }
     {
         match (named.from, named.pair) {
             (Some(from), Some(pair)) => self.cum_keys.contains(&LaneKey { from, pair }),
@@ -230,7 +232,8 @@ impl Draft {
     /// Whether the figures of the plant and the pair start anew.
     fn has_reset(&self, named: NamedLane) -> bool
         requires draft { IsDraft self.now }
-        ensures exact { result ≡ reset_between self.now.lists (option_map (λ p. p.0) named.from) (option_map (λ x. x.0) named.pair) }
+        ensures exact { result ≡ reset_between self.now.lists (option_map (λ p. p.0) named.from)
+            (option_map (λ x. x.0) named.pair) }
     {
         match (named.from, named.pair) {
             (Some(from), Some(pair)) => self.reset_keys.contains(&LaneKey { from, pair }),

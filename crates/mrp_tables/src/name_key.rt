@@ -15,7 +15,7 @@ const IN_WORD: usize = 7;
 /// An odd number without a pattern, by which words are mixed: 2^64 by the golden ratio.
 const MIXER: u64 = 0x9e37_79b9_7f4a_7c15;
 
-/// A name as three words: two names are equal where their keys are.
+/// A name as three words: two names, of at most 20 bytes, are equal where their keys are.
 #[derive(Clone, Copy, PartialEq, Eq)]
 pub(crate) struct NameKey {
     first: u64,

@@ -11,7 +11,8 @@ use mrp_grammar::TableFaultKind;
 use mrp_rows::{ItemNo, PairNo, PairRow, PlantNo, RowLists, is_same_text};
 use std::alloc::Global;
 
-/// The plants, the items and the pairs of the rows so far by their keys, in their order.
+/// The plants, the items and the pairs of the rows so far by their keys, in their order. A pair is found by its plant
+/// and the name of its item in one look-up, as each demand row needs it.
 #[derive(Drop)]
 pub(crate) struct KnownNames {
     plants: IndexSet<NameKey>,
@@ -20,7 +21,8 @@ pub(crate) struct KnownNames {
 }
 
 impl KnownNames {
-    ghost use Rattle.std.specs.Prelude.{◌≡◌, ◌<◌, ◌==◌, ◌&&◌, [], false, length, position, unwrap_or, IfErr, IfOk, OnOk};
+    ghost use Rattle.std.specs.Prelude.{◌≡◌, ◌<◌, ◌==◌, ◌&&◌, [], false, length, position, unwrap_or, IfErr, IfOk};
+    ghost use Rattle.std.specs.Prelude.{OnOk};
     ghost use Rattle.std.specs.List.{list_any};
     ghost use Rattle.std.specs.Str.{bytes_eq};
     ghost use Rattle.mrp_grammar.specs.declared.fault.TableFaultKind.TheVariants.{Memory};
@@ -105,7 +107,8 @@ impl KnownNames {
         requires rows { IsRead lists.old }
         requires knows { Knows lists.old self.old }
         requires row { IsPairRow lists.old row }
-        requires fresh { list_any (λ p. (p.plant.0 == row.plant.0) && (p.item.0 == row.item.0)) lists.old.pairs ≡ false }
+        requires fresh { list_any (λ p. (p.plant.0 == row.plant.0) && (p.item.0 == row.item.0)) lists.old.pairs
+            ≡ false }
         requires room { length lists.old.pairs < MOST_PAIRS }
         ensures memory { IfErr result (λ fault. fault ≡ Memory) }
         ensures rows { OnOk result (IsRead lists.new) }
@@ -176,7 +179,8 @@ impl Draft {
     pub(crate) fn find_named_pair(&self, plant: Option<PlantNo>, item: &str) -> Option<PairNo>
         requires rows { IsRead self.now.lists }
         requires knows { Knows self.now.lists self.now.known }
-        ensures exact { option_map (λ x. x.0) result ≡ pair_named self.now.lists (option_map (λ p. p.0) plant) item.now }
+        ensures exact { option_map (λ x. x.0) result
+            ≡ pair_named self.now.lists (option_map (λ p. p.0) plant) item.now }
         ensures within { IfSome result (λ pair. pair.0 < length self.now.lists.pairs) }
     {
         let plant = plant?;
@@ -200,7 +204,8 @@ impl Draft {
 
 /// The place of a name by its key, from 0, or `None` where it isn't there.
 fn place_of(keys: &IndexSet<NameKey>, name: &str) -> Option<usize>
-    ensures exact { (names : List (List ℕ)) → FindsNames names keys.now.keys → result ≡ position (bytes_eq name.now) names }
+    ensures exact { (names : List (List ℕ)) → FindsNames names keys.now.keys
+        → result ≡ position (bytes_eq name.now) names }
 {
     let key = NameKey::of(name)?;
     keys.get_index_of(&key)

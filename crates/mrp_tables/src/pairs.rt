@@ -23,7 +23,8 @@ impl Draft {
     ghost use Rattle.mrp_qty.specs.declared.limits.TheConstants.{MOST_SOURCES_OF_PAIR};
     ghost use Rattle.mrp_tables.specs.Drafts.{FitsPair, IsNewPair, with_sources};
     ghost use Rattle.mrp_rows.specs.Names.{has_plant};
-    ghost use Rattle.mrp_grammar.specs.Grammar.{knows_sources, pair_fits, pair_row, plant_in_row, plant_row, seen, source_row, TellsMade, with_pair_terms};
+    ghost use Rattle.mrp_grammar.specs.Grammar.{knows_sources, pair_fits, pair_row, plant_in_row, plant_row, seen};
+    ghost use Rattle.mrp_grammar.specs.Grammar.{source_row, TellsMade, with_pair_terms};
     ghost use Rattle.mrp_tables.specs.Keys.{Knows};
     ghost use Rattle.mrp_tables.specs.Lists.{IsDraft, AddsRow, FitsRows, AddsSources};
     ghost use Rattle.mrp_rows.specs.Table.{IsRead};
@@ -164,9 +165,11 @@ impl Draft {
         requires known { knows_sources self.old.lists (map source_view sources.now) ≡ true }
         requires fits { FitsRows self.old.lists self.old.lane_keys.keys self.old.lanes.items }
         requires fresh { IsNewPair self.old.lists pair.0 }
-        requires room { length self.old.lists.sources + MOST_SOURCES_OF_PAIR ≤ MOST_SOURCES_OF_PAIR * length self.old.lists.pairs }
+        requires room { length self.old.lists.sources + MOST_SOURCES_OF_PAIR
+            ≤ MOST_SOURCES_OF_PAIR * length self.old.lists.pairs }
         ensures memory { IfErr result (λ fault. fault ≡ Memory) }
-        ensures table { OnOk result (self.new.lists ≡ with_sources self.old.lists pair.0 (map source_view sources.now)) }
+        ensures table { OnOk result (self.new.lists
+            ≡ with_sources self.old.lists pair.0 (map source_view sources.now)) }
         ensures adds { OnOk result (AddsSources self.old self.new (length sources.now)) }
     {
         for source in sources {
@@ -182,12 +185,14 @@ impl Draft {
         requires pair { pair.0 < length self.old.lists.pairs }
         requires source { IsSource source.now }
         requires known { has_plant self.old.lists source.now.plant.now ≡ true }
-        requires fresh { is_taken_from self.old.lists pair.0 (source_row self.old.lists pair.0 (source_view source.now)).plant.0 ≡ false }
+        requires fresh { is_taken_from self.old.lists pair.0
+            (source_row self.old.lists pair.0 (source_view source.now)).plant.0 ≡ false }
         requires fits { FitsRows self.old.lists self.old.lane_keys.keys self.old.lanes.items }
         requires ships { All (λ s. s.pair.0 < pair.0) self.old.lists.ships }
         requires room { length self.old.lists.sources < MOST_SOURCES_OF_PAIR * length self.old.lists.pairs }
         ensures memory { IfErr result (λ fault. fault ≡ Memory) }
-        ensures table { OnOk result (self.new.lists ≡ with_source self.old.lists (source_row self.old.lists pair.0 (source_view source.now))) }
+        ensures table { OnOk result (self.new.lists
+            ≡ with_source self.old.lists (source_row self.old.lists pair.0 (source_view source.now))) }
         ensures adds { OnOk result (AddsSources self.old self.new 1) }
     {
         let Some(from) = self.find_plant(source.plant) else {

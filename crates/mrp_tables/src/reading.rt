@@ -1,6 +1,7 @@
 //! A table read from a text of csv rows.
 
-ghost use Rattle.std.specs.Prelude.{◌≡◌, ◌+◌, ◌≤◌, ◌<◌, max, true, false, [], length, Ok, Err, MatchResult, IfOk, IfErr, OnOk, option_map};
+ghost use Rattle.std.specs.Prelude.{◌≡◌, ◌+◌, ◌≤◌, ◌<◌, max, true, false, [], length, Ok, Err, MatchResult, IfOk};
+ghost use Rattle.std.specs.Prelude.{IfErr, OnOk, option_map};
 ghost use Rattle.csv.specs.Reading.{has_failed, strip_bom};
 ghost use Rattle.csv.specs.Records.{AllText, fields_of};
 ghost use Rattle.mrp_tables.specs.Lists.{IsDraft};
@@ -8,7 +9,8 @@ ghost use Rattle.mrp_grammar.specs.Reading.{TellsRows, waiting};
 ghost use Rattle.mrp_grammar.specs.Written.{OfRecords};
 ghost use Rattle.mrp_tables.specs.Steps.{StepsTo, UnlessMissing};
 ghost use Rattle.mrp_rows.specs.Turns.{row_count};
-ghost use Rattle.mrp_grammar.specs.Left.{fault_of, GivesAll, MayCome, OfLeft, TellsNext, TellsRest, TellsTaken, rows_left};
+ghost use Rattle.mrp_grammar.specs.Left.{fault_of, GivesAll, MayCome, OfLeft, TellsNext, TellsRest, TellsTaken};
+ghost use Rattle.mrp_grammar.specs.Left.{rows_left};
 ghost use Rattle.mrp_tables.specs.Drafts.{IsDraftKept, TellsFirstAt, draft_state};
 
 use crate::Steps;
@@ -39,7 +41,8 @@ pub fn read_tables<R: Read + Drop, L: Ledger>(
     ensures table { OfRecords (option_map strip_bom (R.remaining reader)) (TellsRows result) }
     ensures counted { IfOk result (λ tables. steps.new ≡ steps.old + row_count tables + 1) }
     ensures named { IfErr result (λ fault. UnlessMissing fault.kind (steps.new ≡ steps.old + max 1 fault.row)) }
-    ensures ends { IfErr result (λ fault. OfRecords (option_map strip_bom (R.remaining reader)) (StepsTo steps.old steps.new fault.row)) }
+    ensures ends { IfErr result (λ fault. OfRecords (option_map strip_bom (R.remaining reader))
+        (StepsTo steps.old steps.new fault.row)) }
     ensures least { IfErr result (λ fault. steps.old + max 1 fault.row ≤ steps.new) }
     ensures turns { steps.new ≤ steps.old + MAX_TURNS }
 {
@@ -83,7 +86,8 @@ fn read_rows<R: Read, L: Ledger>(
     ensures failed { IfErr result (λ fault. fault.kind ≡ TableFaultKind.ReadFault → has_failed rows.new ≡ true) }
     ensures counted { IfOk result (λ tables. steps.new ≡ steps.old + row_count tables + 1) }
     ensures named { IfErr result (λ fault. UnlessMissing fault.kind (steps.new ≡ steps.old + max 1 fault.row)) }
-    ensures ends { IfErr result (λ fault. OfLeft (rows_left R.remaining rows.old) (StepsTo steps.old steps.new fault.row)) }
+    ensures ends { IfErr result (λ fault. OfLeft (rows_left R.remaining rows.old)
+        (StepsTo steps.old steps.new fault.row)) }
     ensures least { IfErr result (λ fault. steps.old + max 1 fault.row ≤ steps.new) }
     ensures turns { steps.new ≤ steps.old + MAX_TURNS }
 {
@@ -153,12 +157,14 @@ fn read_rest<R: Read, L: Ledger>(
     requires draft { IsDraft draft.old }
     requires kept { IsDraftKept draft.old }
     requires first { draft.old.rows ≡ 1 }
-    ensures exact { TellsRest (rows_left R.remaining rows.old) 2 (draft_state draft.old) (draft_state draft.new) result }
+    ensures exact { TellsRest (rows_left R.remaining rows.old) 2 (draft_state draft.old)
+        (draft_state draft.new) result }
     ensures failed { IfErr result (λ fault. fault.kind ≡ TableFaultKind.ReadFault → has_failed rows.new ≡ true) }
     ensures draft { OnOk result (IsDraft draft.new) }
     ensures kept { OnOk result (IsDraftKept draft.new) }
     ensures counted { OnOk result (steps.new ≡ steps.old + draft.new.rows) }
-    ensures all { OnOk result (OfLeft (rows_left R.remaining rows.old) (λ rows. steps.new ≡ steps.old + length rows + 1)) }
+    ensures all { OnOk result (OfLeft (rows_left R.remaining rows.old)
+        (λ rows. steps.new ≡ steps.old + length rows + 1)) }
     ensures later { IfErr result (λ fault. 2 ≤ fault.row) }
     ensures least { IfErr result (λ fault. steps.new + 1 ≡ steps.old + fault.row) }
     ensures turns { steps.new + 1 ≤ steps.old + MAX_TURNS }
@@ -185,7 +191,8 @@ fn read_next<R: Read>(
     requires kept { IsDraftKept draft.old }
     requires room { draft.old.rows < 5000000 }
     ensures gives { OnOk result (GivesAll rows.new) }
-    ensures exact { TellsNext (rows_left R.remaining rows.old) (rows_left R.remaining rows.new) number (draft_state draft.old) (draft_state draft.new) result }
+    ensures exact { TellsNext (rows_left R.remaining rows.old) (rows_left R.remaining rows.new) number
+        (draft_state draft.old) (draft_state draft.new) result }
     ensures last { IfOk result (λ found. found ≡ false → OfLeft (rows_left R.remaining rows.old) (λ rows. rows ≡ [])) }
     ensures number { IfErr result (λ fault. fault.row ≡ number) }
     ensures failed { IfErr result (λ fault. fault.kind ≡ TableFaultKind.ReadFault → has_failed rows.new ≡ true) }
@@ -203,7 +210,8 @@ fn read_next<R: Read>(
 
 /// A fault with the row that has it.
 fn at_row<T: Drop>(row: u64, answer: Result<T, TableFaultKind>) -> Result<T, TableFault>
-    ensures same { MatchResult answer (λ value. result ≡ Ok value) (λ kind. result ≡ Err (record { row = row; kind = kind })) }
+    ensures same { MatchResult answer (λ value. result ≡ Ok value)
+        (λ kind. result ≡ Err (record { row = row; kind = kind })) }
 {
     match answer {
         Ok(value) => Ok(value),
@@ -220,7 +228,8 @@ fn next_row<R: Read>(
     requires gives { GivesAll rows.old }
     ensures gives { OnOk result (GivesAll rows.new) }
     ensures text { OnOk result (AllText (fields_of row.new)) }
-    ensures exact { TellsTaken (rows_left R.remaining rows.old) (rows_left R.remaining rows.new) number (fields_of row.new) result }
+    ensures exact { TellsTaken (rows_left R.remaining rows.old) (rows_left R.remaining rows.new) number
+        (fields_of row.new) result }
     ensures number { IfErr result (λ fault. fault.row ≡ number) }
     ensures failed { IfErr result (λ fault. fault.kind ≡ TableFaultKind.ReadFault → has_failed rows.new ≡ true) }
 {

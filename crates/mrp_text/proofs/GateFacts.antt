@@ -38,7 +38,8 @@ run_fault Shut Spent N run.Stopped said is of =
 abbrev InTable : Table → (Table → Type 0) → Type 0
 InTable N says = says N
 
-gate_fault : (Shut Spent : ℕ → Type 0) (N : Table) (f : RunFault) (said : TextFault) → IsFaultIn Shut Spent N f → IsOfRun N f said → IsGateFault Shut Spent (InTable N) said
+gate_fault : (Shut Spent : ℕ → Type 0) (N : Table) (f : RunFault) (said : TextFault) → IsFaultIn Shut Spent N f → IsOfRun N f said
+    → IsGateFault Shut Spent (InTable N) said
 gate_fault Shut Spent N run.Memory said is of = subst (IsGateFault Shut Spent (InTable N)) (sym of) tt
 gate_fault Shut Spent N run.ThreadRefused said is of = subst (IsGateFault Shut Spent (InTable N)) (sym of) tt
 gate_fault Shut Spent N (run.GateShut plant) (fault.GateShut name) is of = (plant.0, of, is.1)
@@ -55,7 +56,8 @@ refused_fault Shut Spent N (fault.GateShut name) said = absurd said.1
 refused_fault Shut Spent N fault.Stopped said = absurd said.1
 refused_fault Shut Spent N _ said = tt
 
-text_fault : (Shut Spent : ℕ → Type 0) (known : Option (List ℕ)) (N : Table) (f : TextFault) → IsTableOf known N → IsGateFault Shut Spent (InTable N) f → IsGateFault Shut Spent (OfTable known) f
+text_fault : (Shut Spent : ℕ → Type 0) (known : Option (List ℕ)) (N : Table) (f : TextFault) → IsTableOf known N → IsGateFault Shut Spent (InTable N) f
+    → IsGateFault Shut Spent (OfTable known) f
 text_fault Shut Spent known N (fault.GateShut name) is said = (N, is, said)
 text_fault Shut Spent known N fault.Stopped is said = (N, is, said)
 text_fault Shut Spent known N _ is said = tt
@@ -73,7 +75,8 @@ module _ (Open Shut Worker : ℕ → ℕ → Type 0) (workers turns : ℕ) where
   Spent = WasSpent Open turns
 
   -- a run that came to a plan
-  pub gate_ok : {U : Type 0} (N : Table) (u : U) → AllTurned Open turns (length N.plants) → GateExplains {U = U} Open Shut Worker workers turns (InTable N) (Ok u)
+  pub gate_ok : {U : Type 0} (N : Table) (u : U) → AllTurned Open turns (length N.plants)
+      → GateExplains {U = U} Open Shut Worker workers turns (InTable N) (Ok u)
   gate_ok N u turned = record { turned = turned; shut = tt }
 
   -- one that met a fault
@@ -82,15 +85,18 @@ module _ (Open Shut Worker : ℕ → ℕ → Type 0) (workers turns : ℕ) where
   gate_err N f said is of = record { turned = tt; shut = gate_fault Was Spent N f said is of }
 
   -- one whose plan was written, or not whole
-  pub gate_late : {U : Type 0} (N : Table) (r : Result U TextFault) → AllTurned Open turns (length N.plants) → IfErr r IsLate → GateExplains Open Shut Worker workers turns (InTable N) r
+  pub gate_late : {U : Type 0} (N : Table) (r : Result U TextFault) → AllTurned Open turns (length N.plants) → IfErr r IsLate
+      → GateExplains Open Shut Worker workers turns (InTable N) r
   gate_late N (Ok u) turned late = record { turned = turned; shut = tt }
   gate_late N (Err f) turned late = record { turned = tt; shut = late_fault Was Spent N f late }
 
   -- one that was refused before
-  pub gate_refused : {U : Type 0} (N : Table) (f : TextFault) → RefusesTable AskWhole N f → GateExplains {U = U} Open Shut Worker workers turns (InTable N) (Err f)
+  pub gate_refused : {U : Type 0} (N : Table) (f : TextFault) → RefusesTable AskWhole N f
+      → GateExplains {U = U} Open Shut Worker workers turns (InTable N) (Err f)
   gate_refused N f said = record { turned = tt; shut = refused_fault Was Spent N f said }
 
-  pub gate_unread : {U : Type 0} (known : Option (List ℕ)) (f : TextFault) → Refuses known AskWhole f → GateExplains {U = U} Open Shut Worker workers turns (OfTable known) (Err f)
+  pub gate_unread : {U : Type 0} (known : Option (List ℕ)) (f : TextFault) → Refuses known AskWhole f
+      → GateExplains {U = U} Open Shut Worker workers turns (OfTable known) (Err f)
   gate_unread known f said = record { turned = tt; shut = text_refused Was Spent known f said }
 
   -- a fault that is handed on
@@ -103,7 +109,8 @@ module _ (Open Shut Worker : ℕ → ℕ → Type 0) (workers turns : ℕ) where
   }
 
   -- so of the text
-  pub gate_of : {U : Type 0} (known : Option (List ℕ)) (N : Table) (r : Result U TextFault) → IsTableOf known N → GateExplains Open Shut Worker workers turns (InTable N) r
+  pub gate_of : {U : Type 0} (known : Option (List ℕ)) (N : Table) (r : Result U TextFault) → IsTableOf known N
+      → GateExplains Open Shut Worker workers turns (InTable N) r
       → GateExplains Open Shut Worker workers turns (OfTable known) r
   gate_of known N (Ok u) is gate = record { turned = (N, is, gate.turned); shut = tt }
   gate_of known N (Err f) is gate = record { turned = tt; shut = text_fault Was Spent known N f is gate.shut }
@@ -135,6 +142,7 @@ no_gate : (known : Option (List ℕ)) (asked : Question) (f : TextFault) → ¬ 
 no_gate known asked (fault.GateShut name) never said = never said.2.1
 no_gate known asked _ never said = tt
 
-pub never_gate : {U : Type 0} (known : Option (List ℕ)) (asked : Question) (r : Result U TextFault) → ¬ IsThreaded asked → IfErr r (Refuses known asked) → IfErr r IsNoShutGate
+pub never_gate : {U : Type 0} (known : Option (List ℕ)) (asked : Question) (r : Result U TextFault) → ¬ IsThreaded asked → IfErr r (Refuses known asked)
+    → IfErr r IsNoShutGate
 never_gate known asked (Ok u) never said = tt
 never_gate known asked (Err f) never said = no_gate known asked f never said

@@ -66,11 +66,13 @@ one_table bytes N M a b =
 one_named : (N : Table) (x y : ℕ) (plant item : List ℕ) → IsTable N → IsNamed N x plant item → IsNamed N y plant item → x ≡ y
 one_named N x y plant item table a b =
     sym (pairs_are_found N table x a.pair)
-    ∙ ap (λ (p : ℕ). pair_no N p (pair_at N x).item.0) (same_place N.plants (pair_at N x).plant.0 (pair_at N y).plant.0 plant table.once.plants a.at_plant b.at_plant)
+    ∙ ap (λ (p : ℕ). pair_no N p (pair_at N x).item.0) (same_place N.plants (pair_at N x).plant.0
+    (pair_at N y).plant.0 plant table.once.plants a.at_plant b.at_plant)
     ∙ ap (λ (i : ℕ). pair_no N (pair_at N y).plant.0 i) (same_place N.items (pair_at N x).item.0 (pair_at N y).item.0 item table.once.items a.of_item b.of_item)
     ∙ pairs_are_found N table y b.pair
 
-one_peg_report : (plant item : List ℕ) (period : ℕ) (N : Table) (a b : List ℕ) → IsTable N → IsPegReport plant item period N a → IsPegReport plant item period N b → a ≡ b
+one_peg_report : (plant item : List ℕ) (period : ℕ) (N : Table) (a b : List ℕ) → IsTable N → IsPegReport plant item period N a
+    → IsPegReport plant item period N b → a ≡ b
 one_peg_report plant item period N a b table x y =
     x.2.2 ∙ ap (λ (p : ℕ). peg_text N (peg_terms N (plan_of N) p period)) (one_named N x.0 y.0 plant item table x.1 y.1) ∙ sym y.2.2
 
@@ -93,9 +95,11 @@ one_plant N None None (Some q) table a b = absurd b
 one_plant N (Some name) None g table a b = absurd a
 one_plant N (Some name) (Some p) None table a b = absurd b
 
-one_schedule : (from to : Option (List ℕ)) (heading : Heading) (N : Table) (a b : List ℕ) → IsTable N → IsScheduleReport from to heading N a → IsScheduleReport from to heading N b → a ≡ b
+one_schedule : (from to : Option (List ℕ)) (heading : Heading) (N : Table) (a b : List ℕ) → IsTable N → IsScheduleReport from to heading N a
+    → IsScheduleReport from to heading N b → a ≡ b
 one_schedule from to heading N a b table x y =
-    x.4.1 ∙ ap₂ (λ (f g : Option PlantNo). schedule_text heading f g N) (one_plant N from x.0 y.0 table x.2 y.2) (one_plant N to x.1 y.1 table x.3 y.3) ∙ sym y.4.1
+    x.4.1 ∙ ap₂ (λ (f g : Option PlantNo). schedule_text heading f g N) (one_plant N from x.0 y.0 table x.2 y.2) (one_plant N to x.1 y.1 table x.3 y.3)
+    ∙ sym y.4.1
 
 one_answer : (choice : Choice) (N : Table) (a b : List ℕ) → IsTable N → IsAnswer choice N a → IsAnswer choice N b → a ≡ b
 one_answer (Plan workers capacity single) N a b table x y = x.1 ∙ sym y.1
@@ -189,13 +193,15 @@ answer_passes choice N text fault.WriteFault is said = refl
 answer_passes choice N text fault.Memory is said = refl
 
 -- nor are rows that make a table
-rows_pass : (rows : List (List (List ℕ))) (N : Table) (e : TableFault) (k : TableFaultKind) (above : Type 0) → Reads rows (Ok N) → OfRows k above (Reads rows (Err e)) → table_status_of k ≡ 3
+rows_pass : (rows : List (List (List ℕ))) (N : Table) (e : TableFault) (k : TableFaultKind) (above : Type 0) → Reads rows (Ok N)
+    → OfRows k above (Reads rows (Err e)) → table_status_of k ≡ 3
 rows_pass rows N e kind.ReadFault above read said = refl
 rows_pass rows N e kind.Memory above read said = refl
 rows_pass rows N e _ above read said = let same = reads_one_way rows (Ok N) (Err e) read said in absurd (cc)
 
 pub accepted_passes : ReportsExcludeRefusals
-accepted_passes choice bytes text (fault.Table e) is said = rows_pass (records default_config (strip_bom bytes)) is.0 e e.kind _ ((tables_are_read bytes is.0).0 is.1) said
+accepted_passes choice bytes text (fault.Table e) is said = rows_pass (records default_config (strip_bom bytes)) is.0 e e.kind _
+    ((tables_are_read bytes is.0).0 is.1) said
 accepted_passes choice bytes text fault.Memory is said = refl
 accepted_passes choice bytes text f is said =
     answer_passes choice is.0 text f is.2 (subst (λ (N : Table). RefusesTable (question_of choice) N f) (one_table bytes said.0 is.0 said.1 is.1) said.2)

@@ -26,7 +26,8 @@ rows-fail contents old new report.Memory e P kept of =
 
 -- where they were sent, and what comes after them not
 pub late-fails : {W : Type 0} (contents : W → Option (List ℕ)) (old mid new : W) (rows : List ℕ) (f : ReportFault) (e : TextFault) (P : List ℕ → Type 0)
-    → P rows → Appends (contents old) (contents mid) rows → (f ≡ report.Memory → new ≡ mid) → IsOfReport f e → WritesRows {U = Unit {0}} contents old new (Err e) P
+    → P rows → Appends (contents old) (contents mid) rows → (f ≡ report.Memory → new ≡ mid) → IsOfReport f e
+    → WritesRows {U = Unit {0}} contents old new (Err e) P
 late-fails contents old mid new rows report.WriteFault e P is whole kept of =
     let Q : TextFault → Type 0 = λ e. WritesRows {U = Unit {0}} contents old new (Err e) P in
     subst Q (sym of) tt

@@ -48,7 +48,8 @@ report-fails a b text report.Memory e P is sent kept of =
     let K : Option (List ℕ) → Type 0 = λ c. Keeps a c in
     subst Q (sym of) (inl (subst K (sym (kept refl)) (keeps-all a)))
 
-sends-longer : (a b : Option (List ℕ)) (first rest : List ℕ) (f : ReportFault) → SendsReport {U = Unit {0}} a b (Err f) first → SendsReport {U = Unit {0}} a b (Err f) (first ++ rest)
+sends-longer : (a b : Option (List ℕ)) (first rest : List ℕ) (f : ReportFault) → SendsReport {U = Unit {0}} a b (Err f) first
+    → SendsReport {U = Unit {0}} a b (Err f) (first ++ rest)
 sends-longer a b first rest report.WriteFault sent = front-longer a b first rest sent
 sends-longer a b first rest report.Memory sent = tt
 
@@ -59,7 +60,8 @@ first-fails a b first rest f e P is sent kept of = report-fails a b (first ++ re
 
 -- the first part of a text was sent, and the rest not whole
 pub rest-fails : (a b c : Option (List ℕ)) (first rest : List ℕ) (f : ReportFault) (e : TextFault) (P : List ℕ → Type 0)
-    → P (first ++ rest) → Appends a b first → SendsReport {U = Unit {0}} b c (Err f) rest → (f ≡ report.Memory → c ≡ b) → IsOfReport f e → Writes {U = Unit {0}} a c (Err e) P
+    → P (first ++ rest) → Appends a b first → SendsReport {U = Unit {0}} b c (Err f) rest → (f ≡ report.Memory → c ≡ b) → IsOfReport f e
+    → Writes {U = Unit {0}} a c (Err e) P
 rest-fails a b c first rest report.WriteFault e P is whole sent kept of =
     let Q : TextFault → Type 0 = λ e. Writes {U = Unit {0}} a c (Err e) P in
     subst Q (sym of) (first ++ rest, is, front-after a b c first rest whole sent)

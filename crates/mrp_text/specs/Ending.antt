@@ -21,12 +21,14 @@ IsStatusOfUnread _ status = status ≡ 3
 -- ---- what is reported
 
 -- a line, or a front of it where a write failed
-pub record TellsLine (old new : Option (List ℕ)) (reported : Result (Unit {0}) ReportFault) (line : List ℕ) : Type 0 where
+pub record TellsLine (old new : Option (List ℕ)) (reported : Result (Unit {0}) ReportFault)
+    (line : List ℕ) : Type 0 where
   pub sent : SendsText old new reported line
   pub failed : IfErr reported (λ met. met ≡ WriteFault)
 
 -- where there is a fault, its line; else nothing, and nothing failed
-abbrev pub Reports : {W : Type 0} → (W → Option (List ℕ)) → W → W → Result (Unit {0}) ReportFault → Option TextFault → Type 0
+abbrev pub Reports : {W : Type 0} → (W → Option (List ℕ)) → W → W → Result (Unit {0}) ReportFault → Option TextFault
+    → Type 0
 Reports contents old new reported None = (new ≡ old) × (reported ≡ Ok tt)
 Reports contents old new reported (Some met) = TellsLine (contents old) (contents new) reported (fault_line met)
 

@@ -5,7 +5,8 @@ use Rattle.mrp_sheet.specs.declared.fault.ReportFault.TheVariants as report
 use Rattle.mrp_grammar.specs.declared.fault.TableFaultKind.{TableFaultKind}
 use Rattle.mrp_grammar.specs.declared.fault.TableFaultKind.TheVariants as kind
 use Rattle.mrp_text.specs.declared.fault.TextFault.{TextFault}
-use Rattle.mrp_text.specs.declared.fault.TextFault.TheVariants.{Table, Loop, SupplyTooLarge, NeedTooLarge, NoPair, NoPeriod, NoPlant}
+use Rattle.mrp_text.specs.declared.fault.TextFault.TheVariants.{Table, Loop, SupplyTooLarge, NeedTooLarge, NoPair}
+use Rattle.mrp_text.specs.declared.fault.TextFault.TheVariants.{NoPeriod, NoPlant}
 use Rattle.mrp_text.specs.declared.fault.TextFault.TheVariants.{ThreadRefused, GateShut, Stopped, WriteFault, Memory}
 
 -- the fault of a text after a fault of a report

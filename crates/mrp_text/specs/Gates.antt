@@ -19,9 +19,10 @@ IsGateFault Shut Spent Of (fault.GateShut name) = Of (λ N. IsShutPlant Shut N (
 IsGateFault Shut Spent Of fault.Stopped = Of (λ N. IsTurnsSpent Spent N)
 IsGateFault Shut Spent Of _ = Unit {0}
 
--- where a run ended well, the gate was open to the first turns of each plant, one or more. A shut gate was shut for the plant
--- that is named, and where the run was stopped, some plant has used its turns
-pub record GateExplains {U : Type 0} (Open Shut Worker : ℕ → ℕ → Type 0) (workers turns : ℕ) (Of : (Table → Type 0) → Type 0)
+-- where a run ended well, the gate was open to the first turns of each plant, one or more. A shut gate was shut for the
+-- plant that is named, and where the run was stopped, some plant has used its turns
+pub record GateExplains {U : Type 0} (Open Shut Worker : ℕ → ℕ → Type 0) (workers turns : ℕ)
+    (Of : (Table → Type 0) → Type 0)
     (result : Result U TextFault) : Type 0 where
   pub turned : OnOk result (Of (λ N. AllTurned Open turns (length N.plants)))
   pub shut : IfErr result (IsGateFault (WasShut Open Shut Worker workers turns) (WasSpent Open turns) Of)

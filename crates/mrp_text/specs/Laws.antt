@@ -12,7 +12,8 @@ use Rattle.mrp_text.specs.Refusals.{Refuses}
 
 -- bytes are a table exactly where the grammar reads that table in their records
 abbrev pub TablesAreRead : Type 0
-TablesAreRead = (bytes : List ℕ) (N : Table) → IsTableOf (Some bytes) N ↔ Reads (records default_config (strip_bom bytes)) (Ok N)
+TablesAreRead = (bytes : List ℕ) (N : Table) → IsTableOf (Some bytes) N
+    ↔ Reads (records default_config (strip_bom bytes)) (Ok N)
 
 -- bytes make one table at most
 abbrev pub BytesMakeOneTable : Type 0
@@ -28,4 +29,5 @@ ReportsAreOne =
 abbrev pub ReportsExcludeRefusals : Type 0
 ReportsExcludeRefusals =
     (choice : Choice) (bytes text : List ℕ) (fault : TextFault)
-    → OfTable (Some bytes) (λ N. IsAnswer choice N text) → Refuses (Some bytes) (question_of choice) fault → status_of fault ≡ 3
+    → OfTable (Some bytes) (λ N. IsAnswer choice N text) → Refuses (Some bytes) (question_of choice) fault
+    → status_of fault ≡ 3

@@ -10,7 +10,8 @@ use Rattle.mrp_grammar.specs.declared.fault.TableFaultKind.{TableFaultKind}
 use Rattle.mrp_grammar.specs.declared.fault.TableFaultKind.TheVariants as kind
 use Rattle.mrp_text.specs.declared.fault.PairName.{PairName}
 use Rattle.mrp_text.specs.declared.fault.TextFault.{TextFault}
-use Rattle.mrp_text.specs.declared.fault.TextFault.TheVariants.{Table, Loop, SupplyTooLarge, NeedTooLarge, NoPair, NoPeriod, NoPlant}
+use Rattle.mrp_text.specs.declared.fault.TextFault.TheVariants.{Table, Loop, SupplyTooLarge, NeedTooLarge, NoPair}
+use Rattle.mrp_text.specs.declared.fault.TextFault.TheVariants.{NoPeriod, NoPlant}
 use Rattle.mrp_text.specs.declared.fault.TextFault.TheVariants.{ThreadRefused, GateShut, Stopped, WriteFault, Memory}
 
 -- the whole text was sent, or else a front of it
@@ -51,7 +52,8 @@ table_fault_word kind.Memory = codes "Memory"
 table_fault_word kind.ResetOrder = codes "ResetOrder"
 
 unfoldable pub row_line : TableFault → List ℕ
-row_line fault = concatenated (codes "mrp: row " ∷ decimal fault.row ∷ codes ": " ∷ table_fault_word fault.kind ∷ codes "\n" ∷ [])
+row_line fault = concatenated (codes "mrp: row " ∷ decimal fault.row ∷ codes ": " ∷ table_fault_word fault.kind
+    ∷ codes "\n" ∷ [])
 
 -- the line of a fault of the table: want of memory has no row
 abbrev pub table_line_of : TableFault → TableFaultKind → List ℕ
@@ -63,7 +65,8 @@ table_line fault = table_line_of fault fault.kind
 
 -- a fault that names a pair
 unfoldable pub pair_line : List ℕ → PairName → List ℕ
-pair_line words pair = concatenated (words ∷ string_bytes pair.plant ∷ codes "/" ∷ string_bytes pair.item ∷ codes "\n" ∷ [])
+pair_line words pair = concatenated (words ∷ string_bytes pair.plant ∷ codes "/" ∷ string_bytes pair.item ∷ codes "\n"
+    ∷ [])
 
 -- a pair of a loop
 unfoldable pub loop_word : PairName → List ℕ

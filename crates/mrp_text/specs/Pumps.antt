@@ -1,5 +1,6 @@
--- A firm that was worked by hand: pumps made in one plant, of castings and brass of another, and sold from a depot, with
--- each lot rule, safety stocks, receipts, shipments, shares of two sources, figures that start anew, and late orders.
+-- A firm that was worked by hand: pumps made in one plant, of castings and brass of another, and sold from a depot,
+-- with each lot rule, safety stocks, receipts, shipments, shares of two sources, figures that start anew, and late
+-- orders.
 use Rattle.std.specs.Prelude.{◌≡◌, [], ◌∷◌, ◌++◌, pos, codes}
 use Rattle.mrp_lot.specs.declared.rule.Rule.TheVariants.{Fixed, LotForLot, MinMultiple, Periods}
 use Rattle.mrp_rows.specs.declared.rows.Supply.TheVariants.{Buy, From, Make}
@@ -14,16 +15,96 @@ pumps = record {
   plants = codes "FOUNDRY" ∷ codes "WORKS" ∷ codes "DEPOT" ∷ [];
   items = codes "PUMP" ∷ codes "HOUSING" ∷ codes "IMPELLER" ∷ codes "MOTOR" ∷ codes "CASTING" ∷ codes "BRASS" ∷ [];
   pairs =
-      record { plant = record { 0 = 1 }; item = record { 0 = 0 }; supply = Make; rule = LotForLot; lead = 1; on_hand = 30; safety = 10 }
-      ∷ record { plant = record { 0 = 1 }; item = record { 0 = 1 }; supply = From; rule = Periods 2; lead = 1; on_hand = 4; safety = 5 }
-      ∷ record { plant = record { 0 = 1 }; item = record { 0 = 2 }; supply = From; rule = MinMultiple 30 10; lead = 1; on_hand = 40; safety = 10 }
-      ∷ record { plant = record { 0 = 1 }; item = record { 0 = 3 }; supply = Buy; rule = Fixed 50; lead = 3; on_hand = 25; safety = 0 }
-      ∷ record { plant = record { 0 = 0 }; item = record { 0 = 1 }; supply = Make; rule = Fixed 40; lead = 2; on_hand = 10; safety = 0 }
-      ∷ record { plant = record { 0 = 0 }; item = record { 0 = 2 }; supply = Make; rule = LotForLot; lead = 1; on_hand = 20; safety = 0 }
-      ∷ record { plant = record { 0 = 0 }; item = record { 0 = 4 }; supply = Buy; rule = MinMultiple 50 10; lead = 5; on_hand = 35; safety = 10 }
-      ∷ record { plant = record { 0 = 0 }; item = record { 0 = 5 }; supply = Buy; rule = Periods 3; lead = 1; on_hand = 120; safety = 20 }
-      ∷ record { plant = record { 0 = 2 }; item = record { 0 = 0 }; supply = From; rule = Periods 2; lead = 1; on_hand = 8; safety = 3 }
-      ∷ record { plant = record { 0 = 2 }; item = record { 0 = 2 }; supply = From; rule = LotForLot; lead = 2; on_hand = 6; safety = 2 }
+      record {
+        plant = record { 0 = 1 };
+        item = record { 0 = 0 };
+        supply = Make;
+        rule = LotForLot;
+        lead = 1;
+        on_hand = 30;
+        safety = 10;
+      }
+      ∷ record {
+        plant = record { 0 = 1 };
+        item = record { 0 = 1 };
+        supply = From;
+        rule = Periods 2;
+        lead = 1;
+        on_hand = 4;
+        safety = 5;
+      }
+      ∷ record {
+        plant = record { 0 = 1 };
+        item = record { 0 = 2 };
+        supply = From;
+        rule = MinMultiple 30 10;
+        lead = 1;
+        on_hand = 40;
+        safety = 10;
+      }
+      ∷ record {
+        plant = record { 0 = 1 };
+        item = record { 0 = 3 };
+        supply = Buy;
+        rule = Fixed 50;
+        lead = 3;
+        on_hand = 25;
+        safety = 0;
+      }
+      ∷ record {
+        plant = record { 0 = 0 };
+        item = record { 0 = 1 };
+        supply = Make;
+        rule = Fixed 40;
+        lead = 2;
+        on_hand = 10;
+        safety = 0;
+      }
+      ∷ record {
+        plant = record { 0 = 0 };
+        item = record { 0 = 2 };
+        supply = Make;
+        rule = LotForLot;
+        lead = 1;
+        on_hand = 20;
+        safety = 0;
+      }
+      ∷ record {
+        plant = record { 0 = 0 };
+        item = record { 0 = 4 };
+        supply = Buy;
+        rule = MinMultiple 50 10;
+        lead = 5;
+        on_hand = 35;
+        safety = 10;
+      }
+      ∷ record {
+        plant = record { 0 = 0 };
+        item = record { 0 = 5 };
+        supply = Buy;
+        rule = Periods 3;
+        lead = 1;
+        on_hand = 120;
+        safety = 20;
+      }
+      ∷ record {
+        plant = record { 0 = 2 };
+        item = record { 0 = 0 };
+        supply = From;
+        rule = Periods 2;
+        lead = 1;
+        on_hand = 8;
+        safety = 3;
+      }
+      ∷ record {
+        plant = record { 0 = 2 };
+        item = record { 0 = 2 };
+        supply = From;
+        rule = LotForLot;
+        lead = 2;
+        on_hand = 6;
+        safety = 2;
+      }
       ∷ [];
   sources =
       record { pair = record { 0 = 1 }; plant = record { 0 = 0 }; low = 0; high = 1000 }
@@ -100,16 +181,26 @@ PumpsAreWritten =
     ∷ (codes "plant" ∷ codes "FOUNDRY" ∷ [] ∷ [] ∷ [] ∷ [] ∷ [] ∷ [] ∷ [])
     ∷ (codes "plant" ∷ codes "WORKS" ∷ [] ∷ [] ∷ [] ∷ [] ∷ [] ∷ [] ∷ [])
     ∷ (codes "plant" ∷ codes "DEPOT" ∷ [] ∷ [] ∷ [] ∷ [] ∷ [] ∷ [] ∷ [])
-    ∷ (codes "pair" ∷ codes "WORKS" ∷ codes "PUMP" ∷ codes "make" ∷ codes "lot" ∷ codes "1" ∷ codes "30" ∷ codes "10" ∷ [])
-    ∷ (codes "pair" ∷ codes "WORKS" ∷ codes "HOUSING" ∷ codes "from:FOUNDRY" ∷ codes "periods:2" ∷ codes "1" ∷ codes "4" ∷ codes "5" ∷ [])
-    ∷ (codes "pair" ∷ codes "WORKS" ∷ codes "IMPELLER" ∷ codes "from:FOUNDRY" ∷ codes "min:30:10" ∷ codes "1" ∷ codes "40" ∷ codes "10" ∷ [])
-    ∷ (codes "pair" ∷ codes "WORKS" ∷ codes "MOTOR" ∷ codes "buy" ∷ codes "fixed:50" ∷ codes "3" ∷ codes "25" ∷ codes "0" ∷ [])
-    ∷ (codes "pair" ∷ codes "FOUNDRY" ∷ codes "HOUSING" ∷ codes "make" ∷ codes "fixed:40" ∷ codes "2" ∷ codes "10" ∷ codes "0" ∷ [])
-    ∷ (codes "pair" ∷ codes "FOUNDRY" ∷ codes "IMPELLER" ∷ codes "make" ∷ codes "lot" ∷ codes "1" ∷ codes "20" ∷ codes "0" ∷ [])
-    ∷ (codes "pair" ∷ codes "FOUNDRY" ∷ codes "CASTING" ∷ codes "buy" ∷ codes "min:50:10" ∷ codes "5" ∷ codes "35" ∷ codes "10" ∷ [])
-    ∷ (codes "pair" ∷ codes "FOUNDRY" ∷ codes "BRASS" ∷ codes "buy" ∷ codes "periods:3" ∷ codes "1" ∷ codes "120" ∷ codes "20" ∷ [])
-    ∷ (codes "pair" ∷ codes "DEPOT" ∷ codes "PUMP" ∷ codes "from:WORKS" ∷ codes "periods:2" ∷ codes "1" ∷ codes "8" ∷ codes "3" ∷ [])
-    ∷ (codes "pair" ∷ codes "DEPOT" ∷ codes "IMPELLER" ∷ codes "from:WORKS:700:FOUNDRY:300" ∷ codes "lot" ∷ codes "2" ∷ codes "6" ∷ codes "2" ∷ [])
+    ∷ (codes "pair" ∷ codes "WORKS" ∷ codes "PUMP" ∷ codes "make" ∷ codes "lot" ∷ codes "1" ∷ codes "30" ∷ codes "10"
+    ∷ [])
+    ∷ (codes "pair" ∷ codes "WORKS" ∷ codes "HOUSING" ∷ codes "from:FOUNDRY" ∷ codes "periods:2" ∷ codes "1" ∷ codes "4"
+    ∷ codes "5" ∷ [])
+    ∷ (codes "pair" ∷ codes "WORKS" ∷ codes "IMPELLER" ∷ codes "from:FOUNDRY" ∷ codes "min:30:10" ∷ codes "1"
+    ∷ codes "40" ∷ codes "10" ∷ [])
+    ∷ (codes "pair" ∷ codes "WORKS" ∷ codes "MOTOR" ∷ codes "buy" ∷ codes "fixed:50" ∷ codes "3" ∷ codes "25"
+    ∷ codes "0" ∷ [])
+    ∷ (codes "pair" ∷ codes "FOUNDRY" ∷ codes "HOUSING" ∷ codes "make" ∷ codes "fixed:40" ∷ codes "2" ∷ codes "10"
+    ∷ codes "0" ∷ [])
+    ∷ (codes "pair" ∷ codes "FOUNDRY" ∷ codes "IMPELLER" ∷ codes "make" ∷ codes "lot" ∷ codes "1" ∷ codes "20"
+    ∷ codes "0" ∷ [])
+    ∷ (codes "pair" ∷ codes "FOUNDRY" ∷ codes "CASTING" ∷ codes "buy" ∷ codes "min:50:10" ∷ codes "5" ∷ codes "35"
+    ∷ codes "10" ∷ [])
+    ∷ (codes "pair" ∷ codes "FOUNDRY" ∷ codes "BRASS" ∷ codes "buy" ∷ codes "periods:3" ∷ codes "1" ∷ codes "120"
+    ∷ codes "20" ∷ [])
+    ∷ (codes "pair" ∷ codes "DEPOT" ∷ codes "PUMP" ∷ codes "from:WORKS" ∷ codes "periods:2" ∷ codes "1" ∷ codes "8"
+    ∷ codes "3" ∷ [])
+    ∷ (codes "pair" ∷ codes "DEPOT" ∷ codes "IMPELLER" ∷ codes "from:WORKS:700:FOUNDRY:300" ∷ codes "lot" ∷ codes "2"
+    ∷ codes "6" ∷ codes "2" ∷ [])
     ∷ (codes "bill" ∷ codes "WORKS" ∷ codes "PUMP" ∷ codes "HOUSING" ∷ codes "1" ∷ [] ∷ [] ∷ [] ∷ [])
     ∷ (codes "bill" ∷ codes "WORKS" ∷ codes "PUMP" ∷ codes "IMPELLER" ∷ codes "2" ∷ [] ∷ [] ∷ [] ∷ [])
     ∷ (codes "bill" ∷ codes "WORKS" ∷ codes "PUMP" ∷ codes "MOTOR" ∷ codes "1" ∷ [] ∷ [] ∷ [] ∷ [])

@@ -1,5 +1,6 @@
 -- What a refusal says of the bytes: the first fault of their rows, or what their table has or lacks.
-use Rattle.std.specs.Prelude.{◌≡◌, ℕ, ◌<◌, ◌≤◌, ◌⊎◌, List, [], ◌∷◌, Option, Some, None, option_map, slice_get, length, Contains, Err, string_bytes}
+use Rattle.std.specs.Prelude.{◌≡◌, ℕ, ◌<◌, ◌≤◌, ◌⊎◌, List, [], ◌∷◌, Option, Some, None, option_map, slice_get, length}
+use Rattle.std.specs.Prelude.{Contains, Err, string_bytes}
 use Rattle.csv.specs.Reading.{strip_bom}
 use Rattle.mrp_rows.specs.Table.{Table, horizon}
 use Rattle.mrp_grammar.specs.Reading.{TellsRows}
@@ -39,7 +40,8 @@ IsSupplyNamed N name = (x : ℕ) × IsSupplyTooLarge N x × IsPairName N x name
 abbrev pub IsNeedNamed : Table → List ℕ → PairName → Type 0
 IsNeedNamed N codes name = (x : ℕ) × IsNeedTooLarge N codes x × IsPairName N x name
 
--- what is asked of a table: its plan, or a report of all of it; the plan by threads; a pair in a period; plants by their names
+-- what is asked of a table: its plan, or a report of all of it; the plan by threads; a pair in a period; plants by
+-- their names
 pub data Question : Type 0 where
   AskWhole : Question
   AskByThreads : Question
@@ -76,13 +78,14 @@ abbrev pub IsPlantName : Table → List ℕ → Type 0
 IsPlantName N name = (p : ℕ) × (slice_get N.plants p ≡ Some name)
 
 -- What a fault says of a table that was read. All but a loop and a quantity past the bound come of a table that can be
--- planned. Of a failed write and of refused memory it says nothing, and of a refused thread that threads were asked for.
--- For whom a gate was shut, and that turns were used, `GateExplains` says
+-- planned. Of a failed write and of refused memory it says nothing, and of a refused thread that threads were asked
+-- for. For whom a gate was shut, and that turns were used, `GateExplains` says
 abbrev pub RefusesTable : Question → Table → TextFault → Type 0
 RefusesTable asked N (fault.Table e) = ⊥
 RefusesTable asked N (fault.Loop names) = IsLoopNamed N names.items
 RefusesTable asked N (fault.SupplyTooLarge name) = IsLoopFree N × IsSupplyNamed N name
-RefusesTable asked N (fault.NeedTooLarge name) = IsLoopFree N × ((codes : List ℕ) × AreCodes N codes × IsNeedNamed N codes name)
+RefusesTable asked N (fault.NeedTooLarge name) =
+    IsLoopFree N × ((codes : List ℕ) × AreCodes N codes × IsNeedNamed N codes name)
 RefusesTable asked N fault.NoPair = IsSized N × LacksPair asked N
 RefusesTable asked N fault.NoPeriod = IsSized N × LacksPeriod asked N
 RefusesTable asked N fault.NoPlant = IsSized N × LacksPlant asked N
@@ -92,8 +95,8 @@ RefusesTable asked N fault.Stopped = IsSized N × IsThreaded asked × (1 ≤ len
 RefusesTable asked N fault.WriteFault = Unit {0}
 RefusesTable asked N fault.Memory = Unit {0}
 
--- what a fault says of these bytes: it is the first fault of their rows; or they make a table, and the fault says this of
--- it. Of refused memory it says nothing
+-- what a fault says of these bytes: it is the first fault of their rows; or they make a table, and the fault says this
+-- of it. Of refused memory it says nothing
 abbrev pub Refuses : Option (List ℕ) → Question → TextFault → Type 0
 Refuses known asked (fault.Table e) = OfRecords (option_map strip_bom known) (TellsRows (Err e))
 Refuses known asked fault.Memory = Unit {0}

@@ -66,7 +66,8 @@ IsChosenPlant N _ _ = ⊥
 -- so, where the plants are chosen by these names
 abbrev pub IsScheduleReport : Option (List ℕ) → Option (List ℕ) → Heading → Table → List ℕ → Type 0
 IsScheduleReport from to heading N text =
-    (supplier : Option PlantNo) × (customer : Option PlantNo) × IsChosenPlant N from supplier × IsChosenPlant N to customer
+    (supplier : Option PlantNo) × (customer : Option PlantNo) × IsChosenPlant N from supplier
+    × IsChosenPlant N to customer
     × AreSchedules supplier customer heading N text
 
 -- the pegs rows of the plan of the network
@@ -83,5 +84,6 @@ IsHeaded heading names AreRows text = (rows : List ℕ) × AreRows rows × (text
 
 -- where memory was refused: nothing was written; or all plan rows were, and no late order
 abbrev pub WritesRows : {W U : Type 0} → (W → Option (List ℕ)) → W → W → Result U TextFault → (List ℕ → Type 0) → Type 0
-WritesRows contents old new (Err fault.Memory) IsRows = (new ≡ old) ⊎ ((rows : List ℕ) × IsRows rows × Appends (contents old) (contents new) rows)
+WritesRows contents old new (Err fault.Memory) IsRows =
+    (new ≡ old) ⊎ ((rows : List ℕ) × IsRows rows × Appends (contents old) (contents new) rows)
 WritesRows contents old new _ IsRows = Unit {0}

@@ -1,5 +1,5 @@
--- The faults of a text that a run by threads may answer, and the one that a fault of a run is, where there is memory for
--- the name of a plant.
+-- The faults of a text that a run by threads may answer, and the one that a fault of a run is, where there is memory
+-- for the name of a plant.
 use Rattle.std.specs.Prelude.{◌≡◌, ◌<◌, ◌≤◌, length, Some, slice_get, string_bytes}
 use Rattle.mrp_rows.specs.Table.{Table}
 use Rattle.mrp_rows.specs.declared.numbers.PlantNo.{PlantNo}
@@ -20,8 +20,8 @@ IsOfRun N run.ThreadRefused said = said ≡ fault.ThreadRefused
 IsOfRun N (run.GateShut plant) said = IsShutFor N plant said
 IsOfRun N run.Stopped said = said ≡ fault.Stopped
 
--- what a run by threads meets: a thread was refused, a shut gate with the name of a plant of the network, turns that were used
--- by one of its plants, or refused memory
+-- what a run by threads meets: a thread was refused, a shut gate with the name of a plant of the network, turns that
+-- were used by one of its plants, or refused memory
 abbrev pub IsRunFault : Table → TextFault → Type 0
 IsRunFault N fault.ThreadRefused = Unit {0}
 IsRunFault N (fault.GateShut name) = IsPlantName N (string_bytes name)

@@ -15,11 +15,12 @@ use Rattle.mrp_text.specs.declared.fault.TextFault.TheVariants as fault
 -- ---- the table of a text
 
 -- the bytes are the table, written out: it says what a table says, the records of the bytes, without a byte order mark,
--- are its rows, and its items are numbered in the order in which its pairs name them. Of bytes that aren't known nothing
--- is said but that it is a table
+-- are its rows, and its items are numbered in the order in which its pairs name them. Of bytes that aren't known
+-- nothing is said but that it is a table
 pub record IsTableOf (known : Option (List ℕ)) (N : Table) : Type 0 where
   pub table : IsTable N
-  pub rows : OfRecords (option_map strip_bom known) (λ rows. (rows ≡ rows_of N) × AreNumbered 0 N.pairs (length N.items))
+  pub rows : OfRecords (option_map strip_bom known)
+      (λ rows. (rows ≡ rows_of N) × AreNumbered 0 N.pairs (length N.items))
 
 -- so it is of some table of these bytes, of which there is one at most; where they aren't known, of some table
 abbrev pub OfTable : Option (List ℕ) → (Table → Type 0) → Type 0
@@ -36,5 +37,6 @@ IsPlanReport N text = IsSized N × (text ≡ plan_text N (plan_of N) ++ late_tex
 abbrev pub Writes : {U : Type 0} → Option (List ℕ) → Option (List ℕ) → Result U TextFault → (List ℕ → Type 0) → Type 0
 Writes old new (Ok _) IsReport = (text : List ℕ) × IsReport text × Appends old new text
 Writes old new (Err fault.WriteFault) IsReport = (text : List ℕ) × IsReport text × AppendsFront old new text
-Writes old new (Err fault.Memory) IsReport = Keeps old new ⊎ ((text : List ℕ) × IsReport text × AppendsSome old new text)
+Writes old new (Err fault.Memory) IsReport = Keeps old new
+    ⊎ ((text : List ℕ) × IsReport text × AppendsSome old new text)
 Writes old new (Err _) IsReport = Keeps old new

@@ -15,8 +15,24 @@ bicycle = record {
   plants = codes "P1" ∷ [];
   items = codes "BIKE" ∷ codes "WHEEL" ∷ [];
   pairs =
-      record { plant = record { 0 = 0 }; item = record { 0 = 0 }; supply = Make; rule = LotForLot; lead = 1; on_hand = 0; safety = 0 }
-      ∷ record { plant = record { 0 = 0 }; item = record { 0 = 1 }; supply = Buy; rule = LotForLot; lead = 1; on_hand = 0; safety = 0 }
+      record {
+        plant = record { 0 = 0 };
+        item = record { 0 = 0 };
+        supply = Make;
+        rule = LotForLot;
+        lead = 1;
+        on_hand = 0;
+        safety = 0;
+      }
+      ∷ record {
+        plant = record { 0 = 0 };
+        item = record { 0 = 1 };
+        supply = Buy;
+        rule = LotForLot;
+        lead = 1;
+        on_hand = 0;
+        safety = 0;
+      }
       ∷ [];
   sources = [];
   bills = record { parent = record { 0 = 0 }; component = record { 0 = 1 }; per = 2 } ∷ [];
@@ -60,8 +76,24 @@ firm_of_two = record {
   plants = codes "A" ∷ codes "B" ∷ [];
   items = codes "X" ∷ [];
   pairs =
-      record { plant = record { 0 = 0 }; item = record { 0 = 0 }; supply = From; rule = LotForLot; lead = 1; on_hand = 0; safety = 0 }
-      ∷ record { plant = record { 0 = 1 }; item = record { 0 = 0 }; supply = Buy; rule = LotForLot; lead = 0; on_hand = 0; safety = 0 }
+      record {
+        plant = record { 0 = 0 };
+        item = record { 0 = 0 };
+        supply = From;
+        rule = LotForLot;
+        lead = 1;
+        on_hand = 0;
+        safety = 0;
+      }
+      ∷ record {
+        plant = record { 0 = 1 };
+        item = record { 0 = 0 };
+        supply = Buy;
+        rule = LotForLot;
+        lead = 0;
+        on_hand = 0;
+        safety = 0;
+      }
       ∷ [];
   sources = record { pair = record { 0 = 0 }; plant = record { 0 = 1 }; low = 0; high = 1000 } ∷ [];
   bills = [];

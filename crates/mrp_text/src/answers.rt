@@ -33,8 +33,10 @@ pub fn answer<T: Threads + Wait + Sync, R: Read + Drop, W: Write>(
     writer: &mut W,
 ) -> Result<(), TextFault>
     requires { IsInRange choice }
-    ensures text { Writes (W.contents writer.old) (W.contents writer.new) result (λ text. OfTable (R.remaining reader) (λ N. IsAnswer choice.entry N text)) }
-    ensures rows { WritesRows W.contents writer.old writer.new result (λ rows. OfTable (R.remaining reader) (λ N. IsPlanRows N rows)) }
+    ensures text { Writes (W.contents writer.old) (W.contents writer.new) result
+        (λ text. OfTable (R.remaining reader) (λ N. IsAnswer choice.entry N text)) }
+    ensures rows { WritesRows W.contents writer.old writer.new result
+        (λ rows. OfTable (R.remaining reader) (λ N. IsPlanRows N rows)) }
     ensures refusal { IfErr result (Refuses (R.remaining reader) (question_of choice.entry)) }
     ensures untouched { IfErr result (λ fault. IsBeforeReport choice.entry fault → writer.new ≡ writer.old) }
     ensures gate { IfErr result IsNoShutGate }

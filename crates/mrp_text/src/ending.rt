@@ -3,7 +3,8 @@
 ghost use Rattle.std.specs.Prelude.{◌≡◌, Ok};
 ghost use Rattle.std.specs.IoError.{error_kind};
 ghost use Rattle.mrp_text.specs.Answer.{exit_status_of};
-ghost use Rattle.mrp_text.specs.Ending.{IsStatusOfUnread, Reports, TellsLine, fault_in, help_fault, help_status, unread_line};
+ghost use Rattle.mrp_text.specs.Ending.{IsStatusOfUnread, Reports, TellsLine, fault_in, help_fault, help_status};
+ghost use Rattle.mrp_text.specs.Ending.{unread_line};
 
 use crate::answers::exit_status;
 use crate::fault::TextFault;
@@ -64,7 +65,8 @@ pub fn after_help<W: Write>(printed: Result<(), ReportFault>, writer: &mut W) ->
 pub fn unread<W: Write>(error: &io::Error, writer: &mut W) -> Ending
     ensures status { IsStatusOfUnread (error_kind error.now) result.status }
     ensures printed { result.printed ≡ Ok tt }
-    ensures line { TellsLine (W.contents writer.old) (W.contents writer.new) result.reported (unread_line (error_kind error.now)) }
+    ensures line { TellsLine (W.contents writer.old) (W.contents writer.new) result.reported
+        (unread_line (error_kind error.now)) }
 {
     if error.kind() == io::ErrorKind::InvalidData {
         Ending {

@@ -4,8 +4,8 @@
 //!
 //! The planner as a library: a table from any reader, a report to any writer.
 //! [`plan_text`] writes the plan, each plant planned in a thread of its own (by construction; no clause says so),
-//! and [`drive_text`] the same plan on one thread; [`check_text`] writes the low-level codes, [`peg_text`] what a gross requirement
-//! consists of, and [`pegs_text`] so of the whole plan, [`cums_text`] the cumulative figures of the lanes
+//! and [`drive_text`] the same plan on one thread; [`check_text`] writes the low-level codes, [`peg_text`] what a gross
+//! requirement consists of, and [`pegs_text`] so of the whole plan, [`cums_text`] the cumulative figures of the lanes
 //! between plants, [`orders_text`] the planned orders, [`schedule_text`] the delivery schedules between plants,
 //! and [`advice_text`] which open orders to move; [`answer`] does the one of them that the words of a command
 //! line chose. A [`Heading`] says whether the names of the columns stand above the rows; of the codes, the

@@ -52,7 +52,8 @@ fn send_line<W: Write>(fault: &TextFault, writer: &mut W) -> Result<(), ReportFa
 
 /// Sends the pieces one after the other.
 fn send_all<W: Write>(pieces: &[&[u8]], writer: &mut W) -> Result<(), ReportFault>
-    ensures { SendsText (W.contents writer.old) (W.contents writer.new) result (flat_map (λ piece. piece.now) pieces.now) }
+    ensures { SendsText (W.contents writer.old) (W.contents writer.new) result
+        (flat_map (λ piece. piece.now) pieces.now) }
 {
     'pieces: for piece in pieces {
         if let Err(fault) = send(piece, writer) {

@@ -10,7 +10,8 @@ ghost use Rattle.mrp_loops.specs.Loop.{IsLoopFree};
 ghost use Rattle.mrp_loops.specs.Codes.{AreCodes};
 ghost use Rattle.mrp_text.specs.Text.{IsTableOf};
 ghost use Rattle.mrp_text.specs.Refusals.{IsPairName, AreCalled};
-ghost use Rattle.mrp_text.specs.Checks.{AreLoopPairs, BoundAnswers, IsBoundPair, LoopCheckAnswers, IsOfBound, IsOfLoop, NetworkAnswers, RowsAnswer};
+ghost use Rattle.mrp_text.specs.Checks.{AreLoopPairs, BoundAnswers, IsBoundPair, LoopCheckAnswers, IsOfBound, IsOfLoop};
+ghost use Rattle.mrp_text.specs.Checks.{NetworkAnswers, RowsAnswer};
 
 use crate::fault::{PairName, TextFault};
 use mrp_loops::{BoundFault, Levels, LoopFault, SizedNet, bound, check};
@@ -34,7 +35,8 @@ pub(crate) fn network_of<R: Read + Drop>(alloc: Global, reader: R) -> Result<Net
 
 /// The table.
 fn tables_of<R: Read + Drop>(alloc: Global, reader: R) -> Result<Tables, TextFault>
-    ensures rows { IfOk result (λ tables. OfRecords (option_map strip_bom (R.remaining reader)) (TellsRows (Ok tables))) }
+    ensures rows { IfOk result (λ tables. OfRecords (option_map strip_bom (R.remaining reader))
+        (TellsRows (Ok tables))) }
     ensures refusal { IfErr result (RowsAnswer (R.remaining reader)) }
 {
     match read_tables_uncounted(alloc, reader) {

@@ -32,7 +32,8 @@ pub(crate) fn run_plan<T: Threads + Wait + Sync, G: Gate>(
     requires plannable { IsSized net.now.network }
     ensures fits { IfOk result (Fits net.now.network) }
     ensures fault { IfErr result (IsRunFault net.now.network) }
-    ensures gate { GateExplains G.turn_open G.turn_shut G.worker_shut settings.workers MOST_TURNS (λ says. says net.now.network) result }
+    ensures gate { GateExplains G.turn_open G.turn_shut G.worker_shut settings.workers MOST_TURNS
+        (λ says. says net.now.network) result }
 {
     match run_network(rt, alloc, net, settings, gate) {
         Ok(outcome) => Ok(Plan::gather(net, outcome.plans)),

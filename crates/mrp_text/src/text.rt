@@ -54,11 +54,14 @@ pub fn plan_text<T: Threads + Wait + Sync, R: Read + Drop, W: Write, G: Gate>(
     settings: Settings,
     gate: &G,
 ) -> Result<(), TextFault>
-    ensures text { Writes (W.contents writer.old) (W.contents writer.new) result (λ text. OfTable (R.remaining reader) (λ N. IsPlanReport N text)) }
-    ensures rows { WritesRows W.contents writer.old writer.new result (λ rows. OfTable (R.remaining reader) (λ N. IsPlanRows N rows)) }
+    ensures text { Writes (W.contents writer.old) (W.contents writer.new) result
+        (λ text. OfTable (R.remaining reader) (λ N. IsPlanReport N text)) }
+    ensures rows { WritesRows W.contents writer.old writer.new result
+        (λ rows. OfTable (R.remaining reader) (λ N. IsPlanRows N rows)) }
     ensures refusal { IfErr result (Refuses (R.remaining reader) AskByThreads) }
     ensures untouched { IfErr result (λ fault. IsBeforeWriting fault → writer.new ≡ writer.old) }
-    ensures gate { GateExplains G.turn_open G.turn_shut G.worker_shut settings.workers MOST_TURNS (OfTable (R.remaining reader)) result }
+    ensures gate { GateExplains G.turn_open G.turn_shut G.worker_shut settings.workers MOST_TURNS
+        (OfTable (R.remaining reader)) result }
 {
     let network = network_of(alloc, reader)?;
     let written = write_run(rt, alloc, &network, writer, settings, gate);
@@ -92,8 +95,10 @@ pub fn drive_text<R: Read + Drop, W: Write>(
 ) -> Result<(), TextFault>
     requires some { 1 ≤ capacity }
     requires within { capacity ≤ MOST_CAPACITY }
-    ensures text { Writes (W.contents writer.old) (W.contents writer.new) result (λ text. OfTable (R.remaining reader) (λ N. IsPlanReport N text)) }
-    ensures rows { WritesRows W.contents writer.old writer.new result (λ rows. OfTable (R.remaining reader) (λ N. IsPlanRows N rows)) }
+    ensures text { Writes (W.contents writer.old) (W.contents writer.new) result
+        (λ text. OfTable (R.remaining reader) (λ N. IsPlanReport N text)) }
+    ensures rows { WritesRows W.contents writer.old writer.new result
+        (λ rows. OfTable (R.remaining reader) (λ N. IsPlanRows N rows)) }
     ensures refusal { IfErr result (Refuses (R.remaining reader) AskWhole) }
     ensures untouched { IfErr result (λ fault. IsBeforeWriting fault → writer.new ≡ writer.old) }
 {
@@ -114,7 +119,8 @@ pub fn check_text<R: Read + Drop, W: Write>(
     reader: R,
     writer: &mut W,
 ) -> Result<(), TextFault>
-    ensures text { Writes (W.contents writer.old) (W.contents writer.new) result (λ text. OfTable (R.remaining reader) (λ N. IsCodeReport N text)) }
+    ensures text { Writes (W.contents writer.old) (W.contents writer.new) result
+        (λ text. OfTable (R.remaining reader) (λ N. IsCodeReport N text)) }
     ensures refusal { IfErr result (Refuses (R.remaining reader) AskWhole) }
     ensures untouched { IfErr result (λ fault. fault ≢ TextFault.WriteFault → writer.new ≡ writer.old) }
 {
@@ -182,7 +188,8 @@ pub fn headed_peg_text<R: Read + Drop, W: Write>(
     heading: Heading,
 ) -> Result<(), TextFault>
     ensures text { Writes (W.contents writer.old) (W.contents writer.new) result
-        (λ text. OfTable (R.remaining reader) (λ N. IsHeaded heading peg_names (IsPegReport plant.now item.now period N) text)) }
+        (λ text. OfTable (R.remaining reader) (λ N. IsHeaded heading peg_names
+        (IsPegReport plant.now item.now period N) text)) }
     ensures refusal { IfErr result (Refuses (R.remaining reader) (AskPair plant.now item.now period)) }
     ensures untouched { IfErr result (λ fault. fault ≢ TextFault.WriteFault → writer.new ≡ writer.old) }
 {
@@ -204,7 +211,8 @@ pub fn cums_text<R: Read + Drop, W: Write>(
     reader: R,
     writer: &mut W,
 ) -> Result<(), TextFault>
-    ensures text { Writes (W.contents writer.old) (W.contents writer.new) result (λ text. OfTable (R.remaining reader) (λ N. IsCumReport N text)) }
+    ensures text { Writes (W.contents writer.old) (W.contents writer.new) result
+        (λ text. OfTable (R.remaining reader) (λ N. IsCumReport N text)) }
     ensures refusal { IfErr result (Refuses (R.remaining reader) AskWhole) }
     ensures untouched { IfErr result (λ fault. fault ≢ TextFault.WriteFault → writer.new ≡ writer.old) }
 {
@@ -282,7 +290,8 @@ pub fn schedule_text<R: Read + Drop, W: Write>(
     heading: Heading,
 ) -> Result<(), TextFault>
     ensures text { Writes (W.contents writer.old) (W.contents writer.new) result
-        (λ text. OfTable (R.remaining reader) (λ N. IsScheduleReport (name_of from.entry) (name_of to.entry) heading N text)) }
+        (λ text. OfTable (R.remaining reader) (λ N. IsScheduleReport (name_of from.entry)
+        (name_of to.entry) heading N text)) }
     ensures refusal { IfErr result (Refuses (R.remaining reader) (AskPlants (name_of from.entry) (name_of to.entry))) }
     ensures untouched { IfErr result (λ fault. fault ≢ TextFault.WriteFault → writer.new ≡ writer.old) }
 {
@@ -331,7 +340,8 @@ pub fn advice_text<R: Read + Drop, W: Write>(
     writer: &mut W,
     heading: Heading,
 ) -> Result<(), TextFault>
-    ensures text { Writes (W.contents writer.old) (W.contents writer.new) result (λ text. OfTable (R.remaining reader) (λ N. IsAdviceReport heading N text)) }
+    ensures text { Writes (W.contents writer.old) (W.contents writer.new) result
+        (λ text. OfTable (R.remaining reader) (λ N. IsAdviceReport heading N text)) }
     ensures refusal { IfErr result (Refuses (R.remaining reader) AskWhole) }
     ensures untouched { IfErr result (λ fault. fault ≢ TextFault.WriteFault → writer.new ≡ writer.old) }
 {

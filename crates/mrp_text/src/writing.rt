@@ -12,7 +12,8 @@ ghost use Rattle.mrp_text.specs.Text.{Writes, IsPlanReport};
 ghost use Rattle.mrp_text.specs.Reports.{WritesRows, IsPlanRows, IsCodeReport};
 ghost use Rattle.mrp_report.specs.Headings.{code_names, lane_names, peg_names, pegs_names};
 ghost use Rattle.mrp_text.specs.Reports.{IsPegReport, IsCumReport, IsPegs, IsOrderReport, IsHeaded};
-ghost use Rattle.mrp_text.specs.Reports.{AreSchedules, IsAdviceReport, IsChosenPlant, IsPegsReport, IsScheduleReport, name_of};
+ghost use Rattle.mrp_text.specs.Reports.{AreSchedules, IsAdviceReport, IsChosenPlant, IsPegsReport, IsScheduleReport};
+ghost use Rattle.mrp_text.specs.Reports.{name_of};
 ghost use Rattle.mrp_text.specs.Refusals.{IsNoPlant, RefusesTable, AskWhole, AskByThreads, AskPair, AskPlants};
 ghost use Rattle.mrp_text.specs.Gates.{GateExplains};
 ghost use Rattle.mrp_choice.specs.declared.choice.TheConstants.{MOST_CAPACITY};
@@ -66,7 +67,8 @@ pub(crate) fn write_run<T: Threads + Wait + Sync, W: Write, G: Gate>(
     ensures rows { WritesRows W.contents writer.old writer.new result (IsPlanRows network.now) }
     ensures refusal { IfErr result (RefusesTable AskByThreads network.now) }
     ensures untouched { IfErr result (λ fault. IsBeforeWriting fault → writer.new ≡ writer.old) }
-    ensures gate { GateExplains G.turn_open G.turn_shut G.worker_shut settings.workers MOST_TURNS (λ says. says network.now) result }
+    ensures gate { GateExplains G.turn_open G.turn_shut G.worker_shut settings.workers MOST_TURNS
+        (λ says. says network.now) result }
 {
     let levels = levels_of(alloc, network)?;
     let net = sized_of(alloc, network, &levels)?;
@@ -99,7 +101,8 @@ pub(crate) fn write_codes<W: Write>(
     writer: &mut W,
     heading: Heading,
 ) -> Result<(), TextFault>
-    ensures text { Writes (W.contents writer.old) (W.contents writer.new) result (IsHeaded heading code_names (IsCodeReport network.now)) }
+    ensures text { Writes (W.contents writer.old) (W.contents writer.new) result
+        (IsHeaded heading code_names (IsCodeReport network.now)) }
     ensures refusal { IfErr result (RefusesTable AskWhole network.now) }
     ensures untouched { IfErr result (λ fault. fault ≢ TextFault.WriteFault → writer.new ≡ writer.old) }
 {
@@ -118,7 +121,8 @@ fn report_codes<W: Write>(
 ) -> Result<(), TextFault>
     requires codes { AreCodes network.now levels.now }
     requires plannable { IsSized network.now }
-    ensures text { Writes (W.contents writer.old) (W.contents writer.new) result (IsHeaded heading code_names (IsCodeReport network.now)) }
+    ensures text { Writes (W.contents writer.old) (W.contents writer.new) result
+        (IsHeaded heading code_names (IsCodeReport network.now)) }
     ensures fault { IfErr result IsLate }
     ensures untouched { IfErr result (λ fault. fault ≢ TextFault.WriteFault → writer.new ≡ writer.old) }
 {
@@ -164,7 +168,8 @@ fn report_pegs<W: Write>(
     requires plannable { IsSized net.now.network }
     requires pair { IsPair net.now.network x.0 }
     requires period { period < horizon net.now.network }
-    ensures text { Writes (W.contents writer.old) (W.contents writer.new) result (IsHeaded heading peg_names (IsPegs net.now.network x.0 period)) }
+    ensures text { Writes (W.contents writer.old) (W.contents writer.new) result
+        (IsHeaded heading peg_names (IsPegs net.now.network x.0 period)) }
     ensures fault { IfErr result IsLate }
     ensures untouched { IfErr result (λ fault. fault ≢ TextFault.WriteFault → writer.new ≡ writer.old) }
 {
@@ -181,7 +186,8 @@ pub(crate) fn write_cums<W: Write>(
     writer: &mut W,
     heading: Heading,
 ) -> Result<(), TextFault>
-    ensures text { Writes (W.contents writer.old) (W.contents writer.new) result (IsHeaded heading lane_names (IsCumReport network.now)) }
+    ensures text { Writes (W.contents writer.old) (W.contents writer.new) result
+        (IsHeaded heading lane_names (IsCumReport network.now)) }
     ensures refusal { IfErr result (RefusesTable AskWhole network.now) }
     ensures untouched { IfErr result (λ fault. fault ≢ TextFault.WriteFault → writer.new ≡ writer.old) }
 {
@@ -198,7 +204,8 @@ fn report_cums<W: Write>(
     heading: Heading,
 ) -> Result<(), TextFault>
     requires { IsSized net.now.network }
-    ensures text { Writes (W.contents writer.old) (W.contents writer.new) result (IsHeaded heading lane_names (IsCumReport net.now.network)) }
+    ensures text { Writes (W.contents writer.old) (W.contents writer.new) result
+        (IsHeaded heading lane_names (IsCumReport net.now.network)) }
     ensures fault { IfErr result IsLate }
     ensures untouched { IfErr result (λ fault. fault ≢ TextFault.WriteFault → writer.new ≡ writer.old) }
 {
@@ -215,7 +222,8 @@ pub(crate) fn write_orders<W: Write>(
     until: Option<u64>,
     heading: Heading,
 ) -> Result<(), TextFault>
-    ensures text { Writes (W.contents writer.old) (W.contents writer.new) result (IsOrderReport until heading network.now) }
+    ensures text { Writes (W.contents writer.old) (W.contents writer.new) result
+        (IsOrderReport until heading network.now) }
     ensures refusal { IfErr result (RefusesTable AskWhole network.now) }
     ensures untouched { IfErr result (λ fault. fault ≢ TextFault.WriteFault → writer.new ≡ writer.old) }
 {
@@ -233,7 +241,8 @@ fn report_orders<W: Write>(
     heading: Heading,
 ) -> Result<(), TextFault>
     requires { IsSized net.now.network }
-    ensures text { Writes (W.contents writer.old) (W.contents writer.new) result (IsOrderReport until heading net.now.network) }
+    ensures text { Writes (W.contents writer.old) (W.contents writer.new) result
+        (IsOrderReport until heading net.now.network) }
     ensures fault { IfErr result IsLate }
     ensures untouched { IfErr result (λ fault. fault ≢ TextFault.WriteFault → writer.new ≡ writer.old) }
 {
@@ -288,7 +297,8 @@ fn report_schedule<W: Write>(
     heading: Heading,
 ) -> Result<(), TextFault>
     requires { IsSized net.now.network }
-    ensures text { Writes (W.contents writer.old) (W.contents writer.new) result (AreSchedules supplier customer heading net.now.network) }
+    ensures text { Writes (W.contents writer.old) (W.contents writer.new) result
+        (AreSchedules supplier customer heading net.now.network) }
     ensures fault { IfErr result IsLate }
     ensures untouched { IfErr result (λ fault. fault ≢ TextFault.WriteFault → writer.new ≡ writer.old) }
 {
@@ -304,7 +314,8 @@ pub(crate) fn write_all_pegs<W: Write>(
     writer: &mut W,
     heading: Heading,
 ) -> Result<(), TextFault>
-    ensures text { Writes (W.contents writer.old) (W.contents writer.new) result (IsHeaded heading pegs_names (IsPegsReport network.now)) }
+    ensures text { Writes (W.contents writer.old) (W.contents writer.new) result
+        (IsHeaded heading pegs_names (IsPegsReport network.now)) }
     ensures refusal { IfErr result (RefusesTable AskWhole network.now) }
     ensures untouched { IfErr result (λ fault. fault ≢ TextFault.WriteFault → writer.new ≡ writer.old) }
 {
@@ -321,7 +332,8 @@ fn report_all_pegs<W: Write>(
     heading: Heading,
 ) -> Result<(), TextFault>
     requires { IsSized net.now.network }
-    ensures text { Writes (W.contents writer.old) (W.contents writer.new) result (IsHeaded heading pegs_names (IsPegsReport net.now.network)) }
+    ensures text { Writes (W.contents writer.old) (W.contents writer.new) result
+        (IsHeaded heading pegs_names (IsPegsReport net.now.network)) }
     ensures fault { IfErr result IsLate }
     ensures untouched { IfErr result (λ fault. fault ≢ TextFault.WriteFault → writer.new ≡ writer.old) }
 {
@@ -354,7 +366,8 @@ fn report_advice<W: Write>(
     heading: Heading,
 ) -> Result<(), TextFault>
     requires { IsSized net.now.network }
-    ensures text { Writes (W.contents writer.old) (W.contents writer.new) result (IsAdviceReport heading net.now.network) }
+    ensures text { Writes (W.contents writer.old) (W.contents writer.new) result
+        (IsAdviceReport heading net.now.network) }
     ensures fault { IfErr result IsLate }
     ensures untouched { IfErr result (λ fault. fault ≢ TextFault.WriteFault → writer.new ≡ writer.old) }
 {

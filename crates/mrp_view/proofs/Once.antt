@@ -1,5 +1,6 @@
 -- How many elements of a list have a number: at most one, where no two have the same.
-use Rattle.std.proofs.Common.{◌≡◌, ℕ, zero, suc, ◌+◌, ◌<◌, ◌≤◌, Bool, true, false, cond, eqb, List, [], ◌∷◌, inl, inr, get_or, map, refl, sym, ap, ◌∙◌, subst, arith}
+use Rattle.std.proofs.Common.{◌≡◌, ℕ, zero, suc, ◌+◌, ◌<◌, ◌≤◌, Bool, true, false, cond, eqb, List, [], ◌∷◌, inl, inr, get_or, map, refl, sym, ap, ◌∙◌, subst}
+use Rattle.std.proofs.Common.{arith}
 use Rattle.std.specs.List.{All, IsDistinct, count_by, filter, range_with_len}
 use Rattle.std.proofs.lemmas.Bool.{cases_Bool, cases_eq, eq-eqb, eqb-false, ne_eqb}
 use Rattle.std.proofs.lemmas.List.Elements.{All-head, All-tail, All-from_recursion}
@@ -32,7 +33,15 @@ count_within p q [] h = omega arith
 count_within p q (x ∷ xs) h =
     let later : count_by p xs ≤ count_by q xs = count_within p q xs (All-tail (λ x. p x ≡ true → q x ≡ true) x xs h) in
     elim (cases_Bool (p x)) as (λ _. count_by p (x ∷ xs) ≤ count_by q (x ∷ xs)) [
-      | inl passes ↦ omega (arith, sum_by-cons (λ x. cond (p x) 1 0) x xs, sum_by-cons (λ x. cond (q x) 1 0) x xs, one (p x) passes, one (q x) (All-head (λ x. p x ≡ true → q x ≡ true) x xs h passes), later)
+      | inl passes ↦ omega (
+        arith,
+        sum_by-cons (λ x. cond (p x) 1 0) x xs,
+        sum_by-cons (λ x. cond (q x) 1 0) x xs,
+        one (p x) passes,
+        one (q x)
+            (All-head (λ x. p x ≡ true → q x ≡ true) x xs h passes),
+        later,
+      )
       | inr fails ↦ omega (arith, sum_by-cons (λ x. cond (p x) 1 0) x xs, sum_by-cons (λ x. cond (q x) 1 0) x xs, none (p x) fails, later)
     ]
 
@@ -42,7 +51,8 @@ count-filter {X} p q (x ∷ xs) =
     let later : count_by p (filter q xs) ≤ count_by p xs = count-filter p q xs in
     let here = sum_by-cons (λ x. cond (p x) 1 0) x xs in
     elim (cases_Bool (q x)) as (λ _. count_by p (filter q (x ∷ xs)) ≤ count_by p (x ∷ xs)) [
-      | inl kept ↦ subst (λ (b : Bool). count_by p (cond b (x ∷ filter q xs) (filter q xs)) ≤ count_by p (x ∷ xs)) (sym kept) (omega (arith, here, sum_by-cons (λ x. cond (p x) 1 0) x (filter q xs), later))
+      | inl kept ↦ subst (λ (b : Bool). count_by p (cond b (x ∷ filter q xs) (filter q xs)) ≤ count_by p (x ∷ xs)) (sym kept)
+          (omega (arith, here, sum_by-cons (λ x. cond (p x) 1 0) x (filter q xs), later))
       | inr left ↦ subst (λ (b : Bool). count_by p (cond b (x ∷ filter q xs) (filter q xs)) ≤ count_by p (x ∷ xs)) (sym left) (omega (arith, here, later))
     ]
 
@@ -50,7 +60,13 @@ count-filter {X} p q (x ∷ xs) =
 not_below : (a n x : ℕ) → x < a → count_by (λ y. eqb y x) (range_with_len a n) ≡ 0
 not_below a zero x h = refl
 not_below a (suc n) x h =
-    omega (arith, sum_by-cons (λ y. cond (eqb y x) 1 0) a (range_with_len (a + 1) n), none (eqb a x) (ne_eqb a x (λ e. omega arith)), not_below (a + 1) n x (omega arith))
+    omega (
+      arith,
+      sum_by-cons (λ y. cond (eqb y x) 1 0) a (range_with_len (a + 1) n),
+      none (eqb a x) (ne_eqb a x (λ e. omega arith)),
+      not_below (a + 1) n x
+          (omega arith),
+    )
 
 pub count_range : (a n x : ℕ) → count_by (λ y. eqb y x) (range_with_len a n) ≤ 1
 count_range a zero x = omega arith
@@ -66,7 +82,8 @@ pub count_distinct : {X : Type 0} (key : X → ℕ) (k : ℕ) (xs : List X) → 
 count_distinct key k [] h = omega arith
 count_distinct key k (x ∷ xs) h =
     let here = sum_by-cons (λ x. cond (eqb (key x) k) 1 0) x xs in
-    let apart : All (λ y. eqb (key x) (key y) ≡ false) xs = All-from_recursion (λ y. eqb (key x) (key y) ≡ false) xs (IsDistinct-head (λ a b. eqb (key a) (key b)) x xs h) in
+    let apart : All (λ y. eqb (key x) (key y) ≡ false) xs = All-from_recursion (λ y. eqb (key x) (key y) ≡ false) xs
+    (IsDistinct-head (λ a b. eqb (key a) (key b)) x xs h) in
     elim (cases_eq (key x) k) as (λ _. count_by (λ x. eqb (key x) k) (x ∷ xs) ≤ 1) [
       | inl e ↦
           let others : All (λ y. eqb (key y) k ≡ false) xs = λ i d lt.

@@ -1,5 +1,6 @@
 -- The edges that a plant sees: in order, and each pair's are those of the component rows.
-use Rattle.std.proofs.Common.{◌≡◌, ℕ, zero, suc, ◌+◌, ◌*◌, ◌<◌, ◌≤◌, Bool, true, false, cond, eqb, List, [], ◌∷◌, ◌++◌, inl, inr, length, get_or, map, refl, sym, ap, ◌∙◌, arith}
+use Rattle.std.proofs.Common.{◌≡◌, ℕ, zero, suc, ◌+◌, ◌*◌, ◌<◌, ◌≤◌, Bool, true, false, cond, eqb, List, [], ◌∷◌, ◌++◌, inl, inr, length, get_or, map, refl}
+use Rattle.std.proofs.Common.{sym, ap, ◌∙◌, arith}
 use Rattle.std.specs.List.{All, AllPairs, count_by, filter, flat_map, range_with_len, sum_by}
 use Rattle.std.specs.List.Sorted.{IsNonDecreasingBy}
 use Rattle.std.proofs.lemmas.Bool.{cases_Bool, cases_eq, cases_lt, eq-eqb, ne_eqb}
@@ -43,7 +44,8 @@ range_rises a zero = λ i j d low lt. absurd (omega arith)
 range_rises a (suc n) =
     let rest : List ℕ = range_with_len (a + 1) n in
     AllPairs-cons (λ x y. x < y) a rest
-    (λ k d h. let within = range_only (a + 1) n (get_or rest k d) (In-from_contains rest (get_or rest k d) (Contains-get_or rest k d h)) in omega (arith, within.0))
+    (λ k d h. let within = range_only (a + 1) n (get_or rest k d) (In-from_contains rest (get_or rest k d) (Contains-get_or rest k d h))
+    in omega (arith, within.0))
     (range_rises (a + 1) n)
 
 pub numbers_rise : (N : Table) (plant : ℕ) → NumbersRise (plant_pairs N plant)
@@ -51,7 +53,8 @@ numbers_rise N plant =
     AllPairs-map (λ (p q : PlantPair). p.number.0 < q.number.0) (plant_pair N) (own N plant)
     (AllPairs-filter (λ x y. x < y) (is_of_plant N plant) (range_with_len 0 (length N.pairs)) (range_rises 0 (length N.pairs)))
 
-pieces_rise : {X Y : Type 0} (key : Y → ℕ) (rank : X → ℕ) (f : X → List Y) (xs : List X) → AllPairs (λ a b. rank a < rank b) xs → All (λ x. All (λ y. key y ≡ rank x) (f x)) xs → AllPairs (λ u v. key u ≤ key v) (flat_map f xs)
+pieces_rise : {X Y : Type 0} (key : Y → ℕ) (rank : X → ℕ) (f : X → List Y) (xs : List X) → AllPairs (λ a b. rank a < rank b) xs
+    → All (λ x. All (λ y. key y ≡ rank x) (f x)) xs → AllPairs (λ u v. key u ≤ key v) (flat_map f xs)
 pieces_rise key rank f [] rises keys = λ i j d low lt. absurd (omega arith)
 pieces_rise {X} {Y} key rank f (x ∷ xs) rises keys =
     let rest : List Y = flat_map f xs in
@@ -98,7 +101,8 @@ no_piece {Y} g x (y ∷ ys) others h =
       | inr other ↦ ap (λ (z : List Y). z ++ flat_map g ys) (others y other) ∙ no_piece g x ys others (omega (arith, here, h))
     ]
 
-one_piece : {Y : Type 0} (g : ℕ → List Y) (x : ℕ) (xs : List ℕ) → ((y : ℕ) → eqb y x ≡ false → g y ≡ []) → count_by (λ y. eqb y x) xs ≤ 1 → In xs x → flat_map g xs ≡ g x
+one_piece : {Y : Type 0} (g : ℕ → List Y) (x : ℕ) (xs : List ℕ) → ((y : ℕ) → eqb y x ≡ false → g y ≡ []) → count_by (λ y. eqb y x) xs ≤ 1 → In xs x
+    → flat_map g xs ≡ g x
 one_piece g x [] others h there = absurd there
 one_piece {Y} g x (y ∷ ys) others h there =
     let here = sum_by-cons (λ y. cond (eqb y x) 1 0) y ys in
@@ -116,10 +120,17 @@ pub views_have_parents : ViewsHaveParents
 views_have_parents N plant x pair of_plant =
     let of_x = λ (e : PlantEdge). eqb e.component.0 x in
     let kept : ℕ → List PlantEdge = λ y. filter of_x (edges_to N y) in
-    let others : (y : ℕ) → eqb y x ≡ false → kept y ≡ [] = λ y other. filter_none of_x (edges_to N y) (λ k d h. ap (λ (z : ℕ). eqb z x) (components N y k d h) ∙ other) in
+    let others : (y : ℕ) → eqb y x ≡ false → kept y ≡ [] = λ y other. filter_none of_x (edges_to N y) (λ k d h. ap (λ (z : ℕ). eqb z x) (components N y k d h)
+    ∙ other) in
     let whole : kept x ≡ edges_to N x = filter_whole of_x (edges_to N x) (λ k d h. eq-eqb (get_or (edges_to N x) k d).component.0 x (components N x k d h)) in
-    let few : count_by (λ y. eqb y x) (own N plant) ≤ 1 = omega (arith, count-filter (λ y. eqb y x) (is_of_plant N plant) (range_with_len 0 (length N.pairs)), count_range 0 (length N.pairs) x) in
-    let there : In (own N plant) x = In-filter (is_of_plant N plant) (range_with_len 0 (length N.pairs)) x (In-range 0 (length N.pairs) x (omega arith) (omega arith)) (eq-eqb (pair_at N x).plant.0 plant of_plant) in
+    let few : count_by (λ y. eqb y x) (own N plant) ≤ 1 = omega (
+      arith,
+      count-filter (λ y. eqb y x) (is_of_plant N plant)
+          (range_with_len 0 (length N.pairs)),
+      count_range 0 (length N.pairs) x,
+    ) in
+    let there : In (own N plant) x = In-filter (is_of_plant N plant) (range_with_len 0 (length N.pairs)) x
+    (In-range 0 (length N.pairs) x (omega arith) (omega arith)) (eq-eqb (pair_at N x).plant.0 plant of_plant) in
     filter-flat_map of_x (λ (p : PlantPair). edges_to N p.number.0) (plant_pairs N plant)
     ∙ flat_map-map (λ (p : PlantPair). kept p.number.0) (plant_pair N) (own N plant)
     ∙ one_piece kept x (own N plant) others few there

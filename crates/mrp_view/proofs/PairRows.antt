@@ -5,7 +5,8 @@ use Rattle.std.proofs.lemmas.Grind.{common_steps}
 use Rattle.mrp_view.specs.declared.view.PlantPair.{PlantPair}
 
 -- with the row of the next pair they are those of one pair more
-pub rows_more : (f : PlantPair → List ℕ) (ps : List PlantPair) (i : ℕ) (p : PlantPair) (old new row : List ℕ) → old ≡ flat_map f (take i ps) → i < length ps → p ≡ get_or ps i p
+pub rows_more : (f : PlantPair → List ℕ) (ps : List PlantPair) (i : ℕ) (p : PlantPair) (old new row : List ℕ) → old ≡ flat_map f (take i ps) → i < length ps
+    → p ≡ get_or ps i p
     → row ≡ f p → new ≡ old ++ row → new ≡ flat_map f (take (i + 1) ps)
 rows_more f ps i p old new row so_far lt here is next = grind (arith, common_steps)
 

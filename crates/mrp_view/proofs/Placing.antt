@@ -1,5 +1,6 @@
 -- Where a pair stands among those of its plant: a binary search finds it.
-use Rattle.std.proofs.Common.{◌≡◌, ℕ, ◌<◌, ◌≤◌, Bool, true, false, cond, eqb, ltb, List, Some, None, Result, Ok, Err, inl, inr, length, get_or, sym, ap, ◌∙◌, arith}
+use Rattle.std.proofs.Common.{◌≡◌, ℕ, ◌<◌, ◌≤◌, Bool, true, false, cond, eqb, ltb, List, Some, None, Result, Ok, Err, inl, inr, length, get_or, sym, ap, ◌∙◌}
+use Rattle.std.proofs.Common.{arith}
 use Rattle.std.specs.List.{position, position_or_len}
 use Rattle.std.specs.List.Sorted.{IsSearchInRange, IsBinarySearchResult, IsNonDecreasingBy}
 use Rattle.std.specs.Ordering.{nat_cmp, ordering_index}
@@ -23,7 +24,9 @@ index_rises a b x up = grind (arith, nat_tests)
 -- comparisons with a number rise along the pairs, as a binary search asks
 comparisons_rise : (pairs : List PlantPair) (x : ℕ) → NumbersRise pairs → IsNonDecreasingBy (λ p. ordering_index (nat_cmp p.number.0 x)) pairs
 comparisons_rise pairs x rise = λ i j d le lt.
-    let up : (get_or pairs i d).number.0 ≤ (get_or pairs j d).number.0 = never_falls (λ (p : PlantPair). p.number.0) pairs (λ k l e before within. let low : (get_or pairs k e).number.0 < (get_or pairs l e).number.0 = rise k l e before within in omega arith) i j d le lt in
+    let up : (get_or pairs i d).number.0 ≤ (get_or pairs j d).number.0 =
+    never_falls (λ (p : PlantPair). p.number.0) pairs (λ k l e before within. let low : (get_or pairs k e).number.0 < (get_or pairs l e).number.0 =
+    rise k l e before within in omega arith) i j d le lt in
     index_rises (get_or pairs i d).number.0 (get_or pairs j d).number.0 x up
 
 pub is_below : (a b : ℕ) → true ≡ ltb a b → a < b
@@ -40,7 +43,8 @@ placed_at pairs x i d rise in_range here =
     let first : position_or_len p pairs ≡ i = position_or_len_is p pairs i d (omega arith) before (λ _. eq-eqb (get_or pairs i d).number.0 x here) in
     sym (ap (λ (z : ℕ). cond (ltb z (length pairs)) (Some z) None) first ∙ ap (λ (b : Bool). cond b (Some i) None) (lt-ltb i (length pairs) in_range))
 
-pub placed : (pairs : List PlantPair) (x : ℕ) (r : Result ℕ ℕ) → NumbersRise pairs → IsSearchInRange r (length pairs) → IsBinarySearchResult (λ p. nat_cmp p.number.0 x) pairs r → result_ok r ≡ position (λ p. eqb p.number.0 x) pairs
+pub placed : (pairs : List PlantPair) (x : ℕ) (r : Result ℕ ℕ) → NumbersRise pairs → IsSearchInRange r (length pairs)
+    → IsBinarySearchResult (λ p. nat_cmp p.number.0 x) pairs r → result_ok r ≡ position (λ p. eqb p.number.0 x) pairs
 placed pairs x (Ok i) rise in_range equal =
     let d : PlantPair = no_plant_pair in
     placed_at pairs x i d rise in_range (ranked (get_or pairs i d).number.0 x _ (sym (equal d)))

@@ -27,7 +27,8 @@ use Rattle.mrp_group.proofs.Sorting.{All-sorted_by}
 -- ---- pairs
 
 pub below : (n : ℕ) → All (λ x. x < n) (range_with_len 0 n)
-below n = λ k d h. let within = range_only 0 n (get_or (range_with_len 0 n) k d) (In-from_contains (range_with_len 0 n) (get_or (range_with_len 0 n) k d) (Contains-get_or (range_with_len 0 n) k d h)) in omega (arith, within.1)
+below n = λ k d h. let within = range_only 0 n (get_or (range_with_len 0 n) k d)
+    (In-from_contains (range_with_len 0 n) (get_or (range_with_len 0 n) k d) (Contains-get_or (range_with_len 0 n) k d h)) in omega (arith, within.1)
 
 -- of the numbers below a bound those that a plant owns: each is below it and owned by the plant
 pub owned : (n : ℕ) (owner : ℕ → ℕ) (plant : ℕ) → All (λ x. (x < n) × (owner x ≡ plant)) (filter (λ x. owner x == plant) (range_with_len 0 n))
@@ -62,11 +63,24 @@ range_length a (suc n) = omega (arith, range_length (a + 1) n)
 
 pub pairs_are_few : (N : Table) (plant : ℕ) → length (plant_pairs N plant) ≤ length N.pairs
 pairs_are_few N plant =
-    omega (arith, length-map (own N plant) (plant_pair N), length-filter (is_of_plant N plant) (range_with_len 0 (length N.pairs)), count_by-le-length (is_of_plant N plant) (range_with_len 0 (length N.pairs)), range_length 0 (length N.pairs))
+    omega (
+      arith,
+      length-map (own N plant) (plant_pair N),
+      length-filter (is_of_plant N plant) (range_with_len 0 (length N.pairs)),
+      count_by-le-length
+          (is_of_plant N plant) (range_with_len 0 (length N.pairs)),
+      range_length 0 (length N.pairs),
+    )
 
 pub numbers_stand_once : (N : Table) (plant x : ℕ) → pairs_of_number x (plant_pairs N plant) ≤ 1
 numbers_stand_once N plant x =
-    omega (arith, count-map (λ (p : PlantPair). eqb p.number.0 x) (plant_pair N) (own N plant), count-filter (λ y. eqb y x) (is_of_plant N plant) (range_with_len 0 (length N.pairs)), count_range 0 (length N.pairs) x)
+    omega (
+      arith,
+      count-map (λ (p : PlantPair). eqb p.number.0 x) (plant_pair N) (own N plant),
+      count-filter (λ y. eqb y x) (is_of_plant N plant)
+          (range_with_len 0 (length N.pairs)),
+      count_range 0 (length N.pairs) x,
+    )
 
 pub items_stand_once : (N : Table) (plant item : ℕ) → IsTable N → pairs_of_item item (plant_pairs N plant) ≤ 1
 items_stand_once N plant item is =
@@ -77,7 +91,15 @@ items_stand_once N plant item is =
     (sym (pairs_are_found N is y (own_are_pairs N plant k d h))
     ∙ ap (λ (z : ℕ). pair_no N z (pair_at N y).item.0) (own_are_of_plant N plant k d h)
     ∙ ap (pair_no N plant) (eqb-true (pair_at N y).item.0 item t)) in
-    omega (arith, count-map (λ (p : PlantPair). eqb p.item.0 item) (plant_pair N) (own N plant), count_within (λ y. eqb (pair_at N y).item.0 item) (λ y. eqb y x) (own N plant) found, count-filter (λ y. eqb y x) (is_of_plant N plant) (range_with_len 0 (length N.pairs)), count_range 0 (length N.pairs) x)
+    omega (
+      arith,
+      count-map (λ (p : PlantPair). eqb p.item.0 item) (plant_pair N) (own N plant),
+      count_within (λ y. eqb (pair_at N y).item.0 item)
+          (λ y. eqb y x) (own N plant) found,
+      count-filter (λ y. eqb y x) (is_of_plant N plant) (range_with_len 0 (length N.pairs)),
+      count_range 0
+          (length N.pairs) x,
+    )
 
 pub pairs_are_planned : (N : Table) (plant : ℕ) → IsTable N → All IsPlantPair (plant_pairs N plant)
 pairs_are_planned N plant is =
@@ -94,7 +116,8 @@ own_pair N plant x pair e =
 pub is_own : (N : Table) (plant : ℕ) (x : PairNo) → IsPair N x.0 → (pair_at N x.0).plant.0 ≡ plant → IsOwnPair (plant_rows N plant) x
 is_own N plant x pair e = (plant_pair N x.0, own_pair N plant x.0 pair e, refl)
 
-pub is_own_of : (N : Table) (plant : ℕ) (x : PairNo) (item : ItemNo) → IsPair N x.0 → (pair_at N x.0).plant.0 ≡ plant → (pair_at N x.0).item ≡ item → IsOwnOf (plant_rows N plant) x item
+pub is_own_of : (N : Table) (plant : ℕ) (x : PairNo) (item : ItemNo) → IsPair N x.0 → (pair_at N x.0).plant.0 ≡ plant → (pair_at N x.0).item ≡ item
+    → IsOwnOf (plant_rows N plant) x item
 is_own_of N plant x item pair e f = (plant_pair N x.0, own_pair N plant x.0 pair e, refl, f)
 
 -- ---- edges
@@ -117,7 +140,8 @@ edges_to_join N plant x is of_plant =
     let e : Edge = get_or local k d in
     let joins : IsEdge N e = All-filter (is_local N) (IsEdge N) (demanders N x) (demanders_join N x (edges_join N is)) k d h in
     let takes : e.pair.0 ≡ x = All-filter (is_local N) (λ e. e.pair.0 ≡ x) (demanders N x) (demanders_take N x) k d h in
-    let same : (pair_at N e.demander.0).plant.0 ≡ (pair_at N e.pair.0).plant.0 = eqb-true (pair_at N e.demander.0).plant.0 (pair_at N e.pair.0).plant.0 (filter_passes (is_local N) (demanders N x) k d h) in
+    let same : (pair_at N e.demander.0).plant.0 ≡ (pair_at N e.pair.0).plant.0 =
+    eqb-true (pair_at N e.demander.0).plant.0 (pair_at N e.pair.0).plant.0 (filter_passes (is_local N) (demanders N x) k d h) in
     let here : (pair_at N e.pair.0).plant.0 ≡ plant = ap (λ (z : ℕ). (pair_at N z).plant.0) takes ∙ of_plant in
     record {
       parent = is_own N plant e.demander joins.demander (same ∙ here);
@@ -139,7 +163,14 @@ rows_length : (N : Table) (amount : ℕ → ℕ → ℕ) (pairs : List PlantPair
 rows_length N amount [] = omega arith
 rows_length N amount (p ∷ pairs) =
     let rest : List ℕ = flat_map (λ p. row_of N (amount p.number.0)) pairs in
-    omega (arith, length-append (row_of N (amount p.number.0)) rest, length-map-range_with_len (amount p.number.0) 0 (horizon N), rows_length N amount pairs, suc-mul (length pairs) (horizon N))
+    omega (
+      arith,
+      length-append (row_of N (amount p.number.0)) rest,
+      length-map-range_with_len (amount p.number.0) 0
+          (horizon N),
+      rows_length N amount pairs,
+      suc-mul (length pairs) (horizon N),
+    )
 
 pub amounts_length : (N : Table) (amount : ℕ → ℕ → ℕ) (plant : ℕ) → length (plant_amounts N amount plant) ≡ length (plant_pairs N plant) * horizon N
 amounts_length N amount plant = rows_length N amount (plant_pairs N plant)

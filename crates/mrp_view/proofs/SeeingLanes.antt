@@ -1,5 +1,6 @@
 -- What a plant sees of an accepted table: the lanes that it receives or sends.
-use Rattle.std.proofs.Common.{◌≡◌, ℕ, ◌+◌, ◌-◌, ◌*◌, ◌/◌, ◌<◌, ◌≤◌, ◌&&◌, true, eqb, List, [], ◌∷◌, Option, None, Some, ◌⊎◌, inl, inr, length, get_or, map, refl, sym, ap, ◌∙◌, subst, arith}
+use Rattle.std.proofs.Common.{◌≡◌, ℕ, ◌+◌, ◌-◌, ◌*◌, ◌/◌, ◌<◌, ◌≤◌, ◌&&◌, true, eqb, List, [], ◌∷◌, Option, None, Some, ◌⊎◌, inl, inr, length, get_or, map}
+use Rattle.std.proofs.Common.{refl, sym, ap, ◌∙◌, subst, arith}
 use Rattle.std.specs.List.{All, Contains, count_by, filter, find}
 use Rattle.std.specs.Option.{IfSome, option_map}
 use Rattle.std.proofs.lemmas.Bool.{cond_both, eq-eqb, eqb-true}
@@ -19,10 +20,12 @@ use Rattle.mrp_view.specs.declared.view.IncomingLane.{IncomingLane}
 use Rattle.mrp_view.specs.declared.view.OutgoingLane.{OutgoingLane}
 use Rattle.mrp_net.specs.Lanes.{lanes, lane_at, lane_items, figure, shipments, shipment_of, ships_from, is_reset_of, anew_in, reset, pair_on, supplier_of}
 use Rattle.mrp_view.specs.Loads.{OutgoingLoad, call_of}
-use Rattle.mrp_view.specs.Seen.{IsOwnOf, IsIncomingItem, IsIncomingLane, IsShipment, IsOutgoingItem, IsOutgoingLane, CallsForNothing, HasCall, IsScheduleLane, despatched_item, lane_before}
+use Rattle.mrp_view.specs.Seen.{IsOwnOf, IsIncomingItem, IsIncomingLane, IsShipment, IsOutgoingItem, IsOutgoingLane, CallsForNothing, HasCall, IsScheduleLane}
+use Rattle.mrp_view.specs.Seen.{despatched_item, lane_before}
 use Rattle.mrp_net.specs.Sources.{source_no, source_on, no_source}
 use Rattle.mrp_net.specs.Sums.{pair_at}
-use Rattle.mrp_view.specs.View.{comes_to, goes_from, lane_numbers, incoming_item, incoming_lane, incoming_lanes, sent_on, outgoing_item, outgoing_lane, outgoing_lanes, plant_rows}
+use Rattle.mrp_view.specs.View.{comes_to, goes_from, lane_numbers, incoming_item, incoming_lane, incoming_lanes, sent_on, outgoing_item, outgoing_lane}
+use Rattle.mrp_view.specs.View.{outgoing_lanes, plant_rows}
 use Rattle.mrp_net.proofs.Behind.{items_have_sources, receiver_is}
 use Rattle.mrp_net.proofs.Covering.{lane_items_stand_once}
 use Rattle.mrp_net.proofs.Members.{Contains-from_in, In-filter, In-map, In-range}
@@ -39,7 +42,8 @@ use Rattle.mrp_net.proofs.Twos.{lanes_come_in_twos}
 find_within : (n x p : ℕ) (rows : List ResetRow) → All (λ r. r.period < n) rows → IfSome (anew_in rows x p) (λ period. period < n)
 find_within n x p [] h = tt
 find_within n x p (r ∷ rows) h =
-    cond_both (is_reset_of x p r) (Some r) (find (is_reset_of x p) rows) (λ (o : Option ResetRow). IfSome (option_map (λ (z : ResetRow). z.period) o) (λ period. period < n))
+    cond_both (is_reset_of x p r) (Some r) (find (is_reset_of x p) rows)
+    (λ (o : Option ResetRow). IfSome (option_map (λ (z : ResetRow). z.period) o) (λ period. period < n))
     (λ _. All-head (λ (r : ResetRow). r.period < n) r rows h)
     (λ _. find_within n x p rows (All-tail (λ (r : ResetRow). r.period < n) r rows h))
 
@@ -53,12 +57,15 @@ ships_within N plant x p is =
     (λ k d h. let row = All-filter test (IsShipRow N) N.ships is.read.ships k d h in
     record { period = row.period; some = row.some; quantity = row.quantity })
 
-sent_by_kind : (N : Table) (plant : ℕ) (lane : Lane) (item : ItemNo) (kind : LaneKind) → lane.kind ≡ kind → IsTable N → All (IsShipment (plant_rows N plant)) (sent_on N lane item)
+sent_by_kind : (N : Table) (plant : ℕ) (lane : Lane) (item : ItemNo) (kind : LaneKind) → lane.kind ≡ kind → IsTable N
+    → All (IsShipment (plant_rows N plant)) (sent_on N lane item)
 sent_by_kind N plant lane item Despatch e is =
-    subst (All (IsShipment (plant_rows N plant))) (sym (ap (λ (k : LaneKind). elim k as (λ _. List Shipment) [ Despatch ↦ shipments N lane item | Schedule ↦ [] ]) e))
+    subst (All (IsShipment (plant_rows N plant))) (sym (ap (λ (k : LaneKind). elim k as
+    (λ _. List Shipment) [ Despatch ↦ shipments N lane item | Schedule ↦ [] ]) e))
     (ships_within N plant (pair_on N lane item) (supplier_of lane) is)
 sent_by_kind N plant lane item Schedule e is =
-    subst (All (IsShipment (plant_rows N plant))) (sym (ap (λ (k : LaneKind). elim k as (λ _. List Shipment) [ Despatch ↦ shipments N lane item | Schedule ↦ [] ]) e))
+    subst (All (IsShipment (plant_rows N plant))) (sym (ap (λ (k : LaneKind). elim k as
+    (λ _. List Shipment) [ Despatch ↦ shipments N lane item | Schedule ↦ [] ]) e))
     (All-nil (IsShipment (plant_rows N plant)))
 
 -- ---- lanes that come in
@@ -66,7 +73,8 @@ sent_by_kind N plant lane item Schedule e is =
 incoming_once_of : (N : Table) (lane : Lane) (item : ℕ) → IsTable N → count_by (λ i. eqb i.0 item) (lane_items N lane) ≤ 1
 incoming_once_of N lane item is = count_distinct (λ (i : ItemNo). i.0) item (lane_items N lane) (lane_items_stand_once N is lane)
 
-incoming_item_is : (N : Table) (plant : ℕ) (lane : Lane) → IsTable N → lane.receiver.0 ≡ plant → All (λ item. IsIncomingItem (plant_rows N plant) (incoming_item N lane item)) (lane_items N lane)
+incoming_item_is : (N : Table) (plant : ℕ) (lane : Lane) → IsTable N → lane.receiver.0 ≡ plant
+    → All (λ item. IsIncomingItem (plant_rows N plant) (incoming_item N lane item)) (lane_items N lane)
 incoming_item_is N plant lane is here = λ k d h.
     let item : ItemNo = get_or (lane_items N lane) k d in
     let x : PairNo = record { 0 = pair_no N lane.receiver.0 item.0 } in
@@ -80,7 +88,12 @@ incoming_lane_is : (N : Table) (plant l : ℕ) → IsTable N → (lane_at N l).r
 incoming_lane_is N plant l is here =
     let lane : Lane = lane_at N l in
     record {
-      once = λ item. omega (arith, count-map (λ (i : IncomingItem). eqb i.item.0 item) (incoming_item N lane) (lane_items N lane), incoming_once_of N lane item is);
+      once = λ item. omega (
+        arith,
+        count-map (λ (i : IncomingItem). eqb i.item.0 item) (incoming_item N lane)
+            (lane_items N lane),
+        incoming_once_of N lane item is,
+      );
       items = All-map (IsIncomingItem (plant_rows N plant)) (incoming_item N lane) (lane_items N lane) (incoming_item_is N plant lane is here);
     }
 
@@ -92,11 +105,18 @@ incoming_are N plant is =
 
 pub incoming_stand_once : (N : Table) (plant l : ℕ) → count_by (λ lane. eqb lane.number.0 l) (incoming_lanes N plant) ≤ 1
 incoming_stand_once N plant l =
-    omega (arith, count-map (λ (lane : IncomingLane). eqb lane.number.0 l) (incoming_lane N) (filter (comes_to N plant) (lane_numbers N)), count-filter (λ k. eqb k l) (comes_to N plant) (lane_numbers N), count_range 0 (length (lanes N)) l)
+    omega (
+      arith,
+      count-map (λ (lane : IncomingLane). eqb lane.number.0 l) (incoming_lane N) (filter (comes_to N plant) (lane_numbers N)),
+      count-filter
+          (λ k. eqb k l) (comes_to N plant) (lane_numbers N),
+      count_range 0 (length (lanes N)) l,
+    )
 
 -- ---- lanes that go out
 
-outgoing_item_is : (N : Table) (plant : ℕ) (lane : Lane) → IsTable N → All (λ item. IsOutgoingItem (plant_rows N plant) (outgoing_item N lane item)) (lane_items N lane)
+outgoing_item_is : (N : Table) (plant : ℕ) (lane : Lane) → IsTable N
+    → All (λ item. IsOutgoingItem (plant_rows N plant) (outgoing_item N lane item)) (lane_items N lane)
 outgoing_item_is N plant lane is = λ k d h.
     let item : ItemNo = get_or (lane_items N lane) k d in
     let x : ℕ = pair_on N lane item in
@@ -115,13 +135,23 @@ customers_once_of N lane x is =
     let has = items_have_sources N is lane item (Contains-get_or (lane_items N lane) k d h) in
     let same : pair_on N lane item ≡ x = sym has.taker ∙ eqb-true (source_on N lane item).pair.0 x t in
     eq-eqb item.0 of_x (sym (ap (λ (i : ItemNo). i.0) has.customer.of_item) ∙ ap (λ (z : ℕ). (pair_at N z).item.0) same) in
-    omega (arith, count_within (λ item. eqb (source_on N lane item).pair.0 x) (λ item. eqb item.0 of_x) (lane_items N lane) found, incoming_once_of N lane of_x is)
+    omega (
+      arith,
+      count_within (λ item. eqb (source_on N lane item).pair.0 x) (λ item. eqb item.0 of_x)
+          (lane_items N lane) found,
+      incoming_once_of N lane of_x is,
+    )
 
 outgoing_lane_is : (N : Table) (plant l : ℕ) → IsTable N → IsOutgoingLane (plant_rows N plant) (outgoing_lane N l)
 outgoing_lane_is N plant l is =
     let lane : Lane = lane_at N l in
     record {
-      once = λ item. omega (arith, count-map (λ (i : OutgoingLoad). eqb i.item.0 item) (outgoing_item N lane) (lane_items N lane), incoming_once_of N lane item is);
+      once = λ item. omega (
+        arith,
+        count-map (λ (i : OutgoingLoad). eqb i.item.0 item) (outgoing_item N lane)
+            (lane_items N lane),
+        incoming_once_of N lane item is,
+      );
       items = All-map (IsOutgoingItem (plant_rows N plant)) (outgoing_item N lane) (lane_items N lane) (outgoing_item_is N plant lane is);
     }
 
@@ -136,11 +166,18 @@ pub despatches_are : (N : Table) (plant : ℕ) → All (λ lane. lane.kind ≡ D
 despatches_are N plant =
     All-map (λ (lane : OutgoingLane). lane.kind ≡ Despatch → CallsForNothing lane) (outgoing_lane N) (filter (goes_from N plant) (lane_numbers N))
     (λ k d h kind. let lane : Lane = lane_at N (get_or (filter (goes_from N plant) (lane_numbers N)) k d) in
-    All-map (λ (i : OutgoingLoad). i.call ≡ None) (outgoing_item N lane) (lane_items N lane) (λ j e within. nothing_called N lane (get_or (lane_items N lane) j e) kind))
+    All-map (λ (i : OutgoingLoad). i.call ≡ None) (outgoing_item N lane) (lane_items N lane)
+    (λ j e within. nothing_called N lane (get_or (lane_items N lane) j e) kind))
 
 pub outgoing_stand_once : (N : Table) (plant l : ℕ) → count_by (λ lane. eqb lane.number.0 l) (outgoing_lanes N plant) ≤ 1
 outgoing_stand_once N plant l =
-    omega (arith, count-map (λ (lane : OutgoingLane). eqb lane.number.0 l) (outgoing_lane N) (filter (goes_from N plant) (lane_numbers N)), count-filter (λ k. eqb k l) (goes_from N plant) (lane_numbers N), count_range 0 (length (lanes N)) l)
+    omega (
+      arith,
+      count-map (λ (lane : OutgoingLane). eqb lane.number.0 l) (outgoing_lane N) (filter (goes_from N plant) (lane_numbers N)),
+      count-filter
+          (λ k. eqb k l) (goes_from N plant) (lane_numbers N),
+      count_range 0 (length (lanes N)) l,
+    )
 
 -- ---- schedule lanes, and the despatch lane before each
 
@@ -157,7 +194,8 @@ map_alike {X} {Y} f g (x ∷ xs) h =
     ap (λ (z : Y). z ∷ map f xs) (All-head (λ x. f x ≡ g x) x xs h) ∙ ap (λ (z : List Y). g x ∷ z) (map_alike f g xs (All-tail (λ x. f x ≡ g x) x xs h))
 
 despatched_items : (N : Table) (customer supplier : PlantNo) → IsTable N
-    → map despatched_item (map (outgoing_item N (schedule customer supplier)) (lane_items N (schedule customer supplier))) ≡ map (incoming_item N (despatch customer supplier)) (lane_items N (despatch customer supplier))
+    → map despatched_item (map (outgoing_item N (schedule customer supplier)) (lane_items N (schedule customer supplier)))
+    ≡ map (incoming_item N (despatch customer supplier)) (lane_items N (despatch customer supplier))
 despatched_items N customer supplier is =
     let lane : Lane = schedule customer supplier in
     map-map despatched_item (outgoing_item N lane) (lane_items N lane)
@@ -165,7 +203,13 @@ despatched_items N customer supplier is =
     (λ k d h.
     let item : ItemNo = get_or (lane_items N lane) k d in
     let has = items_have_sources N is lane item (Contains-get_or (lane_items N lane) k d h) in
-    ap (λ (z : ℕ). let i : IncomingItem = record { item = item; pair = record { 0 = z }; opening = figure N (pair_on N lane item) supplier.0; reset = reset N lane item } in i) has.taker)
+    ap (λ (z : ℕ). let i : IncomingItem = record {
+      item = item;
+      pair = record { 0 = z };
+      opening = figure N (pair_on N lane item) supplier.0;
+      reset =
+          reset N lane item;
+    } in i) has.taker)
 
 -- the parts of a lane that goes out and of one that comes in, for any lane in its place
 abbrev goes_out : Table → ℕ → Lane → OutgoingLane
@@ -199,7 +243,8 @@ stands_after N l within kind =
           let both = (lanes_come_in_twos N k (omega arith)).1 in
           let d : Lane = lane_at N (2 * k) in
           let before : l - 1 ≡ 2 * k = omega arith in
-          let first : d ≡ despatch d.receiver d.sender = ap (λ (z : LaneKind). let a : Lane = record { kind = z; sender = d.sender; receiver = d.receiver } in a) both.first in
+          let first : d ≡ despatch d.receiver d.sender = ap (λ (z : LaneKind). let a : Lane =
+          record { kind = z; sender = d.sender; receiver = d.receiver } in a) both.first in
           let s : Lane = lane_at N (2 * k + 1) in
           let second : s ≡ schedule d.receiver d.sender =
           ap (λ (z : LaneKind). let a : Lane = record { kind = z; sender = s.sender; receiver = s.receiver } in a) both.second
@@ -233,7 +278,8 @@ calls_are N plant customer supplier is mine = λ k d h.
       ends = row.ends;
     }
 
-schedule_lane_is : (N : Table) (plant l : ℕ) → IsTable N → l < length (lanes N) → (lane_at N l).sender.0 ≡ plant → (lane_at N l).kind ≡ Schedule → IsScheduleLane (plant_rows N plant) (outgoing_lane N l)
+schedule_lane_is : (N : Table) (plant l : ℕ) → IsTable N → l < length (lanes N) → (lane_at N l).sender.0 ≡ plant → (lane_at N l).kind ≡ Schedule
+    → IsScheduleLane (plant_rows N plant) (outgoing_lane N l)
 schedule_lane_is N plant l is within here kind =
     let at = stands_after N l within kind in
     let lane : Lane = schedule at.customer at.supplier in
@@ -246,17 +292,24 @@ schedule_lane_is N plant l is within here kind =
     (In-filter (comes_to N plant) (lane_numbers N) (l - 1) (In-range 0 (length (lanes N)) (l - 1) (omega arith) (omega arith)) received)) in
     let as_first : incoming_lane N (l - 1) ≡ comes_in N (l - 1) first = ap (comes_in N (l - 1)) at.first in
     let before : comes_in N (l - 1) first ≡ lane_before (goes_out N l lane) =
-    ap (λ (z : List IncomingItem). let i : IncomingLane = record { number = record { 0 = l - 1 }; kind = Despatch; items = z } in i) (sym (despatched_items N at.customer at.supplier is)) in
+    ap (λ (z : List IncomingItem). let i : IncomingLane = record { number = record { 0 = l - 1 }; kind = Despatch; items = z } in i)
+    (sym (despatched_items N at.customer at.supplier is)) in
     subst (IsScheduleLane (plant_rows N plant)) (sym (ap (goes_out N l) at.second))
     (record {
       after = at.after;
       before = subst (Contains (incoming_lanes N plant)) (as_first ∙ before) comes;
       calls = All-map (HasCall (plant_rows N plant)) (outgoing_item N lane) (lane_items N lane) (calls_are N plant at.customer at.supplier is mine);
-      customers_once = λ x. omega (arith, count-map (λ (i : OutgoingLoad). eqb (call_of i).customer.0 x) (outgoing_item N lane) (lane_items N lane), customers_once_of N lane x is);
+      customers_once = λ x. omega (
+        arith,
+        count-map (λ (i : OutgoingLoad). eqb (call_of i).customer.0 x) (outgoing_item N lane)
+            (lane_items N lane),
+        customers_once_of N lane x is,
+      );
     })
 
 pub schedules_are : (N : Table) (plant : ℕ) → IsTable N → All (λ lane. lane.kind ≡ Schedule → IsScheduleLane (plant_rows N plant) lane) (outgoing_lanes N plant)
 schedules_are N plant is =
-    All-map (λ (lane : OutgoingLane). lane.kind ≡ Schedule → IsScheduleLane (plant_rows N plant) lane) (outgoing_lane N) (filter (goes_from N plant) (lane_numbers N))
+    All-map (λ (lane : OutgoingLane). lane.kind ≡ Schedule → IsScheduleLane (plant_rows N plant) lane) (outgoing_lane N)
+    (filter (goes_from N plant) (lane_numbers N))
     (λ k d h kind. let own = owned (length (lanes N)) (λ l. (lane_at N l).sender.0) plant k d h in
     schedule_lane_is N plant (get_or (filter (goes_from N plant) (lane_numbers N)) k d) is own.0 own.1 kind)

@@ -35,8 +35,10 @@ views_say_enough N is plant = record {
 
 pub views_have_lanes_in : ViewsHaveLanesIn
 views_have_lanes_in N plant =
-    map-map (λ (lane : IncomingLane). lane.number.0) (incoming_lane N) (filter (comes_to N plant) (lane_numbers N)) ∙ map-id (filter (comes_to N plant) (lane_numbers N))
+    map-map (λ (lane : IncomingLane). lane.number.0) (incoming_lane N) (filter (comes_to N plant) (lane_numbers N))
+    ∙ map-id (filter (comes_to N plant) (lane_numbers N))
 
 pub views_have_lanes_out : ViewsHaveLanesOut
 views_have_lanes_out N plant =
-    map-map (λ (lane : OutgoingLane). lane.number.0) (outgoing_lane N) (filter (goes_from N plant) (lane_numbers N)) ∙ map-id (filter (goes_from N plant) (lane_numbers N))
+    map-map (λ (lane : OutgoingLane). lane.number.0) (outgoing_lane N) (filter (goes_from N plant) (lane_numbers N))
+    ∙ map-id (filter (goes_from N plant) (lane_numbers N))

@@ -16,12 +16,14 @@ ViewsSayEnough = (N : Table) → IsTable N → (plant : ℕ) → IsView (plant_r
 -- the numbers of the lanes that it receives are those of the table's, in lane order
 abbrev pub ViewsHaveLanesIn : Type 0
 ViewsHaveLanesIn =
-    (N : Table) (plant : ℕ) → map (λ lane. lane.number.0) (plant_rows N plant).incoming ≡ filter (comes_to N plant) (lane_numbers N)
+    (N : Table) (plant : ℕ) → map (λ lane. lane.number.0) (plant_rows N plant).incoming
+    ≡ filter (comes_to N plant) (lane_numbers N)
 
 -- and so are those of the lanes that it sends
 abbrev pub ViewsHaveLanesOut : Type 0
 ViewsHaveLanesOut =
-    (N : Table) (plant : ℕ) → map (λ lane. lane.number.0) (plant_rows N plant).outgoing ≡ filter (goes_from N plant) (lane_numbers N)
+    (N : Table) (plant : ℕ) → map (λ lane. lane.number.0) (plant_rows N plant).outgoing
+    ≡ filter (goes_from N plant) (lane_numbers N)
 
 -- of the edges that a plant sees, those to a pair are the pair's own
 abbrev pub ViewsHaveParents : Type 0
@@ -36,6 +38,7 @@ asked_by_parent table t e = e.per * release_at table e.parent.0 t
 -- the edges that a plant sees ask of each of its pairs what the component rows ask of it
 abbrev pub ViewsHaveBills : Type 0
 ViewsHaveBills =
-    (N : Table) → IsTable N → (plant x : ℕ) → IsPair N x → (pair_at N x).plant.0 ≡ plant → (table : List PlanRows) (t : ℕ)
+    (N : Table) → IsTable N → (plant x : ℕ) → IsPair N x → (pair_at N x).plant.0 ≡ plant
+    → (table : List PlanRows) (t : ℕ)
     → sum_by (λ e. if e.component.0 == x then asked_by_parent table t e else 0) (plant_rows N plant).edges
     ≡ sum_by (asked_by_bill table x t) N.bills

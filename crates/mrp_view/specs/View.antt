@@ -92,7 +92,12 @@ incoming_item N lane item = record {
 
 abbrev pub incoming_lane : Table → ℕ → IncomingLane
 incoming_lane N l =
-    record { number = record { 0 = l }; kind = (lane_at N l).kind; items = map (incoming_item N (lane_at N l)) (lane_items N (lane_at N l)) }
+    record {
+      number = record { 0 = l };
+      kind = (lane_at N l).kind;
+      items =
+          map (incoming_item N (lane_at N l)) (lane_items N (lane_at N l));
+    }
 
 -- the lanes that it receives, in lane order
 abbrev pub incoming_lanes : Table → ℕ → List IncomingLane
@@ -105,7 +110,12 @@ sent_on N lane item = elim lane.kind [ Despatch ↦ shipments N lane item | Sche
 -- the customer calls for the source's share of what its own pair releases
 abbrev pub called_on : Table → Lane → ItemNo → Call
 called_on N lane item =
-    record { customer = (source_on N lane item).pair; low = (source_on N lane item).low; high = (source_on N lane item).high }
+    record {
+      customer = (source_on N lane item).pair;
+      low = (source_on N lane item).low;
+      high =
+          (source_on N lane item).high;
+    }
 
 -- what the sender of a lane calls for: a supplier calls for nothing, and sees nothing of its customer's pairs
 abbrev pub call_on : Table → Lane → ItemNo → Option Call
@@ -123,7 +133,12 @@ outgoing_item N lane item = record {
 
 abbrev pub outgoing_lane : Table → ℕ → OutgoingLane
 outgoing_lane N l =
-    record { number = record { 0 = l }; kind = (lane_at N l).kind; items = map (outgoing_item N (lane_at N l)) (lane_items N (lane_at N l)) }
+    record {
+      number = record { 0 = l };
+      kind = (lane_at N l).kind;
+      items =
+          map (outgoing_item N (lane_at N l)) (lane_items N (lane_at N l));
+    }
 
 -- the lanes that it sends, in lane order
 abbrev pub outgoing_lanes : Table → ℕ → List OutgoingLane

@@ -26,7 +26,8 @@ pub(crate) fn plant_amounts(
 ) -> Result<Vec<u64>, Memory>
     requires pairs { All (λ p. IsPair network.now p.number.0) pairs.now }
     requires few { length pairs.now ≤ length network.now.pairs }
-    ensures { IfOk result (λ v. v.items ≡ flat_map (λ p. row_of network.now (amount_of which network.now p.number.0)) pairs.now) }
+    ensures { IfOk result (λ v. v.items ≡ flat_map
+        (λ p. row_of network.now (amount_of which network.now p.number.0)) pairs.now) }
 {
     let _pairs = network.pairs();
     let periods = network.horizon().get() as usize;

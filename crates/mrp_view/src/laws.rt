@@ -1,6 +1,7 @@
 //! Laws of what plants see. Each is the contract of a function that does nothing.
 
-ghost use Rattle.mrp_view.specs.Laws.{ViewsSayEnough, ViewsHaveLanesIn, ViewsHaveLanesOut, ViewsHaveParents, ViewsHaveBills};
+ghost use Rattle.mrp_view.specs.Laws.{ViewsSayEnough, ViewsHaveLanesIn, ViewsHaveLanesOut, ViewsHaveParents};
+ghost use Rattle.mrp_view.specs.Laws.{ViewsHaveBills};
 
 /// What a plant sees of an accepted table says all that it needs to know to plan alone: no pair, item
 /// or lane stands twice, edges, lanes and calls name its own pairs and no other, parameters, shares, shipments

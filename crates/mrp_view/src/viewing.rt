@@ -132,7 +132,8 @@ fn incoming_item(network: &Network, l: LaneNo, item: ItemNo) -> IncomingItem
 /// The items of a lane, as its receiver sees them.
 fn incoming_items(alloc: Global, network: &Network, l: LaneNo) -> Result<IncomingItems, Memory>
     requires { l.0 < length (lanes network.now) }
-    ensures { IfOk result (λ v. v ≡ map (incoming_item network.now (lane_at network.now l.0)) (lane_items network.now (lane_at network.now l.0))) }
+    ensures { IfOk result (λ v. v ≡ map (incoming_item network.now (lane_at network.now l.0))
+        (lane_items network.now (lane_at network.now l.0))) }
 {
     let mut items = Vec::new(alloc);
     for item in network.lane_items(l) {
@@ -221,7 +222,8 @@ fn sent_on(network: &Network, l: LaneNo, item: ItemNo) -> &[Shipment]
 /// The items of a lane, as its sender sees them.
 fn outgoing_items(alloc: Global, network: &Network, l: LaneNo) -> Result<OutgoingItems, Memory>
     requires { l.0 < length (lanes network.now) }
-    ensures { IfOk result (λ v. v ≡ map (outgoing_item network.now (lane_at network.now l.0)) (lane_items network.now (lane_at network.now l.0))) }
+    ensures { IfOk result (λ v. v ≡ map (outgoing_item network.now (lane_at network.now l.0))
+        (lane_items network.now (lane_at network.now l.0))) }
 {
     let mut items = OutgoingItems::new(alloc);
     for item in network.lane_items(l) {

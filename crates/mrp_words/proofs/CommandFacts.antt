@@ -1,5 +1,6 @@
 -- Where no step of the parse fails, the words name one of the eight commands, with its values.
-use Rattle.std.proofs.Common.{◌≡◌, ◌∙◌, ◌&&◌, ◌||◌, inl, inr, ℕ, Bool, cond, true, false, not, List, [], ◌∷◌, Option, Some, None, codes, option_map, refl, sym, ap, ap₂, subst, is_some, true≢false}
+use Rattle.std.proofs.Common.{◌≡◌, ◌∙◌, ◌&&◌, ◌||◌, inl, inr, ℕ, Bool, cond, true, false, not, List, [], ◌∷◌, Option, Some, None, codes, option_map, refl, sym}
+use Rattle.std.proofs.Common.{ap, ap₂, subst, is_some, true≢false}
 use Rattle.std.specs.Prelude.{unwrap_or}
 use Rattle.std.specs.List.{list_all, list_any}
 use Rattle.std.specs.Option.{option_map_or}
@@ -11,18 +12,22 @@ use Rattle.clap.specs.Takes.{is_given}
 use Rattle.clap.specs.ValueTests.{accepts}
 use Rattle.clap.specs.Walk.{Names, Row, Rule, Text, answers_to, finished, has_row, nothing_held, rows_after, settled, stop_after, walk, walk_from}
 use Rattle.clap.specs.Faults.{built_fault, check_fault, defaults_fault, entered_fault, level_fault, settle_fault, walk_fault}
-use Rattle.clap.specs.Simple.{App, Shape, argument_words, built, built_leaf, entered, help_shape, inherited, is_simple, label_of, marked_built, names_of, rows_at, with_filled_rules, with_help_flag, with_leaf_noted, with_version_flag}
+use Rattle.clap.specs.Simple.{App, Shape, argument_words, built, built_leaf, entered, help_shape, inherited, is_simple, label_of, marked_built, names_of}
+use Rattle.clap.specs.Simple.{rows_at, with_filled_rules, with_help_flag, with_leaf_noted, with_version_flag}
 use Rattle.clap.specs.Words.{HasKind, fault_of, is_simple_and_free, subcommand_of}
 use Rattle.clap.specs.declared.error.Error.{Error}
 use Rattle.clap.specs.declared.builder.value_parser.ValueParser.TheVariants.{Unsigned, Bool as Truth}
 use Rattle.clap.proofs.OnLiterals.{clap_on_literals}
 use Rattle.clap.proofs.ValueTestLemmas.{accepts-Accepts}
 use Rattle.mrp_words.specs.Choice.{IsCommand, IsMeantBy, number_value}
-use Rattle.mrp_words.specs.CommandLine.{advice_words, check_words, cums_words, mrp, orders_words, peg_words, pegs_words, plan_words, program_words, schedule_words}
+use Rattle.mrp_words.specs.CommandLine.{advice_words, check_words, cums_words, mrp, orders_words, peg_words, pegs_words, plan_words, program_words}
+use Rattle.mrp_words.specs.CommandLine.{schedule_words}
 use Rattle.mrp_choice.specs.declared.choice.TheConstants.{MOST_WORKERS, MOST_CAPACITY, LAST_PERIOD}
 use Rattle.mrp_choice.specs.declared.choice.Choice.{Choice}
-use Rattle.mrp_words.specs.Values.{HasFlag, HasNumber, HasOrderValues, HasPegValues, HasPlanValues, HasText, HasCommandValues, IsWholeCommand, LiesWithin, MayBeWithin, MayHaveNumber}
-use Rattle.mrp_words.proofs.RowFacts.{asks_at, defaults_gain, either, first_none, given_row, has_some, is_plain_rule, next_none, no_kind, no_value, rows_good, rows_pass, unfailed, value_found, value_known, walk_good}
+use Rattle.mrp_words.specs.Values.{HasFlag, HasNumber, HasOrderValues, HasPegValues, HasPlanValues, HasText, HasCommandValues, IsWholeCommand, LiesWithin}
+use Rattle.mrp_words.specs.Values.{MayBeWithin, MayHaveNumber}
+use Rattle.mrp_words.proofs.RowFacts.{asks_at, defaults_gain, either, first_none, given_row, has_some, is_plain_rule, next_none, no_kind, no_value, rows_good}
+use Rattle.mrp_words.proofs.RowFacts.{rows_pass, unfailed, value_found, value_known, walk_good}
 
 -- ---- the command as clap builds it
 
@@ -77,7 +82,8 @@ record Passes (s : Shape) (names : Names) (words : List Text) (has : Bool) (unde
   last_passes : settle_fault s.rules s.args_override_self (walk s.rules names nothing_held words).held ≡ []
   checks_pass : check_fault s (rows_after s.rules names words) has ≡ []
 
-level_passes : (s : Shape) (names : Names) (words : List Text) (has : Bool) (below : Kinds) → level_fault s names nothing_held words has below ≡ [] → Passes s names words has below
+level_passes : (s : Shape) (names : Names) (words : List Text) (has : Bool) (below : Kinds) → level_fault s names nothing_held words has below ≡ []
+    → Passes s names words has below
 level_passes s names words has below e =
     let end = (walk s.rules names nothing_held words).held in
     let one = walk_fault s names (walk_from nothing_held) words in
@@ -137,7 +143,8 @@ plan_whole words e =
     }
 
 -- a command whose one argument is the flag for the names of the columns
-header_whole : (s : Shape) (words : List Text) → list_all is_plain_rule s.rules ≡ true → list_any (λ a. bytes_eq a.id (codes "header") && has_some a.defaults) s.rules ≡ true
+header_whole : (s : Shape) (words : List Text) → list_all is_plain_rule s.rules ≡ true
+    → list_any (λ a. bytes_eq a.id (codes "header") && has_some a.defaults) s.rules ≡ true
     → ((v : Text) → value_known s.rules (codes "header") v ≡ true → accepts false Truth v ≡ true)
     → level_fault s [] nothing_held words false [] ≡ [] → HasFlag (codes "header") (rows_after s.rules [] words)
 header_whole s words plain filled flag e =
@@ -154,13 +161,15 @@ check_whole words e = header_whole check_leaf words refl refl (λ v known. only 
 cums_whole : (words : List Text) → level_fault cums_leaf [] nothing_held words false [] ≡ [] → HasFlag (codes "header") (rows_after cums_leaf.rules [] words)
 cums_whole words e = header_whole cums_leaf words refl refl (λ v known. only _ known) e
 
-schedule_whole : (words : List Text) → level_fault schedule_leaf [] nothing_held words false [] ≡ [] → HasFlag (codes "header") (rows_after schedule_leaf.rules [] words)
+schedule_whole : (words : List Text) → level_fault schedule_leaf [] nothing_held words false [] ≡ []
+    → HasFlag (codes "header") (rows_after schedule_leaf.rules [] words)
 schedule_whole words e = header_whole schedule_leaf words refl refl (λ v known. only _ known) e
 
 pegs_whole : (words : List Text) → level_fault pegs_leaf [] nothing_held words false [] ≡ [] → HasFlag (codes "header") (rows_after pegs_leaf.rules [] words)
 pegs_whole words e = header_whole pegs_leaf words refl refl (λ v known. only _ known) e
 
-advice_whole : (words : List Text) → level_fault advice_leaf [] nothing_held words false [] ≡ [] → HasFlag (codes "header") (rows_after advice_leaf.rules [] words)
+advice_whole : (words : List Text) → level_fault advice_leaf [] nothing_held words false [] ≡ []
+    → HasFlag (codes "header") (rows_after advice_leaf.rules [] words)
 advice_whole words e = header_whole advice_leaf words refl refl (λ v known. only _ known) e
 
 -- a number that may be left out
@@ -191,7 +200,8 @@ orders_whole words e = go (has_row (codes "until") rows) refl
         free_number_whole rows (inl number.0) (may_be 0 LAST_PERIOD (number_value (codes "until") rows) number.1) header
     go false there =
         let none = no_value (codes "until") rows there in
-        free_number_whole rows (inr none) (subst (MayBeWithin 0 LAST_PERIOD) (sym (ap (option_map (λ text. digits_value 10 (without_leading_plus text))) none.0)) tt) header
+        free_number_whole rows (inr none) (subst (MayBeWithin 0 LAST_PERIOD)
+        (sym (ap (option_map (λ text. digits_value 10 (without_leading_plus text))) none.0)) tt) header
 
 three : (a b d r : Bool) → (not a || (not b || (not d || r))) ≡ false → (a ≡ true) × (b ≡ true) × (d ≡ true)
 three true true true r e = (refl, refl, refl)
@@ -224,9 +234,12 @@ peg_whole words e =
 
 abbrev pick : Bool → Bool → Bool → Bool → Bool → Bool → Bool → Bool → Bool → Option Shape
 pick plan check peg cums orders schedule pegs advice help =
-    cond plan (Some plan_leaf) (cond check (Some check_leaf) (cond peg (Some peg_leaf) (cond cums (Some cums_leaf) (cond orders (Some orders_leaf) (cond schedule (Some schedule_leaf) (cond pegs (Some pegs_leaf) (cond advice (Some advice_leaf) (cond help (Some help_leaf) None))))))))
+    cond plan (Some plan_leaf) (cond check (Some check_leaf) (cond peg (Some peg_leaf)
+    (cond cums (Some cums_leaf) (cond orders (Some orders_leaf)
+    (cond schedule (Some schedule_leaf) (cond pegs (Some pegs_leaf) (cond advice (Some advice_leaf) (cond help (Some help_leaf) None))))))))
 
-picked : (words : List Text) (plan check peg cums orders schedule pegs advice help : Bool) → option_map_or (λ s. level_fault s [] nothing_held words false []) (pick plan check peg cums orders schedule pegs advice help) [] ≡ []
+picked : (words : List Text) (plan check peg cums orders schedule pegs advice help : Bool)
+    → option_map_or (λ s. level_fault s [] nothing_held words false []) (pick plan check peg cums orders schedule pegs advice help) [] ≡ []
     → is_some (option_map (λ s. rows_at s words) (pick plan check peg cums orders schedule pegs advice help)) ≡ true → help ≡ false
     → IsWholeCommand (option_map (λ s. rows_at s words) (pick plan check peg cums orders schedule pegs advice help))
 picked words true check peg cums orders schedule pegs advice help e some off = inl (refl, plan_whole words e)
@@ -253,15 +266,18 @@ no_help name aliases e none = go (bytes_eq (codes "help") name) refl
 stopped_whole : (stop : Option (Text × List Text)) → entered_fault ready stop ≡ [] → is_some (entered ready stop) ≡ true → asks_at ready.top refl stop ≡ false
     → IsWholeCommand (entered ready stop)
 stopped_whole None e some off = absurd (true≢false (sym some))
-stopped_whole (Some p) e some off = picked p.1 (answers_to p.0 (label_of plan_leaf)) (answers_to p.0 (label_of check_leaf)) (answers_to p.0 (label_of peg_leaf)) (answers_to p.0 (label_of cums_leaf)) (answers_to p.0 (label_of orders_leaf))
-    (answers_to p.0 (label_of schedule_leaf)) (answers_to p.0 (label_of pegs_leaf)) (answers_to p.0 (label_of advice_leaf)) (answers_to p.0 (label_of help_leaf))
+stopped_whole (Some p) e some off = picked p.1 (answers_to p.0 (label_of plan_leaf)) (answers_to p.0 (label_of check_leaf)) (answers_to p.0 (label_of peg_leaf))
+    (answers_to p.0 (label_of cums_leaf)) (answers_to p.0 (label_of orders_leaf))
+    (answers_to p.0 (label_of schedule_leaf)) (answers_to p.0 (label_of pegs_leaf)) (answers_to p.0 (label_of advice_leaf))
+    (answers_to p.0 (label_of help_leaf))
     e some (no_help p.0 false off refl)
 
 has_command : (rows : List Row) (has : Bool) → check_fault ready.top rows has ≡ [] → has ≡ true
 has_command rows true e = refl
 has_command rows false e = absurd (no_kind _ _ e)
 
-ready_whole : (words : List Text) → built_fault ready nothing_held words ≡ [] → IsWholeCommand (entered ready (stop_after ready.top.rules (names_of ready) words))
+ready_whole : (words : List Text) → built_fault ready nothing_held words ≡ []
+    → IsWholeCommand (entered ready (stop_after ready.top.rules (names_of ready) words))
 ready_whole words e =
     let stop = stop_after ready.top.rules (names_of ready) words in
     let p = level_passes ready.top (names_of ready) words (is_some (entered ready stop)) (entered_fault ready stop) e in
@@ -291,10 +307,12 @@ mrp_is_free = refl
 pub no_fault : (a : App) (words : List Text) → a ≡ mrp → (is_simple_and_free a ≡ true → fault_of a words ≡ []) → fault_of mrp words ≡ []
 no_fault a words is h = subst (λ x. fault_of x words ≡ []) is (h (ap is_simple_and_free is ∙ mrp_is_free))
 
-pub its_kind : (a : App) (words : List Text) (e : Error) → a ≡ mrp → (is_simple_and_free a ≡ true → HasKind (fault_of a words) e) → HasKind (fault_of mrp words) e
+pub its_kind : (a : App) (words : List Text) (e : Error) → a ≡ mrp → (is_simple_and_free a ≡ true → HasKind (fault_of a words) e)
+    → HasKind (fault_of mrp words) e
 its_kind a words e is h = subst (λ x. HasKind (fault_of x words) e) is (h (ap is_simple_and_free is ∙ mrp_is_free))
 
-pub its_command : {A : Type 0} (a : App) (words : List Text) (o : Command) → a ≡ mrp → (is_simple a ≡ true → A × (o ≡ subcommand_of a words)) → o ≡ subcommand_of mrp words
+pub its_command : {A : Type 0} (a : App) (words : List Text) (o : Command) → a ≡ mrp → (is_simple a ≡ true → A × (o ≡ subcommand_of a words))
+    → o ≡ subcommand_of mrp words
 its_command a words o is h = (h (ap is_simple is ∙ mrp_is_simple)).1 ∙ ap (λ x. subcommand_of x words) is
 
 abbrev paired : {B : Type 0} → (B → Text) → (B → List Row) → Option B → Command
@@ -321,7 +339,8 @@ pub other_name : (name other : Text) (r : Bool) → r ≡ bytes_eq name other �
 other_name name other r e off is = true≢false (sym ((bytes_eq-Decides name other).1 is) ∙ (sym e ∙ off))
 
 -- what is meant by the text of a test is meant by the name that passed it
-pub meant : {B : Type 0} (o : Option B) (f : B → Text) (g : B → List Row) (name text : Text) (rows : List Row) (choice : Choice) (r : Bool) → Some name ≡ option_map f o
+pub meant : {B : Type 0} (o : Option B) (f : B → Text) (g : B → List Row) (name text : Text) (rows : List Row) (choice : Choice) (r : Bool)
+    → Some name ≡ option_map f o
     → Some rows ≡ option_map second (paired f g o) → r ≡ bytes_eq name text → r ≡ true → IsCommand text rows choice → IsMeantBy (paired f g o) choice
 meant o f g name text rows choice r e h tested passed right =
     let is : name ≡ text = (bytes_eq-Decides name text).0 (sym tested ∙ passed) in

@@ -1,6 +1,7 @@
 -- What the rows of a command have where no step of the parse fails: each has a value, each value
 -- passes the parser of an argument of its name, and is read as it was written.
-use Rattle.std.proofs.Common.{◌≡◌, ◌∙◌, ◌&&◌, ◌||◌, ℕ, Bool, cond, true, false, not, zero, suc, List, [], ◌∷◌, ◌++◌, Option, Some, None, codes, length, drop, option_map, refl, sym, ap, ap₂, subst, is_some, true≢false}
+use Rattle.std.proofs.Common.{◌≡◌, ◌∙◌, ◌&&◌, ◌||◌, ℕ, Bool, cond, true, false, not, zero, suc, List, [], ◌∷◌, ◌++◌, Option, Some, None, codes, length, drop}
+use Rattle.std.proofs.Common.{option_map, refl, sym, ap, ap₂, subst, is_some, true≢false}
 use Rattle.std.specs.Prelude.{encode_utf8, find, fold, nat_lt, option_and_then, slice_get}
 use Rattle.std.specs.List.{list_all, list_any}
 use Rattle.std.specs.Option.{option_map_or}
@@ -13,8 +14,14 @@ use Rattle.clap.specs.Values.{read_as, refused_kind}
 use Rattle.clap.specs.ValueTests.{accepts}
 use Rattle.clap.specs.Kinds.{Kinds, or_else, range_kinds, values_kinds}
 use Rattle.clap.specs.Takes.{is_given, value_passes, values_pass}
-use Rattle.clap.specs.Walk.{Held, Names, Outcome, Row, Rule, Step, Text, Waiting, Walk, action_of, after_flag, after_step, arg_by_id, arg_by_index, arg_by_long, arg_by_short, at_row, attached_value, bundle, bundle_met, default_rows, done, flag_met, has_row, is_pending, long_met, long_or_other, more_values, most_values, next, nothing_held, option, option_met, option_word, plain, plain_word, reacted, reading_by, row_text, rows_after, settled, settled_rows, short_met, short_or_plain, subcommand, subcommand_met, subcommand_or_other, takes_several, takes_values, to_positional, trailing, used, used_as, value, values_or_missing, waits, walk, walk_from, walked, walked_from, with_default, with_values, without, word_met}
-use Rattle.clap.specs.Faults.{action_fault, bundle_fault, flag_word_fault, flags_fault, long_fault, option_fault, other_fault, react_fault, repeat_fault, settle_fault, short_fault, step_fault, turn_fault, use_fault, values_fault, walk_fault, word_fault}
+use Rattle.clap.specs.Walk.{Held, Names, Outcome, Row, Rule, Step, Text, Waiting, Walk, action_of, after_flag, after_step, arg_by_id, arg_by_index, arg_by_long}
+use Rattle.clap.specs.Walk.{arg_by_short, at_row, attached_value, bundle, bundle_met, default_rows, done, flag_met, has_row, is_pending, long_met}
+use Rattle.clap.specs.Walk.{long_or_other, more_values, most_values, next, nothing_held, option, option_met, option_word, plain, plain_word, reacted}
+use Rattle.clap.specs.Walk.{reading_by, row_text, rows_after, settled, settled_rows, short_met, short_or_plain, subcommand, subcommand_met, subcommand_or_other}
+use Rattle.clap.specs.Walk.{takes_several, takes_values, to_positional, trailing, used, used_as, value, values_or_missing, waits, walk, walk_from, walked}
+use Rattle.clap.specs.Walk.{walked_from, with_default, with_values, without, word_met}
+use Rattle.clap.specs.Faults.{action_fault, bundle_fault, flag_word_fault, flags_fault, long_fault, option_fault, other_fault, react_fault, repeat_fault}
+use Rattle.clap.specs.Faults.{settle_fault, short_fault, step_fault, turn_fault, use_fault, values_fault, walk_fault, word_fault}
 use Rattle.clap.specs.Simple.{Shape}
 use Rattle.clap.specs.declared.builder.action.ArgAction.{ArgAction}
 use Rattle.clap.specs.declared.builder.action.ArgAction.TheVariants.{Set, SetTrue, Help, Version}
@@ -82,7 +89,8 @@ values_passed : (i : Bool) (p : ValueParser) (vs : List Text) → values_kinds i
 values_passed i p [] e = refl
 values_passed i p (v ∷ vs) e =
     let one = cond (accepts i p v) [] (refused_kind p ∷ []) in
-    conj (accepts i p v) (list_all (accepts i p) vs) (passed (accepts i p v) (refused_kind p) (first_none one (values_kinds i p vs) e)) (values_passed i p vs (next_none one (values_kinds i p vs) e))
+    conj (accepts i p v) (list_all (accepts i p) vs) (passed (accepts i p v) (refused_kind p) (first_none one (values_kinds i p vs) e))
+    (values_passed i p vs (next_none one (values_kinds i p vs) e))
 
 -- ---- rows
 
@@ -142,10 +150,13 @@ found test (x ∷ xs) a all e = go (test x) e (λ rest. found test xs a (both _ 
 changed : (c : List Rule) (id : Text) (change : Row → List Row) (missing rows : List Row) → rows_pass c rows ≡ true → rows_pass c missing ≡ true
     → ((r : Row) → bytes_eq r.id id ≡ true → row_passes c r ≡ true → rows_pass c (change r) ≡ true) → rows_pass c (at_row id change missing rows) ≡ true
 changed c id change missing [] ok more each = more
-changed c id change missing (r ∷ rs) ok more each = go (bytes_eq r.id id) refl (changed c id change missing rs (both (row_passes c r) (rows_pass c rs) ok).1 more each)
+changed c id change missing (r ∷ rs) ok more each = go (bytes_eq r.id id) refl
+    (changed c id change missing rs (both (row_passes c r) (rows_pass c rs) ok).1 more each)
   where
-    go : (t : Bool) → bytes_eq r.id id ≡ t → rows_pass c (at_row id change missing rs) ≡ true → rows_pass c (cond t (change r ++ rs) (r ∷ at_row id change missing rs)) ≡ true
-    go true e rec = list_all-append (row_passes c) (change r) rs ∙ conj (rows_pass c (change r)) (rows_pass c rs) (each r e (both (row_passes c r) (rows_pass c rs) ok).0) (both (row_passes c r) (rows_pass c rs) ok).1
+    go : (t : Bool) → bytes_eq r.id id ≡ t → rows_pass c (at_row id change missing rs) ≡ true
+        → rows_pass c (cond t (change r ++ rs) (r ∷ at_row id change missing rs)) ≡ true
+    go true e rec = list_all-append (row_passes c) (change r) rs
+        ∙ conj (rows_pass c (change r)) (rows_pass c rs) (each r e (both (row_passes c r) (rows_pass c rs) ok).0) (both (row_passes c r) (rows_pass c rs) ok).1
     go false e rec = conj (row_passes c r) (rows_pass c (at_row id change missing rs)) (both (row_passes c r) (rows_pass c rs) ok).0 rec
 
 removed : (c : List Rule) (id : Text) (rows : List Row) → rows_pass c rows ≡ true → rows_pass c (without id rows) ≡ true
@@ -170,11 +181,13 @@ added c a s vs rows of pass some ok = changed c a.id (more_values s vs) (record 
   reading = reading_by a;
 } ∷ []) rows ok
     (conj (list_all (value_known c a.id) vs && (has_some vs && as_written (reading_by a))) true
-    (conj (list_all (value_known c a.id) vs) (has_some vs && as_written (reading_by a)) (named c a vs of pass) (conj (has_some vs) (as_written (reading_by a)) some written)) refl)
+    (conj (list_all (value_known c a.id) vs) (has_some vs && as_written (reading_by a)) (named c a vs of pass)
+    (conj (has_some vs) (as_written (reading_by a)) some written)) refl)
     more
   where
     written : as_written (reading_by a) ≡ true
-    written = (both (as_written (reading_by a)) (values_pass a a.defaults) (both (has_values (action_of a) (is_filled a)) (as_written (reading_by a) && values_pass a a.defaults) of.is_plain).1).0
+    written = (both (as_written (reading_by a)) (values_pass a a.defaults)
+        (both (has_values (action_of a) (is_filled a)) (as_written (reading_by a) && values_pass a a.defaults) of.is_plain).1).0
 
     more : (r : Row) → bytes_eq r.id a.id ≡ true → row_passes c r ≡ true → rows_pass c (more_values s vs r) ≡ true
     more r e h =
@@ -192,7 +205,8 @@ added c a s vs rows of pass some ok = changed c a.id (more_values s vs) (record 
 filled_values : (a : Rule) (values : List Text) → range_kinds (unwrap_or_range a.range).start_inclusive (most_values a) (length values) ≡ []
     → is_filled a ≡ true → has_some (values_or_missing a values) ≡ true
 filled_values a (v ∷ vs) e some = refl
-filled_values a [] e some = either (nat_lt 0 (unwrap_or_range a.range).start_inclusive) (has_some a.missing) some (go (nat_lt 0 (unwrap_or_range a.range).start_inclusive) (unfailed _ _ _ _ e).0)
+filled_values a [] e some = either (nat_lt 0 (unwrap_or_range a.range).start_inclusive) (has_some a.missing) some
+    (go (nat_lt 0 (unwrap_or_range a.range).start_inclusive) (unfailed _ _ _ _ e).0)
   where
     go : (t : Bool) → (t && true) ≡ false → t ≡ false
     go true h = h
@@ -202,9 +216,11 @@ acted : (c : List Rule) (a : Rule) (x : ArgAction) (again : Bool) (vs : List Tex
     → (is_filled a ≡ true → has_some vs ≡ true) → action_fault x again a vs rows ≡ [] → rows_pass c rows ≡ true
     → rows_pass c (used_as x a.id (reading_by a) vs rows) ≡ true
 acted c a Set again vs rows of has some e ok =
-    added c a CommandLine vs (without a.id rows) of (values_passed a.ignore_case (parser_of_value a.parser) vs (next_none (repeat_fault again a.id rows) (values_fault a vs) e)) (some has) (removed c a.id rows ok)
+    added c a CommandLine vs (without a.id rows) of (values_passed a.ignore_case (parser_of_value a.parser) vs
+    (next_none (repeat_fault again a.id rows) (values_fault a vs) e)) (some has) (removed c a.id rows ok)
 acted c a SetTrue again vs rows of has some e ok =
-    added c a CommandLine vs (without a.id rows) of (values_passed a.ignore_case (parser_of_value a.parser) vs (next_none (repeat_fault again a.id rows) (values_fault a vs) e)) (some has) (removed c a.id rows ok)
+    added c a CommandLine vs (without a.id rows) of (values_passed a.ignore_case (parser_of_value a.parser) vs
+    (next_none (repeat_fault again a.id rows) (values_fault a vs) e)) (some has) (removed c a.id rows ok)
 acted c a Help again vs rows of has some e ok = absurd (no_kind _ _ e)
 acted c a Version again vs rows of has some e ok = absurd (no_kind _ _ e)
 acted c a _ again vs rows of has some e ok = absurd (true≢false (sym has))
@@ -214,14 +230,16 @@ pub used_passes : (c : List Rule) (a : Rule) (again : Bool) (values : List Text)
 used_passes c a again values rows of e ok =
     let range = range_kinds (unwrap_or_range a.range).start_inclusive (most_values a) (length values) in
     let act = action_fault (action_of a) again a (values_or_missing a values) rows in
-    acted c a (action_of a) again (values_or_missing a values) rows of (both (has_values (action_of a) (is_filled a)) (as_written (reading_by a) && values_pass a a.defaults) of.is_plain).0
+    acted c a (action_of a) again (values_or_missing a values) rows of
+    (both (has_values (action_of a) (is_filled a)) (as_written (reading_by a) && values_pass a a.defaults) of.is_plain).0
     (filled_values a values (first_none range act e)) (next_none range act e) ok
 
 -- ---- the walk
 
 module _ (c : List Rule) (again : Bool) (all : list_all is_plain_rule c ≡ true) where
   settled_pass : (p : Option (Text × List Text)) (rows : List Row)
-      → option_map_or (λ q. option_map_or (λ a. use_fault again a q.1 rows) (arg_by_id c q.0) []) p [] ≡ [] → rows_pass c rows ≡ true → rows_pass c (settled_rows c p rows) ≡ true
+      → option_map_or (λ q. option_map_or (λ a. use_fault again a q.1 rows) (arg_by_id c q.0) []) p [] ≡ [] → rows_pass c rows ≡ true
+      → rows_pass c (settled_rows c p rows) ≡ true
   settled_pass None rows e ok = ok
   settled_pass (Some p) rows e ok = go (arg_by_id c p.0) refl
     where
@@ -244,7 +262,8 @@ module _ (c : List Rule) (again : Bool) (all : list_all is_plain_rule c ≡ true
   option_meets a (Some v) h of e ok = reacts a (v ∷ []) h of e ok
   option_meets a None h of e ok = settles h e ok
 
-  flag_meets : (a : Rule) (v : Option Text) (h : Held) (k : ErrorKind) → IsOf c a → cond (is_some v) (k ∷ []) (react_fault c again a [] h) ≡ [] → rows_pass c h.rows ≡ true
+  flag_meets : (a : Rule) (v : Option Text) (h : Held) (k : ErrorKind) → IsOf c a → cond (is_some v) (k ∷ []) (react_fault c again a [] h) ≡ []
+      → rows_pass c h.rows ≡ true
       → rows_pass c (flag_met c a v h).0.rows ≡ true
   flag_meets a (Some v) h k of e ok = ok
   flag_meets a None h k of e ok = reacts a [] h of e ok
@@ -261,7 +280,8 @@ module _ (c : List Rule) (again : Bool) (all : list_all is_plain_rule c ≡ true
   abbrev Next : (Held → Held × Outcome) → (Held → Kinds) → Type 0
   Next met fault = (h : Held) → fault h ≡ [] → rows_pass c h.rows ≡ true → rows_pass c (met h).0.rows ≡ true
 
-  short_meets : (o : Option Rule) (rest : Text) (h : Held) (met : Held → Held × Outcome) (fault : Held → Kinds) → ((a : Rule) → o ≡ Some a → IsOf c a) → Next met fault
+  short_meets : (o : Option Rule) (rest : Text) (h : Held) (met : Held → Held × Outcome) (fault : Held → Kinds) → ((a : Rule) → o ≡ Some a → IsOf c a)
+      → Next met fault
       → short_fault c again o rest h fault ≡ [] → rows_pass c h.rows ≡ true → rows_pass c (short_met c o rest h met).0.rows ≡ true
   short_meets None rest h met fault of more e ok = ok
   short_meets (Some a) rest h met fault of more e ok = go (takes_values a) refl
@@ -281,7 +301,8 @@ module _ (c : List Rule) (again : Bool) (all : list_all is_plain_rule c ≡ true
       go (slice_get (chars flags) 0) skip refl refl (λ rest n outcome g e2 ok2. bundle_meets k rest n outcome g e2 ok2)
     where
       go : (o : Option ℕ) (n : ℕ) → slice_get (chars flags) 0 ≡ o → skip ≡ n
-          → ((rest : Text) (m : ℕ) (outcome : Outcome) (g : Held) → flags_fault c again k rest m g ≡ [] → rows_pass c g.rows ≡ true → rows_pass c (bundle_met c k rest m outcome g).0.rows ≡ true)
+          → ((rest : Text) (m : ℕ) (outcome : Outcome) (g : Held) → flags_fault c again k rest m g ≡ [] → rows_pass c g.rows ≡ true
+          → rows_pass c (bundle_met c k rest m outcome g).0.rows ≡ true)
           → rows_pass c (bundle_met c (suc k) flags skip so_far h).0.rows ≡ true
       go None n is same rec = rw is ok
       go (Some x) zero is same rec =
@@ -318,12 +339,14 @@ module _ (s : Shape) (all : list_all is_plain_rule s.rules ≡ true) where
   plain_good (option id) word h ok = (option_keeps (arg_by_id s.rules id) id word h ok, refl)
   plain_good _ word h ok = (ok, refl)
 
-  after_good : (waiting : Waiting) (word : Text) (h : Held) (outcome : Outcome) → rows_pass s.rules h.rows ≡ true → Good (after_flag s.rules waiting word h outcome)
+  after_good : (waiting : Waiting) (word : Text) (h : Held) (outcome : Outcome) → rows_pass s.rules h.rows ≡ true
+      → Good (after_flag s.rules waiting word h outcome)
   after_good waiting word h done ok = (ok, refl)
   after_good waiting word h (waits id) ok = (ok, refl)
   after_good waiting word h _ ok = plain_good waiting word h ok
 
-  bundle_good : (o : Option Text) (waiting : Waiting) (word : Text) (h : Held) → option_map_or (λ flags. bundle_fault s.rules s.args_override_self flags h) o [] ≡ []
+  bundle_good : (o : Option Text) (waiting : Waiting) (word : Text) (h : Held)
+      → option_map_or (λ flags. bundle_fault s.rules s.args_override_self flags h) o [] ≡ []
       → rows_pass s.rules h.rows ≡ true → Good (short_or_plain s.rules waiting word o h)
   bundle_good None waiting word h e ok = plain_good waiting word h ok
   bundle_good (Some flags) waiting word h e ok =
@@ -347,12 +370,14 @@ module _ (s : Shape) (all : list_all is_plain_rule s.rules ≡ true) where
       go true is = rw is (ok, refl)
       go false is = rw is (flag_good (long_of word) waiting word h (rw is at e) ok)
 
-  word_good : (names : Names) (is_trailing : Bool) (waiting : Waiting) (position : ℕ) (word : Text) (h : Held) → word_fault s names is_trailing waiting word h ≡ []
+  word_good : (names : Names) (is_trailing : Bool) (waiting : Waiting) (position : ℕ) (word : Text) (h : Held)
+      → word_fault s names is_trailing waiting word h ≡ []
       → rows_pass s.rules h.rows ≡ true → Good (word_met s.rules names is_trailing waiting position word h)
   word_good names true waiting position word h e ok = (ok, refl)
   word_good names false waiting position word h e ok = other_good (subcommand_met names waiting word) waiting position word h e ok
 
-  positional_passes : (a : Rule) (word : Text) (h : Held) (t : Bool) → cond t [] (settle_fault s.rules s.args_override_self h) ≡ [] → rows_pass s.rules h.rows ≡ true
+  positional_passes : (a : Rule) (word : Text) (h : Held) (t : Bool) → cond t [] (settle_fault s.rules s.args_override_self h) ≡ []
+      → rows_pass s.rules h.rows ≡ true
       → rows_pass s.rules (cond t h (settled s.rules h)).rows ≡ true
   positional_passes a word h true e ok = ok
   positional_passes a word h false e ok = settles s.rules s.args_override_self all h e ok
@@ -402,7 +427,8 @@ one_default c a rows of ok = go (has_row a.id rows)
   where
     go : (t : Bool) → rows_pass c (cond t rows (default_rows a.id (reading_by a) a.defaults rows)) ≡ true
     go true = ok
-    go false = default_passes c a a.defaults rows of (both (as_written (reading_by a)) (values_pass a a.defaults) (both (has_values (action_of a) (is_filled a)) (as_written (reading_by a) && values_pass a a.defaults) of.is_plain).1).1 ok
+    go false = default_passes c a a.defaults rows of (both (as_written (reading_by a)) (values_pass a a.defaults)
+        (both (has_values (action_of a) (is_filled a)) (as_written (reading_by a) && values_pass a a.defaults) of.is_plain).1).1 ok
 
 pub fills : (c xs : List Rule) (rows : List Row) → ((test : Rule → Bool) → list_any test xs ≡ true → list_any test c ≡ true) → list_all is_plain_rule xs ≡ true
     → rows_pass c rows ≡ true → rows_pass c (fold with_default rows xs) ≡ true
@@ -422,7 +448,8 @@ rows_good s names words all e settle =
 
 -- ---- which rows there are
 
-keeps_row : (id other : Text) (s : ValueSource) (vs : List Text) (new rows : List Row) → has_row id rows ≡ true → has_row id (at_row other (more_values s vs) new rows) ≡ true
+keeps_row : (id other : Text) (s : ValueSource) (vs : List Text) (new rows : List Row) → has_row id rows ≡ true
+    → has_row id (at_row other (more_values s vs) new rows) ≡ true
 keeps_row id other s vs new [] h = absurd (true≢false (sym h))
 keeps_row id other s vs new (r ∷ rs) h = go (bytes_eq r.id other) (keeps_row id other s vs new rs)
   where
@@ -430,15 +457,18 @@ keeps_row id other s vs new (r ∷ rs) h = go (bytes_eq r.id other) (keeps_row i
     inner true more e rec = refl
     inner false more e rec = rec e
 
-    go : (t : Bool) → (has_row id rs ≡ true → has_row id (at_row other (more_values s vs) new rs) ≡ true) → has_row id (cond t (more_values s vs r ++ rs) (r ∷ at_row other (more_values s vs) new rs)) ≡ true
+    go : (t : Bool) → (has_row id rs ≡ true → has_row id (at_row other (more_values s vs) new rs) ≡ true)
+        → has_row id (cond t (more_values s vs r ++ rs) (r ∷ at_row other (more_values s vs) new rs)) ≡ true
     go true rec = h
     go false rec = inner (bytes_eq r.id id) (at_row other (more_values s vs) new rs) h rec
 
-gains_row : (id : Text) (s : ValueSource) (vs : List Text) (new rows : List Row) → has_row id new ≡ true → has_row id (at_row id (more_values s vs) new rows) ≡ true
+gains_row : (id : Text) (s : ValueSource) (vs : List Text) (new rows : List Row) → has_row id new ≡ true
+    → has_row id (at_row id (more_values s vs) new rows) ≡ true
 gains_row id s vs new [] h = h
 gains_row id s vs new (r ∷ rs) h = go (bytes_eq r.id id) refl (gains_row id s vs new rs h)
   where
-    go : (t : Bool) → bytes_eq r.id id ≡ t → has_row id (at_row id (more_values s vs) new rs) ≡ true → has_row id (cond t (more_values s vs r ++ rs) (r ∷ at_row id (more_values s vs) new rs)) ≡ true
+    go : (t : Bool) → bytes_eq r.id id ≡ t → has_row id (at_row id (more_values s vs) new rs) ≡ true
+        → has_row id (cond t (more_values s vs r ++ rs) (r ∷ at_row id (more_values s vs) new rs)) ≡ true
     go true is rec = left_or (bytes_eq r.id id) (has_row id rs) is
     go false is rec = right_or (bytes_eq r.id id) (has_row id (at_row id (more_values s vs) new rs)) rec
 
@@ -453,7 +483,8 @@ default_keeps id a rows h = go (has_row a.id rows) a.defaults
 default_gains : (a : Rule) (rows : List Row) → has_some a.defaults ≡ true → has_row a.id (with_default rows a) ≡ true
 default_gains a rows some = go (has_row a.id rows) refl a.defaults some
   where
-    go : (t : Bool) → has_row a.id rows ≡ t → (ds : List Text) → has_some ds ≡ true → has_row a.id (cond t rows (default_rows a.id (reading_by a) ds rows)) ≡ true
+    go : (t : Bool) → has_row a.id rows ≡ t → (ds : List Text) → has_some ds ≡ true
+        → has_row a.id (cond t rows (default_rows a.id (reading_by a) ds rows)) ≡ true
     go true is ds has = is
     go false is [] has = absurd (true≢false (sym has))
     go false is (v ∷ vs) has = gains_row a.id DefaultValue (v ∷ vs) _ rows (left_or (bytes_eq a.id a.id) false ((bytes_eq-Decides a.id a.id).1 refl))
@@ -511,7 +542,8 @@ pub value_found : (c : List Rule) (id : Text) (rows : List Row) → has_row id r
 value_found c id rows h ok = from (row_found c id rows h ok)
   where
     go : (r : Row) → find (λ (x : Row). bytes_eq x.id id) rows ≡ Some r → r.id ≡ id → as_written r.reading ≡ true
-        → (vs : List Text) → r.values ≡ vs → has_some vs ≡ true → list_all (value_known c r.id) vs ≡ true → (v : Text) × HasText id v rows × (value_known c id v ≡ true)
+        → (vs : List Text) → r.values ≡ vs → has_some vs ≡ true → list_all (value_known c r.id) vs ≡ true
+        → (v : Text) × HasText id v rows × (value_known c id v ≡ true)
     go r is same written [] values has all = absurd (true≢false (sym has))
     go r is same written (v ∷ vs) values has all = (
       v,

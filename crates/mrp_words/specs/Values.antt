@@ -60,7 +60,8 @@ pub record HasOrderValues (rows : List Row) : Type 0 where
 abbrev pub IsWholeReport : Text → List Row → Type 0
 IsWholeReport name rows = ((name ≡ codes "orders") × HasOrderValues rows)
     ⊎ (((name ≡ codes "schedule") × HasFlag (codes "header") rows)
-    ⊎ (((name ≡ codes "pegs") × HasFlag (codes "header") rows) ⊎ ((name ≡ codes "advice") × HasFlag (codes "header") rows)))
+    ⊎ (((name ≡ codes "pegs") × HasFlag (codes "header") rows)
+    ⊎ ((name ≡ codes "advice") × HasFlag (codes "header") rows)))
 
 -- the command is one of the eight, with its values
 abbrev pub HasCommandValues : Text → List Row → Type 0

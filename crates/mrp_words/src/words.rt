@@ -6,9 +6,11 @@ ghost use Rattle.clap.specs.declared.builder.value_parser.ValueParser.TheVariant
 ghost use Rattle.mrp_choice.specs.Range.{IsInRange};
 ghost use Rattle.mrp_words.specs.Choice.{IsChosenBy, IsCommand, IsHeadedBy, IsMeantBy, IsMemory};
 ghost use Rattle.mrp_words.specs.Choice.{IsRefusalOf, flag_at, number_value, text_at, word_text, texts_of};
-ghost use Rattle.mrp_words.specs.CommandLine.{IsRuled, IsWorded, advice_words, check_words, cums_words, mrp, orders_words, peg_words, pegs_words};
+ghost use Rattle.mrp_words.specs.CommandLine.{IsRuled, IsWorded, advice_words, check_words, cums_words, mrp};
+ghost use Rattle.mrp_words.specs.CommandLine.{orders_words, peg_words, pegs_words};
 ghost use Rattle.mrp_words.specs.CommandLine.{plan_words, program_words, schedule_words};
-ghost use Rattle.mrp_words.specs.CommandLine.{up_to_check, up_to_cums, up_to_orders, up_to_peg, up_to_pegs, up_to_schedule};
+ghost use Rattle.mrp_words.specs.CommandLine.{up_to_check, up_to_cums, up_to_orders, up_to_peg, up_to_pegs};
+ghost use Rattle.mrp_words.specs.CommandLine.{up_to_schedule};
 ghost use Rattle.mrp_words.specs.CommandLine as rule;
 ghost use Rattle.mrp_choice.specs.declared.choice.TheConstants.{MOST_CAPACITY};
 ghost use Rattle.mrp_words.specs.Values.{HasFlag, HasNameValue, HasNumber, HasOrderValues};

@@ -39,7 +39,8 @@ next_in_form A l r m p at comes can =
     let N : Table = m.network in
     let lane : Lane = lane_at N l in
     let all : IsBeginning (loads N lane) ((m.state.taken l ++ r ∷ []) ++ can.rest) =
-    subst (IsBeginning (loads N lane)) (can.next ∙ sym (append_assoc (m.state.taken l) (r ∷ []) can.rest)) (lanes_keep_order N m.capacity m.state at.reached l comes.lane).sent in
+    subst (IsBeginning (loads N lane)) (can.next ∙ sym (append_assoc (m.state.taken l) (r ∷ []) can.rest))
+    (lanes_keep_order N m.capacity m.state at.reached l comes.lane).sent in
     let front = fronts_are_beginnings (loads N lane) (m.state.taken l ++ r ∷ []) can.rest all in
     legal_in_form N at.sized p A.view at.shown.view l (in_there N p l comes) (m.state.taken l ++ r ∷ []) front
 
@@ -60,7 +61,8 @@ book_shows A l taken N p view comes books =
     subst (λ (n : ℕ). book.BookShows (form_of A.view (incoming_at A.view k)) (book_at A k) (taken n)) number (books k place.within)
 
 -- what it has booked on a lane is in the lane's form
-booked_in_form : (A : AgentState) (l : ℕ) (taken : ℕ → List Record) (records : List Record) (N : Table) (p : ℕ) → A.view ≡ plant_rows N p → IsIn N p l → BooksShow A taken
+booked_in_form : (A : AgentState) (l : ℕ) (taken : ℕ → List Record) (records : List Record) (N : Table) (p : ℕ) → A.view ≡ plant_rows N p → IsIn N p l
+    → BooksShow A taken
     → taken l ≡ records → IsInForm (lane_form N (lane_at N l)) records
 booked_in_form A l taken records N p view comes books is =
     let form : lane_form N (lane_at N l) ≡ form_of A.view (incoming_at A.view (incoming_place A.view l)) = form_same N p A.view view l (in_there N p l comes) in
@@ -71,7 +73,8 @@ booked_in_form A l taken records N p view comes books is =
 
 abbrev pub Booked : AgentState → AgentState → ℕ → Record → Result Unit BookFault → Type 0
 Booked A B l r o =
-    OnOk o ((sent taken : ℕ → List Record) (planned : ℕ → Bool) → ShowsHistory A sent taken planned → ShowsHistory B sent (changed taken l (taken l ++ r ∷ [])) planned)
+    OnOk o ((sent taken : ℕ → List Record) (planned : ℕ → Bool) → ShowsHistory A sent taken planned
+    → ShowsHistory B sent (changed taken l (taken l ++ r ∷ [])) planned)
 
 pub booked_shows : (A B : AgentState) (l : ℕ) (r : Record) (o : Result Unit BookFault) → B.view ≡ A.view → Booked A B l r o
     → OnOk o ((m : Moment) (p : ℕ) → IsAt ShowsAgent m p A → IsIn m.network p l → ShowsAgent m.network p (after_take m.state l r) B)
@@ -84,7 +87,8 @@ booked_shows A B l r (Err fault) same booked = tt
 
 -- what is booked continues the lane's form
 pub booked_fits : (A B : AgentState) (l : ℕ) (r : Record) (o : Result Unit BookFault) → B.view ≡ A.view → Booked A B l r o
-    → OnOk o ((m : Moment) (p : ℕ) → IsAt ShowsAgent m p A → IsIn m.network p l → IsInForm (lane_form m.network (lane_at m.network l)) (m.state.taken l ++ r ∷ []))
+    → OnOk o ((m : Moment) (p : ℕ) → IsAt ShowsAgent m p A → IsIn m.network p l
+    → IsInForm (lane_form m.network (lane_at m.network l)) (m.state.taken l ++ r ∷ []))
 booked_fits A B l r (Ok done) same booked = λ m p at comes.
     let records : List Record = m.state.taken l ++ r ∷ [] in
     let shown = booked m.state.sent m.state.taken m.state.planned at.shown.history in

@@ -23,14 +23,17 @@ plan_given : (A : AgentState) (m : Moment) (p : ℕ) → IsAt ShowsAgent m p A �
 plan_given A m p at done k within =
     let N : Table = m.network in
     let x : ℕ = (get_or A.view.pairs k no_plant_pair).number.0 in
-    let own : All (λ z. IsOwn N p z.number.0) A.view.pairs = subst (λ (V : PlantRows). All (λ z. IsOwn N p z.number.0) V.pairs) (sym at.shown.view) (pairs_are_at N p) in
+    let own : All (λ z. IsOwn N p z.number.0) A.view.pairs = subst (λ (V : PlantRows). All (λ z. IsOwn N p z.number.0) V.pairs) (sym at.shown.view)
+    (pairs_are_at N p) in
     let mine : IsOwn N p x = own k no_plant_pair within in
-    let place : pair_place A.view x ≡ k = place_is_only (λ (z : PlantPair). z.number.0 == x) A.view.pairs k no_plant_pair (at.shown.enough.numbers_once x) within (eq-eqb x x refl) in
+    let place : pair_place A.view x ≡ k = place_is_only (λ (z : PlantPair). z.number.0 == x) A.view.pairs k no_plant_pair
+    (at.shown.enough.numbers_once x) within (eq-eqb x x refl) in
     let is : plans_of A x ≡ rows_at (plan_of N) x =
     planned_pairs_have_the_plan N at.sized.table at.sized.loop_free p A m.state.sent m.state.taken m.state.planned (works_in A m p at) x mine (done x mine) in
     sym (ap (λ (n : ℕ). get_or A.plans n no_plan) place) ∙ is
 
-pub gives : (A : AgentState) (m : Moment) (p : ℕ) → IsAt ShowsAgent m p A → HasPlannedAll m p → length A.plans ≡ length A.view.pairs → A.plans ≡ own_plans m.network p
+pub gives : (A : AgentState) (m : Moment) (p : ℕ) → IsAt ShowsAgent m p A → HasPlannedAll m p → length A.plans ≡ length A.view.pairs
+    → A.plans ≡ own_plans m.network p
 gives A m p at done all =
     let N : Table = m.network in
     let xs : List ℕ = filter (is_of_plant N p) (range_with_len 0 (length N.pairs)) in
@@ -41,5 +44,6 @@ gives A m p at done all =
     let low : k < length A.view.pairs = omega (arith, within, all) in
     let there : k < length xs = omega (arith, low, size) in
     let number : (get_or A.view.pairs k no_plant_pair).number.0 ≡ get_or xs k 0 =
-    ap (λ (z : List PlantPair). (get_or z k no_plant_pair).number.0) pairs ∙ ap (λ (q : PlantPair). q.number.0) (get_or-map (plant_pair N) xs k 0 no_plant_pair there) in
+    ap (λ (z : List PlantPair). (get_or z k no_plant_pair).number.0) pairs
+    ∙ ap (λ (q : PlantPair). q.number.0) (get_or-map (plant_pair N) xs k 0 no_plant_pair there) in
     plan_given A m p at done k low ∙ ap (rows_at (plan_of N)) number ∙ sym (get_or-map (rows_at (plan_of N)) xs k 0 no_plan there))

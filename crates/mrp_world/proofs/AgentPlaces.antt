@@ -20,7 +20,8 @@ out_there N p l out =
 pub in_there : (N : Table) (p l : ℕ) → IsIn N p l → Contains (incoming_lanes N p) (incoming_lane N l)
 in_there N p l in_ =
     Contains-from_in (incoming_lanes N p) (incoming_lane N l)
-    (In-map (incoming_lane N) (filter (comes_to N p) (lane_numbers N)) l (owned_there (length (lanes N)) (λ k. (lane_at N k).receiver.0) p l in_.lane in_.plant))
+    (In-map (incoming_lane N) (filter (comes_to N p) (lane_numbers N)) l
+    (owned_there (length (lanes N)) (λ k. (lane_at N k).receiver.0) p l in_.lane in_.plant))
 
 -- ---- its pairs are seen
 

@@ -34,7 +34,8 @@ module _ (A : AgentState) (numbers : List PairNo) (exact : AreReady A numbers) w
     listed_can_be : Contains numbers x → CanBePlanned (plant_rows m.network p) m.state.taken m.state.planned (plant_pair m.network x.0)
     listed_can_be listed =
         subst (λ (V : PlantRows). CanBePlanned V m.state.taken m.state.planned (plant_pair m.network x.0)) at.shown.view
-        ((exact m.state.sent m.state.taken m.state.planned at.shown.history (plant_pair m.network x.0) (seen_there A.view m.network p x.0 at.shown.view own)).0 listed)
+        ((exact m.state.sent m.state.taken m.state.planned at.shown.history (plant_pair m.network x.0) (seen_there A.view m.network p x.0 at.shown.view own)).0
+        listed)
 
     pub listed_can : Contains numbers x → CanPlan m.network m.state x.0
     listed_can listed = (plannable_is_local m.network at.sized.table p m.state x.0 own).1 (listed_can_be listed)
@@ -73,7 +74,8 @@ module _ (A : AgentState) (numbers ready : List PairNo) (same : numbers ≡ read
   unplanned_could_not b can is m p at own = λ may. false≢true (sym is ∙ can.1 (can_listed A ready exact_ready m p x at own may))
 
 pub planned_shows : (A B : AgentState) (x : PairNo) (b : Bool) → B.view ≡ A.view
-    → OnTrue b ((sent taken : ℕ → List Record) (planned : ℕ → Bool) → ShowsHistory A sent taken planned → ShowsHistory B sent taken (changed planned x.0 true)) → b ≡ true
+    → OnTrue b ((sent taken : ℕ → List Record) (planned : ℕ → Bool) → ShowsHistory A sent taken planned → ShowsHistory B sent taken (changed planned x.0 true))
+    → b ≡ true
     → (m : Moment) (p : ℕ) → IsAt ShowsAgent m p A → IsOwn m.network p x.0 → ShowsAgent m.network p (after_plan m.state x.0) B
 planned_shows A B x false same planned is = absurd (false≢true is)
 planned_shows A B x true same planned is = λ m p at own. record {
@@ -93,7 +95,8 @@ first_own A (y ∷ ys) own (Some x) is = λ m p at.
     let same : x ≡ y = cc is in
     own_at A.view m.network p x at.shown.view (subst (seen.IsOwnPair A.view) (sym same) (own 0 y (omega arith)))
 
-pub first_can : (A : AgentState) (numbers : List PairNo) → AreReady A numbers → All (seen.IsOwnPair A.view) numbers → (o : Option PairNo) → o ≡ slice_get numbers 0
+pub first_can : (A : AgentState) (numbers : List PairNo) → AreReady A numbers → All (seen.IsOwnPair A.view) numbers → (o : Option PairNo)
+    → o ≡ slice_get numbers 0
     → IfSome o (λ x. (m : Moment) (p : ℕ) → IsAt ShowsAgent m p A → CanPlan m.network m.state x.0)
 first_can A [] exact own None is = tt
 first_can A [] exact own (Some x) is = absurd (cc is)

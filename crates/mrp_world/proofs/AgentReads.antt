@@ -64,7 +64,8 @@ given_plan now A x (Some plan) there is = λ m p at own. plan_is A x (now plan) 
 
 -- ---- figures
 
-pub received_is : (A : AgentState) (l : LaneNo) (item : ItemNo) (m : Moment) (p : ℕ) → IsAt ShowsAgent m p A → IsIn m.network p l.0 → Contains (lane_items m.network (lane_at m.network l.0)) item
+pub received_is : (A : AgentState) (l : LaneNo) (item : ItemNo) (m : Moment) (p : ℕ) → IsAt ShowsAgent m p A → IsIn m.network p l.0
+    → Contains (lane_items m.network (lane_at m.network l.0)) item
     → received_over A.view m.state.taken l item ≡ Some (cum_on m.network l.0 item (m.state.taken l.0))
 received_is A l item m p at comes there =
     let N : Table = m.network in

@@ -40,18 +40,21 @@ use Rattle.mrp_world.proofs.AgentWorks.{works_in}
 
 -- ---- what may be sent is decided
 
-goods_item : (kind : LaneKind) (V : PlantRows) (taken : ℕ → List Record) (plans : ℕ → PlanRows) (l : ℕ) (i : view.OutgoingLoad) → (goods_by kind V taken plans l i).item ≡ i.item.0
+goods_item : (kind : LaneKind) (V : PlantRows) (taken : ℕ → List Record) (plans : ℕ → PlanRows) (l : ℕ) (i : view.OutgoingLoad)
+    → (goods_by kind V taken plans l i).item ≡ i.item.0
 goods_item Despatch V taken plans l i = refl
 goods_item Schedule V taken plans l i = refl
 
 -- the item at a place that may be sent
 sendable_decided : (N : Table) → IsTable N → (planned : ℕ → Bool) (l place : ℕ) → IsSendable planned (outgoing_lane N l) place
-    → (item : ItemNo) → (view.load_at (outgoing_lane N l).items place).item ≡ item → (lane_at N l).kind ≡ Schedule → planned (pair_on N (lane_at N l) item) ≡ true
+    → (item : ItemNo) → (view.load_at (outgoing_lane N l).items place).item ≡ item → (lane_at N l).kind ≡ Schedule
+    → planned (pair_on N (lane_at N l) item) ≡ true
 sendable_decided N is planned l place sendable item same kind =
     let lane : Lane = lane_at N l in
     let items : List ItemNo = lane_items N lane in
     let within : place < length items = omega (arith, sendable.within, length-map items (outgoing_item N lane)) in
-    let read : view.load_at (outgoing_lane N l).items place ≡ outgoing_item N lane (get_or items place item) = get_or-map (outgoing_item N lane) items place item view.no_load within in
+    let read : view.load_at (outgoing_lane N l).items place ≡ outgoing_item N lane (get_or items place item) =
+    get_or-map (outgoing_item N lane) items place item view.no_load within in
     let there : get_or items place item ≡ item = sym (ap (λ (i : view.OutgoingLoad). i.item) read) ∙ same in
     let has = items_have_sources N is lane item (place, within, there) in
     ap planned (sym has.taker) ∙ ap (λ (c : Call). planned c.customer.0) (sym (call_seen N lane item kind))
@@ -65,10 +68,12 @@ module _ (N : Table) (is : IsTable N) (p : ℕ) (A : AgentState) (sent taken : �
       let seen : S A.view = subst S (sym w.view) (lanes_are_seen N p) in
       seen k no_outgoing within ∙ ap (outgoing_lane N) number
 
-  queued_decided : (i : ℕ) → IsQueued (goods_at A taken k) (out_at A k) i → (item : ItemNo) → i ≡ item.0 → (lane_at N l).kind ≡ Schedule → planned (pair_on N (lane_at N l) item) ≡ true
+  queued_decided : (i : ℕ) → IsQueued (goods_at A taken k) (out_at A k) i → (item : ItemNo) → i ≡ item.0 → (lane_at N l).kind ≡ Schedule
+      → planned (pair_on N (lane_at N l) item) ≡ true
   queued_decided i q item same kind =
       let lane : OutgoingLane = outgoing_at A.view k in
-      let sendable : IsSendable planned (outgoing_lane N l) q.place = subst (λ (z : OutgoingLane). IsSendable planned z q.place) lane_is (((w.shows.outs k within).queued q.place).0 q.there) in
+      let sendable : IsSendable planned (outgoing_lane N l) q.place =
+      subst (λ (z : OutgoingLane). IsSendable planned z q.place) lane_is (((w.shows.outs k within).queued q.place).0 q.there) in
       let its : (view.load_at (outgoing_lane N l).items q.place).item.0 ≡ item.0 =
       ap (λ (z : OutgoingLane). (view.load_at z.items q.place).item.0) (sym lane_is)
       ∙ sym (goods_item lane.kind A.view taken (plans_of A) lane.number.0 (view.load_at lane.items q.place)) ∙ q.is ∙ same in
@@ -107,7 +112,8 @@ none_is_next A l none m p at out r = λ next.
     let place = out_placed A.view N p l at.shown.view (out_there N p l out) in
     let decided = subst (λ (z : ℕ). IsDecided N m.state.planned (lane_at N z) (content r)) (sym place.number) next.decided in
     let legal = subst (λ (z : ℕ). IsBeginning (loads N (lane_at N z)) (m.state.sent z ++ r ∷ [])) (sym place.number) next.legal in
-    nothing_legal_is_left N at.sized p A m.state.sent m.state.taken m.state.planned w k place.within (none m.state.sent m.state.taken m.state.planned at.shown.history) r decided legal
+    nothing_legal_is_left N at.sized p A m.state.sent m.state.taken m.state.planned w k place.within
+    (none m.state.sent m.state.taken m.state.planned at.shown.history) r decided legal
 
 pub sent_shows : (A B : AgentState) (l : ℕ) (r : Record) → B.view ≡ A.view → IsAppended A B (outgoing_place A.view l) r
     → (m : Moment) (p : ℕ) → IsAt ShowsAgent m p A → IsOut m.network p l → ShowsAgent m.network p (after_send m.state l r) B

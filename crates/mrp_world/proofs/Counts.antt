@@ -1,5 +1,6 @@
 -- How the records of a network's lanes are counted.
-use Rattle.std.proofs.Common.{◌^◌, ◌≡◌, inl, inr, ℕ, ◌+◌, ◌*◌, ◌<◌, ◌≤◌, ◌==◌, not, Bool, true, false, cond, List, [], ◌∷◌, ◌++◌, length, ap, subst, ◌∙◌, arith, length-append, Contains, slice_index}
+use Rattle.std.proofs.Common.{◌^◌, ◌≡◌, inl, inr, ℕ, ◌+◌, ◌*◌, ◌<◌, ◌≤◌, ◌==◌, not, Bool, true, false, cond, List, [], ◌∷◌, ◌++◌, length, ap, subst, ◌∙◌, arith}
+use Rattle.std.proofs.Common.{length-append, Contains, slice_index}
 use Rattle.std.proofs.lemmas.Bool.{cases_Bool, eqb-true, eq-eqb}
 use Rattle.std.proofs.lemmas.List.FromFn.{filter_of_map_range_with_len_more, length-map-range_with_len}
 use Rattle.std.proofs.lemmas.List.Sums.{get_or-le-sum_by, sum_by-cons}
@@ -37,7 +38,8 @@ abbrev one_if : Bool → ℕ
 one_if nothing = cond (not nothing) 1 0
 
 calls_more : (f : ℕ → ℕ) (n : ℕ) → length (by_period f (n + 1)) ≡ length (by_period f n) + one_if (f n == 0)
-calls_more f n = ap length (filter_of_map_range_with_len_more has_pieces (delivery_in f) 0 n n (omega arith)) ∙ longer_by (by_period f n) (delivery_in f n) (not (f n == 0))
+calls_more f n = ap length (filter_of_map_range_with_len_more has_pieces (delivery_in f) 0 n n (omega arith))
+    ∙ longer_by (by_period f n) (delivery_in f n) (not (f n == 0))
 
 pub no_call : (f : ℕ → ℕ) (n : ℕ) → f n ≤ 0 → length (by_period f (n + 1)) ≡ length (by_period f n)
 no_call f n none =
@@ -61,7 +63,8 @@ periods_of N table x fits pair = ap (λ (rows : PlanRows). length rows.gross) (f
 
 pub source_row : (N : Table) → IsTable N → (lane : Lane) (item : ItemNo) → Contains (lane_items N lane) item → IsSourceRow N (source_on N lane item)
 source_row N table lane item there =
-    All-in (IsSourceRow N) N.sources (source_on N lane item) table.read.sources (In-from_contains N.sources (source_on N lane item) (items_have_sources N table lane item there).source)
+    All-in (IsSourceRow N) N.sources (source_on N lane item) table.read.sources
+    (In-from_contains N.sources (source_on N lane item) (items_have_sources N table lane item there).source)
 
 -- ---- texts
 
@@ -109,13 +112,15 @@ block_is_short N table l within item there =
       arith,
       text_is_short N table l within,
       sum_map block_length (load_of N (lane_at N l)) (lane_items N (lane_at N l)),
-      within_sum (λ (i : ItemNo). block_length (load_of N (lane_at N l) i)) (lane_items N (lane_at N l)) item (In-from_contains (lane_items N (lane_at N l)) item there),
+      within_sum (λ (i : ItemNo). block_length (load_of N (lane_at N l) i)) (lane_items N (lane_at N l)) item
+          (In-from_contains (lane_items N (lane_at N l)) item there),
     )
 
 abbrev new_start : Bool → ℕ
 new_start starts = if starts then 1 else 0
 
-pub block_is : (load : Load) (lines : ℕ) (starts : Bool) → lines ≡ length load.lines → is_some load.reset ≡ starts → block_length load ≡ lines + (new_start starts + 1)
+pub block_is : (load : Load) (lines : ℕ) (starts : Bool) → lines ≡ length load.lines → is_some load.reset ≡ starts
+    → block_length load ≡ lines + (new_start starts + 1)
 block_is load lines starts size is = omega (arith, ap new_start is, size)
 
 pub block_fits : (N : Table) → IsTable N → (l : ℕ) → l < length (lanes N) → (item : ItemNo) → Contains (lane_items N (lane_at N l)) item

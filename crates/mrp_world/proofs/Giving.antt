@@ -1,5 +1,6 @@
 -- What plants of a finished network give.
-use Rattle.std.proofs.Common.{◌≡◌, ℕ, ◌<◌, List, [], ◌∷◌, ◌++◌, length, get_or, Vec, Global, sym, ap, subst, ◌∙◌, refl, arith, append_assoc, append-nil, length-append}
+use Rattle.std.proofs.Common.{◌≡◌, ℕ, ◌<◌, List, [], ◌∷◌, ◌++◌, length, get_or, Vec, Global, sym, ap, subst, ◌∙◌, refl, arith, append_assoc, append-nil}
+use Rattle.std.proofs.Common.{length-append}
 use Rattle.std.proofs.lemmas.List.{get_or_at}
 use Rattle.mrp_lot.specs.One.{PlanRows}
 use Rattle.mrp_netting.specs.declared.plan.PairPlan.{PairPlan}
@@ -31,13 +32,15 @@ pub all_given : {A : Type 0} (before rest plants : List A) → before ++ rest �
 all_given {A} before rest plants whole none = sym (append-nil before) ∙ ap (λ (z : List A). before ++ z) (sym (none_of rest none)) ∙ whole
 
 -- it gives the plans of its pairs
-pub plant_gives : {A : Type 0} (shows : Showing A) (N : Table) (plants : List A) (some : (capacity : ℕ) × (boxes : List Held) × (s : State) × AreAt shows N capacity plants boxes s × IsFinished N s)
+pub plant_gives : {A : Type 0} (shows : Showing A) (N : Table) (plants : List A)
+    (some : (capacity : ℕ) × (boxes : List Held) × (s : State) × AreAt shows N capacity plants boxes s × IsFinished N s)
     (p : ℕ) (plant : A) (given : List PlanRows) → p < length plants → plant ≡ get_or plants p plant
     → ((m : Moment) (q : ℕ) → IsAt shows m q plant → HasPlannedAll m q → given ≡ own_plans m.network q) → given ≡ own_plans N p
 plant_gives shows N plants some p plant given within is gives =
     let at = some.3 in
     gives (moment N some.0 some.2) p
-    (subst (λ z. IsAt shows (moment N some.0 some.2) p z) (sym is) (plant_is_at shows N some.0 plants some.1 some.2 at p plant (omega (arith, within, at.shown.all))))
+    (subst (λ z. IsAt shows (moment N some.0 some.2) p z) (sym is)
+    (plant_is_at shows N some.0 plants some.1 some.2 at p plant (omega (arith, within, at.shown.all))))
     (λ x own. some.4.planned x own.pair)
 
 -- one list more
@@ -49,6 +52,7 @@ lists_more N lists new count list size grown before here =
     (each_more (λ k v. v.items ≡ own_plans N k) lists list before (here ∙ ap (own_plans N) (sym size)))
 
 -- as many plants as the network has
-pub plants_all : {A : Type 0} (shows : Showing A) (N : Table) (plants : List A) → ((capacity : ℕ) × (boxes : List Held) × (s : State) × AreAt shows N capacity plants boxes s × IsFinished N s)
+pub plants_all : {A : Type 0} (shows : Showing A) (N : Table) (plants : List A)
+    → ((capacity : ℕ) × (boxes : List Held) × (s : State) × AreAt shows N capacity plants boxes s × IsFinished N s)
     → length plants ≡ length N.plants
 plants_all shows N plants some = some.3.shown.all

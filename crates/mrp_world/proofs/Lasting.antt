@@ -1,5 +1,6 @@
 -- The figures of lanes in each reached state, and in a finished one.
-use Rattle.std.proofs.Common.{◌≡◌, ℕ, ◌+◌, ◌<◌, List, [], ◌∷◌, ◌++◌, inl, inr, length, map, refl, sym, ap, subst, ◌∙◌, arith, append-nil, All, Contains, zero, suc}
+use Rattle.std.proofs.Common.{◌≡◌, ℕ, ◌+◌, ◌<◌, List, [], ◌∷◌, ◌++◌, inl, inr, length, map, refl, sym, ap, subst, ◌∙◌, arith, append-nil, All, Contains, zero}
+use Rattle.std.proofs.Common.{suc}
 use Rattle.std.specs.List.{flat_map, range_with_len, filter_map}
 use Rattle.mrp_rows.specs.declared.numbers.ItemNo.{ItemNo}
 use Rattle.mrp_rows.specs.Table.{Table, IsTable}
@@ -25,7 +26,8 @@ use Rattle.mrp_world.specs.Showing.{Showing}
 use Rattle.mrp_world.specs.World.{WorldState}
 use Rattle.mrp_world.specs.Moves.{WorldShows, IsWorld}
 use Rattle.mrp_world.proofs.Worlds.{none_left_is_finished, shows_some}
-use Rattle.mrp_world.specs.Figures.{lane_figure_at, figures_in_lane, figures_in, IsLaneFigure, FiguresAreOfLanes, carried, settled_figure, last_on, last_figures, FinishedFiguresAreLast}
+use Rattle.mrp_world.specs.Figures.{lane_figure_at, figures_in_lane, figures_in, IsLaneFigure, FiguresAreOfLanes, carried, settled_figure, last_on}
+use Rattle.mrp_world.specs.Figures.{last_figures, FinishedFiguresAreLast}
 
 -- ---- lists
 
@@ -41,7 +43,8 @@ map_same f g (x ∷ xs) same = ap (λ y. y ∷ map f xs) (same x (inl refl)) ∙
 
 flat_map_same : {X Y : Type 0} (f g : X → List Y) (xs : List X) → ((x : X) → In xs x → f x ≡ g x) → flat_map f xs ≡ flat_map g xs
 flat_map_same f g [] same = refl
-flat_map_same f g (x ∷ xs) same = ap (λ ys. ys ++ flat_map f xs) (same x (inl refl)) ∙ ap (λ ys. g x ++ ys) (flat_map_same f g xs (λ y there. same y (inr there)))
+flat_map_same f g (x ∷ xs) same = ap (λ ys. ys ++ flat_map f xs) (same x (inl refl))
+    ∙ ap (λ ys. g x ++ ys) (flat_map_same f g xs (λ y there. same y (inr there)))
 
 -- ---- each figure
 
@@ -52,7 +55,8 @@ figure_is_of_lane N table capacity s reached l within item there =
     let order = lanes_keep_order N capacity s reached l within in
     record {
       lane = within;
-      item = All-in (λ (i : ItemNo). i.0 < length N.items) (lane_items N (lane_at N l)) item (lane_items_within N (lane_at N l) table) (In-from_contains (lane_items N (lane_at N l)) item there);
+      item = All-in (λ (i : ItemNo). i.0 < length N.items) (lane_items N (lane_at N l)) item (lane_items_within N (lane_at N l) table)
+          (In-from_contains (lane_items N (lane_at N l)) item there);
       received = omega (arith, nothing_is_lost N table capacity s reached l within item there order.mailbox order.parts);
     }
 
@@ -68,7 +72,8 @@ pub shown_are_of_lanes : {A : Type 0} (shows : Showing A) (v w : WorldState A) �
     → ((s : State) → WorldShows shows w s → figures ≡ figures_in w.network s) → All (IsLaneFigure w.network) figures
 shown_are_of_lanes shows v w same is figures says =
     let some = shows_some shows v w same is in
-    subst (All (IsLaneFigure w.network)) (sym (says some.0 some.1)) (figures_are_of_lanes w.network some.1.parts.sized.table w.capacity some.0 some.1.parts.reached)
+    subst (All (IsLaneFigure w.network)) (sym (says some.0 some.1))
+    (figures_are_of_lanes w.network some.1.parts.sized.table w.capacity some.0 some.1.parts.reached)
 
 -- ---- at the end
 
@@ -77,8 +82,10 @@ whole_brings : (loads : List Load) → AreLoads loads → (records : List Record
     → moved load.item (contents records) ≡ total load.lines
 whole_brings loads once records whole load there =
     let text : IsText loads (contents records ++ []) = subst (IsText loads) (sym (append-nil (contents records))) whole.text in
-    let own : entries_of load.item (contents records) ≡ block load = sym (append-nil (entries_of load.item (contents records))) ∙ own_block loads once load there (contents records) [] text in
-    moved_is_delivered (entries_of load.item (contents records)) ∙ ap (λ (es : List Entry). total (filter_map entry_delivery es)) own ∙ ap total (block_delivers load)
+    let own : entries_of load.item (contents records) ≡ block load =
+    sym (append-nil (entries_of load.item (contents records))) ∙ own_block loads once load there (contents records) [] text in
+    moved_is_delivered (entries_of load.item (contents records)) ∙ ap (λ (es : List Entry). total (filter_map entry_delivery es)) own
+    ∙ ap total (block_delivers load)
 
 -- so its figure is that of all pieces
 whole_figure : (N : Table) → IsTable N → (l : ℕ) (item : ItemNo) → Contains (lane_items N (lane_at N l)) item

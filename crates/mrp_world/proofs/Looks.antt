@@ -1,5 +1,6 @@
 -- What is found where an event is looked for.
-use Rattle.std.proofs.Common.{◌≡◌, ℕ, ◌+◌, ◌<◌, ◌≤◌, Bool, true, false, List, ◌∷◌, ◌⊎◌, inl, inr, length, get_or, drop, slice_get, Option, None, Some, refl, sym, ap, subst, ◌∙◌, arith}
+use Rattle.std.proofs.Common.{◌≡◌, ℕ, ◌+◌, ◌<◌, ◌≤◌, Bool, true, false, List, ◌∷◌, ◌⊎◌, inl, inr, length, get_or, drop, slice_get, Option, None, Some, refl}
+use Rattle.std.proofs.Common.{sym, ap, subst, ◌∙◌, arith}
 use Rattle.std.specs.Prelude.{IfNone}
 use Rattle.mrp_rows.specs.Table.{Table}
 use Rattle.mrp_net.specs.Lanes.{lanes, lane_at}
@@ -14,7 +15,8 @@ use Rattle.mrp_world.specs.Showing.{Showing}
 use Rattle.mrp_world.specs.Mailbox.{Held}
 use Rattle.mrp_world.specs.World.{box_at}
 use Rattle.mrp_world.specs.Moves.{AreAt, AreSomewhere, Lead, LeadNowhere, MayLead, Acts, StandsStill, LaneRests, PlantRests, AllRests}
-use Rattle.mrp_world.proofs.Steps.{SendsNext, moment, plant_is_at, may_send, first_can, first_of, can_send, owner_within, full_leads_nowhere, none_leads_nowhere, empty_leads_nowhere}
+use Rattle.mrp_world.proofs.Steps.{SendsNext, moment, plant_is_at, may_send, first_can, first_of, can_send, owner_within, full_leads_nowhere}
+use Rattle.mrp_world.proofs.Steps.{none_leads_nowhere, empty_leads_nowhere}
 
 -- ---- the plant that is asked
 
@@ -51,7 +53,8 @@ loop_more P from at before here k low less = elim (up_to k at less) [
 pub waiting_may : {A : Type 0} (shows : Showing A) (N : Table) (plants : List A) (boxes : List Held) (l : ℕ) (old : Held) (r : Record)
     → l < length (lanes N) → old ≡ box_at boxes l → slice_get old.records 0 ≡ Some r → MayLead shows N plants boxes (Receive (record { 0 = l }))
 waiting_may shows N plants boxes l old r within same first_old capacity s at =
-    let first : (box_at boxes l).records ≡ r ∷ drop 1 (box_at boxes l).records = first_of (box_at boxes l).records r (ap (λ (b : Held). slice_get b.records 0) (sym same) ∙ first_old) in
+    let first : (box_at boxes l).records ≡ r ∷ drop 1 (box_at boxes l).records =
+    first_of (box_at boxes l).records r (ap (λ (b : Held). slice_get b.records 0) (sym same) ∙ first_old) in
     (after_take s l r, (r, first_can N capacity boxes s l r (drop 1 (box_at boxes l).records) at.held within first, refl))
 
 pub next_may : {A : Type 0} (shows : Showing A) (N : Table) (plants : List A) (boxes : List Held) (l p : ℕ) (plant : A) (old : Held) (r : Record)
@@ -63,7 +66,8 @@ next_may shows N plants boxes l p plant old r within known e same has is next ca
     (after_send s l r, (r, can_send N capacity boxes s l r at.held within is_next room, refl))
 
 pub ready_may : {A : Type 0} (shows : Showing A) (N : Table) (plants : List A) (boxes : List Held) (p x : ℕ) (plant : A)
-    → p < length plants → plant ≡ get_or plants p plant → ((m : Moment) (q : ℕ) → IsAt shows m q plant → CanPlan m.network m.state x) → MayLead shows N plants boxes (Plan (record { 0 = x }))
+    → p < length plants → plant ≡ get_or plants p plant → ((m : Moment) (q : ℕ) → IsAt shows m q plant → CanPlan m.network m.state x)
+    → MayLead shows N plants boxes (Plan (record { 0 = x }))
 ready_may shows N plants boxes p x plant within is can capacity s at =
     (after_plan s x, (can (moment N capacity s) p (asked_at shows N capacity plants boxes s at p plant is (omega (arith, within, at.shown.all))), refl))
 
@@ -78,26 +82,31 @@ full_rests shows N plants boxes l old within same none full = record {
 
 pub lane_rests : {A : Type 0} (shows : Showing A) (N : Table) (plants : List A) (boxes : List Held) (l p : ℕ) (plant : A) (old : Held)
     → l < length (lanes N) → p < length N.plants → (lane_at N l).sender.0 ≡ p → old ≡ box_at boxes l → slice_get old.records 0 ≡ None
-    → plant ≡ get_or plants p plant → ((m : Moment) (q : ℕ) → IsAt shows m q plant → IsOut m.network q l → (r : Record) → ¬ IsNext m l r) → LaneRests shows N plants boxes l
+    → plant ≡ get_or plants p plant → ((m : Moment) (q : ℕ) → IsAt shows m q plant → IsOut m.network q l → (r : Record) → ¬ IsNext m l r)
+    → LaneRests shows N plants boxes l
 lane_rests shows N plants boxes l p plant old within known e same none is nothing = record {
   sends_nothing = none_leads_nowhere shows N plants boxes l p plant within known e (λ m q at. nothing m q (subst (λ z. IsAt shows m q z) (sym is) at));
   receives_nothing = empty_leads_nowhere shows N plants boxes l old same none;
 }
 
 pub plant_rests : {A : Type 0} (shows : Showing A) (N : Table) (plants : List A) (boxes : List Held) (p : ℕ) (plant : A)
-    → p < length plants → plant ≡ get_or plants p plant → ((m : Moment) (q x : ℕ) → IsAt shows m q plant → IsOwn m.network q x → ¬ CanPlan m.network m.state x) → PlantRests shows N plants boxes p
+    → p < length plants → plant ≡ get_or plants p plant → ((m : Moment) (q x : ℕ) → IsAt shows m q plant → IsOwn m.network q x → ¬ CanPlan m.network m.state x)
+    → PlantRests shows N plants boxes p
 plant_rests shows N plants boxes p plant within is cannot x own capacity s at enabled =
     cannot (moment N capacity s) p x (asked_at shows N capacity plants boxes s at p plant is (omega (arith, within, at.shown.all))) own enabled.1.0
 
 -- ---- all of them rest
 
-pub beyond_send : {A : Type 0} (shows : Showing A) (N : Table) (plants : List A) (boxes : List Held) (l : ℕ) → length (lanes N) ≤ l → LeadNowhere shows N plants boxes (Send (record { 0 = l }))
+pub beyond_send : {A : Type 0} (shows : Showing A) (N : Table) (plants : List A) (boxes : List Held) (l : ℕ) → length (lanes N) ≤ l
+    → LeadNowhere shows N plants boxes (Send (record { 0 = l }))
 beyond_send shows N plants boxes l beyond capacity s at enabled = omega (arith, enabled.1.1.lane, beyond)
 
-pub beyond_receive : {A : Type 0} (shows : Showing A) (N : Table) (plants : List A) (boxes : List Held) (l : ℕ) → length (lanes N) ≤ l → LeadNowhere shows N plants boxes (Receive (record { 0 = l }))
+pub beyond_receive : {A : Type 0} (shows : Showing A) (N : Table) (plants : List A) (boxes : List Held) (l : ℕ) → length (lanes N) ≤ l
+    → LeadNowhere shows N plants boxes (Receive (record { 0 = l }))
 beyond_receive shows N plants boxes l beyond capacity s at enabled = omega (arith, enabled.1.1.lane, beyond)
 
-pub beyond_plan : {A : Type 0} (shows : Showing A) (N : Table) (plants : List A) (boxes : List Held) (x : ℕ) → length N.pairs ≤ x → LeadNowhere shows N plants boxes (Plan (record { 0 = x }))
+pub beyond_plan : {A : Type 0} (shows : Showing A) (N : Table) (plants : List A) (boxes : List Held) (x : ℕ) → length N.pairs ≤ x
+    → LeadNowhere shows N plants boxes (Plan (record { 0 = x }))
 beyond_plan shows N plants boxes x beyond capacity s at enabled = omega (arith, enabled.1.0.pair, beyond)
 
 or_less : (l from : ℕ) → (l < from) ⊎ (from ≤ l)
@@ -120,33 +129,43 @@ all_rests shows N plants boxes from high low each (Receive l) capacity s at enab
     (lane_among shows N plants boxes from l.0 high low enabled.1.1.lane).receives_nothing capacity s at enabled
 all_rests shows N plants boxes from high low each (Plan x) capacity s at enabled =
     let within = owner_within N at.sized x.0 enabled.1.0.pair in
-    each (pair_at N x.0).plant.0 (omega arith) (omega (arith, within, at.shown.all)) x.0 (record { pair = enabled.1.0.pair; at_plant = refl }) capacity s at enabled
+    each (pair_at N x.0).plant.0 (omega arith) (omega (arith, within, at.shown.all)) x.0
+    (record { pair = enabled.1.0.pair; at_plant = refl }) capacity s at enabled
 
 -- ---- whether an event has happened
 
-pub acts_by : {A : Type 0} (shows : Showing A) (N : Table) (plants : List A) (boxes : List Held) (event kind : Event) (acted : Bool) (new_plants : List A) (new_boxes : List Held)
+pub acts_by : {A : Type 0} (shows : Showing A) (N : Table) (plants : List A) (boxes : List Held) (event kind : Event) (acted : Bool) (new_plants : List A)
+    (new_boxes : List Held)
     → event ≡ kind → (acted ≡ true → Lead shows N plants boxes kind new_plants new_boxes) → (acted ≡ false → LeadNowhere shows N plants boxes kind)
     → (acted ≡ false → new_plants ≡ plants) → (acted ≡ false → new_boxes ≡ boxes) → Acts shows N plants boxes event acted new_plants new_boxes
 acts_by shows N plants boxes event kind true new_plants new_boxes is leads nowhere same_plants same_boxes =
     subst (λ (e : Event). Lead shows N plants boxes e new_plants new_boxes) (sym is) (leads refl)
 acts_by shows N plants boxes event kind false new_plants new_boxes is leads nowhere same_plants same_boxes =
-    record { nowhere = subst (λ (e : Event). LeadNowhere shows N plants boxes e) (sym is) (nowhere refl); same_plants = same_plants refl; same_boxes = same_boxes refl }
+    record {
+      nowhere = subst (λ (e : Event). LeadNowhere shows N plants boxes e) (sym is) (nowhere refl);
+      same_plants = same_plants refl;
+      same_boxes = same_boxes refl;
+    }
 
-pub leads_if : {A : Type 0} (shows : Showing A) (N : Table) (plants : List A) (boxes : List Held) (event : Event) (acted : Bool) (new_plants : List A) (new_boxes : List Held)
+pub leads_if : {A : Type 0} (shows : Showing A) (N : Table) (plants : List A) (boxes : List Held) (event : Event) (acted : Bool) (new_plants : List A)
+    (new_boxes : List Held)
     → Acts shows N plants boxes event acted new_plants new_boxes → acted ≡ true → Lead shows N plants boxes event new_plants new_boxes
 leads_if shows N plants boxes event true new_plants new_boxes acts e = acts
 leads_if shows N plants boxes event false new_plants new_boxes acts e = absurd (cc)
 
-pub still_if : {A : Type 0} (shows : Showing A) (N : Table) (plants : List A) (boxes : List Held) (event : Event) (acted : Bool) (new_plants : List A) (new_boxes : List Held)
+pub still_if : {A : Type 0} (shows : Showing A) (N : Table) (plants : List A) (boxes : List Held) (event : Event) (acted : Bool) (new_plants : List A)
+    (new_boxes : List Held)
     → Acts shows N plants boxes event acted new_plants new_boxes → acted ≡ false → StandsStill shows N plants boxes event new_plants new_boxes
 still_if shows N plants boxes event true new_plants new_boxes acts e = absurd (cc)
 still_if shows N plants boxes event false new_plants new_boxes acts e = acts
 
 -- the same lists by other names
-pub acts_as : {A : Type 0} (shows : Showing A) (N : Table) (plants plants_too : List A) (boxes boxes_too : List Held) (event : Event) (acted : Bool) (new_plants new_plants_too : List A) (new_boxes new_boxes_too : List Held)
+pub acts_as : {A : Type 0} (shows : Showing A) (N : Table) (plants plants_too : List A) (boxes boxes_too : List Held) (event : Event) (acted : Bool)
+    (new_plants new_plants_too : List A) (new_boxes new_boxes_too : List Held)
     → plants ≡ plants_too → boxes ≡ boxes_too → new_plants_too ≡ new_plants → new_boxes_too ≡ new_boxes
     → Acts shows N plants boxes event acted new_plants new_boxes → Acts shows N plants_too boxes_too event acted new_plants_too new_boxes_too
-acts_as {A} shows N plants plants_too boxes boxes_too event acted new_plants new_plants_too new_boxes new_boxes_too same_plants same_boxes then_plants then_boxes acts =
+acts_as {A} shows N plants plants_too boxes boxes_too event acted new_plants new_plants_too new_boxes new_boxes_too same_plants same_boxes then_plants
+    then_boxes acts =
     subst (λ (p : List A). Acts shows N p boxes_too event acted new_plants_too new_boxes_too) same_plants
     (subst (λ (b : List Held). Acts shows N plants b event acted new_plants_too new_boxes_too) same_boxes
     (subst (λ (p : List A). Acts shows N plants boxes event acted p new_boxes_too) (sym then_plants)

@@ -25,7 +25,8 @@ pieces_within item records n =
 pub pieces_so_far : (item : ℕ) (inside held : List Record) (at : ℕ) (r : Record) (pieces more : ℕ) → inside ≡ held → at < length inside → r ≡ get_or inside at r
     → pieces ≡ moved item (contents (take at held)) → more ≡ moved item (contents (r ∷ [])) → pieces + more ≡ moved item (contents (take (at + 1) held))
 pieces_so_far item inside held at r pieces more same within is so_far here =
-    let next = subst (λ (xs : List Record). at < length xs → r ≡ get_or xs at r → moved item (contents (take (at + 1) xs)) ≡ moved item (contents (take at xs)) + moved item (contents (r ∷ []))) same
+    let next = subst (λ (xs : List Record). at < length xs → r ≡ get_or xs at r
+    → moved item (contents (take (at + 1) xs)) ≡ moved item (contents (take at xs)) + moved item (contents (r ∷ []))) same
     (λ h e. pieces_more item inside at r h ∙ ap (λ (z : Record). moved item (contents (take at inside)) + moved item (contents (z ∷ []))) (sym e)) in
     let grown : moved item (contents (take (at + 1) held)) ≡ moved item (contents (take at held)) + moved item (contents (r ∷ [])) =
     next (subst (λ (xs : List Record). at < length xs) same within) (subst (λ (xs : List Record). r ≡ get_or xs at r) same is) in

@@ -31,7 +31,8 @@ each_more {A} P xs x before here k d h = elim (or_less k (length xs)) [
 abbrev pub IsEmptyBox : Table → ℕ → ℕ → Held → Type 0
 IsEmptyBox N capacity l box = box ≡ record { records = []; room = min capacity (longest_text N (lane_at N l)) }
 
-pub boxes_hold : (N : Table) (capacity : ℕ) (boxes : List Held) → length boxes ≡ length (lanes N) → ((l : ℕ) (d : Held) → l < length boxes → IsEmptyBox N capacity l (get_or boxes l d))
+pub boxes_hold : (N : Table) (capacity : ℕ) (boxes : List Held) → length boxes ≡ length (lanes N)
+    → ((l : ℕ) (d : Held) → l < length boxes → IsEmptyBox N capacity l (get_or boxes l d))
     → BoxesHold N capacity boxes opening_state
 boxes_hold N capacity boxes all each = record {
   all = all;

@@ -1,5 +1,6 @@
 -- What an event does to plants and mailboxes is a step of what they show.
-use Rattle.std.proofs.Common.{◌≡◌, ℕ, ◌+◌, ◌<◌, ◌≤◌, ◌==◌, min, true, List, [], ◌∷◌, ◌++◌, ◌⊎◌, inl, inr, length, get_or, set, drop, slice_get, None, Some, refl, sym, ap, subst, ◌∙◌, arith, append_assoc, length-append}
+use Rattle.std.proofs.Common.{◌≡◌, ℕ, ◌+◌, ◌<◌, ◌≤◌, ◌==◌, min, true, List, [], ◌∷◌, ◌++◌, ◌⊎◌, inl, inr, length, get_or, set, drop, slice_get, None, Some}
+use Rattle.std.proofs.Common.{refl, sym, ap, subst, ◌∙◌, arith, append_assoc, length-append}
 use Rattle.std.proofs.lemmas.Bool.{cases_Bool, eqb-true, eq-eqb, false≢true}
 use Rattle.std.proofs.lemmas.List.{length-set, get_or-set_same, get_or-set_other, get_or_default}
 use Rattle.mrp_rows.specs.Table.{Table, IsPair}
@@ -78,7 +79,8 @@ owner_within N sized x pair = (sized.table.read.pairs x no_pair pair).plant
 abbrev pub moment : Table → ℕ → State → Moment
 moment N capacity s = record { network = N; capacity = capacity; state = s }
 
-pub plant_is_at : {A : Type 0} (shows : Showing A) (N : Table) (capacity : ℕ) (plants : List A) (boxes : List Held) (s : State) → AreAt shows N capacity plants boxes s
+pub plant_is_at : {A : Type 0} (shows : Showing A) (N : Table) (capacity : ℕ) (plants : List A) (boxes : List Held) (s : State)
+    → AreAt shows N capacity plants boxes s
     → (p : ℕ) (d : A) → p < length N.plants → IsAt shows (moment N capacity s) p (get_or plants p d)
 plant_is_at shows N capacity plants boxes s at p d within = record {
   sized = at.sized;
@@ -140,7 +142,8 @@ boxes_after_send N capacity boxes s l r hold within =
       each = λ k h. elim (is_or_not k l) [
         | inl e ↦ subst (λ (z : ℕ). changed s.sent l more z ≡ s.taken z ++ (box_at (set boxes l new) z).records) (sym e)
             (changed_there s.sent l more ∙ parts ∙ ap (λ (b : Held). s.taken l ++ b.records) (sym here))
-        | inr other ↦ changed_else s.sent l more k other ∙ hold.each k h ∙ ap (λ (b : Held). s.taken k ++ b.records) (sym (get_or-set_other boxes l k new nothing_held other))
+        | inr other ↦ changed_else s.sent l more k other ∙ hold.each k h
+            ∙ ap (λ (b : Held). s.taken k ++ b.records) (sym (get_or-set_other boxes l k new nothing_held other))
       ];
       room = λ k h. elim (is_or_not k l) [
         | inl e ↦ subst (λ (z : ℕ). (box_at (set boxes l new) z).room ≡ min capacity (longest_text N (lane_at N z))) (sym e)
@@ -150,7 +153,8 @@ boxes_after_send N capacity boxes s l r hold within =
     }
 
 -- what is behind the first record of a mailbox
-boxes_after_take : (N : Table) (capacity : ℕ) (boxes : List Held) (s : State) (l : ℕ) (r : Record) (rest : List Record) → BoxesHold N capacity boxes s → l < length (lanes N)
+boxes_after_take : (N : Table) (capacity : ℕ) (boxes : List Held) (s : State) (l : ℕ) (r : Record) (rest : List Record) → BoxesHold N capacity boxes s
+    → l < length (lanes N)
     → (box_at boxes l).records ≡ r ∷ rest → BoxesHold N capacity (set boxes l (record { records = rest; room = (box_at boxes l).room })) (after_take s l r)
 boxes_after_take N capacity boxes s l r rest hold within first =
     let new : Held = record { records = rest; room = (box_at boxes l).room } in
@@ -162,7 +166,8 @@ boxes_after_take N capacity boxes s l r rest hold within first =
       all = length-set boxes l new ∙ hold.all;
       each = λ k h. elim (is_or_not k l) [
         | inl e ↦ subst (λ (z : ℕ). s.sent z ≡ changed s.taken l more z ++ (box_at (set boxes l new) z).records) (sym e)
-            (parts ∙ ap (λ (z : List Record). z ++ rest) (sym (changed_there s.taken l more)) ∙ ap (λ (b : Held). changed s.taken l more l ++ b.records) (sym here))
+            (parts ∙ ap (λ (z : List Record). z ++ rest) (sym (changed_there s.taken l more))
+            ∙ ap (λ (b : Held). changed s.taken l more l ++ b.records) (sym here))
         | inr other ↦ hold.each k h ∙ ap (λ (z : List Record). z ++ (box_at boxes k).records) (sym (changed_else s.taken l more k other))
             ∙ ap (λ (b : Held). changed s.taken l more k ++ b.records) (sym (get_or-set_other boxes l k new nothing_held other))
       ];
@@ -173,7 +178,8 @@ boxes_after_take N capacity boxes s l r rest hold within first =
       ];
     }
 
-boxes_after_plan : (N : Table) (capacity : ℕ) (boxes : List Held) (s : State) (x : ℕ) → BoxesHold N capacity boxes s → BoxesHold N capacity boxes (after_plan s x)
+boxes_after_plan : (N : Table) (capacity : ℕ) (boxes : List Held) (s : State) (x : ℕ) → BoxesHold N capacity boxes s
+    → BoxesHold N capacity boxes (after_plan s x)
 boxes_after_plan N capacity boxes s x hold = record { all = hold.all; each = hold.each; room = hold.room }
 
 -- ---- room
@@ -196,16 +202,27 @@ can_send N capacity boxes s l r hold within next room = record {
 pub full_cannot : (N : Table) (capacity : ℕ) (boxes : List Held) (s : State) (l : ℕ) (r : Record) → BoxesHold N capacity boxes s → l < length (lanes N)
     → (box_at boxes l).room ≤ length (box_at boxes l).records → ¬ CanSend N capacity s l r
 full_cannot N capacity boxes s l r hold within full can =
-    omega (arith, lengths N capacity boxes s hold l within, hold.room l within, can.room, beginnings_are_no_longer N (lane_at N l) (s.sent l ++ r ∷ []) can.legal, length-append (s.sent l) (r ∷ []))
+    omega (
+      arith,
+      lengths N capacity boxes s hold l within,
+      hold.room l within,
+      can.room,
+      beginnings_are_no_longer N (lane_at N l)
+          (s.sent l ++ r ∷ []) can.legal,
+      length-append (s.sent l) (r ∷ []),
+    )
 
 pub next_of : (N : Table) (capacity : ℕ) (s : State) (l : ℕ) (r : Record) → CanSend N capacity s l r → IsNext (moment N capacity s) l r
 next_of N capacity s l r can = record { legal = can.legal; decided = can.decided }
 
 -- ---- the three events
 
-pub sends : {A : Type 0} (shows : Showing A) → Stays shows → (N : Table) (capacity : ℕ) (plants : List A) (boxes : List Held) (s : State) (l : ℕ) (r : Record) (new : A)
-    → AreAt shows N capacity plants boxes s → l < length (lanes N) → (lane_at N l).sender.0 < length N.plants → CanSend N capacity s l r → shows N (lane_at N l).sender.0 (after_send s l r) new
-    → AreAt shows N capacity (set plants (lane_at N l).sender.0 new) (set boxes l (record { records = (box_at boxes l).records ++ r ∷ []; room = (box_at boxes l).room })) (after_send s l r)
+pub sends : {A : Type 0} (shows : Showing A) → Stays shows → (N : Table) (capacity : ℕ) (plants : List A) (boxes : List Held) (s : State) (l : ℕ) (r : Record)
+    (new : A)
+    → AreAt shows N capacity plants boxes s → l < length (lanes N) → (lane_at N l).sender.0 < length N.plants → CanSend N capacity s l r
+    → shows N (lane_at N l).sender.0 (after_send s l r) new
+    → AreAt shows N capacity (set plants (lane_at N l).sender.0 new)
+    (set boxes l (record { records = (box_at boxes l).records ++ r ∷ []; room = (box_at boxes l).room })) (after_send s l r)
 sends shows stays N capacity plants boxes s l r new at within known can shown = record {
   sized = at.sized;
   reached = reached_goes_on N capacity s (after_send s l r) (Send (record { 0 = l })) at.reached (inl (r, can, refl));
@@ -213,10 +230,12 @@ sends shows stays N capacity plants boxes s l r new at within known can shown = 
   held = boxes_after_send N capacity boxes s l r at.held within;
 }
 
-pub takes : {A : Type 0} (shows : Showing A) → Stays shows → (N : Table) (capacity : ℕ) (plants : List A) (boxes : List Held) (s : State) (l : ℕ) (r : Record) (rest : List Record) (new : A)
+pub takes : {A : Type 0} (shows : Showing A) → Stays shows → (N : Table) (capacity : ℕ) (plants : List A) (boxes : List Held) (s : State) (l : ℕ) (r : Record)
+    (rest : List Record) (new : A)
     → AreAt shows N capacity plants boxes s → l < length (lanes N) → (lane_at N l).receiver.0 < length N.plants → (box_at boxes l).records ≡ r ∷ rest
     → CanTake N s l r → shows N (lane_at N l).receiver.0 (after_take s l r) new
-    → AreAt shows N capacity (set plants (lane_at N l).receiver.0 new) (set boxes l (record { records = rest; room = (box_at boxes l).room })) (after_take s l r)
+    → AreAt shows N capacity (set plants (lane_at N l).receiver.0 new) (set boxes l (record { records = rest; room = (box_at boxes l).room }))
+    (after_take s l r)
 takes shows stays N capacity plants boxes s l r rest new at within known first can shown = record {
   sized = at.sized;
   reached = reached_goes_on N capacity s (after_take s l r) (Receive (record { 0 = l })) at.reached (inl (r, can, refl));
@@ -236,7 +255,8 @@ plans shows stays N capacity plants boxes s x new at known can shown = record {
 
 -- ---- what waits first
 
-pub first_can : (N : Table) (capacity : ℕ) (boxes : List Held) (s : State) (l : ℕ) (r : Record) (rest : List Record) → BoxesHold N capacity boxes s → l < length (lanes N)
+pub first_can : (N : Table) (capacity : ℕ) (boxes : List Held) (s : State) (l : ℕ) (r : Record) (rest : List Record) → BoxesHold N capacity boxes s
+    → l < length (lanes N)
     → (box_at boxes l).records ≡ r ∷ rest → CanTake N s l r
 first_can N capacity boxes s l r rest hold within first =
     record { lane = within; rest = rest; next = hold.each l within ∙ ap (λ (z : List Record). s.taken l ++ z) first }
@@ -271,14 +291,16 @@ none_first {X} xs x rest none e = some_none (sym none ∙ ap (λ (z : List X). s
     some_none e = absurd (cc)
 
 -- the mailbox of a lane, at any default
-pub box_is : {A : Type 0} (shows : Showing A) (N : Table) (plants : List A) (boxes : List Held) (l : ℕ) (d : Held) → AreSomewhere shows N plants boxes → l < length (lanes N)
+pub box_is : {A : Type 0} (shows : Showing A) (N : Table) (plants : List A) (boxes : List Held) (l : ℕ) (d : Held) → AreSomewhere shows N plants boxes
+    → l < length (lanes N)
     → get_or boxes l d ≡ box_at boxes l
 box_is shows N plants boxes l d some within = get_or_default boxes l d nothing_held (omega (arith, some.2.held.all))
 
 abbrev pub SendsNext : {A : Type 0} → Showing A → A → ℕ → Record → Type 0
 SendsNext shows plant l r = (m : Moment) (q : ℕ) → IsAt shows m q plant → IsOut m.network q l → IsNext m l r
 
-pub send_leads : {A : Type 0} (shows : Showing A) → Stays shows → (N : Table) (plants : List A) (boxes : List Held) (l p : ℕ) (d new : A) (old box : Held) (r : Record)
+pub send_leads : {A : Type 0} (shows : Showing A) → Stays shows → (N : Table) (plants : List A) (boxes : List Held) (l p : ℕ) (d new : A) (old box : Held)
+    (r : Record)
     → l < length (lanes N) → p < length N.plants → (lane_at N l).sender.0 ≡ p → old ≡ box_at boxes l
     → length old.records < old.room → box ≡ record { records = old.records ++ r ∷ []; room = old.room }
     → SendsNext shows (get_or plants p d) l r
@@ -295,11 +317,14 @@ send_leads {A} shows stays N plants boxes l p d new old box r within known e sam
       after_send s l r,
       (r, can, refl),
       subst (λ (b : Held). AreAt shows N capacity (set plants p new) (set boxes l b) (after_send s l r)) (sym filled)
-          (subst (λ (q : ℕ). AreAt shows N capacity (set plants q new) (set boxes l (record { records = (box_at boxes l).records ++ r ∷ []; room = (box_at boxes l).room })) (after_send s l r)) e
-          (sends shows stays N capacity plants boxes s l r new at within (subst (λ (q : ℕ). q < length N.plants) (sym e) known) can (subst (λ (q : ℕ). shows N q (after_send s l r) new) (sym e) shown))),
+          (subst (λ (q : ℕ). AreAt shows N capacity (set plants q new)
+          (set boxes l (record { records = (box_at boxes l).records ++ r ∷ []; room = (box_at boxes l).room })) (after_send s l r)) e
+          (sends shows stays N capacity plants boxes s l r new at within (subst (λ (q : ℕ). q < length N.plants) (sym e) known) can
+          (subst (λ (q : ℕ). shows N q (after_send s l r) new) (sym e) shown))),
     )
 
-pub full_leads_nowhere : {A : Type 0} (shows : Showing A) (N : Table) (plants : List A) (boxes : List Held) (l : ℕ) (old : Held) → l < length (lanes N) → old ≡ box_at boxes l
+pub full_leads_nowhere : {A : Type 0} (shows : Showing A) (N : Table) (plants : List A) (boxes : List Held) (l : ℕ) (old : Held) → l < length (lanes N)
+    → old ≡ box_at boxes l
     → old.room ≤ length old.records → LeadNowhere shows N plants boxes (Send (record { 0 = l }))
 full_leads_nowhere shows N plants boxes l old within same full capacity s at enabled =
     full_cannot N capacity boxes s l enabled.1.0 at.held within (subst (λ (b : Held). b.room ≤ length b.records) same full) enabled.1.1
@@ -312,7 +337,8 @@ none_leads_nowhere shows N plants boxes l p d within known e none capacity s at 
     none (moment N capacity s) p (plant_is_at shows N capacity plants boxes s at p d known) (record { lane = within; plant = e }) enabled.1.0
     (next_of N capacity s l enabled.1.0 enabled.1.1)
 
-pub receive_leads : {A : Type 0} (shows : Showing A) → Stays shows → (N : Table) (plants : List A) (boxes : List Held) (l p : ℕ) (d new : A) (old box : Held) (r : Record)
+pub receive_leads : {A : Type 0} (shows : Showing A) → Stays shows
+    → (N : Table) (plants : List A) (boxes : List Held) (l p : ℕ) (d new : A) (old box : Held) (r : Record)
     → l < length (lanes N) → p < length N.plants → (lane_at N l).receiver.0 ≡ p → old ≡ box_at boxes l
     → slice_get old.records 0 ≡ Some r → box ≡ record { records = drop 1 old.records; room = old.room }
     → ((m : Moment) (q : ℕ) → IsAt shows m q (get_or plants p d) → IsIn m.network q l → shows m.network q (after_take m.state l r) new)
@@ -328,7 +354,8 @@ receive_leads {A} shows stays N plants boxes l p d new old box r within known e 
       after_take s l r,
       (r, can, refl),
       subst (λ (b : Held). AreAt shows N capacity (set plants p new) (set boxes l b) (after_take s l r)) (sym emptied)
-          (subst (λ (q : ℕ). AreAt shows N capacity (set plants q new) (set boxes l (record { records = rest; room = (box_at boxes l).room })) (after_take s l r)) e
+          (subst (λ (q : ℕ). AreAt shows N capacity (set plants q new) (set boxes l (record { records = rest; room = (box_at boxes l).room }))
+          (after_take s l r)) e
           (takes shows stays N capacity plants boxes s l r rest new at within (subst (λ (q : ℕ). q < length N.plants) (sym e) known) first can
           (subst (λ (q : ℕ). shows N q (after_take s l r) new) (sym e) shown))),
     )

@@ -1,5 +1,6 @@
 -- What events do to a world.
-use Rattle.std.proofs.Common.{◌≡◌, Option, None, Some, get_or, take, ℕ, ◌+◌, ◌-◌, ◌<◌, ◌≤◌, ◌==◌, Bool, true, false, List, [], ◌∷◌, ◌++◌, inl, inr, length, refl, sym, ap, subst, ◌∙◌, arith}
+use Rattle.std.proofs.Common.{◌≡◌, Option, None, Some, get_or, take, ℕ, ◌+◌, ◌-◌, ◌<◌, ◌≤◌, ◌==◌, Bool, true, false, List, [], ◌∷◌, ◌++◌, inl, inr, length}
+use Rattle.std.proofs.Common.{refl, sym, ap, subst, ◌∙◌, arith}
 use Rattle.std.specs.Prelude.{slice_get, MatchBool, IfSome, IfNone, IsSome, IsSomeAnd, IfOk, Result, Ok, Err}
 use Rattle.std.proofs.lemmas.Bool.{cases_Bool, eqb-true, eq-eqb, false≢true}
 use Rattle.std.proofs.lemmas.List.{take_more}
@@ -34,7 +35,8 @@ pub record Leads {A : Type 0} (shows : Showing A) (w : WorldState A) (event : Ev
   pub shown : WorldShows shows new next
   pub some : new.left + 1 ≡ w.left
 
-pub leads_to : {A : Type 0} (shows : Showing A) (N : Table) (capacity : ℕ) (plants : List A) (boxes : List Held) (left : ℕ) (event : Event) (new_plants : List A) (new_boxes : List Held) (s : State)
+pub leads_to : {A : Type 0} (shows : Showing A) (N : Table) (capacity : ℕ) (plants : List A) (boxes : List Held) (left : ℕ) (event : Event)
+    (new_plants : List A) (new_boxes : List Held) (s : State)
     → Lead shows N plants boxes event new_plants new_boxes → WorldShows shows (world N capacity plants boxes left) s
     → Leads shows (world N capacity plants boxes left) event (world N capacity new_plants new_boxes (left - 1)) s
 leads_to shows N capacity plants boxes left event new_plants new_boxes s leads shown =
@@ -50,7 +52,8 @@ leads_to shows N capacity plants boxes left event new_plants new_boxes s leads s
 
 -- ---- the end
 
-pub finished_by : {A : Type 0} (shows : Showing A) (w : WorldState A) (s : State) → WorldShows shows w s → MatchBool (w.left == 0) (IsFinished w.network s) (¬ IsFinished w.network s)
+pub finished_by : {A : Type 0} (shows : Showing A) (w : WorldState A) (s : State) → WorldShows shows w s
+    → MatchBool (w.left == 0) (IsFinished w.network s) (¬ IsFinished w.network s)
 finished_by shows w s shown =
     let P : Bool → Type 0 = λ (b : Bool). MatchBool b (IsFinished w.network s) (¬ IsFinished w.network s) in
     let end = none_is_left_at_the_end w.network w.capacity s shown.parts.reached in
@@ -59,13 +62,16 @@ finished_by shows w s shown =
       | inr f ↦ subst P (sym f) (λ is. false≢true (sym f ∙ eq-eqb w.left 0 (shown.left ∙ end.1 is)))
     ]
 
-pub finished_at : {A : Type 0} (shows : Showing A) (w : WorldState A) (left : ℕ) → left ≡ w.left → (s : State) → WorldShows shows w s → MatchBool (left == 0) (IsFinished w.network s) (¬ IsFinished w.network s)
-finished_at shows w left e s shown = subst (λ (n : ℕ). MatchBool (n == 0) (IsFinished w.network s) (¬ IsFinished w.network s)) (sym e) (finished_by shows w s shown)
+pub finished_at : {A : Type 0} (shows : Showing A) (w : WorldState A) (left : ℕ) → left ≡ w.left → (s : State) → WorldShows shows w s
+    → MatchBool (left == 0) (IsFinished w.network s) (¬ IsFinished w.network s)
+finished_at shows w left e s shown = subst (λ (n : ℕ). MatchBool (n == 0) (IsFinished w.network s) (¬ IsFinished w.network s)) (sym e)
+    (finished_by shows w s shown)
 
 pub none_left_is_finished : {A : Type 0} (shows : Showing A) (w : WorldState A) (s : State) → WorldShows shows w s → w.left ≡ 0 → IsFinished w.network s
 none_left_is_finished shows w s shown none = (none_is_left_at_the_end w.network w.capacity s shown.parts.reached).0 (sym shown.left ∙ none)
 
-pub rests_finished : {A : Type 0} (shows : Showing A) (w : WorldState A) (s : State) → 1 ≤ w.capacity → AllRests shows w.network w.plants w.boxes → WorldShows shows w s → IsFinished w.network s
+pub rests_finished : {A : Type 0} (shows : Showing A) (w : WorldState A) (s : State) → 1 ≤ w.capacity → AllRests shows w.network w.plants w.boxes
+    → WorldShows shows w s → IsFinished w.network s
 rests_finished shows w s holds rests shown =
     elim (no_schedule_sticks w.network shown.parts.sized.table shown.parts.sized.loop_free w.capacity holds s shown.parts.reached) [
       | inl finished ↦ finished
@@ -111,25 +117,32 @@ runs_one shows w event new applied leads nowhere same network capacity = record 
 
 -- ---- one event, at the world's fields
 
-pub world_leads : {A : Type 0} (shows : Showing A) (N : Table) (capacity : ℕ) (plants : List A) (boxes : List Held) (left : ℕ) (event : Event) (new_plants : List A) (new_boxes : List Held) (w : WorldState A)
+pub world_leads : {A : Type 0} (shows : Showing A) (N : Table) (capacity : ℕ) (plants : List A) (boxes : List Held) (left : ℕ) (event : Event)
+    (new_plants : List A) (new_boxes : List Held) (w : WorldState A)
     → world N capacity plants boxes left ≡ w → Lead shows N plants boxes event new_plants new_boxes → (s : State) → WorldShows shows w s
     → (t : State) × Step w.network w.capacity s event t × WorldShows shows (world N capacity new_plants new_boxes (left - 1)) t
 world_leads shows N capacity plants boxes left event new_plants new_boxes w e leads =
-    subst (λ v. (s : State) → WorldShows shows v s → (t : State) × Step v.network v.capacity s event t × WorldShows shows (world N capacity new_plants new_boxes (left - 1)) t) e
+    subst (λ v. (s : State) → WorldShows shows v s → (t : State) × Step v.network v.capacity s event t
+    × WorldShows shows (world N capacity new_plants new_boxes (left - 1)) t) e
     (λ s shown. let x = leads_to shows N capacity plants boxes left event new_plants new_boxes s leads shown in (x.next, x.step, x.shown))
 
-pub world_nowhere : {A : Type 0} (shows : Showing A) (N : Table) (capacity : ℕ) (plants : List A) (boxes : List Held) (left : ℕ) (event : Event) (w : WorldState A)
-    → world N capacity plants boxes left ≡ w → LeadNowhere shows N plants boxes event → (s : State) → WorldShows shows w s → ¬ IsEnabled w.network w.capacity s event
+pub world_nowhere : {A : Type 0} (shows : Showing A) (N : Table) (capacity : ℕ) (plants : List A) (boxes : List Held) (left : ℕ) (event : Event)
+    (w : WorldState A)
+    → world N capacity plants boxes left ≡ w → LeadNowhere shows N plants boxes event → (s : State) → WorldShows shows w s
+    → ¬ IsEnabled w.network w.capacity s event
 world_nowhere shows N capacity plants boxes left event w e nowhere =
     subst (λ v. (s : State) → WorldShows shows v s → ¬ IsEnabled v.network v.capacity s event) e (λ s shown. nowhere capacity s shown.parts)
 
-pub world_after : {A : Type 0} (shows : Showing A) (N : Table) (capacity : ℕ) (plants : List A) (boxes : List Held) (left : ℕ) (event : Event) (new_plants : List A) (new_boxes : List Held)
-    → IsWorld shows (world N capacity plants boxes left) → Lead shows N plants boxes event new_plants new_boxes → IsWorld shows (world N capacity new_plants new_boxes (left - 1))
+pub world_after : {A : Type 0} (shows : Showing A) (N : Table) (capacity : ℕ) (plants : List A) (boxes : List Held) (left : ℕ) (event : Event)
+    (new_plants : List A) (new_boxes : List Held)
+    → IsWorld shows (world N capacity plants boxes left) → Lead shows N plants boxes event new_plants new_boxes
+    → IsWorld shows (world N capacity new_plants new_boxes (left - 1))
 world_after shows N capacity plants boxes left event new_plants new_boxes is leads =
     let x = leads_to shows N capacity plants boxes left event new_plants new_boxes is.state leads is.shown in
     record { holds = is.holds; state = x.next; shown = x.shown }
 
-pub some_left : {A : Type 0} (shows : Showing A) (N : Table) (capacity : ℕ) (plants : List A) (boxes : List Held) (left : ℕ) (event : Event) (new_plants : List A) (new_boxes : List Held)
+pub some_left : {A : Type 0} (shows : Showing A) (N : Table) (capacity : ℕ) (plants : List A) (boxes : List Held) (left : ℕ) (event : Event)
+    (new_plants : List A) (new_boxes : List Held)
     → IsWorld shows (world N capacity plants boxes left) → Lead shows N plants boxes event new_plants new_boxes → 1 ≤ left
 some_left shows N capacity plants boxes left event new_plants new_boxes is leads =
     let x = leads_to shows N capacity plants boxes left event new_plants new_boxes is.state leads is.shown in
@@ -146,40 +159,50 @@ pub none_more : {X : Type 0} (o : Option X) (P Q : Type 0) → (P → Q) → IfN
 none_more None P Q f h = f h
 none_more (Some x) P Q f h = h
 
-pub world_may : {A : Type 0} (shows : Showing A) (N : Table) (capacity : ℕ) (plants plants_too : List A) (boxes boxes_too : List Held) (left : ℕ) (w : WorldState A) (found : Option Event)
+pub world_may : {A : Type 0} (shows : Showing A) (N : Table) (capacity : ℕ) (plants plants_too : List A) (boxes boxes_too : List Held) (left : ℕ)
+    (w : WorldState A) (found : Option Event)
     → plants_too ≡ plants → boxes_too ≡ boxes → world N capacity plants boxes left ≡ w → IfSome found (λ event. MayLead shows N plants_too boxes_too event)
     → IfSome found (λ event. (s : State) → WorldShows shows w s → IsEnabled w.network w.capacity s event)
 world_may {A} shows N capacity plants plants_too boxes boxes_too left w found same_plants same_boxes e may =
     some_more found (λ event. MayLead shows N plants_too boxes_too event) (λ event. (s : State) → WorldShows shows w s → IsEnabled w.network w.capacity s event)
     (λ event lead. subst (λ (v : WorldState A). (s : State) → WorldShows shows v s → IsEnabled v.network v.capacity s event) e
-    (λ s shown. subst (λ (p : List A). MayLead shows N p boxes event) same_plants (subst (λ (b : List Held). MayLead shows N plants_too b event) same_boxes lead) capacity s shown.parts)) may
+    (λ s shown. subst (λ (p : List A). MayLead shows N p boxes event) same_plants
+    (subst (λ (b : List Held). MayLead shows N plants_too b event) same_boxes lead) capacity s shown.parts)) may
 
 abbrev pub Rests : {A : Type 0} → Showing A → WorldState A → Type 0
 Rests shows w = AllRests shows w.network w.plants w.boxes
 
-world_rests : {A : Type 0} (shows : Showing A) (N : Table) (capacity : ℕ) (plants plants_too : List A) (boxes boxes_too : List Held) (left : ℕ) (w : WorldState A)
+world_rests : {A : Type 0} (shows : Showing A) (N : Table) (capacity : ℕ) (plants plants_too : List A) (boxes boxes_too : List Held) (left : ℕ)
+    (w : WorldState A)
     → plants_too ≡ plants → boxes_too ≡ boxes → world N capacity plants boxes left ≡ w → AllRests shows N plants_too boxes_too → Rests shows w
 world_rests {A} shows N capacity plants plants_too boxes boxes_too left w same_plants same_boxes e rests =
-    subst (Rests shows) e (subst (λ (p : List A). AllRests shows N p boxes) same_plants (subst (λ (b : List Held). AllRests shows N plants_too b) same_boxes rests))
+    subst (Rests shows) e (subst (λ (p : List A). AllRests shows N p boxes) same_plants
+    (subst (λ (b : List Held). AllRests shows N plants_too b) same_boxes rests))
 
-pub none_finished : {A : Type 0} (shows : Showing A) (N : Table) (capacity : ℕ) (plants plants_too : List A) (boxes boxes_too : List Held) (left : ℕ) (w : WorldState A) (found : Option Event)
-    → plants_too ≡ plants → boxes_too ≡ boxes → world N capacity plants boxes left ≡ w → IsWorld shows (world N capacity plants boxes left) → IfNone found (AllRests shows N plants_too boxes_too)
+pub none_finished : {A : Type 0} (shows : Showing A) (N : Table) (capacity : ℕ) (plants plants_too : List A) (boxes boxes_too : List Held) (left : ℕ)
+    (w : WorldState A) (found : Option Event)
+    → plants_too ≡ plants → boxes_too ≡ boxes → world N capacity plants boxes left ≡ w → IsWorld shows (world N capacity plants boxes left)
+    → IfNone found (AllRests shows N plants_too boxes_too)
     → IfNone found ((s : State) → WorldShows shows w s → IsFinished w.network s)
 none_finished {A} shows N capacity plants plants_too boxes boxes_too left w found same_plants same_boxes e is none =
     none_more found (AllRests shows N plants_too boxes_too) ((s : State) → WorldShows shows w s → IsFinished w.network s)
     (λ rests s shown. rests_finished shows w s (subst (λ (v : WorldState A). 1 ≤ v.capacity) e is.holds)
     (world_rests shows N capacity plants plants_too boxes boxes_too left w same_plants same_boxes e rests) shown) none
 
-pub none_left : {A : Type 0} (shows : Showing A) (N : Table) (capacity : ℕ) (plants plants_too : List A) (boxes boxes_too : List Held) (left : ℕ) (w : WorldState A) (found : Option Event)
-    → plants_too ≡ plants → boxes_too ≡ boxes → world N capacity plants boxes left ≡ w → IsWorld shows (world N capacity plants boxes left) → IfNone found (AllRests shows N plants_too boxes_too)
+pub none_left : {A : Type 0} (shows : Showing A) (N : Table) (capacity : ℕ) (plants plants_too : List A) (boxes boxes_too : List Held) (left : ℕ)
+    (w : WorldState A) (found : Option Event)
+    → plants_too ≡ plants → boxes_too ≡ boxes → world N capacity plants boxes left ≡ w → IsWorld shows (world N capacity plants boxes left)
+    → IfNone found (AllRests shows N plants_too boxes_too)
     → IfNone found (w.left ≡ 0)
 none_left {A} shows N capacity plants plants_too boxes boxes_too left w found same_plants same_boxes e is none =
     none_more found (AllRests shows N plants_too boxes_too) (w.left ≡ 0)
-    (λ rests. rests_left shows w (subst (IsWorld shows) e is) (world_rests shows N capacity plants plants_too boxes boxes_too left w same_plants same_boxes e rests)) none
+    (λ rests. rests_left shows w (subst (IsWorld shows) e is) (world_rests shows N capacity plants plants_too boxes boxes_too left w same_plants same_boxes e
+    rests)) none
 
 -- ---- how many steps are left after a call
 
-pub no_more_left : {A : Type 0} (w new : WorldState A) (applied : Bool) → (applied ≡ true → new.left + 1 ≡ w.left) → (applied ≡ false → new ≡ w) → new.left ≤ w.left
+pub no_more_left : {A : Type 0} (w new : WorldState A) (applied : Bool) → (applied ≡ true → new.left + 1 ≡ w.left) → (applied ≡ false → new ≡ w)
+    → new.left ≤ w.left
 no_more_left {A} w new applied step same = elim (cases_Bool applied) [
   | inl t ↦ omega (arith, step t)
   | inr f ↦ omega (arith, ap (λ (v : WorldState A). v.left) (same f))
@@ -196,7 +219,8 @@ one_less shows w event applied new is enabled step nowhere = elim (cases_Bool ap
 pub runs_next : {A : Type 0} (shows : Showing A) (old w new : WorldState A) (events : List Event) (i : ℕ) (d : Event) → i < length events
     → Runs shows old (take i events) w → Runs shows w (get_or events i d ∷ []) new → Runs shows old (take (i + 1) events) new
 runs_next shows old w new events i d within before one =
-    subst (λ (xs : List Event). Runs shows old xs new) (sym (take_more events i d within)) (runs_on shows old w new (take i events) (get_or events i d ∷ []) before one)
+    subst (λ (xs : List Event). Runs shows old xs new) (sym (take_more events i d within))
+    (runs_on shows old w new (take i events) (get_or events i d ∷ []) before one)
 
 -- the steps that a world has less are those that its states have less
 pub fallen : {A : Type 0} (shows : Showing A) (w new : WorldState A) (s t : State) → WorldShows shows w s → WorldShows shows new t → new.network ≡ w.network
@@ -208,7 +232,8 @@ fallen shows w new s t shown then same before after is_before is_after =
 -- ---- the plant of a pair
 
 -- the plant that is asked is the one that has the pair
-pub record Asked {A : Type 0} (shows : Showing A) (N : Table) (capacity : ℕ) (plants : List A) (boxes : List Held) (left : ℕ) (w : WorldState A) (x p : ℕ) (plant : A) : Type 0 where
+pub record Asked {A : Type 0} (shows : Showing A) (N : Table) (capacity : ℕ) (plants : List A) (boxes : List Held) (left : ℕ) (w : WorldState A) (x p : ℕ)
+    (plant : A) : Type 0 where
   pub same : world N capacity plants boxes left ≡ w
   pub is : IsWorld shows (world N capacity plants boxes left)
   pub pair : IsPair w.network x
@@ -219,14 +244,17 @@ own_pair : {A : Type 0} (shows : Showing A) (N : Table) (capacity : ℕ) (plants
     → Asked shows N capacity plants boxes left w x p plant → IsPair N x
 own_pair {A} shows N capacity plants boxes left w x p plant asked = subst (λ (v : WorldState A). IsPair v.network x) (sym asked.same) asked.pair
 
-asked_plant_at : {A : Type 0} (shows : Showing A) (N : Table) (capacity : ℕ) (plants : List A) (boxes : List Held) (left : ℕ) (w : WorldState A) (x p : ℕ) (plant : A)
-    → Asked shows N capacity plants boxes left w x p plant → (s : State) → WorldShows shows (world N capacity plants boxes left) s → IsAt shows (moment N capacity s) p plant
+asked_plant_at : {A : Type 0} (shows : Showing A) (N : Table) (capacity : ℕ) (plants : List A) (boxes : List Held) (left : ℕ) (w : WorldState A) (x p : ℕ)
+    (plant : A)
+    → Asked shows N capacity plants boxes left w x p plant → (s : State) → WorldShows shows (world N capacity plants boxes left) s
+    → IsAt shows (moment N capacity s) p plant
 asked_plant_at shows N capacity plants boxes left w x p plant asked s shown =
     let pair = own_pair shows N capacity plants boxes left w x p plant asked in
     let known = owner_known shows N plants boxes x p (capacity, s, shown.parts) pair asked.owner in
     subst (λ z. IsAt shows (moment N capacity s) p z) (sym asked.at) (plant_is_at shows N capacity plants boxes s shown.parts p plant known)
 
-pub asked_has : {A : Type 0} (shows : Showing A) (N : Table) (capacity : ℕ) (plants : List A) (boxes : List Held) (left : ℕ) (w : WorldState A) (x p : ℕ) (plant : A)
+pub asked_has : {A : Type 0} (shows : Showing A) (N : Table) (capacity : ℕ) (plants : List A) (boxes : List Held) (left : ℕ) (w : WorldState A) (x p : ℕ)
+    (plant : A)
     → Asked shows N capacity plants boxes left w x p plant → Has shows plant x
 asked_has shows N capacity plants boxes left w x p plant asked = (
   moment N capacity asked.is.state,
@@ -239,7 +267,8 @@ asked_has shows N capacity plants boxes left w x p plant asked = (
 abbrev pub AtMoments : {A : Type 0} → Showing A → A → ℕ → (Table → State → Type 0) → Type 0
 AtMoments shows plant x Says = (m : Moment) (p : ℕ) → IsAt shows m p plant → IsOwn m.network p x → Says m.network m.state
 
-pub asked_says : {A : Type 0} (shows : Showing A) (N : Table) (capacity : ℕ) (plants : List A) (boxes : List Held) (left : ℕ) (w : WorldState A) (x p : ℕ) (plant : A) (Says : Table → State → Type 0)
+pub asked_says : {A : Type 0} (shows : Showing A) (N : Table) (capacity : ℕ) (plants : List A) (boxes : List Held) (left : ℕ) (w : WorldState A) (x p : ℕ)
+    (plant : A) (Says : Table → State → Type 0)
     → Asked shows N capacity plants boxes left w x p plant → AtMoments shows plant x Says → (s : State) → WorldShows shows w s → Says w.network s
 asked_says {A} shows N capacity plants boxes left w x p plant Says asked says =
     subst (λ (v : WorldState A). (s : State) → WorldShows shows v s → Says v.network s) asked.same
@@ -247,13 +276,16 @@ asked_says {A} shows N capacity plants boxes left w x p plant Says asked says =
     (record { pair = own_pair shows N capacity plants boxes left w x p plant asked; at_plant = asked.owner }))
 
 -- also what doesn't depend on the state
-pub asked_always : {A : Type 0} (shows : Showing A) (N : Table) (capacity : ℕ) (plants : List A) (boxes : List Held) (left : ℕ) (w : WorldState A) (x p : ℕ) (plant : A) (Says : Table → Type 0)
+pub asked_always : {A : Type 0} (shows : Showing A) (N : Table) (capacity : ℕ) (plants : List A) (boxes : List Held) (left : ℕ) (w : WorldState A) (x p : ℕ)
+    (plant : A) (Says : Table → Type 0)
     → Asked shows N capacity plants boxes left w x p plant → AtMoments shows plant x (λ M s. Says M) → Says w.network
 asked_always {A} shows N capacity plants boxes left w x p plant Says asked says =
-    asked_says shows N capacity plants boxes left w x p plant (λ M s. Says M) asked says asked.is.state (subst (λ (v : WorldState A). WorldShows shows v asked.is.state) asked.same asked.is.shown)
+    asked_says shows N capacity plants boxes left w x p plant (λ M s. Says M) asked says asked.is.state
+    (subst (λ (v : WorldState A). WorldShows shows v asked.is.state) asked.same asked.is.shown)
 
 -- it stands at its number, so what holds of it holds of the plant of the pair
-pub asked_there : {A : Type 0} (shows : Showing A) (N : Table) (capacity : ℕ) (plants : List A) (boxes : List Held) (left : ℕ) (w : WorldState A) (x p : ℕ) (plant : A) (Says : A → Type 0)
+pub asked_there : {A : Type 0} (shows : Showing A) (N : Table) (capacity : ℕ) (plants : List A) (boxes : List Held) (left : ℕ) (w : WorldState A) (x p : ℕ)
+    (plant : A) (Says : A → Type 0)
     → Asked shows N capacity plants boxes left w x p plant → Says plant → IsSomeAnd (slice_get w.plants (pair_at w.network x).plant.0) Says
 asked_there {A} shows N capacity plants boxes left w x p plant Says asked says =
     let pair = own_pair shows N capacity plants boxes left w x p plant asked in
@@ -263,7 +295,8 @@ asked_there {A} shows N capacity plants boxes left w x p plant Says asked says =
     (subst (λ (q : ℕ). IsSomeAnd (slice_get plants q) Says) (sym asked.owner) (subst (λ (o : Option A). IsSomeAnd o Says) (sym there) says))
 
 -- where no step is left each pair has a plan
-pub has_plan : {A X : Type 0} (shows : Showing A) (N : Table) (capacity : ℕ) (plants : List A) (boxes : List Held) (left : ℕ) (w : WorldState A) (x p : ℕ) (plant : A) (o : Option X)
+pub has_plan : {A X : Type 0} (shows : Showing A) (N : Table) (capacity : ℕ) (plants : List A) (boxes : List Held) (left : ℕ) (w : WorldState A) (x p : ℕ)
+    (plant : A) (o : Option X)
     → Asked shows N capacity plants boxes left w x p plant → IfNone o ((s : State) → WorldShows shows w s → s.planned x ≡ false) → w.left ≡ 0 → IsSome o
 has_plan shows N capacity plants boxes left w x p plant (Some plan) asked none end = refl
 has_plan {A} shows N capacity plants boxes left w x p plant None asked none end =
@@ -278,12 +311,15 @@ ok_more (Ok x) P Q f h = f x h
 ok_more (Err e) P Q f h = h
 
 -- what holds in each state that they show holds in each that the world shows
-pub world_says : {A : Type 0} (shows : Showing A) (N : Table) (capacity : ℕ) (plants plants_too : List A) (boxes boxes_too : List Held) (left : ℕ) (w : WorldState A) (Says : Table → State → Type 0)
-    → plants_too ≡ plants → boxes_too ≡ boxes → world N capacity plants boxes left ≡ w → ((capacity : ℕ) (s : State) → AreAt shows N capacity plants_too boxes_too s → Says N s)
+pub world_says : {A : Type 0} (shows : Showing A) (N : Table) (capacity : ℕ) (plants plants_too : List A) (boxes boxes_too : List Held) (left : ℕ)
+    (w : WorldState A) (Says : Table → State → Type 0)
+    → plants_too ≡ plants → boxes_too ≡ boxes → world N capacity plants boxes left ≡ w
+    → ((capacity : ℕ) (s : State) → AreAt shows N capacity plants_too boxes_too s → Says N s)
     → (s : State) → WorldShows shows w s → Says w.network s
 world_says {A} shows N capacity plants plants_too boxes boxes_too left w Says same_plants same_boxes e says =
     subst (λ (v : WorldState A). (s : State) → WorldShows shows v s → Says v.network s) e
-    (λ s shown. says capacity s (subst (λ (p : List A). AreAt shows N capacity p boxes_too s) (sym same_plants) (subst (λ (b : List Held). AreAt shows N capacity plants b s) (sym same_boxes) shown.parts)))
+    (λ s shown. says capacity s (subst (λ (p : List A). AreAt shows N capacity p boxes_too s) (sym same_plants)
+    (subst (λ (b : List Held). AreAt shows N capacity plants b s) (sym same_boxes) shown.parts)))
 
 pub shows_some : {A : Type 0} (shows : Showing A) (v w : WorldState A) → v ≡ w → IsWorld shows v → (s : State) × WorldShows shows w s
 shows_some {A} shows v w e is = (is.state, subst (λ (z : WorldState A). WorldShows shows z is.state) e is.shown)

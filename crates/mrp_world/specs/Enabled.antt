@@ -6,7 +6,8 @@ use Rattle.mrp_events.specs.State.{State, Step, IsEnabled}
 
 -- an event that is enabled counts one; one that isn't changes nothing and counts none
 abbrev pub CountsOne : Table → ℕ → State → Event → ℕ → State → Type 0
-CountsOne N capacity s event n t = (Step N capacity s event t × (n ≡ 1)) ⊎ (¬ IsEnabled N capacity s event × (t ≡ s) × (n ≡ 0))
+CountsOne N capacity s event n t = (Step N capacity s event t × (n ≡ 1))
+    ⊎ (¬ IsEnabled N capacity s event × (t ≡ s) × (n ≡ 0))
 
 -- the events lead from s to t, and so many of them are enabled
 abbrev pub CountsEnabled : Table → ℕ → State → List Event → ℕ → State → Type 0

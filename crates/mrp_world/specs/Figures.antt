@@ -41,7 +41,8 @@ pub record IsLaneFigure (N : Table) (figure : LaneFigure) : Type 0 where
 -- in each state that events lead to
 abbrev pub FiguresAreOfLanes : Type 0
 FiguresAreOfLanes =
-    (N : Table) → IsTable N → (capacity : ℕ) (s : State) → IsReached N capacity s → All (IsLaneFigure N) (figures_in N s)
+    (N : Table) → IsTable N → (capacity : ℕ) (s : State) → IsReached N capacity s
+    → All (IsLaneFigure N) (figures_in N s)
 
 -- ---- at the end
 
@@ -70,4 +71,5 @@ last_figures N = flat_map (last_on N) (range_with_len 0 (length (lanes N)))
 -- so every finished run ends
 abbrev pub FinishedFiguresAreLast : Type 0
 FinishedFiguresAreLast =
-    (N : Table) → IsTable N → (capacity : ℕ) (s : State) → IsReached N capacity s → IsFinished N s → figures_in N s ≡ last_figures N
+    (N : Table) → IsTable N → (capacity : ℕ) (s : State) → IsReached N capacity s → IsFinished N s
+    → figures_in N s ≡ last_figures N

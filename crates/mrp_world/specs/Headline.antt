@@ -21,8 +21,10 @@ OrderIsKept w s = (l : ℕ) → l < length (lanes w.network) → KeepsOrder w.ne
 -- years added
 abbrev pub NothingIsLost : {A : Type 0} → WorldState A → State → Type 0
 NothingIsLost w s =
-    (l : ℕ) → l < length (lanes w.network) → (item : ItemNo) → Contains (lane_items w.network (lane_at w.network l)) item
-    → cum_on w.network l item (s.sent l) ≡ cum_on w.network l item (s.taken l) + moved item.0 (contents (box_at w.boxes l).records)
+    (l : ℕ) → l < length (lanes w.network) → (item : ItemNo)
+    → Contains (lane_items w.network (lane_at w.network l)) item
+    → cum_on w.network l item (s.sent l) ≡ cum_on w.network l item (s.taken l)
+    + moved item.0 (contents (box_at w.boxes l).records)
 
 -- a lane has brought its whole text: each line was booked once, and nothing else was sent
 pub record HasBroughtAll {A : Type 0} (w : WorldState A) (s : State) (l : ℕ) : Type 0 where
@@ -31,7 +33,8 @@ pub record HasBroughtAll {A : Type 0} (w : WorldState A) (s : State) (l : ℕ) :
 
 -- a lane whose closing record is booked has brought its whole text
 abbrev pub ClosedLanesAreWhole : {A : Type 0} → WorldState A → State → Type 0
-ClosedLanesAreWhole w s = (l : ℕ) → l < length (lanes w.network) → is_closed (contents (s.taken l)) ≡ true → HasBroughtAll w s l
+ClosedLanesAreWhole w s = (l : ℕ) → l < length (lanes w.network) → is_closed (contents (s.taken l)) ≡ true
+    → HasBroughtAll w s l
 
 -- the plan that a plant keeps of a pair with a number
 abbrev pub Keeping : Type 0 → Type 0
@@ -39,7 +42,8 @@ Keeping A = A → ℕ → PlanRows
 
 -- the plant of a pair keeps as its plan the pair's rows of the one plan of the whole network
 abbrev pub KeepsThePlan : {A : Type 0} → Keeping A → WorldState A → ℕ → Type 0
-KeepsThePlan kept w x = IsSomeAnd (slice_get w.plants (pair_at w.network x).plant.0) (λ plant. kept plant x ≡ rows_at (plan_of w.network) x)
+KeepsThePlan kept w x = IsSomeAnd (slice_get w.plants (pair_at w.network x).plant.0)
+    (λ plant. kept plant x ≡ rows_at (plan_of w.network) x)
 
 -- so it is of each pair that is planned
 abbrev pub PlansAreThePlan : {A : Type 0} → Keeping A → WorldState A → State → Type 0

@@ -20,7 +20,8 @@ pub record BoxesHold (N : Table) (capacity : ℕ) (boxes : List Held) (s : State
   pub room : (l : ℕ) → l < length (lanes N) → (box_at boxes l).room ≡ min capacity (longest_text N (lane_at N l))
 
 -- plants and mailboxes of a sized network show a state that events lead to
-pub record AreAt {A : Type 0} (shows : Showing A) (N : Table) (capacity : ℕ) (plants : List A) (boxes : List Held) (s : State) : Type 0 where
+pub record AreAt {A : Type 0} (shows : Showing A) (N : Table) (capacity : ℕ) (plants : List A) (boxes : List Held)
+    (s : State) : Type 0 where
   pub sized : IsSized N
   pub reached : IsReached N capacity s
   pub shown : PlantsShow shows N plants s
@@ -38,7 +39,8 @@ Lead shows N plants boxes event new_plants new_boxes =
 
 -- the event is enabled in no state that they show
 abbrev pub LeadNowhere : {A : Type 0} → Showing A → Table → List A → List Held → Event → Type 0
-LeadNowhere shows N plants boxes event = (capacity : ℕ) (s : State) → AreAt shows N capacity plants boxes s → ¬ IsEnabled N capacity s event
+LeadNowhere shows N plants boxes event = (capacity : ℕ) (s : State) → AreAt shows N capacity plants boxes s
+    → ¬ IsEnabled N capacity s event
 
 -- a world shows a state, its mailboxes have room for what they may ever hold, and its steps are counted
 pub record WorldShows {A : Type 0} (shows : Showing A) (w : WorldState A) (s : State) : Type 0 where
@@ -47,7 +49,8 @@ pub record WorldShows {A : Type 0} (shows : Showing A) (w : WorldState A) (s : S
 
 -- the event is enabled in each state that they show
 abbrev pub MayLead : {A : Type 0} → Showing A → Table → List A → List Held → Event → Type 0
-MayLead shows N plants boxes event = (capacity : ℕ) (s : State) → AreAt shows N capacity plants boxes s → IsEnabled N capacity s event
+MayLead shows N plants boxes event = (capacity : ℕ) (s : State) → AreAt shows N capacity plants boxes s
+    → IsEnabled N capacity s event
 
 -- the event is enabled nowhere, and nothing has changed
 pub record StandsStill {A : Type 0} (shows : Showing A) (N : Table) (plants : List A) (boxes : List Held)
@@ -59,10 +62,12 @@ pub record StandsStill {A : Type 0} (shows : Showing A) (N : Table) (plants : Li
 -- whether the event has happened
 abbrev pub Acts : {A : Type 0} → Showing A → Table → List A → List Held → Event → Bool → List A → List Held → Type 0
 Acts shows N plants boxes event acted new_plants new_boxes =
-    MatchBool acted (Lead shows N plants boxes event new_plants new_boxes) (StandsStill shows N plants boxes event new_plants new_boxes)
+    MatchBool acted (Lead shows N plants boxes event new_plants new_boxes)
+    (StandsStill shows N plants boxes event new_plants new_boxes)
 
 -- nothing can be sent or received over the lane
-pub record LaneRests {A : Type 0} (shows : Showing A) (N : Table) (plants : List A) (boxes : List Held) (l : ℕ) : Type 0 where
+pub record LaneRests {A : Type 0} (shows : Showing A) (N : Table) (plants : List A) (boxes : List Held)
+    (l : ℕ) : Type 0 where
   pub sends_nothing : LeadNowhere shows N plants boxes (Send (record { 0 = l }))
   pub receives_nothing : LeadNowhere shows N plants boxes (Receive (record { 0 = l }))
 
@@ -82,7 +87,9 @@ pub record IsWorld {A : Type 0} (shows : Showing A) (w : WorldState A) : Type 0 
 
 -- from each state that the world showed the events lead to one that it shows now, in the same network with
 -- the same capacity
-pub record Runs {A : Type 0} (shows : Showing A) (old : WorldState A) (events : List Event) (new : WorldState A) : Type 0 where
+pub record Runs {A : Type 0} (shows : Showing A) (old : WorldState A) (events : List Event)
+    (new : WorldState A) : Type 0 where
   pub network : new.network ≡ old.network
   pub capacity : new.capacity ≡ old.capacity
-  pub runs : (s : State) → WorldShows shows old s → (t : State) × Run old.network old.capacity s events t × WorldShows shows new t
+  pub runs : (s : State) → WorldShows shows old s → (t : State) × Run old.network old.capacity s events t
+      × WorldShows shows new t

@@ -28,8 +28,8 @@ pub record WorldState (A : Type 0) : Type 0 where
   pub boxes : List Held
   pub left : ℕ
 
--- a world shows a state of its network's runs: the network can be planned, events lead to the state, each plant shows it,
--- and each mailbox holds what has been sent and not yet taken
+-- a world shows a state of its network's runs: the network can be planned, events lead to the state, each plant shows
+-- it, and each mailbox holds what has been sent and not yet taken
 pub record Shows {A : Type 0} (shows : Showing A) (w : WorldState A) (s : State) : Type 0 where
   pub sized : IsSized w.network
   pub reached : IsReached w.network w.capacity s

@@ -6,10 +6,9 @@ ghost use Rattle.mrp_events.specs.declared.event.Event.TheVariants.{Send, Receiv
 ghost use Rattle.mrp_world.specs.Mailbox.{Held};
 ghost use Rattle.mrp_world.specs.Moves.{Acts, AreSomewhere, Lead, LeadNowhere};
 
+use crate::{Mailbox, Plant};
 use mrp_events::Event;
-use crate::Mailbox;
 use mrp_net::{LaneNo, Network, PairNo};
-use crate::Plant;
 
 /// Sends the next record of a lane, if there is one and the mailbox has room.
 pub(crate) fn send<P: Plant>(
@@ -71,7 +70,8 @@ pub(crate) fn receive<P: Plant>(
 pub(crate) fn plan<P: Plant>(network: &Network, plants: &mut [P], x: PairNo) -> bool
     requires pair { IsPair network.now x.0 }
     requires shown { (boxes : List Held) × AreSomewhere P.shows network.now plants.old boxes }
-    ensures leads { result ≡ true → (boxes : List Held) → Lead P.shows network.now plants.old boxes (Plan x) plants.new boxes }
+    ensures leads { result ≡ true → (boxes : List Held)
+        → Lead P.shows network.now plants.old boxes (Plan x) plants.new boxes }
     ensures nowhere { result ≡ false → (boxes : List Held) → LeadNowhere P.shows network.now plants.old boxes (Plan x) }
     ensures plants { result ≡ false → plants.new ≡ plants.old }
 {

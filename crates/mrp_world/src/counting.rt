@@ -108,7 +108,8 @@ fn calls(network: &Network, plan: &Plan, source: SourceRow) -> u64
 fn calls_in(source: SourceRow, release: &Row) -> u64
     requires rises { source.low ≤ source.high }
     requires ends { source.high ≤ 1000 }
-    ensures { result ≡ length (by_period (λ t. share_of source.low source.high (slice_index release.now t)) (length release.now)) }
+    ensures { result ≡ length (by_period (λ t. share_of source.low source.high (slice_index release.now t))
+        (length release.now)) }
 {
     let mut calls = 0;
     for period in 0..release.len() {

@@ -7,10 +7,9 @@ ghost use Rattle.mrp_world.specs.Driving.{LeadOn, LeadOneAndOn};
 
 use crate::acting::{act_on, receive, send};
 use crate::looking::{look, ready_at};
+use crate::{Mailbox, Plant};
 use mrp_events::Event;
-use crate::Mailbox;
 use mrp_net::{LaneNo, Network};
-use crate::Plant;
 
 /// Where the last event happened: the next one is looked for from there on.
 #[derive(Clone, Copy)]
@@ -57,7 +56,8 @@ pub(crate) fn drive_on<P: Plant>(
     from: Place,
 ) -> Place
     requires shown { AreSomewhere P.shows network.now plants.old.items boxes.old.items }
-    ensures runs { (events : List Event) × LeadOn P.shows network.now plants.old.items boxes.old.items events plants.new.items boxes.new.items }
+    ensures runs { (events : List Event) × LeadOn P.shows network.now plants.old.items boxes.old.items events
+        plants.new.items boxes.new.items }
     ensures rests { AllRests P.shows network.now plants.new.items boxes.new.items }
 {
     let mut near = from;
@@ -78,7 +78,8 @@ fn go_on<P: Plant>(
     near: &mut Place,
 ) -> bool
     requires shown { AreSomewhere P.shows network.now plants.old.items boxes.old.items }
-    ensures leads { result ≡ true → LeadOneAndOn P.shows network.now plants.old.items boxes.old.items plants.new.items boxes.new.items }
+    ensures leads { result ≡ true → LeadOneAndOn P.shows network.now plants.old.items boxes.old.items plants.new.items
+        boxes.new.items }
     ensures rests { result ≡ false → AllRests P.shows network.now plants.new.items boxes.new.items }
     ensures plants { result ≡ false → plants.new.items ≡ plants.old.items }
     ensures boxes { result ≡ false → boxes.new.items ≡ boxes.old.items }
@@ -110,7 +111,8 @@ fn follow<P: Plant>(
     plant: usize,
 )
     requires shown { AreSomewhere P.shows network.now plants.old.items boxes.old.items }
-    ensures runs { (events : List Event) × LeadOn P.shows network.now plants.old.items boxes.old.items events plants.new.items boxes.new.items }
+    ensures runs { (events : List Event) × LeadOn P.shows network.now plants.old.items boxes.old.items events
+        plants.new.items boxes.new.items }
 {
     match event {
         Event::Send(lane) | Event::Receive(lane) => {
@@ -145,7 +147,8 @@ fn move_one<P: Plant>(
 ) -> bool
     requires lane { lane.0 < length (lanes network.now) }
     requires shown { AreSomewhere P.shows network.now plants.old boxes.old }
-    ensures leads { result ≡ true → (event : Event) × Lead P.shows network.now plants.old boxes.old event plants.new boxes.new }
+    ensures leads { result ≡ true → (event : Event)
+        × Lead P.shows network.now plants.old boxes.old event plants.new boxes.new }
     ensures plants { result ≡ false → plants.new ≡ plants.old }
     ensures boxes { result ≡ false → boxes.new ≡ boxes.old }
 {
@@ -163,7 +166,8 @@ fn plan_ready<P: Plant>(
     plant: usize,
 )
     requires shown { AreSomewhere P.shows network.now plants.old.items boxes.old.items }
-    ensures runs { (events : List Event) × LeadOn P.shows network.now plants.old.items boxes.old.items events plants.new.items boxes.new.items }
+    ensures runs { (events : List Event) × LeadOn P.shows network.now plants.old.items boxes.old.items events
+        plants.new.items boxes.new.items }
 {
     for _pair in 0..u64::MAX {
         let ready = ready_at(network, plants.as_slice(), boxes.as_slice(), plant);

@@ -5,10 +5,9 @@ ghost use Rattle.mrp_events.specs.State.{State};
 ghost use Rattle.mrp_world.specs.Figures.{lane_figure_at, figures_in_lane, figures_in};
 ghost use Rattle.mrp_world.specs.Moves.{AreAt, AreSomewhere};
 
+use crate::{Mailbox, Plant};
 use mrp_book::LaneFigure;
-use crate::Mailbox;
 use mrp_net::{ItemNo, LaneNo, Network};
-use crate::Plant;
 use mrp_qty::{Memory, Qty};
 use std::alloc::Global;
 
@@ -24,7 +23,8 @@ pub(crate) fn figures<P: Plant>(
     boxes: &[Mailbox],
 ) -> Result<Vec<LaneFigure>, Memory>
     requires shown { AreSomewhere P.shows network.now plants.now boxes.now }
-    ensures { IfOk result (λ figures. (capacity : ℕ) (s : State) → AreAt P.shows network.now capacity plants.now boxes.now s
+    ensures { IfOk result (λ figures. (capacity : ℕ) (s : State)
+        → AreAt P.shows network.now capacity plants.now boxes.now s
         → figures.items ≡ figures_in network.now s) }
 {
     let mut figures = Vec::new(alloc);
@@ -64,7 +64,8 @@ fn figure<P: Plant>(
     requires lane { lane.0 < length (lanes network.now) }
     requires item { Contains (lane_items network.now (lane_at network.now lane.0)) item }
     requires shown { AreSomewhere P.shows network.now plants.now boxes.now }
-    ensures { (capacity : ℕ) (s : State) → AreAt P.shows network.now capacity plants.now boxes.now s → result ≡ lane_figure_at network.now s lane.0 item }
+    ensures { (capacity : ℕ) (s : State) → AreAt P.shows network.now capacity plants.now boxes.now s
+        → result ≡ lane_figure_at network.now s lane.0 item }
 {
     let opening = Qty::of(network.opening(lane, item));
     let waiting = boxes[lane.0].pieces(item);

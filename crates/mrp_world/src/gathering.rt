@@ -5,9 +5,9 @@ ghost use Rattle.mrp_plan.specs.Given.{HaveGiven};
 ghost use Rattle.mrp_world.specs.Mailbox.{Held};
 ghost use Rattle.mrp_world.specs.Moves.{AreAt};
 
+use crate::Plant;
 use mrp_net::Network;
 use mrp_netting::PairPlan;
-use crate::Plant;
 use mrp_qty::Memory;
 use std::alloc::Global;
 

@@ -2,13 +2,14 @@
 //! nothing.
 ghost use Rattle.mrp_events.specs.State.{State, IsFinished};
 ghost use Rattle.mrp_world.specs.Figures.{FiguresAreOfLanes, FinishedFiguresAreLast};
-ghost use Rattle.mrp_world.specs.Headline.{OrderIsKept, NothingIsLost, ClosedLanesAreWhole, PlansAreThePlan, IsComplete};
+ghost use Rattle.mrp_world.specs.Headline.{OrderIsKept, NothingIsLost, ClosedLanesAreWhole, PlansAreThePlan};
+ghost use Rattle.mrp_world.specs.Headline.{IsComplete};
 ghost use Rattle.mrp_world.specs.Moves.{WorldShows};
 ghost use Rattle.mrp_world.specs.PlansLocal.{PlansAreLocal};
 ghost use Rattle.mrp_world.specs.World.{Shows};
 
-use crate::world::World;
 use crate::Plant;
+use crate::world::World;
 
 /// The headline. Every world, of a network without loops and within the bound, with any capacity and after any list
 /// of events, shows some state of the network's runs. In each state that it shows
@@ -27,7 +28,8 @@ pub fn headline<P: Plant>(world: &World<P>)
     ensures figures { (s : State) → Shows P.shows world.now s → NothingIsLost world.now s }
     ensures closed { (s : State) → Shows P.shows world.now s → ClosedLanesAreWhole world.now s }
     ensures plans { (s : State) → Shows P.shows world.now s → PlansAreThePlan P.kept world.now s }
-    ensures finished { (s : State) → Shows P.shows world.now s → IsFinished world.now.network s → IsComplete P.kept world.now s }
+    ensures finished { (s : State) → Shows P.shows world.now s → IsFinished world.now.network s
+        → IsComplete P.kept world.now s }
 {
     let _left = world.steps_left();
 }

@@ -5,10 +5,9 @@ ghost use Rattle.mrp_events.specs.declared.event.Event.TheVariants.{Plan};
 ghost use Rattle.mrp_world.specs.Mailbox.{Held};
 ghost use Rattle.mrp_world.specs.Moves.{AreSomewhere, MayLead, LaneRests, PlantRests, AllRests};
 
+use crate::{Mailbox, Plant};
 use mrp_events::Event;
-use crate::Mailbox;
 use mrp_net::{LaneNo, Network};
-use crate::Plant;
 
 /// An event over a lane that is enabled: its receiver takes what waits before its sender sends more.
 fn moving<P: Plant>(

@@ -4,10 +4,9 @@ ghost use Rattle.mrp_events.specs.State.{opening_state};
 ghost use Rattle.mrp_world.specs.World.{PlantsShow};
 ghost use Rattle.mrp_world.specs.Moves.{BoxesHold};
 
+use crate::{Mailbox, Plant};
 use mrp_loops::SizedNet;
-use crate::Mailbox;
 use mrp_net::{LaneNo, PlantNo};
-use crate::Plant;
 use mrp_qty::Memory;
 use mrp_view::PlantView;
 use std::alloc::Global;

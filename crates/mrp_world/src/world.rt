@@ -1,6 +1,7 @@
 //! The world: all plants and the mailboxes between them, one event at a time.
 
-ghost use Rattle.std.specs.Prelude.{◌≡◌, ◌+◌, ℕ, ◌-◌, ◌≤◌, true, false, slice_get, All, List, IfOk, IfSome, IfNone, IsSome, IsSomeAnd, MatchBool, IsTrue, ◌↔◌};
+ghost use Rattle.std.specs.Prelude.{◌≡◌, ◌+◌, ℕ, ◌-◌, ◌≤◌, true, false, slice_get, All, List, IfOk, IfSome, IfNone};
+ghost use Rattle.std.specs.Prelude.{IsSome, IsSomeAnd, MatchBool, IsTrue, ◌↔◌};
 ghost use Rattle.mrp_rows.specs.Table.{IsPair};
 ghost use Rattle.mrp_qty.specs.declared.limits.TheConstants.{MOST_ROOM};
 
@@ -11,14 +12,13 @@ use crate::figures::figures;
 use crate::gathering::plans_by_plant;
 use crate::looking::look;
 use crate::making::{new_boxes, new_plants};
+use crate::{Agent, Mailbox, Plant};
 use mrp_book::LaneFigure;
 use mrp_events::Event;
 use mrp_loops::SizedNet;
-use crate::Mailbox;
 use mrp_net::{Network, PairNo};
 use mrp_netting::PairPlan;
 use mrp_plan::Plan;
-use crate::{Agent, Plant};
 use mrp_qty::Memory;
 use std::alloc::Global;
 use std::marker::Model;
@@ -47,7 +47,13 @@ impl<'a, P: Plant> Model for World<'a, P> {
 
     ghost Value = { WorldState P };
 
-    ghost view = { λ w. record { network = w.network.now; capacity = w.capacity; plants = w.plants.items; boxes = w.boxes.items; left = w.left } };
+    ghost view = { λ w. record {
+      network = w.network.now;
+      capacity = w.capacity;
+      plants = w.plants.items;
+      boxes = w.boxes.items;
+      left = w.left;
+    } };
 
     ghost invariant = { λ w. IsWorld P.shows (record {
       network = w.network.now;
@@ -112,7 +118,8 @@ impl<'a, P: Plant> World<'a, P> {
         ensures network { IfOk result (λ world. world.network ≡ net.now.network) }
         ensures capacity { IfOk result (λ world. world.capacity ≡ capacity) }
         ensures shows { IfOk result (λ world. (s : State) × WorldShows P.shows world s) }
-        ensures finished { IfOk result (λ world. (s : State) → WorldShows P.shows world s → IsFinished world.network s) }
+        ensures finished { IfOk result (λ world. (s : State) → WorldShows P.shows world s
+            → IsFinished world.network s) }
         ensures left { IfOk result (λ world. world.left ≡ 0) }
     {
         let network = net.network();
@@ -133,7 +140,8 @@ impl<'a, P: Plant> World<'a, P> {
     pub fn apply(&mut self, event: Event) -> bool
         ensures leads { result ≡ true → (s : State) → WorldShows P.shows self.old s
             → (t : State) × Step self.old.network self.old.capacity s event t × WorldShows P.shows self.new t }
-        ensures nowhere { result ≡ false → (s : State) → WorldShows P.shows self.old s → ¬ IsEnabled self.old.network self.old.capacity s event }
+        ensures nowhere { result ≡ false → (s : State) → WorldShows P.shows self.old s
+            → ¬ IsEnabled self.old.network self.old.capacity s event }
         ensures unchanged { result ≡ false → self.new ≡ self.old }
         ensures network { self.new.network ≡ self.old.network }
         ensures capacity { self.new.capacity ≡ self.old.capacity }
@@ -153,7 +161,8 @@ impl<'a, P: Plant> World<'a, P> {
     /// It is looked for from where the last event happened, so that a run looks at a few lanes for each
     /// event, and at all of them only where nothing more moves (by construction; no clause says so).
     pub fn enabled(&self) -> Option<Event>
-        ensures some { IfSome result (λ event. (s : State) → WorldShows P.shows self.now s → IsEnabled self.now.network self.now.capacity s event) }
+        ensures some { IfSome result (λ event. (s : State) → WorldShows P.shows self.now s
+            → IsEnabled self.now.network self.now.capacity s event) }
         ensures none { IfNone result ((s : State) → WorldShows P.shows self.now s → IsFinished self.now.network s) }
         ensures left { IfNone result (self.now.left ≡ 0) }
     {
@@ -177,7 +186,8 @@ impl<'a, P: Plant> World<'a, P> {
 
     /// Whether the closing record of each lane is booked and each pair planned.
     pub fn finished(&self) -> bool
-        ensures finished { (s : State) → WorldShows P.shows self.now s → MatchBool result (IsFinished self.now.network s) (¬ IsFinished self.now.network s) }
+        ensures finished { (s : State) → WorldShows P.shows self.now s
+            → MatchBool result (IsFinished self.now.network s) (¬ IsFinished self.now.network s) }
         ensures left { IsTrue result ↔ (self.now.left ≡ 0) }
     {
         self.left == 0
@@ -187,7 +197,8 @@ impl<'a, P: Plant> World<'a, P> {
     /// network. In a finished world each pair has one.
     pub fn planned(&self, x: PairNo) -> Option<&PairPlan>
         requires pair { IsPair self.now.network x.0 }
-        ensures kept { IfSome result (λ plan. IsSomeAnd (slice_get self.now.plants (pair_at self.now.network x.0).plant.0)
+        ensures kept { IfSome result (λ plan. IsSomeAnd
+            (slice_get self.now.plants (pair_at self.now.network x.0).plant.0)
             (λ plant. plan.now ≡ P.kept plant x.0)) }
         ensures planned { IfSome result (λ plan. (s : State) → WorldShows P.shows self.now s → s.planned x.0 ≡ true) }
         ensures plan { IfSome result (λ plan. plan.now ≡ rows_at (plan_of self.now.network) x.0) }
@@ -206,7 +217,8 @@ impl<'a, P: Plant> World<'a, P> {
     ///
     /// [`Memory`] where a growth is refused.
     pub fn figures(&self, alloc: Global) -> Result<Vec<LaneFigure>, Memory>
-        ensures figures { IfOk result (λ figures. (s : State) → WorldShows P.shows self.now s → figures.items ≡ figures_in self.now.network s) }
+        ensures figures { IfOk result (λ figures. (s : State) → WorldShows P.shows self.now s
+            → figures.items ≡ figures_in self.now.network s) }
         ensures lanes { IfOk result (λ figures. All (IsLaneFigure self.now.network) figures.items) }
         ensures last { IfOk result (λ figures. self.now.left ≡ 0 → figures.items ≡ last_figures self.now.network) }
     {
@@ -243,7 +255,8 @@ impl<'a, P: Plant> World<'a, P> {
     pub fn run(&mut self, events: &[Event]) -> u64
         ensures runs { Runs P.shows self.old events.now self.new }
         ensures enabled { (s : State) → WorldShows P.shows self.old s
-            → (t : State) × CountsEnabled self.old.network self.old.capacity s events.now result t × WorldShows P.shows self.new t }
+            → (t : State) × CountsEnabled self.old.network self.old.capacity s events.now result t
+            × WorldShows P.shows self.new t }
         ensures count { result + self.new.left ≡ self.old.left }
     {
         let before = self.steps_left();

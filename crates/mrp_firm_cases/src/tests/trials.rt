@@ -6,12 +6,12 @@ ghost use Rattle.mrp_loops.specs.Codes.{AreCodes};
 use super::endings::all_end;
 use super::gates::{answers, answers_within};
 use super::lanes::{LaneTrial, lanes_go};
+use super::network_of;
 use super::places::{Place, are_met};
 use super::stops::are_stopped;
 use mrp_loops::{Levels, SizedNet, bound, check};
 use mrp_net::Network;
 use mrp_run::{Gate, RunFault};
-use mrp_tables::read_tables_uncounted;
 use mrp_worked::Ending;
 use std::alloc::Global;
 use std::sync::Wait;
@@ -83,12 +83,6 @@ fn holds_in_network<R: Threads + Wait + Sync, G: Gate>(
 ) -> Result<bool, Fail> {
     let levels = check(alloc, network)?;
     holds_at_levels(rt, alloc, network, &levels, trial, gate)
-}
-
-/// The network of a table's text.
-fn network_of(alloc: Global, text: &str) -> Result<Network, Fail> {
-    let tables = read_tables_uncounted(alloc, text.as_bytes())?;
-    Ok(Network::of(alloc, tables)?)
 }
 
 /// The same of the network of a table's text.

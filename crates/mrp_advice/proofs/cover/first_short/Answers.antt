@@ -4,7 +4,8 @@ use Rattle.mrp_advice.proofs.cover.first_short.Goals as goal
 
 pub returns-then-cover-get-clause-needed : goal.returns-then-cover-get-clause-needed
 returns-then-cover-get-clause-needed c =
-    short_here c.args.safety c.args.gross.now c.periods.cover c.args.cover.now.had c.periods.invariant.covers c.periods.invariant.had c.get-in-periods.result (omega arith) (omega arith) (omega arith)
+    short_here c.args.safety c.args.gross.now c.periods.cover c.args.cover.now.had c.periods.invariant.covers c.periods.invariant.had c.get-in-periods.result
+    (omega arith) (omega arith) (omega arith)
 
 pub returns-clause-needed : goal.returns-clause-needed
 returns-clause-needed c =

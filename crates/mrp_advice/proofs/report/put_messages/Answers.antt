@@ -14,6 +14,8 @@ orders-preserved c =
     record {
       between = c.in_ok-put_next.ensures.between;
       covers = c.put_next.ensures.covers;
-      had = had_next c.args.line.now pair gross orders c.orders.i order same c.orders.cover.had c.put_next.new.cover.had c.orders-test.true c.orders.invariant.had c.put_next.ensures.had;
-      so_far = rows_next c.args.line.now pair gross orders c.orders.i order same c.orders.cover.had _ _ _ c.orders.invariant.had c.orders.invariant.so_far c.in_ok-put_next.ensures.row;
+      had = had_next c.args.line.now pair gross orders c.orders.i order same c.orders.cover.had c.put_next.new.cover.had c.orders-test.true
+          c.orders.invariant.had c.put_next.ensures.had;
+      so_far = rows_next c.args.line.now pair gross orders c.orders.i order same c.orders.cover.had _ _ _ c.orders.invariant.had c.orders.invariant.so_far
+          c.in_ok-put_next.ensures.row;
     }

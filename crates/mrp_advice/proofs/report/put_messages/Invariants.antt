@@ -14,5 +14,6 @@ invariant-orders l = record {
   between : IsBetweenRows l.rows;
   covers : Covers l.fn.pair.safety l.gross l.cover;
   had : l.cover.had ≡ had_before l.fn.pair l.orders l.i;
-  so_far : written l.rows ≡ written l.initial.rows ++ flat_map (advice_line_row l.line) (filter_map (advice_at l.fn.pair l.gross l.orders) (range_with_len 0 l.i));
+  so_far : written l.rows ≡ written l.initial.rows ++ flat_map (advice_line_row l.line)
+      (filter_map (advice_at l.fn.pair l.gross l.orders) (range_with_len 0 l.i));
 }

@@ -14,7 +14,8 @@ put_messages-requires-clause-advised c =
     let N = c.args.report.now.network.now in
     let gross : c.gross-gross.result.now ≡ (rows_at c.args.report.now.plan.now c.args.x.0).gross = cc in
     let orders : c.get.result.now ≡ open_orders N c.args.x.0 = c.get.ensures ∙ c.requires.orders.slices c.args.x.0 c.requires.pair in
-    pair_is_advised N c.args.report.now.plan.now c.args.x.0 c.line_of-line.result _ _ _ c.requires.sized c.requires.fits c.requires.pair c.line_of-line.ensures c.pair-pair.ensures gross orders
+    pair_is_advised N c.args.report.now.plan.now c.args.x.0 c.line_of-line.result _ _ _ c.requires.sized c.requires.fits c.requires.pair c.line_of-line.ensures
+    c.pair-pair.ensures gross orders
 
 pub returns-clause-rows : goal.returns-clause-rows
 returns-clause-rows c =

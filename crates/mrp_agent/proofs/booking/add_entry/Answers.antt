@@ -8,7 +8,8 @@ use Rattle.mrp_agent.specs.After.{called_after, came_by, items_of}
 use Rattle.mrp_agent.proofs.booking.add_entry.Goals as goal
 
 -- the amounts have room for each pair and period
-room : (V : PlantRows) {items : List ItemNo} {amounts seen : List ℕ} {periods horizon : ℕ} → items ≡ items_of V → length amounts ≡ length V.pairs * V.horizon → seen ≡ amounts
+room : (V : PlantRows) {items : List ItemNo} {amounts seen : List ℕ} {periods horizon : ℕ} → items ≡ items_of V → length amounts ≡ length V.pairs * V.horizon
+    → seen ≡ amounts
     → periods ≡ horizon → horizon ≡ V.horizon → length items * periods ≤ length seen
 room V {items} {amounts} {seen} {periods} are size same value is =
     let count : length items ≡ length V.pairs = ap (λ (z : List ItemNo). length z) are ∙ length-map V.pairs (λ (p : PlantPair). p.item) in
@@ -17,11 +18,17 @@ room V {items} {amounts} {seen} {periods} are size same value is =
     omega arith
 
 pub add_line-requires : goal.add_line-requires
-add_line-requires c = record { room = room c.args.view.now c.requires.items c.requires.came c.deref_mut.ensures.value c.get-periods.ensures.value c.horizon.ensures }
+add_line-requires c = record {
+  room = room c.args.view.now c.requires.items c.requires.came c.deref_mut.ensures.value c.get-periods.ensures.value
+      c.horizon.ensures;
+}
 
 pub add_line-requires-in-Schedule : goal.add_line-requires-in-Schedule
 add_line-requires-in-Schedule c =
-    record { room = room c.args.view.now c.requires.items c.requires.called c.deref_mut-in-Schedule.ensures.value c.get-periods.ensures.value c.horizon.ensures }
+    record {
+      room = room c.args.view.now c.requires.items c.requires.called c.deref_mut-in-Schedule.ensures.value c.get-periods.ensures.value
+          c.horizon.ensures;
+    }
 
 pub returns-in-Despatch-clause-called : goal.returns-in-Despatch-clause-called
 returns-in-Despatch-clause-called c = sym (ap (λ (k : LaneKind). called_after k c.args.view.now c.args.called.now.items c.args.entry.now) c.in-Despatch.is)

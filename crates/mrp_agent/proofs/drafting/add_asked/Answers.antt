@@ -7,7 +7,8 @@ use Rattle.mrp_agent.proofs.drafting.add_asked.Goals as goal
 
 pub add_edge-requires-clause-within : goal.add_edge-requires-clause-within
 add_edge-requires-clause-within c =
-    next_within c.args.plans.now c.args.edges.now c.loop-edge.edge-index _ c.args.gross.now c.loop-edge.gross c.loop-edge.invariant c.loop-edge-test.true refl c.requires.within
+    next_within c.args.plans.now c.args.edges.now c.loop-edge.edge-index _ c.args.gross.now c.loop-edge.gross c.loop-edge.invariant c.loop-edge-test.true refl
+    c.requires.within
 
 pub loop-edge-init : goal.loop-edge-init
 loop-edge-init c = none_asked c.args.plans.now c.args.edges.now _
@@ -15,11 +16,13 @@ loop-edge-init c = none_asked c.args.plans.now c.args.edges.now _
 pub add_edge-requires-clause-edge : goal.add_edge-requires-clause-edge
 add_edge-requires-clause-edge c =
     let edge = get_or c.args.edges.now c.loop-edge.edge-index no_edge in
-    subst (λ (n : ℕ). ParentCanAsk c.args.plans.now n edge) (sym c.loop-edge.invariant.size) (c.requires.edges c.loop-edge.edge-index no_edge c.loop-edge-test.true)
+    subst (λ (n : ℕ). ParentCanAsk c.args.plans.now n edge) (sym c.loop-edge.invariant.size)
+    (c.requires.edges c.loop-edge.edge-index no_edge c.loop-edge-test.true)
 
 pub loop-edge-preserved : goal.loop-edge-preserved
 loop-edge-preserved c =
-    more_asked c.args.plans.now c.args.edges.now c.loop-edge.edge-index _ c.args.gross.now c.loop-edge.gross c.add_edge.new.gross c.loop-edge.invariant c.loop-edge-test.true refl c.add_edge.ensures.size c.add_edge.ensures.each
+    more_asked c.args.plans.now c.args.edges.now c.loop-edge.edge-index _ c.args.gross.now c.loop-edge.gross c.add_edge.new.gross c.loop-edge.invariant
+    c.loop-edge-test.true refl c.add_edge.ensures.size c.add_edge.ensures.each
 
 pub returns-clause-each : goal.returns-clause-each
 returns-clause-each c =

@@ -21,20 +21,23 @@ copy_pieces-requires-2-clause-within c =
 
 pub add_asked-requires-clause-within : goal.add_asked-requires-clause-within
 add_asked-requires-clause-within c =
-    subst (λ (row : List ℕ). (t : ℕ) → t < length row → slice_index row t + asked_by c.args.plans.now c.args.rows.now.edges.now t ≤ MOST) (sym c.copy_pieces-2.ensures)
+    subst (λ (row : List ℕ). (t : ℕ) → t < length row → slice_index row t + asked_by c.args.plans.now c.args.rows.now.edges.now t ≤ MOST)
+    (sym c.copy_pieces-2.ensures)
     (gross_within c.args.rows.now.params c.args.rows.now.came.now c.args.rows.now.called.now c.args.rows.now.edges.now c.args.plans.now c.requires.draft.within)
 
 pub plan_pair-requires-clause-within : goal.plan_pair-requires-clause-within
 plan_pair-requires-clause-within c =
     let gross : c.add_asked.new.gross ≡ grossed c.args.rows.now.called.now c.args.rows.now.edges.now c.args.plans.now =
-    asked_added c.args.rows.now.called.now c.copy_pieces-2.new.self c.add_asked.new.gross c.args.rows.now.edges.now c.args.plans.now c.copy_pieces-2.ensures c.add_asked.ensures.size c.add_asked.ensures.each in
+    asked_added c.args.rows.now.called.now c.copy_pieces-2.new.self c.add_asked.new.gross c.args.rows.now.edges.now c.args.plans.now c.copy_pieces-2.ensures
+    c.add_asked.ensures.size c.add_asked.ensures.each in
     subst (λ (row : List ℕ). IsWithin c.args.rows.now.params row c.add_asked.new.gross) (sym c.copy_pieces.ensures)
     (subst (λ (row : List ℕ). IsWithin c.args.rows.now.params c.args.rows.now.came.now row) (sym gross) c.requires.draft.within)
 
 pub returns-clause-plan : goal.returns-clause-plan
 returns-clause-plan c =
     let gross : c.add_asked.new.gross ≡ grossed c.args.rows.now.called.now c.args.rows.now.edges.now c.args.plans.now =
-    asked_added c.args.rows.now.called.now c.copy_pieces-2.new.self c.add_asked.new.gross c.args.rows.now.edges.now c.args.plans.now c.copy_pieces-2.ensures c.add_asked.ensures.size c.add_asked.ensures.each in
+    asked_added c.args.rows.now.called.now c.copy_pieces-2.new.self c.add_asked.new.gross c.args.rows.now.edges.now c.args.plans.now c.copy_pieces-2.ensures
+    c.add_asked.ensures.size c.add_asked.ensures.each in
     c.plan_pair.ensures
     ∙ ap (λ (row : List ℕ). one c.args.rows.now.params row c.add_asked.new.gross) c.copy_pieces.ensures
     ∙ ap (λ (row : List ℕ). one c.args.rows.now.params c.args.rows.now.came.now row) gross
@@ -47,7 +50,8 @@ copy_pieces-requires-2-clause-periods c = c.requires.gross
 
 pub add_asked-requires-clause-edges : goal.add_asked-requires-clause-edges
 add_asked-requires-clause-edges c =
-    subst (λ (row : List ℕ). All (ParentCanAsk c.args.plans.now (length row)) c.args.rows.now.edges.now) (sym c.copy_pieces-2.ensures) c.requires.draft.edges_are
+    subst (λ (row : List ℕ). All (ParentCanAsk c.args.plans.now (length row)) c.args.rows.now.edges.now)
+    (sym c.copy_pieces-2.ensures) c.requires.draft.edges_are
 
 pub plan_pair-requires-clause-room : goal.plan_pair-requires-clause-room
 plan_pair-requires-clause-room c = c.requires.into ∙ sym (c.add_asked.ensures.size ∙ ap (λ (row : List ℕ). length row) c.copy_pieces-2.ensures)

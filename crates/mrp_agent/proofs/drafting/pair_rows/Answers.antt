@@ -9,7 +9,8 @@ use Rattle.mrp_agent.specs.Rows.{part_at}
 use Rattle.mrp_agent.proofs.drafting.pair_rows.Goals as goal
 
 -- the edges of a pair end within all of them
-edges_rise : (V : PlantRows) {edges : List ParentEdge} {starts : List ℕ} {place : ℕ} → IsGrouped (λ e. e.component) (length V.pairs) (map (parent_edge V) V.edges) edges starts
+edges_rise : (V : PlantRows) {edges : List ParentEdge} {starts : List ℕ} {place : ℕ}
+    → IsGrouped (λ e. e.component) (length V.pairs) (map (parent_edge V) V.edges) edges starts
     → place < length V.pairs → (slice_index starts place ≤ slice_index starts (place + 1)) × (slice_index starts (place + 1) ≤ length edges)
 edges_rise V {edges} {starts} {place} are within =
     IsGrouped-within (λ (e : ParentEdge). e.component) (length V.pairs) (map (parent_edge V) V.edges) edges starts place are within

@@ -20,10 +20,12 @@ pub loop-lane-preserved : goal.loop-lane-preserved
 loop-lane-preserved c =
     let V = c.args.view.now in
     let grown = c.in_ok-add_awaited.ensures ∙ ap (λ (z : List IncomingItem). c.loop-lane.places.items ++ map (place_awaited V) z) c.as_slice.ensures in
-    flat_more (λ (lane : IncomingLane). map (place_awaited V) lane.items) c.args.lanes.now c.loop-lane.lane-index _ c.lane-item.result _ _ c.loop-lane-test.true c.lane-item.is
+    flat_more (λ (lane : IncomingLane). map (place_awaited V) lane.items) c.args.lanes.now c.loop-lane.lane-index _ c.lane-item.result _ _ c.loop-lane-test.true
+    c.lane-item.is
     c.loop-lane.invariant grown
 
 pub returns : goal.returns
 returns c =
     c.loop-lane.invariant
-    ∙ ap (flat_map (λ (lane : IncomingLane). map (place_awaited c.args.view.now) lane.items)) (take_all c.loop-lane.lane-index c.args.lanes.now c.loop-lane-test.false)
+    ∙ ap (flat_map (λ (lane : IncomingLane). map (place_awaited c.args.view.now) lane.items))
+    (take_all c.loop-lane.lane-index c.args.lanes.now c.loop-lane-test.false)

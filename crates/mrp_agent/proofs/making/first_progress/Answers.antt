@@ -22,14 +22,17 @@ pub first_waits-requires-clause-awaited : goal.first_waits-requires-clause-await
 first_waits-requires-clause-awaited c =
     let pairs = pairs_are (goal.at.first_waits-requires-clause-awaited c).After-len in
     let places : c.deref.result.now ≡ awaited_places c.args.view.now =
-    c.deref.ensures.value ∙ c.in_ok-awaited.ensures ∙ ap (λ (z : List IncomingLane). flat_map (λ lane. map (place_awaited c.args.view.now) lane.items) z) c.incoming.ensures in
+    c.deref.ensures.value ∙ c.in_ok-awaited.ensures ∙ ap (λ (z : List IncomingLane). flat_map (λ lane. map (place_awaited c.args.view.now) lane.items) z)
+    c.incoming.ensures in
     subst (λ (n : ℕ). All (λ y. y < n) c.deref.result.now) (sym pairs)
-    (subst (λ (z : List ℕ). All (λ y. y < length c.args.view.now.pairs) z) (sym places) (awaited_known c.args.view.now c.args.view.now.incoming c.requires.lanes))
+    (subst (λ (z : List ℕ). All (λ y. y < length c.args.view.now.pairs) z) (sym places)
+    (awaited_known c.args.view.now c.args.view.now.incoming c.requires.lanes))
 
 pub returns-clause-waits : goal.returns-clause-waits
 returns-clause-waits c =
     let places : c.deref.result.now ≡ awaited_places c.args.view.now =
-    c.deref.ensures.value ∙ c.in_ok-awaited.ensures ∙ ap (λ (z : List IncomingLane). flat_map (λ lane. map (place_awaited c.args.view.now) lane.items) z) c.incoming.ensures in
+    c.deref.ensures.value ∙ c.in_ok-awaited.ensures ∙ ap (λ (z : List IncomingLane). flat_map (λ lane. map (place_awaited c.args.view.now) lane.items) z)
+    c.incoming.ensures in
     c.in_ok-new.ensures.counts c.args.joins.now (λ y. times y (awaited_places c.args.view.now))
     (subst (λ (z : List ℕ). AreFirstCounts c.in_ok-waits.waits.items c.args.joins.now (λ y. times y z)) places c.in_ok-waits.ensures.counts)
 

@@ -10,6 +10,8 @@ pub loop-item-preserved : goal.loop-item-preserved
 loop-item-preserved c =
     let items = c.args.items.now in
     let j : ℕ = c.loop-item.item in
-    let found : c.find-pair.result ≡ place_of items (load_at c.args.outgoing.now j).item = c.find-pair.ensures.place ∙ ap (λ (z : OutgoingItem). place_of items z.item) c.get.ensures in
-    range_more (λ (j : ℕ). queue_place (place_of items (load_at c.args.outgoing.now j).item) c.args.lane j) j c.args.places.now.items c.loop-item.places.items _ c.loop-item.invariant
+    let found : c.find-pair.result ≡ place_of items (load_at c.args.outgoing.now j).item =
+    c.find-pair.ensures.place ∙ ap (λ (z : OutgoingItem). place_of items z.item) c.get.ensures in
+    range_more (λ (j : ℕ). queue_place (place_of items (load_at c.args.outgoing.now j).item) c.args.lane j) j c.args.places.now.items c.loop-item.places.items _
+    c.loop-item.invariant
     (c.in_ok-add_place.ensures ∙ ap (λ (z : Option ℕ). c.loop-item.places.items ++ queue_place z c.args.lane j) found)

@@ -6,4 +6,5 @@ use Rattle.mrp_agent.specs.Queues.{queue_place}
 use Rattle.mrp_agent.proofs.queues.add_items.Given as goal
 
 abbrev pub invariant-loop-item : goal.invariant-loop-item
-invariant-loop-item l = l.places.items ≡ l.fn.places.items ++ flat_map (λ j. queue_place (place_of l.items (load_at l.outgoing j).item) l.lane j) (range_with_len 0 l.item)
+invariant-loop-item l = l.places.items ≡ l.fn.places.items ++ flat_map (λ j. queue_place (place_of l.items (load_at l.outgoing j).item) l.lane j)
+    (range_with_len 0 l.item)

@@ -115,7 +115,12 @@ returns-clause-drafts g c =
 
 pub returns-clause-some : goal.returns-clause-some
 returns-clause-some g c = λ all.
-    omega (arith, c.draft_wave.ensures.drafts.all all, length-append (take c.others_of-others.result c.ready_pairs-pairs.result.now) (get_or c.ready_pairs-pairs.result.now c.others_of-others.result (record { 0 = 0 }) ∷ []))
+    omega (
+      arith,
+      c.draft_wave.ensures.drafts.all all,
+      length-append (take c.others_of-others.result c.ready_pairs-pairs.result.now)
+          (get_or c.ready_pairs-pairs.result.now c.others_of-others.result (record { 0 = 0 }) ∷ []),
+    )
 
 pub returns-clause-free : goal.returns-clause-free
 returns-clause-free g c = c.draft_wave.ensures.drafts.rooms
@@ -123,7 +128,8 @@ returns-clause-free g c = c.draft_wave.ensures.drafts.rooms
 pub returns-clause-shut : goal.returns-clause-shut
 returns-clause-shut g c =
     let others = length-take-le c.others_of-others.result c.ready_pairs-pairs.result.now (omega (arith, c.others_of-others.ensures)) in
-    let_in_of_more g.G.Gate.worker_shut _ c.args.workers c.args.plant c.draft_wave.result.works.items (omega (arith, others, c.others_of-others.ensures)) c.draft_wave.ensures.shut
+    let_in_of_more g.G.Gate.worker_shut _ c.args.workers c.args.plant c.draft_wave.result.works.items
+    (omega (arith, others, c.others_of-others.ensures)) c.draft_wave.ensures.shut
 
 pub returns-in_err-works-clause-refused : goal.returns-in_err-works-clause-refused
 returns-in_err-works-clause-refused g c =

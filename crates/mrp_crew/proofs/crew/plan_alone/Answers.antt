@@ -11,7 +11,8 @@ use Rattle.mrp_crew.proofs.crew.plan_alone.Goals as goal
 pub plan-requires-clause-within : goal.plan-requires-clause-within
 plan-requires-clause-within g c = λ listed.
     let ready = c.ready_pairs in
-    (can_draft c.args.agent.now c.requires.plannable ready.result.now ready.ensures.numbers ready.ensures.own ready.ensures.exact (get_or ready.result.now 0 (record { 0 = 0 })) listed).within
+    (can_draft c.args.agent.now c.requires.plannable ready.result.now ready.ensures.numbers ready.ensures.own ready.ensures.exact
+    (get_or ready.result.now 0 (record { 0 = 0 })) listed).within
 
 pub returns-clause-planned : goal.returns-clause-planned
 returns-clause-planned g c =
@@ -19,7 +20,8 @@ returns-clause-planned g c =
     let ready = c.ready_pairs in
     let x : PairNo = get_or ready.result.now 0 (record { 0 = 0 }) in
     let some = ap length ready.ensures.numbers in
-    let listed = subst (λ z. Contains z x) ready.ensures.numbers (Contains-get_or ready.result.now 0 (record { 0 = 0 }) (omega (arith, c.requires.ready, some))) in
+    let listed = subst (λ z. Contains z x) ready.ensures.numbers (Contains-get_or ready.result.now 0 (record { 0 = 0 }) (omega (arith, c.requires.ready, some)))
+    in
     let could = c.plan.ensures.can.1 listed in
     let fresh = unplanned A c.requires.plannable ready.result.now ready.ensures.numbers ready.ensures.own ready.ensures.exact x listed in (
       x ∷ [],

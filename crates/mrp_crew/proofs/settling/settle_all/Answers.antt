@@ -29,7 +29,8 @@ loop-work-preserved c =
     let popped = c.in-Some.ensures.items in
     let are = popped_first A c.loop-work.works.items rest work popped before.drafts in
     let next = c.settle-kept.ensures.planned in
-    let room : IsRoom first.view.horizon work.room = subst (λ (V : PlantRows). IsRoom V.horizon work.room) before.planned.1.view (first_worked A work (reverse rest) are).room in
+    let room : IsRoom first.view.horizon work.room = subst (λ (V : PlantRows). IsRoom V.horizon work.room) before.planned.1.view
+    (first_worked A work (reverse rest) are).room in
     record {
       planned = (
         before.planned.0 ++ next.0,

@@ -20,20 +20,40 @@ loop-worker-preserved g c =
     let popped = c.in-Some.ensures.items in
     let pushed = c.push_reserved.ensures.items in
     record {
-      pairs = joined_pairs c.loop-worker.workers.items c.pop.new.self.items h c.loop-worker.works.items c.push_reserved.new.self.items w _ popped pushed c.join.ensures.pair before.pairs;
-      room = omega (arith, before.room, ap length popped, ap length pushed, length-append c.pop.new.self.items (h ∷ []), length-append c.loop-worker.works.items (w ∷ []), c.push_reserved.ensures.capacity);
+      pairs = joined_pairs c.loop-worker.workers.items c.pop.new.self.items h c.loop-worker.works.items c.push_reserved.new.self.items w _ popped pushed
+          c.join.ensures.pair before.pairs;
+      room = omega (
+        arith,
+        before.room,
+        ap length popped,
+        ap length pushed,
+        length-append c.pop.new.self.items (h ∷ []),
+        length-append c.loop-worker.works.items
+            (w ∷ []),
+        c.push_reserved.ensures.capacity,
+      );
       told = λ A told. (All-pop (IsFor A) c.loop-worker.workers.items c.pop.new.self.items (Some h) popped (before.told A told)).0;
       worked = λ A told worked.
           All-pushed (WorkedFor A) c.loop-worker.works.items c.push_reserved.new.self.items w pushed (before.worked A told worked)
-          (subst (λ (B : AgentState). WorkedFor B w) (All-pop (IsFor A) c.loop-worker.workers.items c.pop.new.self.items (Some h) popped (before.told A told)).1 c.join.ensures.worked);
+          (subst (λ (B : AgentState). WorkedFor B w) (All-pop (IsFor A) c.loop-worker.workers.items c.pop.new.self.items (Some h) popped (before.told A told)).1
+          c.join.ensures.worked);
       at = λ plant most at. (All-pop (IsWorkerOf plant most) c.loop-worker.workers.items c.pop.new.self.items (Some h) popped (before.at plant most at)).0;
       shut = λ plant most at shut.
-          All-pushed (IsLetIn (WasShutToWorker g.G.Gate.worker_shut most plant)) c.loop-worker.works.items c.push_reserved.new.self.items w pushed (before.shut plant most at shut)
-          (let_in_at g.G.Gate.worker_shut plant most h w (All-pop (IsWorkerOf plant most) c.loop-worker.workers.items c.pop.new.self.items (Some h) popped (before.at plant most at)).1 c.join.ensures.shut);
+          All-pushed (IsLetIn (WasShutToWorker g.G.Gate.worker_shut most plant)) c.loop-worker.works.items c.push_reserved.new.self.items w pushed
+          (before.shut plant most at shut)
+          (let_in_at g.G.Gate.worker_shut plant most h w (All-pop (IsWorkerOf plant most) c.loop-worker.workers.items c.pop.new.self.items (Some h) popped
+          (before.at plant most at)).1 c.join.ensures.shut);
     }
 
 pub loop-worker-init : goal.loop-worker-init
-loop-worker-init g c = record { pairs = refl; room = c.requires.room; told = λ A told. told; worked = λ A told worked. worked; at = λ plant most at. at; shut = λ plant most at shut. shut }
+loop-worker-init g c = record {
+  pairs = refl;
+  room = c.requires.room;
+  told = λ A told. told;
+  worked = λ A told worked. worked;
+  at = λ plant most at. at;
+  shut = λ plant most at shut. shut;
+}
 
 pub push_reserved-requires : goal.push_reserved-requires
 push_reserved-requires g c =

@@ -14,7 +14,8 @@ invariant-loop-worker g l = record {
   told : (A : AgentState) → All (IsFor A) l.initial.workers.items → All (IsFor A) l.workers.items;
   worked : (A : AgentState) → All (IsFor A) l.initial.workers.items → All (WorkedFor A) l.initial.works.items → All (WorkedFor A) l.works.items;
   at : (plant most : ℕ) → All (IsWorkerOf plant most) l.initial.workers.items → All (IsWorkerOf plant most) l.workers.items;
-  shut : (plant most : ℕ) → All (IsWorkerOf plant most) l.initial.workers.items → AreLetIn (WasShutToWorker g.G.Gate.worker_shut most plant) l.initial.works.items
+  shut : (plant most : ℕ) → All (IsWorkerOf plant most) l.initial.workers.items
+      → AreLetIn (WasShutToWorker g.G.Gate.worker_shut most plant) l.initial.works.items
       → AreLetIn (WasShutToWorker g.G.Gate.worker_shut most plant) l.works.items;
 }
 

@@ -12,7 +12,10 @@ kept P Q (Ok x) o is holds weaker = subst (λ z. IfSome z Q) (sym is) (weaker x 
 kept P Q (Err e) o is holds weaker = subst (λ z. IfSome z Q) (sym is) tt
 
 pub spawn_with-started-requires-clause-runs : goal.spawn_with-started-requires-clause-runs
-spawn_with-started-requires-clause-runs g c κs within = (c.requires.can, (c.requires.room, (c.requires.number, record { shared = c.type_bounds.sync-G.shared })))
+spawn_with-started-requires-clause-runs g c κs within = (
+  c.requires.can,
+  (c.requires.room, (c.requires.number, record { shared = c.type_bounds.sync-G.shared })),
+)
 
 pub spawn_with-started-requires-clause-keeps : goal.spawn_with-started-requires-clause-keeps
 spawn_with-started-requires-clause-keeps g c κs within = λ r gives. record {
@@ -23,5 +26,11 @@ spawn_with-started-requires-clause-keeps g c κs within = λ r gives. record {
 
 pub returns : goal.returns
 returns g c =
-    kept _ (IsStarted c.args.agent.now c.args.plant c.args.number c.args.pair) c.spawn_with-started.result c.ok.result c.ok.ensures.value c.spawn_with-started.ensures.ok
-    (λ h is. record { agent = ap (λ p. p.agent.value) is ∙ c.of.ensures; plant_is = ap (λ p. p.plant) is; number_is = ap (λ p. p.number) is; pair_is = ap (λ p. p.pair) is })
+    kept _ (IsStarted c.args.agent.now c.args.plant c.args.number c.args.pair) c.spawn_with-started.result c.ok.result c.ok.ensures.value
+    c.spawn_with-started.ensures.ok
+    (λ h is. record {
+      agent = ap (λ p. p.agent.value) is ∙ c.of.ensures;
+      plant_is = ap (λ p. p.plant) is;
+      number_is = ap (λ p. p.number) is;
+      pair_is = ap (λ p. p.pair) is;
+    })

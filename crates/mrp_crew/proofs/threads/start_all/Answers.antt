@@ -25,14 +25,19 @@ loop-pair-preserved g c =
     let more = length-append c.loop-pair.workers.items (h ∷ []) in
     let fewer = length-append c.take_last-room.new.self.items (room ∷ []) in
     record {
-      started = started_next c.args.pairs.now c.loop-pair.pair-index _ c.loop-pair.workers.items c.push_reserved.new.self.items h (omega arith) before.started pushed c.in-Some.ensures.pair_is;
+      started = started_next c.args.pairs.now c.loop-pair.pair-index _ c.loop-pair.workers.items c.push_reserved.new.self.items h
+          (omega arith) before.started pushed c.in-Some.ensures.pair_is;
       number = omega (arith, before.number, ap length pushed, more);
       enough = omega (arith, before.enough, ap length popped, fewer);
       places = omega (arith, before.places, c.push_reserved.ensures.capacity);
       rooms = (All-pop (IsRoom c.args.agent.now.view.horizon) c.loop-pair.rooms.items c.take_last-room.new.self.items (Some room) popped before.rooms).0;
       told = All-pushed (IsFor c.args.agent.now) c.loop-pair.workers.items c.push_reserved.new.self.items h pushed before.told c.in-Some.ensures.agent;
       at = All-pushed (IsWorkerOf c.args.plant (length c.args.pairs.now + 1)) c.loop-pair.workers.items c.push_reserved.new.self.items h pushed before.at
-          (record { plant_is = c.in-Some.ensures.plant_is; first = omega (arith, c.in-Some.ensures.number_is); last = omega (arith, c.in-Some.ensures.number_is, c.len.ensures, before.number, c.loop-pair-test.true) });
+          (record {
+            plant_is = c.in-Some.ensures.plant_is;
+            first = omega (arith, c.in-Some.ensures.number_is);
+            last = omega (arith, c.in-Some.ensures.number_is, c.len.ensures, before.number, c.loop-pair-test.true);
+          });
     }
 
 pub loop-pair-init : goal.loop-pair-init
@@ -64,7 +69,8 @@ start-requires-clause-can g c κs within =
 pub start-requires-clause-room : goal.start-requires-clause-room
 start-requires-clause-room g c κs within =
     let h = c.args.agent.now.view.horizon in
-    (All-pop (IsRoom h) c.loop-pair.rooms.items c.take_last-room.new.self.items (Some c.take_last-room.result) c.take_last-room.ensures.items c.loop-pair.invariant.rooms).1
+    (All-pop (IsRoom h) c.loop-pair.rooms.items c.take_last-room.new.self.items
+    (Some c.take_last-room.result) c.take_last-room.ensures.items c.loop-pair.invariant.rooms).1
 
 pub start-requires-clause-number : goal.start-requires-clause-number
 start-requires-clause-number g c κs within =
@@ -73,7 +79,8 @@ start-requires-clause-number g c κs within =
 pub returns-in_default-clause-rooms : goal.returns-in_default-clause-rooms
 returns-in_default-clause-rooms g c =
     let h = c.args.agent.now.view.horizon in
-    (All-pop (IsRoom h) c.loop-pair.rooms.items c.take_last-room.new.self.items (Some c.take_last-room.result) c.take_last-room.ensures.items c.loop-pair.invariant.rooms).0
+    (All-pop (IsRoom h) c.loop-pair.rooms.items c.take_last-room.new.self.items
+    (Some c.take_last-room.result) c.take_last-room.ensures.items c.loop-pair.invariant.rooms).0
 
 pub returns-in_default-clause-few : goal.returns-in_default-clause-few
 returns-in_default-clause-few g c = omega (arith, c.loop-pair.invariant.number, c.loop-pair-test.true)
@@ -91,7 +98,12 @@ pub returns-clause-rooms : goal.returns-clause-rooms
 returns-clause-rooms g c = c.loop-pair.invariant.rooms
 
 pub returns-clause-started : goal.returns-clause-started
-returns-clause-started g c = ([], started_all c.args.pairs.now c.loop-pair.pair-index c.loop-pair.workers.items c.loop-pair-test.false c.loop-pair.invariant.started, refl)
+returns-clause-started g c = (
+  [],
+  started_all c.args.pairs.now c.loop-pair.pair-index c.loop-pair.workers.items c.loop-pair-test.false
+      c.loop-pair.invariant.started,
+  refl,
+)
 
 pub returns-clause-few : goal.returns-clause-few
 returns-clause-few g c = omega (arith, c.loop-pair.invariant.number, c.loop-pair.auto.pair-index-end)

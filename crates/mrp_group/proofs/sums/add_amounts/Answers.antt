@@ -10,12 +10,14 @@ lies g c =
     let key = g.K.KeyOf.key_of c.args.by.now in
     let second = g.L.KeyOf.key_of c.args.second.now in
     let r = c.row-item.result in
-    let there = subst (λ z. key z * c.args.width + second z < length c.args.amounts.now) (sym c.row-item.is) (c.requires.places c.loop-row.row-index r c.loop-row-test.true) in
+    let there = subst (λ z. key z * c.args.width + second z < length c.args.amounts.now) (sym c.row-item.is)
+    (c.requires.places c.loop-row.row-index r c.loop-row-test.true) in
     subst (λ (z : ℕ). z * c.args.width + second r < length c.args.amounts.now) (sym c.key.ensures) there
 
 lies_at : (g : Over) (c : After-key-in-loop-row g) → c.key.result * c.args.width + c.key-in-loop-row.result < length c.args.amounts.now
 lies_at g c =
-    subst (λ (z : ℕ). c.key.result * c.args.width + z < length c.args.amounts.now) (sym c.key-in-loop-row.ensures) (lies g (goal.at.overflow_add-at g c).After-key)
+    subst (λ (z : ℕ). c.key.result * c.args.width + z < length c.args.amounts.now) (sym c.key-in-loop-row.ensures)
+    (lies g (goal.at.overflow_add-at g c).After-key)
 
 pub overflow_mul-at : goal.overflow_mul-at
 overflow_mul-at g c = omega (arith, lies g c)
@@ -49,4 +51,7 @@ pub bounds-amounts-at-in-loop-row : goal.bounds-amounts-at-in-loop-row
 bounds-amounts-at-in-loop-row g c = omega (arith, lies_at g (goal.at.bounds-amounts-at-in-loop-row g c).After-key-in-loop-row, c.loop-row.auto.amounts)
 
 pub offset_bounds-amounts-at-in-loop-row : goal.offset_bounds-amounts-at-in-loop-row
-offset_bounds-amounts-at-in-loop-row g c = record { fits = omega (arith, lies_at g (goal.at.offset_bounds-amounts-at-in-loop-row g c).After-key-in-loop-row, c.loop-row.auto.amounts) }
+offset_bounds-amounts-at-in-loop-row g c = record {
+  fits = omega
+      (arith, lies_at g (goal.at.offset_bounds-amounts-at-in-loop-row g c).After-key-in-loop-row, c.loop-row.auto.amounts);
+}

@@ -29,6 +29,8 @@ loop-preserved g c =
     record {
       ours = (same.0 ∙ so_far.ours.0, same.2 ∙ so_far.ours.1);
       left_at = so_far.left_at ++ took.stamp ∷ [];
-      as_many = one_more_each c.loop.left.items c.push.new.self.items so_far.left_at c.in-Some-pop.entry took.stamp c.in_ok-push-in-Some-pop.ensures.items so_far.as_many;
-      taken = took_more (view c.args.pass.now) _ _ c.loop.left.items c.push.new.self.items so_far.left_at c.in-Some-pop.entry took.stamp took.is so_far.taken c.in_ok-push-in-Some-pop.ensures.items;
+      as_many = one_more_each c.loop.left.items c.push.new.self.items so_far.left_at c.in-Some-pop.entry took.stamp c.in_ok-push-in-Some-pop.ensures.items
+          so_far.as_many;
+      taken = took_more (view c.args.pass.now) _ _ c.loop.left.items c.push.new.self.items so_far.left_at c.in-Some-pop.entry took.stamp took.is so_far.taken
+          c.in_ok-push-in-Some-pop.ensures.items;
     }

@@ -13,7 +13,8 @@ use Rattle.mrp_lane.proofs.joining.reconcile.Goals as goal
 pub absorb-requires-clause-queue : goal.absorb-requires-clause-queue
 absorb-requires-clause-queue g c = (
   ours_there c.send.invariant.1 c.deref.ensures,
-  both_ours _ (arc_value c.take.inside.mailbox) _ c.send.inside.pass c.take.inside.pass c.send.inside.lane.0 c.take.inside.lane.0 _ _ _ _ c.args.send c.args.take c.send.view_is c.take.view_is c.requires.same c.send.invariant.1.ours c.take.invariant.1.ours c.deref.ensures,
+  both_ours _ (arc_value c.take.inside.mailbox) _ c.send.inside.pass c.take.inside.pass c.send.inside.lane.0 c.take.inside.lane.0 _ _ _ _ c.args.send
+      c.args.take c.send.view_is c.take.view_is c.requires.same c.send.invariant.1.ours c.take.invariant.1.ours c.deref.ensures,
 )
 
 pub absorb-requires-clause-rule : goal.absorb-requires-clause-rule
@@ -21,27 +22,32 @@ absorb-requires-clause-rule g c = joins _ _ _ _ c.send.invariant.0 c.send.invari
 
 pub settle-requires-clause-sends : goal.settle-requires-clause-sends
 settle-requires-clause-sends g c =
-    joins_sending _ _ c.send.inside.pass c.absorb.new.pass (view c.take.inside.pass) c.send.inside.lane.0 c.send.inside.tally c.send.invariant.1 c.deref-2.ensures c.absorb.ensures.queue c.absorb.ensures.rule
+    joins_sending _ _ c.send.inside.pass c.absorb.new.pass (view c.take.inside.pass) c.send.inside.lane.0 c.send.inside.tally c.send.invariant.1
+    c.deref-2.ensures c.absorb.ensures.queue c.absorb.ensures.rule
 
 pub settle-requires-clause-takes : goal.settle-requires-clause-takes
 settle-requires-clause-takes g c =
-    joins_taking _ _ _ c.send.inside.pass c.take.inside.pass c.absorb.new.pass c.send.inside.lane.0 _ c.send.inside.tally c.take.inside.tally c.args.send c.args.take
+    joins_taking _ _ _ c.send.inside.pass c.take.inside.pass c.absorb.new.pass c.send.inside.lane.0 _ c.send.inside.tally c.take.inside.tally c.args.send
+    c.args.take
     c.send.invariant.1 c.take.invariant.1 c.send.view_is c.take.view_is c.requires.same c.deref-2.ensures c.absorb.ensures.queue c.absorb.ensures.rule
 
 pub returns-clause-network : goal.returns-clause-network
 returns-clause-network g c =
-    IfOk-weaker c.settle.result _ _ (λ r is. is ∙ ap (λ (v : LaneView). v.network) c.absorb.ensures.rule ∙ ap (λ (e : End). e.name.network) c.send.view_is) c.settle.ensures.network
+    IfOk-weaker c.settle.result _ _ (λ r is. is ∙ ap (λ (v : LaneView). v.network) c.absorb.ensures.rule
+    ∙ ap (λ (e : End). e.name.network) c.send.view_is) c.settle.ensures.network
 
 pub returns-clause-lane : goal.returns-clause-lane
 returns-clause-lane g c = IfOk-weaker c.settle.result _ _ (λ r is. is ∙ ap (λ (e : End). e.name.lane) c.send.view_is) c.settle.ensures.lane
 
 pub returns-clause-sent : goal.returns-clause-sent
 returns-clause-sent g c =
-    IfOk-weaker c.settle.result _ _ (λ r is. is ∙ ap (λ (v : LaneView). v.sent) c.absorb.ensures.rule ∙ ap (λ (e : End). e.list) c.send.view_is) c.settle.ensures.sent
+    IfOk-weaker c.settle.result _ _ (λ r is. is ∙ ap (λ (v : LaneView). v.sent) c.absorb.ensures.rule
+    ∙ ap (λ (e : End). e.list) c.send.view_is) c.settle.ensures.sent
 
 pub returns-clause-taken : goal.returns-clause-taken
 returns-clause-taken g c =
-    IfOk-weaker c.settle.result _ _ (λ r is. is ∙ ap (λ (v : LaneView). v.taken) c.absorb.ensures.rule ∙ ap (λ (e : End). e.list) c.take.view_is) c.settle.ensures.taken
+    IfOk-weaker c.settle.result _ _ (λ r is. is ∙ ap (λ (v : LaneView). v.taken) c.absorb.ensures.rule
+    ∙ ap (λ (e : End). e.list) c.take.view_is) c.settle.ensures.taken
 
 pub returns-clause-left : goal.returns-clause-left
 returns-clause-left g c =
@@ -54,18 +60,21 @@ returns-clause-left g c =
 
 pub returns-clause-sent_at : goal.returns-clause-sent_at
 returns-clause-sent_at g c =
-    IfOk-weaker c.settle.result _ _ (λ r is. is ∙ ap (λ (v : LaneView). v.sent_at) c.absorb.ensures.rule ∙ ap (λ (e : End). e.stamps) c.send.view_is) c.settle.ensures.sent_at
+    IfOk-weaker c.settle.result _ _ (λ r is. is ∙ ap (λ (v : LaneView). v.sent_at) c.absorb.ensures.rule
+    ∙ ap (λ (e : End). e.stamps) c.send.view_is) c.settle.ensures.sent_at
 
 pub returns-clause-taken_at : goal.returns-clause-taken_at
 returns-clause-taken_at g c =
-    IfOk-weaker c.settle.result _ _ (λ r is. is ∙ ap (λ (v : LaneView). v.taken_at) c.absorb.ensures.rule ∙ ap (λ (e : End). e.stamps) c.take.view_is) c.settle.ensures.taken_at
+    IfOk-weaker c.settle.result _ _ (λ r is. is ∙ ap (λ (v : LaneView). v.taken_at) c.absorb.ensures.rule
+    ∙ ap (λ (e : End). e.stamps) c.take.view_is) c.settle.ensures.taken_at
 
 pub returns-clause-left_at : goal.returns-clause-left_at
 returns-clause-left_at g c =
     let known = c.absorb.ensures.rule in
     IfOk-weaker c.settle.result _ _
     (λ r is. (
-      sym (ap (λ (e : End). e.stamps) c.send.view_is) ∙ sym (ap (λ (v : LaneView). v.sent_at) known) ∙ is.0 ∙ ap (λ (v : LaneView). v.taken_at ++ r.left_at) known
+      sym (ap (λ (e : End). e.stamps) c.send.view_is) ∙ sym (ap (λ (v : LaneView). v.sent_at) known) ∙ is.0
+          ∙ ap (λ (v : LaneView). v.taken_at ++ r.left_at) known
           ∙ ap (λ (e : End). e.stamps ++ r.left_at) c.take.view_is,
       is.1,
     ))

@@ -33,8 +33,10 @@ lane_figures-requires-clause-received g c =
 
 pub invariant_of-result : goal.invariant_of-result
 invariant_of-result g c =
-    is_counted _ c.args.pass c.drained.new.pass c.args.lane c.args.sent.now c.args.taken.now c.records.result c.records-2.result _ _ c.requires.sends.1 c.requires.takes.1 c.records.ensures c.records-2.ensures
-    c.in_ok-left.ensures.took c.in_ok-left.ensures.left c.in_ok-left.ensures.stamps c.in_ok-left.ensures.as_many (c.in_ok-figures.ensures ∙ (λ j. figures_of c.args.lane (c.items.ensures j) (c.items-2.ensures j)))
+    is_counted _ c.args.pass c.drained.new.pass c.args.lane c.args.sent.now c.args.taken.now c.records.result c.records-2.result _ _ c.requires.sends.1
+    c.requires.takes.1 c.records.ensures c.records-2.ensures
+    c.in_ok-left.ensures.took c.in_ok-left.ensures.left c.in_ok-left.ensures.stamps c.in_ok-left.ensures.as_many
+    (c.in_ok-figures.ensures ∙ (λ j. figures_of c.args.lane (c.items.ensures j) (c.items-2.ensures j)))
 
 pub returns-clause-network : goal.returns-clause-network
 returns-clause-network g c = ap (λ (v : LaneView). v.network) c.in_ok-left.ensures.took
@@ -47,7 +49,8 @@ returns-clause-sent g c = ap (λ (v : LaneView). v.sent) c.in_ok-left.ensures.to
 
 pub returns-clause-taken : goal.returns-clause-taken
 returns-clause-taken g c =
-    front_is_taken (view c.args.pass) _ c.records-2.result _ c.in_ok-left.ensures.took (c.records-2.ensures ∙ ap (λ (t : Counts). t.records) c.requires.takes.1.counted) c.in_ok-left.ensures.left
+    front_is_taken (view c.args.pass) _ c.records-2.result _ c.in_ok-left.ensures.took
+    (c.records-2.ensures ∙ ap (λ (t : Counts). t.records) c.requires.takes.1.counted) c.in_ok-left.ensures.left
 
 pub returns-clause-left : goal.returns-clause-left
 returns-clause-left g c = c.in_ok-left.ensures.left
@@ -57,12 +60,14 @@ returns-clause-sent_at g c = ap (λ (v : LaneView). v.sent_at) c.in_ok-left.ensu
 
 pub returns-clause-taken_at : goal.returns-clause-taken_at
 returns-clause-taken_at g c =
-    front_stamps (view c.args.pass) _ c.records-2.result _ c.in_ok-left.ensures.took (c.records-2.ensures ∙ ap (λ (t : Counts). t.records) c.requires.takes.1.counted)
+    front_stamps (view c.args.pass) _ c.records-2.result _ c.in_ok-left.ensures.took
+    (c.records-2.ensures ∙ ap (λ (t : Counts). t.records) c.requires.takes.1.counted)
     c.in_ok-left.ensures.left c.in_ok-left.ensures.stamps c.in_ok-left.ensures.as_many
 
 pub returns-clause-left_at : goal.returns-clause-left_at
 returns-clause-left_at g c =
-    stamps_left (view c.args.pass) _ c.records-2.result _ c.in_ok-left.ensures.took (c.records-2.ensures ∙ ap (λ (t : Counts). t.records) c.requires.takes.1.counted)
+    stamps_left (view c.args.pass) _ c.records-2.result _ c.in_ok-left.ensures.took
+    (c.records-2.ensures ∙ ap (λ (t : Counts). t.records) c.requires.takes.1.counted)
     c.in_ok-left.ensures.left c.in_ok-left.ensures.stamps c.in_ok-left.ensures.as_many
 
 pub returns-clause-figures : goal.returns-clause-figures

@@ -21,7 +21,8 @@ invariant_of-send c =
     let mailbox = arc_value c.in_ok-mailbox.mailbox in
     opens_sending mailbox pass c.network-network.result.now c.args.lane.0 c.in_ok-sent.sent
     (still_ours mailbox mailbox c.in_ok-mailbox.pass pass refl c.in_ok-mailbox.ensures.pass c.name-takers_pass.ensures.same)
-    c.name-takers_pass.ensures.sends (is_sized (goal.at.invariant_of-send c).After-network-network) (there (goal.at.invariant_of-send c).After-network-network) c.in_ok-sent.ensures
+    c.name-takers_pass.ensures.sends (is_sized (goal.at.invariant_of-send c).After-network-network)
+    (there (goal.at.invariant_of-send c).After-network-network) c.in_ok-sent.ensures
 
 pub invariant_of-take : goal.invariant_of-take
 invariant_of-take c =
@@ -29,7 +30,8 @@ invariant_of-take c =
     let mailbox = arc_value c.in_ok-mailbox.takers_mailbox in
     opens_taking mailbox pass c.network-network.result.now c.args.lane.0 c.in_ok-taken.taken
     (still_ours _ mailbox pass pass (c.in_ok-mailbox.ensures.one ∙ sym c.deref.ensures) c.name-takers_pass.ensures.takers (refl, refl, refl))
-    c.name-takers_pass.ensures.takes (is_sized (goal.at.invariant_of-take c).After-network-network) (there (goal.at.invariant_of-take c).After-network-network) c.in_ok-taken.ensures
+    c.name-takers_pass.ensures.takes (is_sized (goal.at.invariant_of-take c).After-network-network)
+    (there (goal.at.invariant_of-take c).After-network-network) c.in_ok-taken.ensures
 
 pub longest_text-requires : goal.longest_text-requires
 longest_text-requires c = there c
@@ -38,7 +40,8 @@ pub shared-requires : goal.shared-requires
 shared-requires c = omega (arith, c.min-room.ensures, c.longest_text.ensures, c.requires.capacity.0)
 
 pub name-takers_pass-requires-clause-pass : goal.name-takers_pass-requires-clause-pass
-name-takers_pass-requires-clause-pass c = still_ours _ _ c.in_ok-mailbox.pass c.in_ok-mailbox.pass c.deref.ensures c.in_ok-mailbox.ensures.pass (refl, refl, refl)
+name-takers_pass-requires-clause-pass c = still_ours _ _ c.in_ok-mailbox.pass c.in_ok-mailbox.pass c.deref.ensures c.in_ok-mailbox.ensures.pass
+    (refl, refl, refl)
 
 pub name-takers_pass-requires-clause-first : goal.name-takers_pass-requires-clause-first
 name-takers_pass-requires-clause-first c = c.in_ok-mailbox.ensures.first

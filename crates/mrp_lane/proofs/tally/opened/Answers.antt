@@ -9,7 +9,8 @@ use Rattle.mrp_lane.proofs.tally.opened.Goals as goal
 pub returns-clause-once : goal.returns-clause-once
 returns-clause-once c =
     subst (IsDistinct is_same_pieces)
-    (sym (opened_all c.args.network.now c.args.lane.0 c.lane_items-on_lane.result.now c.loop-item.item-index c.loop-item.items.items c.loop-item.invariant c.loop-item-test.false c.lane_items-on_lane.ensures.value))
+    (sym (opened_all c.args.network.now c.args.lane.0 c.lane_items-on_lane.result.now c.loop-item.item-index c.loop-item.items.items c.loop-item.invariant
+    c.loop-item-test.false c.lane_items-on_lane.ensures.value))
     (opened_apart c.args.network.now c.args.lane.0 c.requires.sized.table)
 
 pub loop-item-init : goal.loop-item-init
@@ -31,12 +32,15 @@ pub opened_item-requires-clause-item : goal.opened_item-requires-clause-item
 opened_item-requires-clause-item c =
     let there : Contains c.lane_items-on_lane.result.now (get_or c.lane_items-on_lane.result.now c.loop-item.item-index (record { 0 = 0 })) =
     (c.loop-item.item-index, c.loop-item-test.true, get_or_default c.lane_items-on_lane.result.now c.loop-item.item-index _ _ c.loop-item-test.true) in
-    subst (λ (items : List ItemNo). Contains items (get_or c.lane_items-on_lane.result.now c.loop-item.item-index (record { 0 = 0 }))) c.lane_items-on_lane.ensures.value there
+    subst (λ (items : List ItemNo). Contains items (get_or c.lane_items-on_lane.result.now c.loop-item.item-index (record { 0 = 0 })))
+    c.lane_items-on_lane.ensures.value there
 
 pub loop-item-preserved : goal.loop-item-preserved
 loop-item-preserved c =
-    opened_more c.args.network.now c.args.lane.0 c.lane_items-on_lane.result.now c.loop-item.item-index _ _ _ c.loop-item-test.true c.loop-item.invariant c.opened_item.ensures c.in_ok-push.ensures.items
+    opened_more c.args.network.now c.args.lane.0 c.lane_items-on_lane.result.now c.loop-item.item-index _ _ _ c.loop-item-test.true c.loop-item.invariant
+    c.opened_item.ensures c.in_ok-push.ensures.items
 
 pub returns-clause-items : goal.returns-clause-items
 returns-clause-items c =
-    opened_all c.args.network.now c.args.lane.0 c.lane_items-on_lane.result.now c.loop-item.item-index c.loop-item.items.items c.loop-item.invariant c.loop-item-test.false c.lane_items-on_lane.ensures.value
+    opened_all c.args.network.now c.args.lane.0 c.lane_items-on_lane.result.now c.loop-item.item-index c.loop-item.items.items c.loop-item.invariant
+    c.loop-item-test.false c.lane_items-on_lane.ensures.value

@@ -12,7 +12,8 @@ invariant_of-result c =
 pub returns-in_default-clause-codes : goal.returns-in_default-clause-codes
 returns-in_default-clause-codes c =
     let taken = c.in_ok-taken.taken in
-    let none : All (λ (w : ℕ). w ≡ 0) taken.left.items = All-same (λ (w : ℕ). w ≡ 0) taken.left.items c.as_slice.result.now (sym c.as_slice.ensures.value) c.in_default.ensures.none in
+    let none : All (λ (w : ℕ). w ≡ 0) taken.left.items = All-same (λ (w : ℕ). w ≡ 0) taken.left.items c.as_slice.result.now
+    (sym c.as_slice.ensures.value) c.in_default.ensures.none in
     let are = codes_exact c.args.network.now taken.queue.items taken.left.items taken.codes.items c.in_ok-taken.ensures none in
     (are, loop_free c.args.network.now taken.codes.items c.in_ok-taken.ensures.counted.table are)
 

@@ -11,11 +11,13 @@ use Rattle.mrp_loops.proofs.sized.bound.Goals as goal
 pub test_needs-requires : goal.test_needs-requires
 test_needs-requires c =
     let P : List PairNo → Type 0 = λ order. IsPlanningOrder c.args.network.now (map (λ x. x.0) order) in
-    subst P (sym (c.as_slice.ensures.value ∙ c.in_ok-order.ensures)) (code_order_plans c.args.network.now c.args.levels.now c.pairs-pairs.ensures.table c.requires)
+    subst P (sym (c.as_slice.ensures.value ∙ c.in_ok-order.ensures))
+    (code_order_plans c.args.network.now c.args.levels.now c.pairs-pairs.ensures.table c.requires)
 
 pub invariant_of-result : goal.invariant_of-result
 invariant_of-result c = (
-  sized_from_codes c.args.network.now c.args.levels.now c.in_ok-needs.needs.items c.pairs-pairs.ensures.table c.requires c.in_ok-needs.ensures.needs c.in_ok-needs.ensures.within,
+  sized_from_codes c.args.network.now c.args.levels.now c.in_ok-needs.needs.items c.pairs-pairs.ensures.table c.requires c.in_ok-needs.ensures.needs
+      c.in_ok-needs.ensures.within,
   c.requires,
   c.in_ok-needs.ensures.needs,
   c.in_ok-order.ensures,
@@ -23,7 +25,8 @@ invariant_of-result c = (
 
 pub returns-clause-within : goal.returns-clause-within
 returns-clause-within c =
-    sized_from_codes c.args.network.now c.args.levels.now c.in_ok-needs.needs.items c.pairs-pairs.ensures.table c.requires c.in_ok-needs.ensures.needs c.in_ok-needs.ensures.within
+    sized_from_codes c.args.network.now c.args.levels.now c.in_ok-needs.needs.items c.pairs-pairs.ensures.table c.requires c.in_ok-needs.ensures.needs
+    c.in_ok-needs.ensures.within
 
 pub returns-in_err-needs-clause-fault : goal.returns-in_err-needs-clause-fault
 returns-in_err-needs-clause-fault c =

@@ -8,7 +8,8 @@ use Rattle.mrp_loops.proofs.taking.take_away.Goals as goal
 pub loop-next-smaller : goal.loop-next-smaller
 loop-next-smaller c =
     let counted = c.loop-next.invariant.taken.counted in
-    let short : length c.loop-next.state.queue.items ≤ length c.args.network.now.pairs = length-apart c.loop-next.state.queue.items (length c.args.network.now.pairs) counted.once counted.pairs in
+    let short : length c.loop-next.state.queue.items ≤ length c.args.network.now.pairs =
+    length-apart c.loop-next.state.queue.items (length c.args.network.now.pairs) counted.once counted.pairs in
     omega (arith, c.loop-next-test.true, c.len.ensures)
 
 pub loop-next-init : goal.loop-next-init
@@ -23,4 +24,5 @@ loop-next-preserved c = record { within = c.in_ok-pass.ensures.within; taken = c
 pub returns : goal.returns
 returns c =
     let state = c.loop-next.state in
-    subst (λ (taken : List PairNo). IsTaken c.args.network.now taken state.queue.items state.left.items state.codes.items) (take_all c.loop-next.next state.queue.items (omega (arith, c.loop-next-test.false, c.len.ensures))) c.loop-next.invariant.taken
+    subst (λ (taken : List PairNo). IsTaken c.args.network.now taken state.queue.items state.left.items state.codes.items)
+    (take_all c.loop-next.next state.queue.items (omega (arith, c.loop-next-test.false, c.len.ensures))) c.loop-next.invariant.taken

@@ -10,10 +10,12 @@ returns c =
     let ring = c.args.ring.now in
     let start : c.as_mut_slice-pairs.result.now ≡ ring = c.as_mut_slice-pairs.ensures.value ∙ c.in_ok-found.ensures.items in
     let back : c.reverse.new.self ≡ reverse ring = c.reverse.ensures.after ∙ ap reverse start in
-    let turned : c.rotate_left.new.self ≡ drop k (reverse ring) ++ take k (reverse ring) = c.rotate_left.ensures.after ∙ ap (λ (q : List PairNo). drop k q ++ take k q) back in
+    let turned : c.rotate_left.new.self ≡ drop k (reverse ring) ++ take k (reverse ring) =
+    c.rotate_left.ensures.after ∙ ap (λ (q : List PairNo). drop k q ++ take k q) back in
     let long : length c.rotate_left.new.self ≡ c.in_ok-found.found.len =
     omega (arith, c.rotate_left.ensures.len, c.reverse.ensures.len, c.as_mut_slice-pairs.ensures.len) in
-    let whole : take c.in_ok-found.found.len (c.rotate_left.new.self ++ drop (length c.rotate_left.new.self) c.in_ok-found.found.items) ≡ drop k (reverse ring) ++ take k (reverse ring) =
+    let whole : take c.in_ok-found.found.len (c.rotate_left.new.self ++ drop (length c.rotate_left.new.self) c.in_ok-found.found.items) ≡ drop k (reverse ring)
+    ++ take k (reverse ring) =
     take_at c.rotate_left.new.self (drop (length c.rotate_left.new.self) c.in_ok-found.found.items) c.in_ok-found.found.len long ∙ turned in
     found_from_ring c.args.network.now ring _ k c.requires.ring c.requires.met
     (omega (arith, c.least-first.ensures.within, ap length back))

@@ -14,20 +14,25 @@ at_most from read path within same = omega (arith, within, ap length same)
 pub loop-visited-smaller : goal.loop-visited-smaller
 loop-visited-smaller c =
     let i = c.loop-visited.invariant in
-    let new = not_seen c.args.network.now c.loop-visited.path.items c.loop-visited.visited.items c.loop-visited.x c.index.result.now i.size i.seen i.pair c.index.ensures cc in
+    let new = not_seen c.args.network.now c.loop-visited.path.items c.loop-visited.visited.items c.loop-visited.x c.index.result.now i.size i.seen i.pair
+    c.index.ensures cc in
     let short = path_short c.args.network.now c.loop-visited.path.items c.loop-visited.x i.pairs i.pair i.apart new in
     omega (arith, ap length c.in_ok-push.ensures.items, length_push c.loop-visited.path.items c.loop-visited.x)
 
 pub loop-visited-preserved : goal.loop-visited-preserved
 loop-visited-preserved c =
     let i = c.loop-visited.invariant in
-    let new = not_seen c.args.network.now c.loop-visited.path.items c.loop-visited.visited.items c.loop-visited.x c.index.result.now i.size i.seen i.pair c.index.ensures cc in
+    let new = not_seen c.args.network.now c.loop-visited.path.items c.loop-visited.visited.items c.loop-visited.x c.index.result.now i.size i.seen i.pair
+    c.index.ensures cc in
     record {
       size = length-set c.loop-visited.visited.items c.loop-visited.x.0 true ∙ i.size;
-      seen = rw c.in_ok-push.ensures.items (seen_more c.args.network.now c.loop-visited.visited.items c.loop-visited.path.items c.loop-visited.x i.size i.pair i.seen);
-      pairs = rw c.in_ok-push.ensures.items (All-push (λ (z : PairNo). IsPair c.args.network.now z.0) c.loop-visited.path.items c.loop-visited.x i.pairs i.pair);
+      seen = rw c.in_ok-push.ensures.items (seen_more c.args.network.now c.loop-visited.visited.items c.loop-visited.path.items c.loop-visited.x i.size i.pair
+          i.seen);
+      pairs = rw c.in_ok-push.ensures.items (All-push (λ (z : PairNo). IsPair c.args.network.now z.0) c.loop-visited.path.items c.loop-visited.x i.pairs
+          i.pair);
       apart = rw c.in_ok-push.ensures.items (Apart-push c.loop-visited.path.items c.loop-visited.x i.apart new);
-      climbs = rw c.in_ok-push.ensures.items (climbs_more (ComesFrom c.args.network.now) c.loop-visited.path.items c.loop-visited.x c.demander_left-x.result i.climbs c.demander_left-x.ensures.goes);
+      climbs = rw c.in_ok-push.ensures.items (climbs_more (ComesFrom c.args.network.now) c.loop-visited.path.items c.loop-visited.x c.demander_left-x.result
+          i.climbs c.demander_left-x.ensures.goes);
       met = rw c.in_ok-push.ensures.items (All-push (λ (z : PairNo). IsMet c.args.network.now z.0) c.loop-visited.path.items c.loop-visited.x i.met i.comes);
       comes = (suc i.comes.0, (c.loop-visited.x.0, i.comes.1, c.demander_left-x.ensures.goes));
       pair = c.demander_left-x.ensures.pair;
@@ -74,7 +79,8 @@ demander_left-x-requires-clause-left c = c.loop-visited.invariant.left
 pub place_of-from-requires : goal.place_of-from-requires
 place_of-from-requires c =
     let i = c.loop-visited.invariant in
-    rw c.as_slice.ensures.value (seen_again c.args.network.now c.loop-visited.path.items c.loop-visited.visited.items c.loop-visited.x c.index.result.now i.size i.seen i.pair c.index.ensures c.loop-visited-test.false)
+    rw c.as_slice.ensures.value (seen_again c.args.network.now c.loop-visited.path.items c.loop-visited.visited.items c.loop-visited.x c.index.result.now i.size
+    i.seen i.pair c.index.ensures c.loop-visited-test.false)
 
 pub returns-clause-within : goal.returns-clause-within
 returns-clause-within c =

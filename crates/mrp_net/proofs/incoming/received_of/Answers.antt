@@ -11,5 +11,6 @@ loop-x-preserved c =
     let x : ℕ = get_or c.args.pairs.now i 0 in
     let width = c.get-periods.ensures.value ∙ c.horizon.ensures.value in
     rows_more N (received N) c.args.pairs.now c.loop-x.rows.items c.extend_from_slice.new.self.items _ i x c.loop-x-test.true refl
-    (row_read N N received c.args.receipts.now c.args.receipts.now x _ _ refl c.requires.all (ap (λ (z : ℕ). x * z) width) (ap (λ (z : ℕ). (x + 1) * z) width) (c.requires.within i c.loop-x-test.true) refl)
+    (row_read N N received c.args.receipts.now c.args.receipts.now x _ _ refl c.requires.all (ap (λ (z : ℕ). x * z) width) (ap (λ (z : ℕ). (x + 1) * z) width)
+    (c.requires.within i c.loop-x-test.true) refl)
     c.in_ok-extend_from_slice.ensures.items c.loop-x.invariant

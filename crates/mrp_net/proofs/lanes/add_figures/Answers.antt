@@ -9,7 +9,8 @@ use Rattle.mrp_net.proofs.lanes.add_figures.Goals as goal
 pub source_of-source-requires-clause-taken : goal.source_of-source-requires-clause-taken
 source_of-source-requires-clause-taken c =
     let N = c.args.tables.now in
-    let cums = read_within (λ (k : CumRow). is_taken_from N k.pair.0 k.from.0 ≡ true) c.cums-cum-items.result.now N.cums c.cums-cum-items.ensures.value c.cums-cum-items.ensures.table.sourced.cums in
+    let cums = read_within (λ (k : CumRow). is_taken_from N k.pair.0 k.from.0
+    ≡ true) c.cums-cum-items.result.now N.cums c.cums-cum-items.ensures.value c.cums-cum-items.ensures.table.sourced.cums in
     subst (λ (k : CumRow). is_taken_from N k.pair.0 k.from.0 ≡ true) (sym c.cum-item.is) (cums c.loop-cum.cum-index c.cum-item.result c.loop-cum-test.true)
 
 pub bounds-figures-source : goal.bounds-figures-source
@@ -22,11 +23,15 @@ pub loop-cum-preserved : goal.loop-cum-preserved
 loop-cum-preserved c =
     let N = c.args.tables.now in
     let source : ℕ = c.source_of-source.result in
-    AddsTotals-more (λ (k : CumRow). source_no N k.pair.0 k.from.0) (λ k. k.figure) c.cums-cum-items.result.now c.args.figures.now c.loop-cum.figures c.loop-cum.cum-index c.cum-item.result source c.saturating_add.result c.loop-cum-test.true c.cum-item.is
-    c.loop-cum.invariant c.source_of-source.ensures.value c.loop-cum.auto.figures (c.saturating_add.ensures ∙ ap (λ (z : ℕ). min (get_or c.loop-cum.figures source 0 + z) (2 ^ 64 - 1)) c.get.ensures.value)
+    AddsTotals-more (λ (k : CumRow). source_no N k.pair.0 k.from.0)
+    (λ k. k.figure) c.cums-cum-items.result.now c.args.figures.now c.loop-cum.figures c.loop-cum.cum-index c.cum-item.result source c.saturating_add.result
+    c.loop-cum-test.true c.cum-item.is
+    c.loop-cum.invariant c.source_of-source.ensures.value c.loop-cum.auto.figures (c.saturating_add.ensures
+    ∙ ap (λ (z : ℕ). min (get_or c.loop-cum.figures source 0 + z) (2 ^ 64 - 1)) c.get.ensures.value)
 
 pub returns : goal.returns
 returns c =
     let N = c.args.tables.now in
-    subst (λ (z : List CumRow). AddsTotals (λ k. source_no N k.pair.0 k.from.0) (λ k. k.figure) z c.args.figures.now c.loop-cum.figures) (taken_whole c.cums-cum-items.result.now N.cums c.loop-cum.cum-index c.loop-cum-test.false c.cums-cum-items.ensures.value)
+    subst (λ (z : List CumRow). AddsTotals (λ k. source_no N k.pair.0 k.from.0) (λ k. k.figure) z c.args.figures.now c.loop-cum.figures)
+    (taken_whole c.cums-cum-items.result.now N.cums c.loop-cum.cum-index c.loop-cum-test.false c.cums-cum-items.ensures.value)
     c.loop-cum.invariant

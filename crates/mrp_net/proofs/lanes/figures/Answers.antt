@@ -9,5 +9,8 @@ pub returns : goal.returns
 returns c =
     let N = c.args.tables.now in
     figures_built N _ c.sources.ensures.table
-    (totals_built (λ (k : CumRow). source_no N k.pair.0 k.from.0) (λ k. k.figure) c.sources.result.now N.sources N.cums N.cums c.in_ok-figures.figures.items c.as_mut_slice.result.now c.add_figures.new.figures c.in_ok-figures.figures.len
-    (search rules) c.sources.ensures.value refl c.as_mut_slice.ensures.value c.add_figures.auto.figures (omega (arith, c.add_figures.auto.figures, c.as_mut_slice.ensures.len)) c.add_figures.ensures)
+    (totals_built (λ (k : CumRow). source_no N k.pair.0 k.from.0)
+    (λ k. k.figure) c.sources.result.now N.sources N.cums N.cums c.in_ok-figures.figures.items c.as_mut_slice.result.now c.add_figures.new.figures
+    c.in_ok-figures.figures.len
+    (search rules) c.sources.ensures.value refl c.as_mut_slice.ensures.value c.add_figures.auto.figures
+    (omega (arith, c.add_figures.auto.figures, c.as_mut_slice.ensures.len)) c.add_figures.ensures)

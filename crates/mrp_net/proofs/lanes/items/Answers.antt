@@ -16,7 +16,11 @@ pub returns : goal.returns
 returns c =
     let N = c.args.tables.now in
     let found = c.in_ok-rows.field-0 in
-    let grouped = subst (λ (z : ℕ). IsGrouped (λ (t : Taken). t.route) (z * z) (map (taken N) N.sources) found.rows.items found.starts.items) c.plants-plants.ensures.value
-    (subst (λ (z : List Taken). IsGrouped (λ t. t.route) (c.plants-plants.result * c.plants-plants.result) z found.rows.items found.starts.items) (c.as_slice.ensures.value ∙ c.in_ok-all.ensures) c.in_ok-rows.ensures) in
-    let shown : c.in_ok-items.items.items ≡ map (λ (t : Taken). t.item) found.rows.items = c.in_ok-items.ensures ∙ ap (map (λ (t : Taken). t.item)) c.as_slice-2.ensures.value in
-    ShowsGroups-from_grouped (λ (t : Taken). t.item) (λ t. t.route) (length N.plants * length N.plants) (map (taken N) N.sources) found.rows.items c.in_ok-items.items.items found.starts.items grouped shown
+    let grouped = subst (λ (z : ℕ). IsGrouped (λ (t : Taken). t.route) (z * z) (map (taken N) N.sources) found.rows.items found.starts.items)
+    c.plants-plants.ensures.value
+    (subst (λ (z : List Taken). IsGrouped (λ t. t.route) (c.plants-plants.result * c.plants-plants.result) z found.rows.items found.starts.items)
+    (c.as_slice.ensures.value ∙ c.in_ok-all.ensures) c.in_ok-rows.ensures) in
+    let shown : c.in_ok-items.items.items ≡ map (λ (t : Taken). t.item) found.rows.items =
+    c.in_ok-items.ensures ∙ ap (map (λ (t : Taken). t.item)) c.as_slice-2.ensures.value in
+    ShowsGroups-from_grouped (λ (t : Taken). t.item) (λ t. t.route) (length N.plants * length N.plants)
+    (map (taken N) N.sources) found.rows.items c.in_ok-items.items.items found.starts.items grouped shown

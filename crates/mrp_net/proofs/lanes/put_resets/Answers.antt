@@ -11,7 +11,8 @@ loop-reset-init c = resets_none c.args.tables.now c.args.resets.now c.requires.n
 pub loop-reset-preserved : goal.loop-reset-preserved
 loop-reset-preserved c =
     let none : ResetRow = record { from = record { 0 = 0 }; pair = record { 0 = 0 }; period = 0 } in
-    resets_step c.args.tables.now c.resets-reset-items.result.now c.loop-reset.resets c.loop-reset.reset-index c.source_of-source.result none c.pairs-pairs.ensures.table c.resets-reset-items.ensures.value c.loop-reset-test.true c.source_of-source.ensures.value c.loop-reset.invariant
+    resets_step c.args.tables.now c.resets-reset-items.result.now c.loop-reset.resets c.loop-reset.reset-index c.source_of-source.result none
+    c.pairs-pairs.ensures.table c.resets-reset-items.ensures.value c.loop-reset-test.true c.source_of-source.ensures.value c.loop-reset.invariant
 
 pub returns : goal.returns
 returns c =

@@ -17,7 +17,11 @@ pub returns : goal.returns
 returns c =
     let N = c.args.tables.now in
     let found = c.in_ok-rows.field-0 in
-    let grouped = subst (λ z. IsGrouped (λ (t : Sent). t.source) (length z) (map (sent N) N.ships) found.rows.items found.starts.items) c.sources-sources.ensures.value
-    (subst (λ (z : List Sent). IsGrouped (λ t. t.source) (length c.sources-sources.result.now) z found.rows.items found.starts.items) c.requires c.in_ok-rows.ensures) in
-    let shown : c.in_ok-shipments.shipments.items ≡ map (λ (t : Sent). t.shipment) found.rows.items = c.in_ok-shipments.ensures ∙ ap (map (λ (t : Sent). t.shipment)) c.as_slice.ensures.value in
-    ShowsGroups-from_grouped (λ (t : Sent). t.shipment) (λ t. t.source) (length N.sources) (map (sent N) N.ships) found.rows.items c.in_ok-shipments.shipments.items found.starts.items grouped shown
+    let grouped = subst (λ z. IsGrouped (λ (t : Sent). t.source) (length z) (map (sent N) N.ships) found.rows.items found.starts.items)
+    c.sources-sources.ensures.value
+    (subst (λ (z : List Sent). IsGrouped (λ t. t.source) (length c.sources-sources.result.now) z found.rows.items found.starts.items) c.requires
+    c.in_ok-rows.ensures) in
+    let shown : c.in_ok-shipments.shipments.items ≡ map (λ (t : Sent). t.shipment) found.rows.items =
+    c.in_ok-shipments.ensures ∙ ap (map (λ (t : Sent). t.shipment)) c.as_slice.ensures.value in
+    ShowsGroups-from_grouped (λ (t : Sent). t.shipment) (λ t. t.source) (length N.sources)
+    (map (sent N) N.ships) found.rows.items c.in_ok-shipments.shipments.items found.starts.items grouped shown

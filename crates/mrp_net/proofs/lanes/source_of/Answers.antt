@@ -31,7 +31,8 @@ loop-at-preserved c =
     let row : List SourceRow → ℕ = λ rows. (get_or rows c.loop-at.at no_source).plant.0 in
     record {
       from = omega arith;
-      still = source_after N c.args.pair.0 c.args.plant.0 c.loop-at.at c.requires.taken c.loop-at.invariant.still (λ e. c.loop-at-test.true (ap row c.sources-sources.ensures.value ∙ e));
+      still = source_after N c.args.pair.0 c.args.plant.0 c.loop-at.at c.requires.taken c.loop-at.invariant.still
+          (λ e. c.loop-at-test.true (ap row c.sources-sources.ensures.value ∙ e));
       there = c.loop-at.invariant.there;
     }
 
@@ -39,5 +40,6 @@ pub returns-clause-value : goal.returns-clause-value
 returns-clause-value c =
     let N = c.args.tables.now in
     let row : List SourceRow → ℕ = λ rows. (get_or rows c.loop-at.at no_source).plant.0 in
-    source_found N c.args.starts.now c.args.pair.0 c.args.plant.0 c.loop-at.at c.sources-sources.ensures.table c.requires.starts c.requires.taken c.loop-at.invariant.from c.loop-at.invariant.still
+    source_found N c.args.starts.now c.args.pair.0 c.args.plant.0 c.loop-at.at c.sources-sources.ensures.table c.requires.starts c.requires.taken
+    c.loop-at.invariant.from c.loop-at.invariant.still
     (sym (ap row c.sources-sources.ensures.value) ∙ c.loop-at-test.false)

@@ -22,7 +22,8 @@ returns-then-not-has_late c =
     let here = get_or_read c.as_slice-order.result.now t _ (omega (arith, c.min-end.ensures)) c.index-order-t.is 0 in (
       λ no_. absurd (false≢true no_),
       λ is.
-          let next = late_next lead order late c.loop-t.found t (length order) is (omega (arith, size, c.min-end.ensures)) (omega (arith, c.min-end.ensures)) (omega (arith, here, at, c.get.ensures.value))
+          let next = late_next lead order late c.loop-t.found t (length order) is (omega (arith, size, c.min-end.ensures)) (omega (arith, c.min-end.ensures))
+          (omega (arith, here, at, c.get.ensures.value))
           c.loop-t.invariant.found c.loop-t.invariant.there in
           let show : ℕ → Late = λ q. record { period = t; quantity = q; by = lead - t } in
           let quantity : slice_index order t ≡ c.index-order-t.result = omega (arith, here, at) in
@@ -45,8 +46,10 @@ loop-t-preserved c =
       | then-get-gt0+else-not-has_late w ↦
           let show : ℕ → Late = λ q. record { period = t; quantity = q; by = lead - t } in
           let quantity : c.index-order-t.result ≡ slice_index order t = omega (arith, here, at) in
-          let is : slice_get late c.loop-t.found ≡ Some (show (slice_index order t)) = w.has_late.ensures.0 w.if-not-has_late.false ∙ ap (λ (q : ℕ). Some (show q)) quantity in
-          let more = late_found lead order late c.loop-t.found t (omega (arith, c.min-end.ensures)) (omega (arith, here, at, c.get.ensures.value)) c.loop-t.invariant.found is in
+          let is : slice_get late c.loop-t.found ≡ Some (show (slice_index order t)) =
+          w.has_late.ensures.0 w.if-not-has_late.false ∙ ap (λ (q : ℕ). Some (show q)) quantity in
+          let more = late_found lead order late c.loop-t.found t (omega (arith, c.min-end.ensures))
+          (omega (arith, here, at, c.get.ensures.value)) c.loop-t.invariant.found is in
           rw w.found-is (record {
             found = more;
             there = omega (arith, slice_get_within late c.loop-t.found (show (slice_index order t)) is);

@@ -28,7 +28,14 @@ returns-then-get c =
           let order = row_reads (order_at params incoming gross) c.args.order.now (length gross) t are.0 (omega arith) in
           let balance = row_reads (λ k. balance_before params incoming gross (suc k)) c.args.available.now (length gross) t are.1 (omega arith) in
           absurd (elim c.then-get.branch [
-            | then-get-via-then-get w ↦ omega (arith, here, order, c.get.ensures.value, c.get-in-loop-t.ensures.value, c.order_and_balance-ordered.ensures.order)
+            | then-get-via-then-get w ↦ omega (
+              arith,
+              here,
+              order,
+              c.get.ensures.value,
+              c.get-in-loop-t.ensures.value,
+              c.order_and_balance-ordered.ensures.order,
+            )
             | then-get-via-else-get+then-get-2 w ↦
                 let left = get_or_read c.args.available.now t _ (omega arith) w.index-available-t.is 0 in
                 omega (arith, left, balance, w.get-else-get.ensures.value, w.get-else-get-2.ensures.value, c.order_and_balance-ordered.ensures.balance)

@@ -26,7 +26,8 @@ overflow_add-total c =
 pub loop-t-preserved : goal.loop-t-preserved
 loop-t-preserved c =
     let here = get_or_read c.args.order.now c.loop-t.t _ (omega (arith, c.min-end.ensures)) c.index-order-t.is 0 in
-    let more = released_more c.args.lead c.args.order.now c.args.u c.loop-t.t (c.loop-t.invariant.begins.at c.loop-t.t c.loop-t.auto.t (omega (arith, c.min-end.ensures))) in
+    let more = released_more c.args.lead c.args.order.now c.args.u c.loop-t.t
+    (c.loop-t.invariant.begins.at c.loop-t.t c.loop-t.auto.t (omega (arith, c.min-end.ensures))) in
     record {
       begins = c.loop-t.invariant.begins;
       total = omega (arith, here, more, c.get-total.ensures.value, c.loop-t.invariant.total);

@@ -20,6 +20,7 @@ returns-then-get-released_in c =
 pub returns : goal.returns
 returns c =
     let order = c.args.order.now in (
-      λ yes. fill_by_all (released c.args.lead order (length order)) c.args.release.now (length order) 0 c.requires.len (λ k h. c.loop-u.invariant k (omega arith)),
+      λ yes. fill_by_all (released c.args.lead order (length order)) c.args.release.now (length order) 0 c.requires.len
+          (λ k h. c.loop-u.invariant k (omega arith)),
       λ is. refl,
     )

@@ -9,10 +9,12 @@ use Rattle.mrp_netting.proofs.plan.plan_pair.Goals.{After-plan_orders}
 
 -- the orders and the projected available that are written are the plan's
 ordered : (c : After-plan_orders) → c.plan_orders.new.order ≡ order_row c.args.params.now c.args.incoming.now c.args.gross.now
-ordered c = from_rows (order_row c.args.params.now) c.args.incoming.now c.args.gross.now _ _ c.plan_orders.new.order c.plan_orders.ensures.orders c.as_slice.ensures.value c.as_slice-2.ensures.value
+ordered c = from_rows (order_row c.args.params.now) c.args.incoming.now c.args.gross.now _ _ c.plan_orders.new.order c.plan_orders.ensures.orders
+    c.as_slice.ensures.value c.as_slice-2.ensures.value
 
 balanced : (c : After-plan_orders) → c.plan_orders.new.available ≡ available_row c.args.params.now c.args.incoming.now c.args.gross.now
-balanced c = from_rows (available_row c.args.params.now) c.args.incoming.now c.args.gross.now _ _ c.plan_orders.new.available c.plan_orders.ensures.balances c.as_slice.ensures.value c.as_slice-2.ensures.value
+balanced c = from_rows (available_row c.args.params.now) c.args.incoming.now c.args.gross.now _ _ c.plan_orders.new.available c.plan_orders.ensures.balances
+    c.as_slice.ensures.value c.as_slice-2.ensures.value
 
 -- there are as many orders as periods, wherever they are read
 order_length : (c : After-plan_orders) (read : List ℕ) → read ≡ c.plan_orders.new.order → length read ≡ length c.args.gross.now

@@ -19,7 +19,8 @@ explode-requires-clause-within c =
       term,
       c.loop-edge.invariant.total,
       c.requires.within,
-      sum_by_more_le (λ (f : Edge). f.per * sum (rows_at c.args.plans.now f.demander.0).release) c.args.edges.now c.loop-edge.edge-index no_edge c.loop-edge-test.true,
+      sum_by_more_le (λ (f : Edge). f.per * sum (rows_at c.args.plans.now f.demander.0).release) c.args.edges.now c.loop-edge.edge-index no_edge
+          c.loop-edge-test.true,
     )
 
 pub loop-edge-preserved : goal.loop-edge-preserved
@@ -36,7 +37,8 @@ loop-edge-preserved c =
             c.explode.ensures.each t (omega arith),
             c.loop-edge.invariant.each t (omega arith),
             ap (λ r. edge_need e (slice_index r t)) row,
-            sum_by_more (λ (f : Edge). edge_need f (slice_index (rows_at c.args.plans.now f.demander.0).release t)) c.args.edges.now c.loop-edge.edge-index no_edge c.loop-edge-test.true,
+            sum_by_more (λ (f : Edge). edge_need f (slice_index (rows_at c.args.plans.now f.demander.0).release t)) c.args.edges.now c.loop-edge.edge-index
+                no_edge c.loop-edge-test.true,
           );
       total =
           omega (
@@ -44,7 +46,8 @@ loop-edge-preserved c =
             c.explode.ensures.total,
             c.loop-edge.invariant.total,
             ap (λ r. e.per * sum r) row,
-            sum_by_more (λ (f : Edge). f.per * sum (rows_at c.args.plans.now f.demander.0).release) c.args.edges.now c.loop-edge.edge-index no_edge c.loop-edge-test.true,
+            sum_by_more (λ (f : Edge). f.per * sum (rows_at c.args.plans.now f.demander.0).release) c.args.edges.now c.loop-edge.edge-index no_edge
+                c.loop-edge-test.true,
           );
     }
 

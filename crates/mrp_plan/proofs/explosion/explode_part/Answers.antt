@@ -18,7 +18,8 @@ fits c =
       asked,
       c.loop-t.invariant.rest t (omega arith),
       edge_need-le e (slice_index c.args.release.now t) c.requires.whole,
-      within_each c.args.gross.now c.args.release.now e.per t c.requires.periods c.requires.within (omega (arith, c.loop-t-test.true, c.len-t-end.ensures.value, c.requires.periods)),
+      within_each c.args.gross.now c.args.release.now e.per t c.requires.periods c.requires.within
+          (omega (arith, c.loop-t-test.true, c.len-t-end.ensures.value, c.requires.periods)),
     )
 
 pub get-released-requires : goal.get-released-requires

@@ -20,6 +20,7 @@ pub returns : goal.returns
 returns c =
     let order = map (λ (x : PairNo). x.0) c.in_code_order-order.result.now in
     let whole : length order ≤ c.loop-k.k = omega (arith, length-map c.in_code_order-order.result.now (λ (x : PairNo). x.0)) in (
-      λ yes. all_planned c.args.net.now.network c.args.net.now.needs order c.loop-k.k c.args.plan.now c.in_code_order-order.ensures.planning whole c.loop-k.invariant,
+      λ yes. all_planned c.args.net.now.network c.args.net.now.needs order c.loop-k.k c.args.plan.now c.in_code_order-order.ensures.planning whole
+          c.loop-k.invariant,
       λ fits. refl,
     )

@@ -10,17 +10,20 @@ use Rattle.mrp_plan.proofs.Planning.{one-gross, one-incoming, pair_within}
 use Rattle.mrp_plan.proofs.fitting.fits_at.Goals as goal
 
 -- where a row of the pair's own rows fails its test, they aren't the rows that the pair has by its plan
-rows_differ : (part : PlanRows → List ℕ) (own there plan : PlanRows) (row want : List ℕ) (has : Bool) → row ≡ part own → own ≡ there → part plan ≡ want → (row ≡ want → has ≡ true) → has ≡ false → there ≡ plan → ⊥
+rows_differ : (part : PlanRows → List ℕ) (own there plan : PlanRows) (row want : List ℕ) (has : Bool) → row ≡ part own → own ≡ there → part plan ≡ want
+    → (row ≡ want → has ≡ true) → has ≡ false → there ≡ plan → ⊥
 rows_differ part own there plan row want has is at of_plan test fails same = false≢true (sym fails ∙ test (is ∙ ap part (at ∙ same) ∙ of_plan))
 
 pub returns-then-not-has_incoming : goal.returns-then-not-has_incoming
 returns-then-not-has_incoming c =
-    let differ = rows_differ (λ r. r.incoming) _ _ _ _ _ _ c.incoming.ensures c.pair-own.ensures (one-incoming c.args.network.now c.args.plan.now c.args.x.0) c.has_incoming.ensures.1 c.if-not-has_incoming.true in
+    let differ = rows_differ (λ r. r.incoming) _ _ _ _ _ _ c.incoming.ensures c.pair-own.ensures
+    (one-incoming c.args.network.now c.args.plan.now c.args.x.0) c.has_incoming.ensures.1 c.if-not-has_incoming.true in
     (λ no_. absurd (false≢true no_), λ is. absurd (differ is))
 
 pub returns-then-not-has_gross : goal.returns-then-not-has_gross
 returns-then-not-has_gross c =
-    let differ = rows_differ (λ r. r.gross) _ _ _ _ _ _ c.gross.ensures c.pair-own.ensures (one-gross c.args.network.now c.args.plan.now c.args.x.0) c.has_gross.ensures.1 c.if-not-has_gross.true in
+    let differ = rows_differ (λ r. r.gross) _ _ _ _ _ _ c.gross.ensures c.pair-own.ensures
+    (one-gross c.args.network.now c.args.plan.now c.args.x.0) c.has_gross.ensures.1 c.if-not-has_gross.true in
     (λ no_. absurd (false≢true no_), λ is. absurd (differ is))
 
 pub is_plan-requires : goal.is_plan-requires

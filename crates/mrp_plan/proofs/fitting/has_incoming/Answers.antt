@@ -16,6 +16,7 @@ returns-then-get-incoming c = (
 
 pub returns : goal.returns
 returns c = (
-  λ yes. fill_by_all (incoming c.args.network.now c.args.x.0) c.args.row.now (horizon c.args.network.now) 0 c.requires.periods (λ k h. c.loop-t.invariant k (omega arith)),
+  λ yes. fill_by_all (incoming c.args.network.now c.args.x.0) c.args.row.now (horizon c.args.network.now) 0 c.requires.periods
+      (λ k h. c.loop-t.invariant k (omega arith)),
   λ is. refl,
 )

@@ -20,8 +20,10 @@ loop-done-preserved c =
     let N = c.args.network.now in record {
       given = gather.have_next N _ c.pairs-pairs.result c.loop-done.done c.pairs-pairs.ensures.value c.loop-done-test.true c.take_last.ensures.given;
       plans = elim c.match-take_last.branch [
-        | in-Some+in_ok-push w ↦ gather.gathered_next N c.requires.sized c.pairs-pairs.result c.loop-done.done c.pairs-pairs.ensures.value c.loop-done-test.true _ _ _ c.take_last.result
-            c.take_last.ensures.plan w.in-Some.is (ap (λ (v : Vec PairPlan Global). v.items) w.plans-is ∙ w.in_ok-push.ensures.items) c.loop-done.invariant.plans
+        | in-Some+in_ok-push w ↦ gather.gathered_next N c.requires.sized c.pairs-pairs.result c.loop-done.done c.pairs-pairs.ensures.value c.loop-done-test.true
+            _ _ _ c.take_last.result
+            c.take_last.ensures.plan w.in-Some.is (ap (λ (v : Vec PairPlan Global). v.items) w.plans-is
+            ∙ w.in_ok-push.ensures.items) c.loop-done.invariant.plans
         | in_default w ↦ absurd (gather.none_or_some c.take_last.result _ c.take_last.ensures.plan w.in_default.is)
       ];
     }

@@ -27,4 +27,5 @@ returns-clause-edges c =
       c.get-gross.ensures,
       ap (λ (r : List ℕ). slice_index r c.args.t) (c.gross.ensures ∙ ap (λ (r : PlanRows). r.gross) c.pair.ensures),
     ) in
-    peggable c.args.network.now c.args.plan.now c.args.x.0 c.args.t c.demanders.result.now c.requires.fits c.requires.pair c.requires.period quantity c.demanders.ensures.value c.demanders.ensures.edges
+    peggable c.args.network.now c.args.plan.now c.args.x.0 c.args.t c.demanders.result.now c.requires.fits c.requires.pair c.requires.period quantity
+    c.demanders.ensures.value c.demanders.ensures.edges

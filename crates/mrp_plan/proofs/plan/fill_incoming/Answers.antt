@@ -14,4 +14,5 @@ copy_pieces-requires-clause-periods c =
 pub copy_pieces-requires-clause-within : goal.copy_pieces-requires-clause-within
 copy_pieces-requires-clause-within c =
     let N = c.args.network.now in
-    row_within N (incoming N c.args.x.0) c.incoming_row.result.now MOST c.incoming_row.ensures (λ t h. omega (arith, incoming-le N c.args.x.0 t h, c.requires.within))
+    row_within N (incoming N c.args.x.0) c.incoming_row.result.now MOST c.incoming_row.ensures
+    (λ t h. omega (arith, incoming-le N c.args.x.0 t h, c.requires.within))

@@ -11,14 +11,16 @@ pub returns-clause-fits : goal.returns-clause-fits
 returns-clause-fits c =
     let order = map (λ (x : PairNo). x.0) c.in_code_order-order.result.now in
     let whole : length order ≤ c.loop-k.k = omega (arith, length-map c.in_code_order-order.result.now (λ (x : PairNo). x.0)) in
-    all_planned c.args.net.now.network c.args.net.now.needs order c.loop-k.k c.loop-k.pairs.items c.in_code_order-order.ensures.planning whole c.loop-k.invariant.planned
+    all_planned c.args.net.now.network c.args.net.now.needs order c.loop-k.k c.loop-k.pairs.items c.in_code_order-order.ensures.planning whole
+    c.loop-k.invariant.planned
 
 pub returns-clause-value : goal.returns-clause-value
 returns-clause-value c =
     let order = map (λ (x : PairNo). x.0) c.in_code_order-order.result.now in
     let whole : length order ≤ c.loop-k.k = omega (arith, length-map c.in_code_order-order.result.now (λ (x : PairNo). x.0)) in
     (one_plan_by c.args.net.now.network order c.in_code_order-order.ensures.planning).only c.loop-k.pairs.items
-    (all_planned c.args.net.now.network c.args.net.now.needs order c.loop-k.k c.loop-k.pairs.items c.in_code_order-order.ensures.planning whole c.loop-k.invariant.planned)
+    (all_planned c.args.net.now.network c.args.net.now.needs order c.loop-k.k c.loop-k.pairs.items c.in_code_order-order.ensures.planning whole
+    c.loop-k.invariant.planned)
 
 pub loop-k-init : goal.loop-k-init
 loop-k-init c = grind (arith, common_steps)
@@ -26,7 +28,8 @@ loop-k-init c = grind (arith, common_steps)
 pub loop-k-preserved : goal.loop-k-preserved
 loop-k-preserved c =
     let after = c.plan_next.ensures.after in
-    let back = handed_back c.loop-k.pairs.len c.loop-k.pairs.items c.plan_next.new.plans (sym c.loop-k.pairs.ok.0) (after.size ∙ sym c.loop-k.invariant.planned.size) in
+    let back = handed_back c.loop-k.pairs.len c.loop-k.pairs.items c.plan_next.new.plans (sym c.loop-k.pairs.ok.0)
+    (after.size ∙ sym c.loop-k.invariant.planned.size) in
     record { planned = rw back after; incoming_room = c.plan_next.ensures.incoming_room; gross_room = c.plan_next.ensures.gross_room }
 
 pub plan_next-requires-clause-sized : goal.plan_next-requires-clause-sized

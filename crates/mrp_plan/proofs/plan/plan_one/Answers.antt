@@ -33,7 +33,14 @@ pub explode_all-requires-clause-within : goal.explode_all-requires-clause-within
 explode_all-requires-clause-within c =
     let N = c.args.network.now in
     let x = c.args.x.0 in
-    omega (arith, c.requires.can.within, demands-le N x, ap (λ (r : List ℕ). sum r) c.fill_demand.ensures, ap (asked_total c.args.plans.now) c.demanders.ensures.value)
+    omega (
+      arith,
+      c.requires.can.within,
+      demands-le N x,
+      ap (λ (r : List ℕ). sum r) c.fill_demand.ensures,
+      ap
+          (asked_total c.args.plans.now) c.demanders.ensures.value,
+    )
 
 pub plan_pair-requires-clause-within : goal.plan_pair-requires-clause-within
 plan_pair-requires-clause-within c =
@@ -42,16 +49,25 @@ plan_pair-requires-clause-within c =
     let g = c.explode_all.new.gross in
     let size : length g ≡ horizon N = c.explode_all.ensures.size ∙ ap (λ (r : List ℕ). length r) c.fill_demand.ensures ∙ length-row_of N (demand N x) in
     let total : sum g ≤ demand_total N x + asked_total c.args.plans.now (demanders N x) =
-    omega (arith, demands-le N x, c.explode_all.ensures.total, ap (λ (r : List ℕ). sum r) c.fill_demand.ensures, ap (asked_total c.args.plans.now) c.demanders.ensures.value) in
+    omega (
+      arith,
+      demands-le N x,
+      c.explode_all.ensures.total,
+      ap (λ (r : List ℕ). sum r) c.fill_demand.ensures,
+      ap
+          (asked_total c.args.plans.now) c.demanders.ensures.value,
+    ) in
     let P : PairParams → Type 0 = λ p. IsWithin p (row_of N (incoming N x)) g in
     let Q : List ℕ → Type 0 = λ r. IsWithin c.params-params.result r g in
-    subst Q (sym c.fill_incoming.ensures) (subst P (sym (c.params-params.ensures ∙ ap params_of c.pair.ensures)) (is_within N c.args.plans.now x g c.requires.can size total))
+    subst Q (sym c.fill_incoming.ensures) (subst P (sym (c.params-params.ensures ∙ ap params_of c.pair.ensures))
+    (is_within N c.args.plans.now x g c.requires.can size total))
 
 pub plan_pair-requires-clause-room : goal.plan_pair-requires-clause-room
 plan_pair-requires-clause-room c =
     let N = c.args.network.now in
     let x = c.args.x.0 in
-    let size : length c.explode_all.new.gross ≡ horizon N = c.explode_all.ensures.size ∙ ap (λ (r : List ℕ). length r) c.fill_demand.ensures ∙ length-row_of N (demand N x) in
+    let size : length c.explode_all.new.gross ≡ horizon N = c.explode_all.ensures.size ∙ ap (λ (r : List ℕ). length r) c.fill_demand.ensures
+    ∙ length-row_of N (demand N x) in
     let in_plans : x < length c.args.plans.now = omega (arith, c.requires.can.in_table, c.requires.can.size) in
     ap (λ (r : PlanRows). length r.gross) (get_or_default c.args.plans.now x c.index-plans-x.result no_rows in_plans) ∙ c.requires.can.room ∙ sym size
 
@@ -61,7 +77,8 @@ returns-clause-planned c =
     let x = c.args.x.0 in
     let each = λ (t : ℕ) (h : t < length (row_of N (demand N x))).
     let own : slice_index c.fill_demand.new.row t ≡ slice_index (row_of N (demand N x)) t = ap (λ (r : List ℕ). slice_index r t) c.fill_demand.ensures in
-    let asks : asked c.args.plans.now c.demanders.result.now t ≡ asked c.args.plans.now (demanders N x) t = ap (λ (es : List Edge). asked c.args.plans.now es t) c.demanders.ensures.value in
+    let asks : asked c.args.plans.now c.demanders.result.now t ≡ asked c.args.plans.now (demanders N x) t =
+    ap (λ (es : List Edge). asked c.args.plans.now es t) c.demanders.ensures.value in
     let in_row : t < length c.fill_demand.new.row = omega (arith, h, ap (λ (r : List ℕ). length r) c.fill_demand.ensures) in
     let sum_is : slice_index c.explode_all.new.gross t ≡ slice_index (row_of N (demand N x)) t + asked c.args.plans.now (demanders N x) t =
     omega (arith, own, asks, c.explode_all.ensures.each t in_row) in
@@ -71,11 +88,13 @@ returns-clause-planned c =
     let params : c.params-params.result ≡ params_at N x = c.params-params.ensures ∙ ap params_of c.pair.ensures in
     let planned : c.plan_pair.new.into ≡ pair_plan N c.args.plans.now x =
     c.plan_pair.ensures ∙ ap (λ (p : PairParams). one p c.fill_incoming.new.row c.explode_all.new.gross) params
-    ∙ ap (λ (r : List ℕ). one (params_at N x) r c.explode_all.new.gross) c.fill_incoming.ensures ∙ ap (one (params_at N x) (row_of N (incoming N x))) is_gross in
+    ∙ ap (λ (r : List ℕ). one (params_at N x) r c.explode_all.new.gross) c.fill_incoming.ensures ∙ ap (one (params_at N x) (row_of N (incoming N x))) is_gross
+    in
     ap (slice_set c.args.plans.now x) planned
 
 pub returns-clause-incoming_room : goal.returns-clause-incoming_room
-returns-clause-incoming_room c = ap (λ (r : List ℕ). length r) c.fill_incoming.ensures ∙ length-row_of c.args.network.now (incoming c.args.network.now c.args.x.0)
+returns-clause-incoming_room c = ap (λ (r : List ℕ). length r) c.fill_incoming.ensures
+    ∙ length-row_of c.args.network.now (incoming c.args.network.now c.args.x.0)
 
 pub returns-clause-gross_room : goal.returns-clause-gross_room
 returns-clause-gross_room c =

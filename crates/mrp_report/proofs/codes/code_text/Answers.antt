@@ -20,4 +20,5 @@ pub returns-clause-text : goal.returns-clause-text
 unfolding code_text
 returns-clause-text c =
     let at_end : c.pairs.x ≡ length c.args.network.now.pairs = omega arith in
-    headed_rows c.text_of.result _ _ _ _ _ c.text_of.ensures.text (rw (← at_end) c.pairs.invariant.so_far) c.in_ok-put_names.ensures.names c.in_ok-rows.ensures.empty
+    headed_rows c.text_of.result _ _ _ _ _ c.text_of.ensures.text
+    (rw (← at_end) c.pairs.invariant.so_far) c.in_ok-put_names.ensures.names c.in_ok-rows.ensures.empty

@@ -10,5 +10,6 @@ use Rattle.mrp_report.proofs.codes.code_text.Given as goal
 abbrev pub invariant-pairs : goal.invariant-pairs
 invariant-pairs l = record {
   between : IsBetweenRows l.rows;
-  so_far : written l.rows ≡ written l.initial.rows ++ flat_map (λ x. code_row (plant_of l.network x) (item_of l.network x) (slice_index l.levels x)) (range_with_len 0 l.x);
+  so_far : written l.rows ≡ written l.initial.rows ++ flat_map (λ x. code_row (plant_of l.network x) (item_of l.network x) (slice_index l.levels x))
+      (range_with_len 0 l.x);
 }

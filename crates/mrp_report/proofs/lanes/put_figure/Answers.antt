@@ -8,7 +8,9 @@ pub returns-clause-row : goal.returns-clause-row
 unfolding figure_row
 returns-clause-row c =
     let N = c.args.network.now in
-    let sender : name_of_plant N c.lane-lane.result.sender ≡ c.plant_name.result.now = get_or_from_slice_get N.plants _ c.plant_name.result.now [] c.plant_name.ensures in
-    let receiver : name_of_plant N c.lane-lane.result.receiver ≡ c.plant_name-2.result.now = get_or_from_slice_get N.plants _ c.plant_name-2.result.now [] c.plant_name-2.ensures in
+    let sender : name_of_plant N c.lane-lane.result.sender ≡ c.plant_name.result.now =
+    get_or_from_slice_get N.plants _ c.plant_name.result.now [] c.plant_name.ensures in
+    let receiver : name_of_plant N c.lane-lane.result.receiver ≡ c.plant_name-2.result.now =
+    get_or_from_slice_get N.plants _ c.plant_name-2.result.now [] c.plant_name-2.ensures in
     let item : name_of_item N c.args.figure.item ≡ c.item_name.result.now = get_or_from_slice_get N.items _ c.item_name.result.now [] c.item_name.ensures in
     rw (← c.lane-lane.ensures.value, sender, receiver, item) (search rules)

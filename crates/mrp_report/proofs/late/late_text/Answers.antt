@@ -13,7 +13,8 @@ pairs-preserved c =
     let item = item_is c.network-network.result.now c.pairs.x _ _ c.pair_name.ensures in
     record {
       between = c.in_ok-put_orders.ensures.between;
-      so_far = rows-more (λ x. flat_map (late_row (plant_of c.network-network.result.now x) (item_of c.network-network.result.now x)) (rows_at c.args.plan.now x).late)
+      so_far = rows-more (λ x. flat_map (late_row (plant_of c.network-network.result.now x) (item_of c.network-network.result.now x))
+          (rows_at c.args.plan.now x).late)
           _ _ _ c.pairs.x c.pairs.invariant.so_far
           (rw (plant, item, ← c.pair.ensures) c.in_ok-put_orders.ensures.rows);
     }

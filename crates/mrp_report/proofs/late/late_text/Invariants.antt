@@ -10,5 +10,6 @@ use Rattle.mrp_report.proofs.late.late_text.Given as goal
 abbrev pub invariant-pairs : goal.invariant-pairs
 invariant-pairs l = record {
   between : IsBetweenRows l.rows;
-  so_far : written l.rows ≡ written l.initial.rows ++ flat_map (λ x. flat_map (late_row (plant_of l.network x) (item_of l.network x)) (rows_at l.plan x).late) (range_with_len 0 l.x);
+  so_far : written l.rows ≡ written l.initial.rows ++ flat_map (λ x. flat_map (late_row (plant_of l.network x) (item_of l.network x)) (rows_at l.plan x).late)
+      (range_with_len 0 l.x);
 }

@@ -6,7 +6,8 @@ use Rattle.mrp_report.proofs.orders.put_all_orders.Goals as goal
 pub pairs-preserved : goal.pairs-preserved
 pairs-preserved c = record {
   between = c.in_ok-put_pair_orders.ensures.between;
-  so_far = rows-more (pair_orders_text c.args.report.now.until c.args.report.now.network.now c.args.report.now.plan.now) _ _ _ c.pairs.x c.pairs.invariant.so_far
+  so_far = rows-more (pair_orders_text c.args.report.now.until c.args.report.now.network.now c.args.report.now.plan.now) _ _ _ c.pairs.x
+      c.pairs.invariant.so_far
       c.in_ok-put_pair_orders.ensures.rows;
 }
 

@@ -6,7 +6,8 @@ use Rattle.mrp_report.proofs.orders.put_pair_orders.Goals as goal
 
 pub put_orders-requires-clause-periods : goal.put_orders-requires-clause-periods
 put_orders-requires-clause-periods c =
-    order_has_dates c.args.report.now.network.now c.args.report.now.plan.now c.args.x.0 _ _ c.requires.fits c.requires.pair c.pair.ensures c.line_of-line.ensures.dates
+    order_has_dates c.args.report.now.network.now c.args.report.now.plan.now c.args.x.0 _ _ c.requires.fits c.requires.pair c.pair.ensures
+    c.line_of-line.ensures.dates
 
 pub returns-clause-rows : goal.returns-clause-rows
 returns-clause-rows c =
@@ -14,5 +15,6 @@ returns-clause-rows c =
     on_ok_weaker c.put_orders.result
     (λ e. e
     ∙ ap (λ t. written c.args.rows.now ++ t)
-    (line_is_pair N c.args.report.now.plan.now c.args.x.0 c.args.report.now.until c.line_of-line.result c.pair.result.now c.pair.ensures c.line_of-line.ensures))
+    (line_is_pair N c.args.report.now.plan.now c.args.x.0 c.args.report.now.until c.line_of-line.result c.pair.result.now c.pair.ensures
+    c.line_of-line.ensures))
     c.put_orders.ensures.rows

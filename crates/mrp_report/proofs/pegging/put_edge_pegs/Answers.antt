@@ -21,11 +21,13 @@ returns-in_err-put_peg-clause-front g c =
     let N = c.args.line.now.network.now in
     rw p.1
     (gathers-stop_of (λ e. term_text N c.args.line.now.x.0 c.args.t (edge_term N c.args.line.now.plan.now c.args.t e)) c.args.edges.now _ _ _ _ _ _ _
-    c.edges.edge-index c.edges-test.true (ap (term_text N c.args.line.now.x.0 c.args.t) c.edge_term-term.ensures) c.edges.invariant c.in_err-put_peg.ensures.front)
+    c.edges.edge-index c.edges-test.true (ap (term_text N c.args.line.now.x.0 c.args.t) c.edge_term-term.ensures) c.edges.invariant
+    c.in_err-put_peg.ensures.front)
 
 pub returns-clause-rows : goal.returns-clause-rows
 unfolding edges_text
 returns-clause-rows g c =
     let N = c.args.line.now.network.now in
     let f = λ (e : Edge). term_text N c.args.line.now.x.0 c.args.t (edge_term N c.args.line.now.plan.now c.args.t e) in
-    gathers-as _ _ _ _ _ _ (ap (λ (es : List Edge). flat_map f es) (take_all c.edges.edge-index c.args.edges.now (omega (arith, c.edges-test.false)))) c.edges.invariant
+    gathers-as _ _ _ _ _ _ (ap (λ (es : List Edge). flat_map f es) (take_all c.edges.edge-index c.args.edges.now (omega (arith, c.edges-test.false))))
+    c.edges.invariant

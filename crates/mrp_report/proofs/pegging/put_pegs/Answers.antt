@@ -6,7 +6,8 @@ use Rattle.mrp_report.proofs.GatherFacts.{gathers-as, gathers-next, gathers-stop
 use Rattle.mrp_report.proofs.pegging.put_pegs.Goals as goal
 
 pub pairs-preserved : goal.pairs-preserved
-pairs-preserved g c = gathers-next (pair_pegs_text c.args.network.now c.args.plan.now) _ _ _ _ _ _ c.pairs.x c.pairs.invariant c.in_ok-put_pair_pegs.ensures.rows
+pairs-preserved g c = gathers-next (pair_pegs_text c.args.network.now c.args.plan.now) _ _ _ _ _ _ c.pairs.x c.pairs.invariant
+    c.in_ok-put_pair_pegs.ensures.rows
 
 pub returns-in_err-put_pair_pegs-clause-front : goal.returns-in_err-put_pair_pegs-clause-front
 unfolding pegs_text

@@ -21,7 +21,8 @@ returns-clause-rows g c =
     on_ok_weaker c.put_edge_pegs.result
     (λ more.
     gathers-as _ _ _ _ _ _
-    (period_parts c.args.line.now.network.now c.args.line.now.plan.now c.args.line.now.x.0 c.args.t c.demand_term-demand.result c.asking_edges-edges.result.now c.demand_term-demand.ensures c.asking_edges-edges.ensures.value)
+    (period_parts c.args.line.now.network.now c.args.line.now.plan.now c.args.line.now.x.0 c.args.t c.demand_term-demand.result c.asking_edges-edges.result.now
+    c.demand_term-demand.ensures c.asking_edges-edges.ensures.value)
     (gathers-more _ _ _ _ _ _ _ _ c.in_ok-put_peg.ensures.rows more))
     c.put_edge_pegs.ensures.rows
 
@@ -30,6 +31,7 @@ returns-clause-front g c =
     on_err_weaker c.put_edge_pegs.result
     (λ front.
     cut-as _ _ _ _ _
-    (period_parts c.args.line.now.network.now c.args.line.now.plan.now c.args.line.now.x.0 c.args.t c.demand_term-demand.result c.asking_edges-edges.result.now c.demand_term-demand.ensures c.asking_edges-edges.ensures.value)
+    (period_parts c.args.line.now.network.now c.args.line.now.plan.now c.args.line.now.x.0 c.args.t c.demand_term-demand.result c.asking_edges-edges.result.now
+    c.demand_term-demand.ensures c.asking_edges-edges.ensures.value)
     (gathers-cut _ _ _ _ _ _ _ c.in_ok-put_peg.ensures.rows front))
     c.put_edge_pegs.ensures.front

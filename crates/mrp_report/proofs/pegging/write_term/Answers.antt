@@ -25,7 +25,15 @@ pub text_before-by_item-requires-clause-room : goal.text_before-by_item-requires
 text_before-by_item-requires-clause-room c =
     let short : length (decimal c.args.term.quantity) ≤ 20 = length-decimal-le 20 c.args.term.quantity (omega arith) (omega arith) (omega arith) in
     let item = item_short c.args.network.now c.args.term.pair.0 _ _ c.requires.table c.pair_name.ensures in
-    omega (arith, short, item, c.as_bytes.ensures.len, c.write_digits-quantity.ensures.start, c.number_before-per.ensures.longest, c.number_before-release.ensures.longest)
+    omega (
+      arith,
+      short,
+      item,
+      c.as_bytes.ensures.len,
+      c.write_digits-quantity.ensures.start,
+      c.number_before-per.ensures.longest,
+      c.number_before-release.ensures.longest,
+    )
 
 pub text_before-by_plant-requires-clause-room : goal.text_before-by_plant-requires-clause-room
 text_before-by_plant-requires-clause-room c =
@@ -93,4 +101,19 @@ returns-clause-part c =
     let none : drop 132 c.args.text.now ≡ [] = drop_all 132 c.args.text.now (omega arith) in
     let plant = plant_is c.args.network.now c.args.term.pair.0 _ _ c.pair_name.ensures in
     let item = item_is c.args.network.now c.args.term.pair.0 _ _ c.pair_name.ensures in
-    rw (c.number_before.ensures.part, c.text_before-source.ensures.part, c.source_word.ensures, c.text_before-by_plant.ensures.part, c.as_bytes-2.ensures.value, c.text_before-by_item.ensures.part, c.as_bytes.ensures.value, c.number_before-release.ensures.part, c.number_before-per.ensures.part, c.write_digits-quantity.ensures.written, none, append-nil, plant, item) refl
+    rw (
+      c.number_before.ensures.part,
+      c.text_before-source.ensures.part,
+      c.source_word.ensures,
+      c.text_before-by_plant.ensures.part,
+      c.as_bytes-2.ensures.value,
+      c.text_before-by_item.ensures.part,
+      c.as_bytes.ensures.value,
+      c.number_before-release.ensures.part,
+      c.number_before-per.ensures.part,
+      c.write_digits-quantity.ensures.written,
+      none,
+      append-nil,
+      plant,
+      item,
+    ) refl

@@ -15,7 +15,8 @@ use Rattle.mrp_report.proofs.plan.pairs_text.Goals as goal
 pub put_pair-used-requires-clause-periods : goal.put_pair-used-requires-clause-periods
 put_pair-used-requires-clause-periods c t lt =
     let size : length c.args.report.now.dates.now ≡ horizon c.args.report.now.network.now =
-    ap length c.requires.dates ∙ length-map-range_with_len (period_date c.args.report.now.network.now.calendar) 0 c.args.report.now.network.now.calendar.periods in
+    ap length c.requires.dates ∙ length-map-range_with_len (period_date c.args.report.now.network.now.calendar) 0 c.args.report.now.network.now.calendar.periods
+    in
     rw c.pair-plan.ensures (fits_has c.args.report.now.network.now c.args.report.now.plan.now c.pairs.x c.requires.fits (omega arith) t (omega arith))
 
 pub put_pair-used-requires-clause-room : goal.put_pair-used-requires-clause-room
@@ -34,11 +35,20 @@ pairs-preserved c =
     let item = item_is c.args.report.now.network.now c.pairs.x _ _ c.pair_name.ensures in
     let more : c.pairs.x + 1 - c.args.first ≡ c.pairs.x - c.args.first + 1 = omega arith in
     record {
-      room = room-next c.args.end c.pairs.x (length c.args.report.now.dates.now * 164) _ _ _ _ (omega arith) c.pairs.invariant.room c.put_pair-used.ensures.longest (omega (arith, c.put_pair-used.ensures.room));
+      room = room-next c.args.end c.pairs.x (length c.args.report.now.dates.now * 164) _ _ _ _
+          (omega arith) c.pairs.invariant.room c.put_pair-used.ensures.longest (omega (arith, c.put_pair-used.ensures.room));
       kept = c.put_pair-used.ensures.room ∙ c.pairs.invariant.kept;
-      so_far = rw more (rows-more_from (λ x. pair_text (plant_of c.args.report.now.network.now x) (item_of c.args.report.now.network.now x) (dates_of c.args.report.now.network.now.calendar) (rows_at c.args.report.now.plan.now x))
+      so_far = rw more (rows-more_from (λ x. pair_text (plant_of c.args.report.now.network.now x) (item_of c.args.report.now.network.now x)
+          (dates_of c.args.report.now.network.now.calendar) (rows_at c.args.report.now.plan.now x))
           [] _ _ c.args.first (c.pairs.x - c.args.first) c.pairs.x (omega arith) c.pairs.invariant.so_far
-          (rw (plant, item, ← c.pair-plan.ensures, ← c.requires.dates, ← parts_text_is c.pair_name.result.0.now c.pair_name.result.1.now c.args.report.now.dates.now c.pair-plan.result.now)
+          (rw (
+            plant,
+            item,
+            ← c.pair-plan.ensures,
+            ← c.requires.dates,
+            ← parts_text_is c.pair_name.result.0.now c.pair_name.result.1.now
+                c.args.report.now.dates.now c.pair-plan.result.now,
+          )
           (rw c.name_pair-named.ensures.part at c.put_pair-used.ensures.rows)));
     }
 

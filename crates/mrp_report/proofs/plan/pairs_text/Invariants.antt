@@ -11,5 +11,6 @@ abbrev pub invariant-pairs : goal.invariant-pairs
 invariant-pairs l = record {
   room : (l.end - l.x) * (length l.report.dates.now * 164) + l.used ≤ length l.room;
   kept : length l.room ≡ length l.initial.room;
-  so_far : take l.used l.room ≡ flat_map (λ x. pair_text (plant_of l.report.network.now x) (item_of l.report.network.now x) (dates_of l.report.network.now.calendar) (rows_at l.report.plan.now x)) (range_with_len l.first (l.x - l.first));
+  so_far : take l.used l.room ≡ flat_map (λ x. pair_text (plant_of l.report.network.now x) (item_of l.report.network.now x)
+      (dates_of l.report.network.now.calendar) (rows_at l.report.plan.now x)) (range_with_len l.first (l.x - l.first));
 }

@@ -12,7 +12,8 @@ periods-preserved c =
     let text = c.put_period-start.new.text in
     let start = c.put_period-start.result in
     let part : take (116 - start) (drop start text) ≡ period_part (date_in c.args.dates.now c.periods.t) (period_at c.args.plan.now c.periods.t) =
-    take_all _ _ (omega (arith, length-drop start text)) ∙ c.put_period-start.ensures.part ∙ ap (period_part (date_in c.args.dates.now c.periods.t)) c.period_at.ensures in
+    take_all _ _ (omega (arith, length-drop start text)) ∙ c.put_period-start.ensures.part
+    ∙ ap (period_part (date_in c.args.dates.now c.periods.t)) c.period_at.ensures in
     let size : length (take (116 - start) (drop start text)) ≤ 116 =
     omega (arith, length-take-le (116 - start) (drop start text) (omega (arith, length-drop start text))) in
     record {

@@ -14,7 +14,8 @@ pub pieces-preserved : goal.pieces-preserved
 pieces-preserved g c = record {
   within = omega (arith);
   room = omega (arith, c.pieces.invariant.room, c.in_ok-send_piece.ensures.room);
-  sent = pieces_more c.args.report.now.network.now c.args.report.now.plan.now _ _ _ c.pieces.sent (c.min-end.result - c.pieces.sent) c.min-end.result (omega arith) c.pieces.invariant.sent c.in_ok-send_piece.ensures.whole;
+  sent = pieces_more c.args.report.now.network.now c.args.report.now.plan.now _ _ _ c.pieces.sent (c.min-end.result - c.pieces.sent) c.min-end.result
+      (omega arith) c.pieces.invariant.sent c.in_ok-send_piece.ensures.whole;
 }
 
 pub returns-clause-text : goal.returns-clause-text
@@ -25,4 +26,5 @@ pub returns-in_err-send_piece-clause-text : goal.returns-in_err-send_piece-claus
 returns-in_err-send_piece-clause-text g c =
     let p = err_from_is_err_and c.from_residual.result c.from_residual.ensures.1 in
     rw (p.1, p.2, c.in_err-send_piece.ensures.fault)
-    (pieces_cut c.args.report.now.network.now c.args.report.now.plan.now _ _ _ c.pieces.sent (c.min-end.result - c.pieces.sent) (omega arith) c.pieces.invariant.sent c.in_err-send_piece.ensures.front)
+    (pieces_cut c.args.report.now.network.now c.args.report.now.plan.now _ _ _ c.pieces.sent (c.min-end.result - c.pieces.sent)
+    (omega arith) c.pieces.invariant.sent c.in_err-send_piece.ensures.front)

@@ -11,13 +11,16 @@ pub pieces-init : goal.pieces-init
 pieces-init g c = appends-none _
 
 pub pieces-preserved : goal.pieces-preserved
-pieces-preserved g c = sent_more _ _ _ c.args.pieces.now c.pieces.piece-index c.piece-item.result c.piece-item.result c.pieces-test.true c.piece-item.is c.pieces.invariant c.in_ok-send.ensures.whole
+pieces-preserved g c = sent_more _ _ _ c.args.pieces.now c.pieces.piece-index c.piece-item.result c.piece-item.result c.pieces-test.true c.piece-item.is
+    c.pieces.invariant c.in_ok-send.ensures.whole
 
 pub returns-in_err-send-clause-front : goal.returns-in_err-send-clause-front
 returns-in_err-send-clause-front g c =
     let p = err_from_is_err_and c.from_residual.result c.from_residual.ensures.1 in
-    rw p.1 (sent_cut _ _ _ c.args.pieces.now c.pieces.piece-index c.piece-item.result c.piece-item.result c.pieces-test.true c.piece-item.is c.pieces.invariant c.in_err-send.ensures.front)
+    rw p.1 (sent_cut _ _ _ c.args.pieces.now c.pieces.piece-index c.piece-item.result c.piece-item.result c.pieces-test.true c.piece-item.is c.pieces.invariant
+    c.in_err-send.ensures.front)
 
 pub returns-clause-whole : goal.returns-clause-whole
 returns-clause-whole g c =
-    subst (λ t. Appends (g.W.Write.contents c.args.out.now) (g.W.Write.contents c.pieces.out) t) (ap concat (take_all c.pieces.piece-index c.args.pieces.now (omega (arith, c.pieces-test.false)))) c.pieces.invariant
+    subst (λ t. Appends (g.W.Write.contents c.args.out.now) (g.W.Write.contents c.pieces.out) t)
+    (ap concat (take_all c.pieces.piece-index c.args.pieces.now (omega (arith, c.pieces-test.false)))) c.pieces.invariant

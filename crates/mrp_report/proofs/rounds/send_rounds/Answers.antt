@@ -18,7 +18,8 @@ rounds-preserved g c =
     record {
       within = omega arith;
       count = c.write_round.ensures.count ∙ c.rounds.invariant.count;
-      sent = round_more N c.args.report.now.plan.now _ _ _ c.rounds.sent (min (length N.pairs - c.rounds.sent) (length c.rounds.pieces * c.args.size)) _ _ (omega (arith, same))
+      sent = round_more N c.args.report.now.plan.now _ _ _ c.rounds.sent (min (length N.pairs - c.rounds.sent) (length c.rounds.pieces * c.args.size)) _ _
+          (omega (arith, same))
           c.write_round.ensures.text c.rounds.invariant.sent c.in_ok-send_round.ensures.whole;
     }
 

@@ -18,7 +18,8 @@ pub returns-in_err-view : goal.returns-in_err-view
 returns-in_err-view c = IfOk-from_err c.from_residual.result (λ idle. IsIdle c.args.network.now [] [] c.args.plant.0 idle) c.from_residual.ensures.0
 
 pub returns-in_err-new : goal.returns-in_err-new
-returns-in_err-new c = IfOk-from_err c.from_residual-in_err-new.result (λ idle. IsIdle c.args.network.now [] [] c.args.plant.0 idle) c.from_residual-in_err-new.ensures.0
+returns-in_err-new c = IfOk-from_err c.from_residual-in_err-new.result
+    (λ idle. IsIdle c.args.network.now [] [] c.args.plant.0 idle) c.from_residual-in_err-new.ensures.0
 
 pub returns : goal.returns
 returns c = record {

@@ -16,7 +16,8 @@ returns g c =
     IfOk-weaker c.all_made.result (λ plants. made ≡ map Ok plants.items) (λ plants. AreIdle N [] [] plants.items)
     (λ plants is. record {
       all_plants = omega (arith, ap length is, length-map {B = Result Plant Memory} plants.items Ok, c.in_ok-made.ensures.len, c.plants.ensures);
-      each = each_made (IsIdle N [] []) plants.items made is (λ k d within. (c.in_ok-made.ensures.each k d (omega (arith, within, c.in_ok-made.ensures.len))).1.met);
+      each = each_made (IsIdle N [] []) plants.items made is (λ k d within.
+          (c.in_ok-made.ensures.each k d (omega (arith, within, c.in_ok-made.ensures.len))).1.met);
     }) c.all_made.ensures
 
 pub map_indices-requires-send-X : goal.map_indices-requires-send-X

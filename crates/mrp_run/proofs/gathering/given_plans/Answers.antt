@@ -19,19 +19,22 @@ pub loop-plant-preserved : goal.loop-plant-preserved
 loop-plant-preserved c =
     let at = c.loop-plant in
     let plant = c.in-Some.plant in
-    let grown : c.push.new.self.items ≡ at.given.items ++ c.into_plans.result ∷ [] = pushed at.given.items c.push.new.self.items c.into_plans.result _ c.push.ensures.items (ap is_ok c.unwrap.ensures) in record {
+    let grown : c.push.new.self.items ≡ at.given.items ++ c.into_plans.result ∷ [] =
+    pushed at.given.items c.push.new.self.items c.into_plans.result _ c.push.ensures.items (ap is_ok c.unwrap.ensures) in record {
       whole = whole_next at.yielded (into_iter_items at.plant-iterator) _ c.args.plants.items plant at.invariant.whole c.in-Some.ensures.steps.0;
       size = omega (arith, at.invariant.size, ap length grown, length-append at.given.items (c.into_plans.result ∷ []), length-append at.yielded (plant ∷ []));
       room = omega (arith, at.invariant.room, c.push.ensures.capacity);
       own = λ N have. subst (λ (z : List (Vec PairPlan Global)). AreOwn N z) (sym grown)
-          (given_more N c.args.plants.items at.yielded (into_iter_items at.plant-iterator) _ plant at.given.items c.into_plans.result have at.invariant.whole c.in-Some.ensures.steps.0
+          (given_more N c.args.plants.items at.yielded (into_iter_items at.plant-iterator) _ plant at.given.items c.into_plans.result have at.invariant.whole
+          c.in-Some.ensures.steps.0
           at.invariant.size c.into_plans.ensures.plans c.into_plans.ensures.all (at.invariant.own N have));
     }
 
 pub returns : goal.returns
 returns c = λ N have.
     let at = c.loop-plant in
-    let all : at.yielded ≡ c.args.plants.items = none_left at.yielded (into_iter_items at.plant-iterator) c.args.plants.items at.invariant.whole (omega (arith, c.in-None.ensures.steps.0, at.plant-iterator.rest.ok.0)) in record {
+    let all : at.yielded ≡ c.args.plants.items = none_left at.yielded (into_iter_items at.plant-iterator) c.args.plants.items at.invariant.whole
+    (omega (arith, c.in-None.ensures.steps.0, at.plant-iterator.rest.ok.0)) in record {
       all = at.invariant.size ∙ ap length all ∙ have.all_plants;
       each = at.invariant.own N have;
     }

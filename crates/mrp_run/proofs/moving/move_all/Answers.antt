@@ -17,7 +17,8 @@ loop-k-preserved g c =
     let p = c.args.plant.now in
     let q = c.loop-k.plant in
     let r = c.look_at.new.plant in
-    one_after_another p.agent p.sends.items p.takes.items q.agent q.sends.items q.takes.items r.agent r.sends.items r.takes.items c.loop-k.invariant c.look_at.ensures.kept
+    one_after_another p.agent p.sends.items p.takes.items q.agent q.sends.items q.takes.items r.agent r.sends.items r.takes.items c.loop-k.invariant
+    c.look_at.ensures.kept
 
 pub loop-k-init : goal.loop-k-init
 loop-k-init g c = nothing_done c.args.plant.now.agent c.args.plant.now.sends.items c.args.plant.now.takes.items

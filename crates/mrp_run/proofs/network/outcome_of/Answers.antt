@@ -17,7 +17,8 @@ reconcile_all-requires g c =
       ended = (
         through.names,
         through.all_lanes,
-        subst (λ (plants : List Plant). HaveEnded N through.names through.names plants) (sym c.as_mut_slice.ensures.value) (have_ended N c.args.plants.items through),
+        subst (λ (plants : List Plant). HaveEnded N through.names through.names plants) (sym c.as_mut_slice.ensures.value)
+            (have_ended N c.args.plants.items through),
       );
     }
 
@@ -31,21 +32,25 @@ pub gather-requires-clause-plans : goal.gather-requires-clause-plans
 gather-requires-clause-plans g c =
     let plans = c.in_ok-lanes.ensures.plans in
     subst (HavePlans c.args.network.now)
-    (sym (in_place c.args.plants.items c.reconcile_all.new.plants c.args.plants.len c.args.plants.ok.0 (plans.all_plants ∙ sym c.requires.through.all_plants))) plans
+    (sym (in_place c.args.plants.items c.reconcile_all.new.plants c.args.plants.len c.args.plants.ok.0 (plans.all_plants ∙ sym c.requires.through.all_plants)))
+    plans
 
 pub returns-in_err-plans-clause-outcome : goal.returns-in_err-plans-clause-outcome
-returns-in_err-plans-clause-outcome g c = IfOk-from_err c.from_residual-in_err-plans.result (λ o. IsOutcome c.args.network.now o) c.from_residual-in_err-plans.ensures.0
+returns-in_err-plans-clause-outcome g c = IfOk-from_err c.from_residual-in_err-plans.result
+    (λ o. IsOutcome c.args.network.now o) c.from_residual-in_err-plans.ensures.0
 
 pub returns-in_err-lanes-clause-fault : goal.returns-in_err-lanes-clause-fault
 returns-in_err-lanes-clause-fault g c = handed_on (λ fault. fault ≡ Memory) c.from_residual.result Memory c.from_residual.ensures.1 refl
 
 pub returns-in_err-plans-clause-fault : goal.returns-in_err-plans-clause-fault
-returns-in_err-plans-clause-fault g c = handed_on (λ fault. fault ≡ Memory) c.from_residual-in_err-plans.result Memory c.from_residual-in_err-plans.ensures.1 refl
+returns-in_err-plans-clause-fault g c = handed_on (λ fault. fault ≡ Memory) c.from_residual-in_err-plans.result Memory c.from_residual-in_err-plans.ensures.1
+    refl
 
 pub returns-clause-outcome : goal.returns-clause-outcome
 returns-clause-outcome g c = record {
   plans = c.in_ok-plans.ensures;
   lanes = c.in_ok-lanes.ensures.lanes;
   run = is_run c.args.network.now c.requires.sized c.args.plants.items c.requires.through c.in_ok-lanes.lanes.items c.in_ok-lanes.ensures.lanes
-      (subst (λ (plants : List Plant). EachAt (IsOfEnds c.args.network.now plants) c.in_ok-lanes.lanes.items) c.as_mut_slice.ensures.value c.in_ok-lanes.ensures.ends);
+      (subst (λ (plants : List Plant). EachAt (IsOfEnds c.args.network.now plants) c.in_ok-lanes.lanes.items) c.as_mut_slice.ensures.value
+      c.in_ok-lanes.ensures.ends);
 }

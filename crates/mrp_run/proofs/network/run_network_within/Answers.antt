@@ -17,8 +17,11 @@ pub run_plants-requires-clause-work : goal.run_plants-requires-clause-work
 run_plants-requires-clause-work g c κs within = ready_work c.args.net.now.network c.in_ok-ready.ready.items c.in_ok-ready.ensures.ready
 
 pub ready_plants-requires-clause-capacity : goal.ready_plants-requires-clause-capacity
-ready_plants-requires-clause-capacity g c κs within =
-    (omega (arith, c.capacity.ensures.value, c.capacity.ensures.limits.some_room), omega (arith, c.capacity.ensures.value, c.capacity.ensures.limits.little_room))
+ready_plants-requires-clause-capacity g c κs within = (
+  omega (arith, c.capacity.ensures.value, c.capacity.ensures.limits.some_room),
+  omega
+      (arith, c.capacity.ensures.value, c.capacity.ensures.limits.little_room),
+)
 
 pub returns-in_err-ready-clause-outcome : goal.returns-in_err-ready-clause-outcome
 returns-in_err-ready-clause-outcome g c = IfOk-from_err c.from_residual.result (λ o. IsOutcome c.args.net.now.network o) c.from_residual.ensures.0
@@ -27,19 +30,25 @@ pub returns-in_err-ready-clause-gate : goal.returns-in_err-ready-clause-gate
 returns-in_err-ready-clause-gate g c =
     let Shut = WasShut g.G.Gate.turn_open g.G.Gate.turn_shut g.G.Gate.worker_shut c.args.settings.workers c.args.turns in
     record {
-      turned = IfOk-from_err c.from_residual.result (λ _. AllTurned g.G.Gate.turn_open c.args.turns (length c.args.net.now.network.plants)) c.from_residual.ensures.0;
-      fault = handed_on (IsFaultIn Shut (WasSpent g.G.Gate.turn_open c.args.turns) c.args.net.now.network) c.from_residual.result Memory c.from_residual.ensures.1 tt;
+      turned = IfOk-from_err c.from_residual.result (λ _. AllTurned g.G.Gate.turn_open c.args.turns (length c.args.net.now.network.plants))
+          c.from_residual.ensures.0;
+      fault = handed_on (IsFaultIn Shut (WasSpent g.G.Gate.turn_open c.args.turns) c.args.net.now.network) c.from_residual.result Memory
+          c.from_residual.ensures.1 tt;
     }
 
 pub run_plants-requires-clause-workers : goal.run_plants-requires-clause-workers
-run_plants-requires-clause-workers g c κs within =
-    (omega (arith, c.workers.ensures.value, c.workers.ensures.limits.some_workers), omega (arith, c.workers.ensures.value, c.workers.ensures.limits.few_workers))
+run_plants-requires-clause-workers g c κs within = (
+  omega (arith, c.workers.ensures.value, c.workers.ensures.limits.some_workers),
+  omega
+      (arith, c.workers.ensures.value, c.workers.ensures.limits.few_workers),
+)
 
 pub run_plants-requires-clause-rule : goal.run_plants-requires-clause-rule
 run_plants-requires-clause-rule g c κs within = λ fault met. met
 
 pub returns-in_err-through-clause-outcome : goal.returns-in_err-through-clause-outcome
-returns-in_err-through-clause-outcome g c = IfOk-from_err c.from_residual-in_err-through.result (λ o. IsOutcome c.args.net.now.network o) c.from_residual-in_err-through.ensures.0
+returns-in_err-through-clause-outcome g c = IfOk-from_err c.from_residual-in_err-through.result
+    (λ o. IsOutcome c.args.net.now.network o) c.from_residual-in_err-through.ensures.0
 
 -- there are as many plants as the network has
 pub returns-in_err-through-clause-gate : goal.returns-in_err-through-clause-gate
@@ -48,8 +57,10 @@ returns-in_err-through-clause-gate g c =
     let Spent = WasSpent g.G.Gate.turn_open c.args.turns in
     record {
       turned =
-          IfOk-from_err c.from_residual-in_err-through.result (λ _. AllTurned g.G.Gate.turn_open c.args.turns (length c.args.net.now.network.plants)) c.from_residual-in_err-through.ensures.0;
-      fault = handed_on (IsFaultIn (Shut c.args.settings.workers) Spent c.args.net.now.network) c.from_residual-in_err-through.result _ c.from_residual-in_err-through.ensures.1
+          IfOk-from_err c.from_residual-in_err-through.result (λ _. AllTurned g.G.Gate.turn_open c.args.turns (length c.args.net.now.network.plants))
+          c.from_residual-in_err-through.ensures.0;
+      fault = handed_on (IsFaultIn (Shut c.args.settings.workers) Spent c.args.net.now.network) c.from_residual-in_err-through.result _
+          c.from_residual-in_err-through.ensures.1
           (subst (λ (workers : ℕ). IsOfFirst (Shut workers) Spent (length c.args.net.now.network.plants) c.in_err-through.field-0.0) c.workers.ensures.value
           (subst (λ (plants : ℕ). IsOfFirst (Shut c.workers.result) Spent plants c.in_err-through.field-0.0) c.in_ok-ready.ensures.ready.all_plants
           (IfErr-at_err (IsOfFirst (Shut c.workers.result) Spent (length c.in_ok-ready.ready.items)) c.in_err-through.was c.run_plants.ensures.fault)));
@@ -73,7 +84,8 @@ returns-clause-gate g c =
     let Shut = WasShut g.G.Gate.turn_open g.G.Gate.turn_shut g.G.Gate.worker_shut c.args.settings.workers c.args.turns in
     let Fault = IsFaultIn Shut (WasSpent g.G.Gate.turn_open c.args.turns) c.args.net.now.network in
     let Turned = AllTurned g.G.Gate.turn_open c.args.turns in
-    let each : Turned (length c.in_ok-ready.ready.items) = IfOk-at_ok (λ _. Turned (length c.in_ok-ready.ready.items)) c.in_ok-through.was c.run_plants.ensures.turned in
+    let each : Turned (length c.in_ok-ready.ready.items) = IfOk-at_ok
+    (λ _. Turned (length c.in_ok-ready.ready.items)) c.in_ok-through.was c.run_plants.ensures.turned in
     record {
       turned = on_ok (Turned (length c.args.net.now.network.plants)) c.outcome_of.result (subst Turned c.in_ok-ready.ensures.ready.all_plants each);
       fault = IfErr-weaker c.outcome_of.result (λ fault. fault ≡ Memory) Fault (λ fault is. subst Fault (sym is) tt) c.outcome_of.ensures.fault;

@@ -5,4 +5,7 @@ use Rattle.mrp_run.proofs.network.run_network_within.Given as goal
 
 -- the plants stop for faults that one of them may meet
 abbrev pub ghosts-run_plants : goal.ghosts-run_plants
-ghosts-run_plants g a = record { holds = IsOfFirst (WasShut g.G.Gate.turn_open g.G.Gate.turn_shut g.G.Gate.worker_shut a.workers a.turns) (WasSpent g.G.Gate.turn_open a.turns) (length a.plants.items) }
+ghosts-run_plants g a = record {
+  holds = IsOfFirst (WasShut g.G.Gate.turn_open g.G.Gate.turn_shut g.G.Gate.worker_shut a.workers a.turns)
+      (WasSpent g.G.Gate.turn_open a.turns) (length a.plants.items);
+}

@@ -21,39 +21,52 @@ loop-done-init g c =
     }
 
 pub reconcile_last-requires-clause-left : goal.reconcile_last-requires-clause-left
-reconcile_last-requires-clause-left g c = pair.left_here c.args.network.now c.loop-done.plants c.lanes-lanes.result c.loop-done.done c.lanes-lanes.ensures c.loop-done-test.true c.loop-done.invariant.left
+reconcile_last-requires-clause-left g c = pair.left_here c.args.network.now c.loop-done.plants c.lanes-lanes.result c.loop-done.done c.lanes-lanes.ensures
+    c.loop-done-test.true c.loop-done.invariant.left
 
 pub loop-done-preserved : goal.loop-done-preserved
 loop-done-preserved g c =
     let N = c.args.network.now in record {
-      settled = settle.paired_more N c.args.plants.now c.lanes-lanes.result (length (lanes N)) c.loop-done.done c.loop-done.all.items c.push.new.self.items c.in_ok-settled.settled
+      settled = settle.paired_more N c.args.plants.now c.lanes-lanes.result
+          (length (lanes N)) c.loop-done.done c.loop-done.all.items c.push.new.self.items c.in_ok-settled.settled
           (pushed c.loop-done.all.items c.push.new.self.items c.in_ok-settled.settled _ c.push.ensures.items (ap is_ok c.unwrap.ensures)) c.lanes-lanes.ensures
-          (record { settled = c.in_ok-settled.ensures.settled; of = ran.of_before N c.args.plants.now c.loop-done.plants _ c.in_ok-settled.settled c.loop-done.invariant.left_of c.in_ok-settled.ensures.of })
+          (record {
+            settled = c.in_ok-settled.ensures.settled;
+            of = ran.of_before N c.args.plants.now c.loop-done.plants _ c.in_ok-settled.settled
+                c.loop-done.invariant.left_of c.in_ok-settled.ensures.of;
+          })
           c.loop-done.invariant.settled;
       room = omega (arith, c.loop-done.invariant.room, c.push.ensures.capacity);
-      left = pair.left_next N c.reconcile_last.new.plants c.lanes-lanes.result c.loop-done.done c.lanes-lanes.ensures c.loop-done-test.true c.in_ok-settled.ensures.left;
+      left = pair.left_next N c.reconcile_last.new.plants c.lanes-lanes.result c.loop-done.done c.lanes-lanes.ensures c.loop-done-test.true
+          c.in_ok-settled.ensures.left;
       left_of = ran.left_of_left c.args.plants.now c.loop-done.plants c.reconcile_last.new.plants c.loop-done.invariant.left_of c.in_ok-settled.ensures.left_of;
     }
 
 pub returns-clause-lanes : goal.returns-clause-lanes
 returns-clause-lanes g c =
     settle.are_settled c.args.network.now c.args.plants.now _
-    (settle.paired_all c.args.network.now c.args.plants.now c.lanes-lanes.result c.loop-done.done c.loop-done.all.items c.as_mut_slice.result.now c.reverse.new.self c.loop-done.all.len c.lanes-lanes.ensures
-    (omega (arith, c.loop-done-test.false, c.loop-done.auto.done-end)) c.as_mut_slice.ensures.value c.reverse.ensures.after (omega (arith, c.loop-done.all.ok.0)) c.loop-done.invariant.settled)
+    (settle.paired_all c.args.network.now c.args.plants.now c.lanes-lanes.result c.loop-done.done c.loop-done.all.items c.as_mut_slice.result.now
+    c.reverse.new.self c.loop-done.all.len c.lanes-lanes.ensures
+    (omega (arith, c.loop-done-test.false, c.loop-done.auto.done-end)) c.as_mut_slice.ensures.value c.reverse.ensures.after
+    (omega (arith, c.loop-done.all.ok.0)) c.loop-done.invariant.settled)
 
 pub returns-clause-ends : goal.returns-clause-ends
 returns-clause-ends g c =
     settle.are_of_ends c.args.network.now c.args.plants.now _
-    (settle.paired_all c.args.network.now c.args.plants.now c.lanes-lanes.result c.loop-done.done c.loop-done.all.items c.as_mut_slice.result.now c.reverse.new.self c.loop-done.all.len c.lanes-lanes.ensures
-    (omega (arith, c.loop-done-test.false, c.loop-done.auto.done-end)) c.as_mut_slice.ensures.value c.reverse.ensures.after (omega (arith, c.loop-done.all.ok.0)) c.loop-done.invariant.settled)
+    (settle.paired_all c.args.network.now c.args.plants.now c.lanes-lanes.result c.loop-done.done c.loop-done.all.items c.as_mut_slice.result.now
+    c.reverse.new.self c.loop-done.all.len c.lanes-lanes.ensures
+    (omega (arith, c.loop-done-test.false, c.loop-done.auto.done-end)) c.as_mut_slice.ensures.value c.reverse.ensures.after
+    (omega (arith, c.loop-done.all.ok.0)) c.loop-done.invariant.settled)
 
 pub returns-clause-plans : goal.returns-clause-plans
-returns-clause-plans g c = pair.have_plans c.args.network.now c.loop-done.plants (length (lanes c.args.network.now) - c.loop-done.done) c.loop-done.invariant.left
+returns-clause-plans g c = pair.have_plans c.args.network.now c.loop-done.plants
+    (length (lanes c.args.network.now) - c.loop-done.done) c.loop-done.invariant.left
 
 pub returns-clause-no_ends : goal.returns-clause-no_ends
 returns-clause-no_ends g c =
     let N = c.args.network.now in
-    pair.no_ends N c.loop-done.plants (length (lanes N) - c.loop-done.done) (omega (arith, c.lanes-lanes.ensures, c.loop-done-test.false)) c.loop-done.invariant.left
+    pair.no_ends N c.loop-done.plants (length (lanes N) - c.loop-done.done)
+    (omega (arith, c.lanes-lanes.ensures, c.loop-done-test.false)) c.loop-done.invariant.left
 
 pub overflow_sub-lanes : goal.overflow_sub-lanes
 overflow_sub-lanes g c = omega (arith, c.loop-done-test.true)
@@ -74,7 +87,8 @@ pub returns-in_err-all-clause-lanes : goal.returns-in_err-all-clause-lanes
 returns-in_err-all-clause-lanes g c = IfOk-from_err c.from_residual.result (λ all. AreSettled c.args.network.now all.items) c.from_residual.ensures.0
 
 pub returns-in_err-all-clause-ends : goal.returns-in_err-all-clause-ends
-returns-in_err-all-clause-ends g c = IfOk-from_err c.from_residual.result (λ all. EachAt (IsOfEnds c.args.network.now c.args.plants.now) all.items) c.from_residual.ensures.0
+returns-in_err-all-clause-ends g c = IfOk-from_err c.from_residual.result
+    (λ all. EachAt (IsOfEnds c.args.network.now c.args.plants.now) all.items) c.from_residual.ensures.0
 
 pub returns-in_err-all-clause-plans : goal.returns-in_err-all-clause-plans
 returns-in_err-all-clause-plans g c = IfOk-from_err c.from_residual.result (λ _. HavePlans c.args.network.now c.args.plants.now) c.from_residual.ensures.0
@@ -83,14 +97,18 @@ pub returns-in_err-all-clause-no_ends : goal.returns-in_err-all-clause-no_ends
 returns-in_err-all-clause-no_ends g c = IfOk-from_err c.from_residual.result (λ _. All HasNoEnds c.args.plants.now) c.from_residual.ensures.0
 
 pub returns-in_err-settled-clause-lanes : goal.returns-in_err-settled-clause-lanes
-returns-in_err-settled-clause-lanes g c = IfOk-from_err c.from_residual-in_err-settled.result (λ all. AreSettled c.args.network.now all.items) c.from_residual-in_err-settled.ensures.0
+returns-in_err-settled-clause-lanes g c = IfOk-from_err c.from_residual-in_err-settled.result
+    (λ all. AreSettled c.args.network.now all.items) c.from_residual-in_err-settled.ensures.0
 
 pub returns-in_err-settled-clause-ends : goal.returns-in_err-settled-clause-ends
 returns-in_err-settled-clause-ends g c =
-    IfOk-from_err c.from_residual-in_err-settled.result (λ all. EachAt (IsOfEnds c.args.network.now c.args.plants.now) all.items) c.from_residual-in_err-settled.ensures.0
+    IfOk-from_err c.from_residual-in_err-settled.result (λ all. EachAt (IsOfEnds c.args.network.now c.args.plants.now) all.items)
+    c.from_residual-in_err-settled.ensures.0
 
 pub returns-in_err-settled-clause-plans : goal.returns-in_err-settled-clause-plans
-returns-in_err-settled-clause-plans g c = IfOk-from_err c.from_residual-in_err-settled.result (λ _. HavePlans c.args.network.now c.reconcile_last.new.plants) c.from_residual-in_err-settled.ensures.0
+returns-in_err-settled-clause-plans g c = IfOk-from_err c.from_residual-in_err-settled.result
+    (λ _. HavePlans c.args.network.now c.reconcile_last.new.plants) c.from_residual-in_err-settled.ensures.0
 
 pub returns-in_err-settled-clause-no_ends : goal.returns-in_err-settled-clause-no_ends
-returns-in_err-settled-clause-no_ends g c = IfOk-from_err c.from_residual-in_err-settled.result (λ _. All HasNoEnds c.reconcile_last.new.plants) c.from_residual-in_err-settled.ensures.0
+returns-in_err-settled-clause-no_ends g c = IfOk-from_err c.from_residual-in_err-settled.result
+    (λ _. All HasNoEnds c.reconcile_last.new.plants) c.from_residual-in_err-settled.ensures.0

@@ -13,7 +13,8 @@ unreachable-requires g c =
     let N = c.args.network.now in
     let left = have_last N c.args.lane.0 c.args.plants.now c.requires.left in
     let between = lane_is N N left.last.lane c.args.lane.0 c.lane-between.result refl left.lane c.lane-between.ensures.value in
-    there_is_one c.last_send.result _ (c.last_send.ensures.last N left.before _ left.last (ap (λ (lane : Lane). lane.sender.0) between) left.ended).0 c.in_default.is
+    there_is_one c.last_send.result _ (c.last_send.ensures.last N left.before _ left.last (ap (λ (lane : Lane). lane.sender.0) between) left.ended).0
+    c.in_default.is
 
 pub unreachable-requires-in_default-last_take : goal.unreachable-requires-in_default-last_take
 unreachable-requires-in_default-last_take g c =
@@ -21,7 +22,8 @@ unreachable-requires-in_default-last_take g c =
     let left = have_last N c.args.lane.0 c.args.plants.now c.requires.left in
     let between = lane_is N N left.last.lane c.args.lane.0 c.lane-between.result refl left.lane c.lane-between.ensures.value in
     let sent = c.in-Some.ensures.last N left.before _ left.last (ap (λ (lane : Lane). lane.sender.0) between) left.ended in
-    there_is_one c.last_take.result _ (c.last_take.ensures.last N left.before left.before left.last (ap (λ (lane : Lane). lane.receiver.0) between) sent.1).0 c.in_default-last_take.is
+    there_is_one c.last_take.result _ (c.last_take.ensures.last N left.before left.before left.last (ap (λ (lane : Lane). lane.receiver.0) between) sent.1).0
+    c.in_default-last_take.is
 
 pub reconcile-requires : goal.reconcile-requires
 reconcile-requires g c =
@@ -33,8 +35,10 @@ pub returns-clause-settled : goal.returns-clause-settled
 returns-clause-settled g c =
     let both = have_both c.args.network.now c.args.lane.0 c.args.plants.now _ _ c.lane-between.result c.in-Some.send c.in-Some-last_take.take
     c.requires.left c.lane-between.ensures.value c.in-Some.ensures.last c.in-Some-last_take.ensures.last in
-    settled_ok c.args.network.now c.args.lane.0 both.last c.in-Some.send c.in-Some-last_take.take c.reconcile.result both.lane both.network both.sent both.took.1
-    c.reconcile.ensures.legal_sent c.reconcile.ensures.network c.reconcile.ensures.lane c.reconcile.ensures.sent c.reconcile.ensures.taken c.reconcile.ensures.left c.reconcile.ensures.figures
+    settled_ok c.args.network.now c.args.lane.0 both.last c.in-Some.send c.in-Some-last_take.take c.reconcile.result both.lane both.network both.sent
+    both.took.1
+    c.reconcile.ensures.legal_sent c.reconcile.ensures.network c.reconcile.ensures.lane c.reconcile.ensures.sent c.reconcile.ensures.taken
+    c.reconcile.ensures.left c.reconcile.ensures.figures
 
 pub returns-clause-left : goal.returns-clause-left
 returns-clause-left g c =
@@ -50,12 +54,15 @@ returns-clause-of g c =
     let all : length c.args.plants.now ≡ length N.plants = c.requires.left.ended.all_plants in
     let sender = sender_is_there N c.args.lane.0 c.requires.lane in
     let receiver = receiver_is_there N c.args.lane.0 c.requires.lane in
-    of_ends_ok N c.args.plants.now c.last_send.new.plants c.args.lane.0 c.lane-between.result both.last c.in-Some.send c.in-Some-last_take.take c.reconcile.result
+    of_ends_ok N c.args.plants.now c.last_send.new.plants c.args.lane.0 c.lane-between.result both.last c.in-Some.send c.in-Some-last_take.take
+    c.reconcile.result
     c.lane-between.ensures.value both.lane both.network both.sent both.took.0 c.reconcile.ensures.legal_sent c.in-Some.ensures.left
     (subst (λ (b : Lane). b.sender.0 < length c.args.plants.now) (sym c.lane-between.ensures.value) (omega (arith, sender, all)))
     (subst (λ (b : Lane). b.receiver.0 < length c.args.plants.now) (sym c.lane-between.ensures.value) (omega (arith, receiver, all)))
-    c.in-Some.ensures.there c.in-Some-last_take.ensures.there c.reconcile.ensures.sent c.reconcile.ensures.taken c.reconcile.ensures.left c.reconcile.ensures.left_at
+    c.in-Some.ensures.there c.in-Some-last_take.ensures.there c.reconcile.ensures.sent c.reconcile.ensures.taken c.reconcile.ensures.left
+    c.reconcile.ensures.left_at
 
 pub returns-clause-left_of : goal.returns-clause-left_of
 returns-clause-left_of g c =
-    ok_anyway c.reconcile.result _ (left_of_left c.args.plants.now c.last_send.new.plants c.last_take.new.plants c.in-Some.ensures.left c.in-Some-last_take.ensures.left)
+    ok_anyway c.reconcile.result _ (left_of_left c.args.plants.now c.last_send.new.plants c.last_take.new.plants c.in-Some.ensures.left
+    c.in-Some-last_take.ensures.left)

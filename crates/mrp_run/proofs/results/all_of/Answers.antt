@@ -16,7 +16,8 @@ loop-back-preserved-in-Ok c =
     let here : vec_len at.plants < vec_capacity at.plants = omega (arith, left, at.invariant.count, at.invariant.room, c.requires.room.1) in
     let ok = c.push.ensures.succeeds here in record {
       whole = whole_next at.yielded (into_iter_items at.back-iterator) _ c.args.backs.items c.in-Some.back at.invariant.whole c.in-Some.ensures.steps.0;
-      plants = c.push.ensures.items ∙ cond-true _ (at.plants.items ++ c.in-Ok.plant ∷ []) at.plants.items ok ∙ ap (λ (z : List Plant). z ++ c.in-Ok.plant ∷ []) at.invariant.plants
+      plants = c.push.ensures.items ∙ cond-true _ (at.plants.items ++ c.in-Ok.plant ∷ []) at.plants.items ok
+          ∙ ap (λ (z : List Plant). z ++ c.in-Ok.plant ∷ []) at.invariant.plants
           ∙ sym (plants_more at.yielded c.in-Ok.plant) ∙ ap (λ (z : Back). plants_in (at.yielded ++ z ∷ [])) (sym c.in-Ok.is);
       count = omega (arith, at.invariant.count, c.push.ensures.upper_bound, length-append at.yielded (c.in-Some.back ∷ []));
       room = omega (arith, at.invariant.room, c.push.ensures.capacity);
@@ -38,8 +39,10 @@ loop-back-preserved c =
 pub returns-in-None-worst-clause-plants : goal.returns-in-None-worst-clause-plants
 returns-in-None-worst-clause-plants c =
     let at = c.loop-back in
-    let all : at.yielded ≡ c.args.backs.items = none_left at.yielded (into_iter_items at.back-iterator) c.args.backs.items at.invariant.whole (omega (arith, c.in-None.ensures.steps.0, at.back-iterator.rest.ok.0)) in
-    let none : option_to_list c.args.before ++ faults_in at.yielded ≡ [] = subst (λ w. IsWorstOf w (option_to_list c.args.before ++ faults_in at.yielded)) c.in-None-worst.is at.invariant.worst in
+    let all : at.yielded ≡ c.args.backs.items = none_left at.yielded (into_iter_items at.back-iterator) c.args.backs.items at.invariant.whole
+    (omega (arith, c.in-None.ensures.steps.0, at.back-iterator.rest.ok.0)) in
+    let none : option_to_list c.args.before ++ faults_in at.yielded ≡ [] =
+    subst (λ w. IsWorstOf w (option_to_list c.args.before ++ faults_in at.yielded)) c.in-None-worst.is at.invariant.worst in
     sym all ∙ no_fault at.yielded (none_before c.args.before (faults_in at.yielded) none).1 ∙ ap (λ (z : List Plant). map Ok z) (sym at.invariant.plants)
 
 pub unwrap-requires : goal.unwrap-requires
@@ -52,12 +55,14 @@ unwrap-requires c =
 pub returns-in-None-worst-clause-none : goal.returns-in-None-worst-clause-none
 returns-in-None-worst-clause-none c =
     let at = c.loop-back in
-    let none : option_to_list c.args.before ++ faults_in at.yielded ≡ [] = subst (λ w. IsWorstOf w (option_to_list c.args.before ++ faults_in at.yielded)) c.in-None-worst.is at.invariant.worst in
+    let none : option_to_list c.args.before ++ faults_in at.yielded ≡ [] =
+    subst (λ w. IsWorstOf w (option_to_list c.args.before ++ faults_in at.yielded)) c.in-None-worst.is at.invariant.worst in
     (none_before c.args.before (faults_in at.yielded) none).0
 
 pub returns-in-Some-worst-clause-fault : goal.returns-in-Some-worst-clause-fault
 returns-in-Some-worst-clause-fault c =
     let at = c.loop-back in
-    let all : at.yielded ≡ c.args.backs.items = none_left at.yielded (into_iter_items at.back-iterator) c.args.backs.items at.invariant.whole (omega (arith, c.in-None.ensures.steps.0, at.back-iterator.rest.ok.0)) in
+    let all : at.yielded ≡ c.args.backs.items = none_left at.yielded (into_iter_items at.back-iterator) c.args.backs.items at.invariant.whole
+    (omega (arith, c.in-None.ensures.steps.0, at.back-iterator.rest.ok.0)) in
     subst (λ (z : List Back). IsWorst c.in-Some-worst.fault (option_to_list c.args.before ++ faults_in z)) all
     (subst (λ w. IsWorstOf w (option_to_list c.args.before ++ faults_in at.yielded)) c.in-Some-worst.is at.invariant.worst)

@@ -20,7 +20,8 @@ returns-in-Err-clause-by_crew g c = (c.in-Err.fault, c.of_crew.ensures)
 
 pub returns-in-Err-clause-fault : goal.returns-in-Err-clause-fault
 returns-in-Err-clause-fault g c =
-    crew_is_of (WasShutToWorker g.G.Gate.worker_shut c.args.crew.now.workers) c.args.number c.in-Err.fault c.of_crew.result c.of_crew.ensures c.in-Err.ensures.shut
+    crew_is_of (WasShutToWorker g.G.Gate.worker_shut c.args.crew.now.workers) c.args.number c.in-Err.fault c.of_crew.result c.of_crew.ensures
+    c.in-Err.ensures.shut
 
 pub plan_ready-requires-clause-plannable : goal.plan_ready-requires-clause-plannable
 plan_ready-requires-clause-plannable g c κs within =

@@ -20,7 +20,8 @@ pub returns-in_err-planned-clause-crew : goal.returns-in_err-planned-clause-crew
 returns-in_err-planned-clause-crew g c = c.plan_all.ensures.crew
 
 pub returns-in_err-planned-clause-kept : goal.returns-in_err-planned-clause-kept
-returns-in_err-planned-clause-kept g c = keeps_on c.args.plant.now c.move_all-came.new.plant c.plan_all.new.plant c.move_all-came.ensures.kept c.plan_all.ensures.kept
+returns-in_err-planned-clause-kept g c = keeps_on c.args.plant.now c.move_all-came.new.plant c.plan_all.new.plant c.move_all-came.ensures.kept
+    c.plan_all.ensures.kept
 
 pub returns-in_err-planned-clause-fault : goal.returns-in_err-planned-clause-fault
 returns-in_err-planned-clause-fault g c =
@@ -29,7 +30,8 @@ returns-in_err-planned-clause-fault g c =
 
 pub move_all-sent-requires : goal.move_all-sent-requires
 move_all-sent-requires g c = record {
-  work = works_on c.move_all-came.new.plant c.plan_all.new.plant c.plan_all.ensures.kept (works_on c.args.plant.now c.move_all-came.new.plant c.move_all-came.ensures.kept c.requires.work);
+  work = works_on c.move_all-came.new.plant c.plan_all.new.plant c.plan_all.ensures.kept
+      (works_on c.args.plant.now c.move_all-came.new.plant c.move_all-came.ensures.kept c.requires.work);
 }
 
 pub returns-clause-crew : goal.returns-clause-crew

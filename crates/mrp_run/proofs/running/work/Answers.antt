@@ -22,10 +22,12 @@ returns-then-done-clause-finishes g c =
     let p = c.args.plant.now in
     let q = c.loop-turn.plant in
     let r = c.take_turn.new.plant in
-    let kept = one_after_another p.agent p.sends.items p.takes.items q.agent q.sends.items q.takes.items r.agent r.sends.items r.takes.items c.loop-turn.invariant.kept c.take_turn.ensures.kept in
+    let kept = one_after_another p.agent p.sends.items p.takes.items q.agent q.sends.items q.takes.items r.agent r.sends.items r.takes.items
+    c.loop-turn.invariant.kept c.take_turn.ensures.kept in
     record {
       kept = kept;
-      finished = has_finished p.agent p.sends.items p.takes.items r.agent r.sends.items r.takes.items kept c.done.result c.if-done.true c.done.ensures.exact c.done.ensures.finished;
+      finished = has_finished p.agent p.sends.items p.takes.items r.agent r.sends.items r.takes.items kept c.done.result c.if-done.true c.done.ensures.exact
+          c.done.ensures.finished;
     }
 
 pub loop-turn-preserved : goal.loop-turn-preserved
@@ -34,7 +36,8 @@ loop-turn-preserved g c =
     let q = c.loop-turn.plant in
     let r = c.take_turn.new.plant in
     record {
-      kept = one_after_another p.agent p.sends.items p.takes.items q.agent q.sends.items q.takes.items r.agent r.sends.items r.takes.items c.loop-turn.invariant.kept c.take_turn.ensures.kept;
+      kept = one_after_another p.agent p.sends.items p.takes.items q.agent q.sends.items q.takes.items r.agent r.sends.items r.takes.items
+          c.loop-turn.invariant.kept c.take_turn.ensures.kept;
       crew = c.take_turn.ensures.crew ∙ c.loop-turn.invariant.crew;
       spent = next_spent g.G.Gate.turn_open c.loop-turn.turn c.args.number.0 c.loop-turn.invariant.spent c.in_ok-begin.ensures.opened;
       unfinished = inr (sym c.done.ensures.exact ∙ c.if-done.false);
@@ -43,7 +46,12 @@ loop-turn-preserved g c =
 pub loop-turn-init : goal.loop-turn-init
 loop-turn-init g c =
     let p = c.args.plant.now in
-    record { kept = nothing_done p.agent p.sends.items p.takes.items; crew = refl; spent = none_spent g.G.Gate.turn_open c.args.number.0; unfinished = inl refl }
+    record {
+      kept = nothing_done p.agent p.sends.items p.takes.items;
+      crew = refl;
+      spent = none_spent g.G.Gate.turn_open c.args.number.0;
+      unfinished = inl refl;
+    }
 
 pub overflow_add-turn : goal.overflow_add-turn
 overflow_add-turn g c = omega (arith, c.loop-turn-test.true, c.ranges.turns)
@@ -86,12 +94,14 @@ returns-in_err-moved-clause-fault g c =
     let Spent = WasSpent g.G.Gate.turn_open c.args.turns in
     handed_on (IsToldOrOf g.S.StopRule.holds Shut Spent c.args.number) c.from_residual-in_err-moved.result _ c.from_residual-in_err-moved.ensures.1
     (of_turn g.S.StopRule.holds (WasWorkerShut g.G.Gate.worker_shut c.loop-turn.crew.workers) Shut Spent c.args.number _
-    (λ shut. inr (subst (λ (crew : CrewState). WasWorkerShut g.G.Gate.worker_shut crew.workers c.args.number.0) c.loop-turn.invariant.crew shut)) c.in_err-moved.ensures.fault)
+    (λ shut. inr (subst (λ (crew : CrewState). WasWorkerShut g.G.Gate.worker_shut crew.workers c.args.number.0) c.loop-turn.invariant.crew shut))
+    c.in_err-moved.ensures.fault)
 
 pub returns-in_err-moved-clause-unfinished : goal.returns-in_err-moved-clause-unfinished
 returns-in_err-moved-clause-unfinished g c = λ stopped.
     absurd (not_stopped (WasWorkerShut g.G.Gate.worker_shut c.loop-turn.crew.workers) c.args.number c.from_residual-in_err-moved.result
-    (handed_on (IsOf (WasWorkerShut g.G.Gate.worker_shut c.loop-turn.crew.workers) never_spent c.args.number) c.from_residual-in_err-moved.result _ c.from_residual-in_err-moved.ensures.1 c.in_err-moved.ensures.fault) stopped)
+    (handed_on (IsOf (WasWorkerShut g.G.Gate.worker_shut c.loop-turn.crew.workers) never_spent c.args.number) c.from_residual-in_err-moved.result _
+    c.from_residual-in_err-moved.ensures.1 c.in_err-moved.ensures.fault) stopped)
 
 pub returns-then-done-clause-crew : goal.returns-then-done-clause-crew
 returns-then-done-clause-crew g c = c.take_turn.ensures.crew ∙ c.loop-turn.invariant.crew
@@ -111,7 +121,8 @@ pub returns-clause-unfinished : goal.returns-clause-unfinished
 returns-clause-unfinished g c = λ _. c.loop-turn.invariant.unfinished
 
 pub returns-in_err-begin-clause-turned : goal.returns-in_err-begin-clause-turned
-returns-in_err-begin-clause-turned g c = IfOk-from_err c.from_residual.result (λ _. HasTurned g.G.Gate.turn_open c.args.turns c.args.number.0) c.from_residual.ensures.0
+returns-in_err-begin-clause-turned g c = IfOk-from_err c.from_residual.result
+    (λ _. HasTurned g.G.Gate.turn_open c.args.turns c.args.number.0) c.from_residual.ensures.0
 
 pub returns-in_err-moved-clause-turned : goal.returns-in_err-moved-clause-turned
 returns-in_err-moved-clause-turned g c =

@@ -32,40 +32,50 @@ pub returns-clause-each : goal.returns-clause-each
 returns-clause-each g c =
     let start = c.start_all-refused in
     all_back c.args.plants.items (started_plants start.new.threads.items) c.err.result c.join_all.new.backs.items c.all_of.result
-    (are_started c.args.plants.items (started_plants start.new.threads.items) start.ensures.started.0 start.result c.err.result start.ensures.started.1 start.ensures.started.2 start.ensures.refused c.err.ensures.value)
-    (kept_finished g.G.Gate.turn_open g.S.StopRule.holds start.new.threads.items c.join_all.new.backs.items c.join_all.ensures.kept) c.all_of.ensures.none c.all_of.ensures.plants
+    (are_started c.args.plants.items (started_plants start.new.threads.items) start.ensures.started.0 start.result c.err.result start.ensures.started.1
+    start.ensures.started.2 start.ensures.refused c.err.ensures.value)
+    (kept_finished g.G.Gate.turn_open g.S.StopRule.holds start.new.threads.items c.join_all.new.backs.items c.join_all.ensures.kept) c.all_of.ensures.none
+    c.all_of.ensures.plants
 
 pub returns-clause-turned : goal.returns-clause-turned
 returns-clause-turned g c =
     let start = c.start_all-refused in
-    turned_back g.G.Gate.turn_open g.S.StopRule.holds c.args.turns c.args.plants.items start.new.threads.items c.err.result c.join_all.new.backs.items c.all_of.result
-    (are_started c.args.plants.items (started_plants start.new.threads.items) start.ensures.started.0 start.result c.err.result start.ensures.started.1 start.ensures.started.2 start.ensures.refused c.err.ensures.value)
+    turned_back g.G.Gate.turn_open g.S.StopRule.holds c.args.turns c.args.plants.items start.new.threads.items c.err.result c.join_all.new.backs.items
+    c.all_of.result
+    (are_started c.args.plants.items (started_plants start.new.threads.items) start.ensures.started.0 start.result c.err.result start.ensures.started.1
+    start.ensures.started.2 start.ensures.refused c.err.ensures.value)
     c.join_all.ensures.kept start.ensures.numbered c.all_of.ensures.none c.all_of.ensures.plants
 
 pub returns-clause-fault : goal.returns-clause-fault
 returns-clause-fault g c =
     let start = c.start_all-refused in
-    let at = are_started c.args.plants.items (started_plants start.new.threads.items) start.ensures.started.0 start.result c.err.result start.ensures.started.1 start.ensures.started.2 start.ensures.refused c.err.ensures.value in
+    let at = are_started c.args.plants.items (started_plants start.new.threads.items) start.ensures.started.0 start.result c.err.result start.ensures.started.1
+    start.ensures.started.2 start.ensures.refused c.err.ensures.value in
     worst_back g.S.StopRule.holds c.err.result c.join_all.new.backs.items c.all_of.result (c.requires.rule ThreadRefused tt) at.fault
     (kept_rule g.G.Gate.turn_open g.S.StopRule.holds start.new.threads.items c.join_all.new.backs.items c.join_all.ensures.kept) c.all_of.ensures.fault
 
 pub returns-in_err-threads-clause-each : goal.returns-in_err-threads-clause-each
-returns-in_err-threads-clause-each g c = IfOk-from_err c.from_residual.result (λ after. AllZip Finishes c.args.plants.items after.items) c.from_residual.ensures.0
+returns-in_err-threads-clause-each g c = IfOk-from_err c.from_residual.result
+    (λ after. AllZip Finishes c.args.plants.items after.items) c.from_residual.ensures.0
 
 pub returns-in_err-threads-clause-turned : goal.returns-in_err-threads-clause-turned
-returns-in_err-threads-clause-turned g c = IfOk-from_err c.from_residual.result (λ _. AllTurned g.G.Gate.turn_open c.args.turns (length c.args.plants.items)) c.from_residual.ensures.0
+returns-in_err-threads-clause-turned g c = IfOk-from_err c.from_residual.result
+    (λ _. AllTurned g.G.Gate.turn_open c.args.turns (length c.args.plants.items)) c.from_residual.ensures.0
 
 pub returns-in_err-threads-clause-fault : goal.returns-in_err-threads-clause-fault
 returns-in_err-threads-clause-fault g c = handed_on g.S.StopRule.holds c.from_residual.result Memory c.from_residual.ensures.1 (c.requires.rule Memory tt)
 
 pub returns-in_err-rooms-clause-each : goal.returns-in_err-rooms-clause-each
-returns-in_err-rooms-clause-each g c = IfOk-from_err c.from_residual-in_err-rooms.result (λ after. AllZip Finishes c.args.plants.items after.items) c.from_residual-in_err-rooms.ensures.0
+returns-in_err-rooms-clause-each g c = IfOk-from_err c.from_residual-in_err-rooms.result
+    (λ after. AllZip Finishes c.args.plants.items after.items) c.from_residual-in_err-rooms.ensures.0
 
 pub returns-in_err-rooms-clause-turned : goal.returns-in_err-rooms-clause-turned
-returns-in_err-rooms-clause-turned g c = IfOk-from_err c.from_residual-in_err-rooms.result (λ _. AllTurned g.G.Gate.turn_open c.args.turns (length c.args.plants.items)) c.from_residual-in_err-rooms.ensures.0
+returns-in_err-rooms-clause-turned g c = IfOk-from_err c.from_residual-in_err-rooms.result
+    (λ _. AllTurned g.G.Gate.turn_open c.args.turns (length c.args.plants.items)) c.from_residual-in_err-rooms.ensures.0
 
 pub returns-in_err-rooms-clause-fault : goal.returns-in_err-rooms-clause-fault
-returns-in_err-rooms-clause-fault g c = handed_on g.S.StopRule.holds c.from_residual-in_err-rooms.result Memory c.from_residual-in_err-rooms.ensures.1 (c.requires.rule Memory tt)
+returns-in_err-rooms-clause-fault g c = handed_on g.S.StopRule.holds c.from_residual-in_err-rooms.result Memory c.from_residual-in_err-rooms.ensures.1
+    (c.requires.rule Memory tt)
 
 pub start_all-refused-requires-clause-work : goal.start_all-refused-requires-clause-work
 start_all-refused-requires-clause-work g c κs within = c.requires.work

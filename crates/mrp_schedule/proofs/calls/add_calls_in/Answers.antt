@@ -15,8 +15,15 @@ pub of-requires-then-pieces-gt0 : goal.of-requires-then-pieces-gt0
 of-requires-then-pieces-gt0 c =
     let s = c.args.source in
     let row = c.args.release.now in
-    let share : c.share_of-pieces.result ≡ share_in s row c.loop-period.period = c.share_of-pieces.ensures.value ∙ ap (share_of s.low s.high) (c.get-in-loop-period.ensures.value ∙ c.get.ensures) in
-    omega (arith, c.requires.small, c.loop-period.invariant.figure, period.next_total s row c.loop-period.period c.args.to c.loop-period-test.true c.share_of-pieces.result share)
+    let share : c.share_of-pieces.result ≡ share_in s row c.loop-period.period =
+    c.share_of-pieces.ensures.value ∙ ap (share_of s.low s.high) (c.get-in-loop-period.ensures.value ∙ c.get.ensures) in
+    omega (
+      arith,
+      c.requires.small,
+      c.loop-period.invariant.figure,
+      period.next_total s row c.loop-period.period c.args.to c.loop-period-test.true
+          c.share_of-pieces.result share,
+    )
 
 pub loop-period-preserved : goal.loop-period-preserved
 loop-period-preserved c =
@@ -26,7 +33,8 @@ loop-period-preserved c =
     let to : ℕ = c.args.to in
     let before = c.loop-period.invariant in
     let within = c.loop-period-test.true in
-    let share : c.share_of-pieces.result ≡ share_in s row t = c.share_of-pieces.ensures.value ∙ ap (share_of s.low s.high) (c.get-in-loop-period.ensures.value ∙ c.get.ensures) in
+    let share : c.share_of-pieces.result ≡ share_in s row t = c.share_of-pieces.ensures.value
+    ∙ ap (share_of s.low s.high) (c.get-in-loop-period.ensures.value ∙ c.get.ensures) in
     let more = period.next_total s row t to within c.share_of-pieces.result share in
     elim c.if-pieces-gt0.branch [
       | then-pieces-gt0 w ↦
@@ -53,7 +61,8 @@ loop-period-preserved c =
             begun = omega (arith, before.begun);
             within = omega (arith, within);
             lines = before.lines ∙ ap (λ (z : List Delivery). c.loop-period.lines.items ++ call_lines c.loop-period.reached z) none
-                ∙ ap (λ (z : ℕ). c.loop-period.lines.items ++ call_lines z rest) (sym w.reached-is) ∙ ap (λ (z : List ScheduleLine). z ++ call_lines c.if-pieces-gt0.reached rest) (sym same);
+                ∙ ap (λ (z : ℕ). c.loop-period.lines.items ++ call_lines z rest) (sym w.reached-is)
+                ∙ ap (λ (z : List ScheduleLine). z ++ call_lines c.if-pieces-gt0.reached rest) (sym same);
             figure = omega (arith, before.figure, w.reached-is, ap total none);
             room = omega (arith, before.room, within, ap length same);
             capacity = ap vec_capacity w.lines-is ∙ before.capacity;

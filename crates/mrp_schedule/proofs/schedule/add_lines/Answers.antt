@@ -20,7 +20,8 @@ row c =
     subst (IsSourceRow N) (sym c.lane_source-source.ensures) (planned.source_row N c.requires.sized.table (lane_at N c.args.lane.0) c.args.item c.requires.item)
 
 -- the row of releases is that of the source's pair
-released : (c : After-release-release) → c.release-release.result.now ≡ (rows_at c.args.plan.now (source_on c.args.network.now (lane_at c.args.network.now c.args.lane.0) c.args.item).pair.0).release
+released : (c : After-release-release) → c.release-release.result.now
+    ≡ (rows_at c.args.plan.now (source_on c.args.network.now (lane_at c.args.network.now c.args.lane.0) c.args.item).pair.0).release
 released c =
     c.release-release.ensures
     ∙ ap (λ (r : PlanRows). r.release) (c.pair.ensures ∙ ap (λ (s : SourceRow). rows_at c.args.plan.now s.pair.0) c.lane_source-source.ensures)
@@ -28,7 +29,8 @@ released c =
 sized : (c : After-release-release) → length c.release-release.result.now ≡ horizon c.args.network.now
 sized c =
     let N = c.args.network.now in
-    planned.release_length N c.requires.sized (lane_at N c.args.lane.0) c.args.item c.requires.item c.requires.schedule c.args.plan.now c.requires.fits c.release-release.result.now (released c)
+    planned.release_length N c.requires.sized (lane_at N c.args.lane.0) c.args.item c.requires.item c.requires.schedule c.args.plan.now c.requires.fits
+    c.release-release.result.now (released c)
 
 pub pair-requires : goal.pair-requires
 pair-requires c = omega (arith, c.requires.fits.size, (row (goal.at.pair-requires c).After-lane_source-source).pair)
@@ -78,4 +80,5 @@ returns-clause-lines c =
     c.args.lines.now.items second c.add_calls.new.lines.items c.opening-figure.result c.reset.result c.opening-figure.ensures c.reset.ensures
     (c.push_reserved.ensures.items ∙ ap (λ (line : ScheduleLine). c.args.lines.now.items ++ line ∷ []) c.opening_line.ensures)
     (c.add_calls.ensures.lines item.0
-    ∙ ap (λ (s : SourceRow). second ++ filter_map (line_of c.reset.result) (body item.0 c.opening-figure.result c.reset.result (calls_by s release 0 (length release)))) c.lane_source-source.ensures)
+    ∙ ap (λ (s : SourceRow). second ++ filter_map (line_of c.reset.result)
+    (body item.0 c.opening-figure.result c.reset.result (calls_by s release 0 (length release)))) c.lane_source-source.ensures)

@@ -7,11 +7,21 @@ use Rattle.mrp_schedule.proofs.schedule.opening_line.Goals as goal
 
 pub of-requires : goal.of-requires
 of-requires c =
-    omega (arith, c.opening-figure.ensures, planned.opening_within c.args.network.now c.requires.sized (lane_at c.args.network.now c.args.lane.0) c.args.item c.requires.item)
+    omega (
+      arith,
+      c.opening-figure.ensures,
+      planned.opening_within c.args.network.now c.requires.sized
+          (lane_at c.args.network.now c.args.lane.0) c.args.item c.requires.item,
+    )
 
 pub of-requires-2 : goal.of-requires-2
 of-requires-2 c =
-    omega (arith, c.opening-figure.ensures, planned.opening_within c.args.network.now c.requires.sized (lane_at c.args.network.now c.args.lane.0) c.args.item c.requires.item)
+    omega (
+      arith,
+      c.opening-figure.ensures,
+      planned.opening_within c.args.network.now c.requires.sized
+          (lane_at c.args.network.now c.args.lane.0) c.args.item c.requires.item,
+    )
 
 pub returns : goal.returns
 returns c =

@@ -6,7 +6,8 @@ use Rattle.mrp_spell.proofs.supplies.read.Goals as goal
 
 pub returns-in_err-sources-in-Some-clause-memory : goal.returns-in_err-sources-in-Some-clause-memory
 returns-in_err-sources-in-Some-clause-memory c =
-    λ _. begins_from c.args.text.now c.in-Some.word.now c.in-Some.plants.now (sym c.cut.ensures ∙ ap cut_view c.in-Some.is) (sym c.eq-in-Some.ensures ∙ c.if-eq-3.true)
+    λ _. begins_from c.args.text.now c.in-Some.word.now c.in-Some.plants.now (sym c.cut.ensures ∙ ap cut_view c.in-Some.is) (sym c.eq-in-Some.ensures
+    ∙ c.if-eq-3.true)
 
 pub returns-then-eq-clause-exact : goal.returns-then-eq-clause-exact
 unfolding supply_of

@@ -22,4 +22,5 @@ pub returns-clause-exact : goal.returns-clause-exact
 returns-clause-exact c =
     let none = ap (λ (xs : List SpelledSource). sources_with MOST_SOURCES_OF_PAIR (map source_view xs) 0 c.args.text.now) c.in_ok-sources.ensures.items in
     let split = sources_of-split c.args.text.now (sym c.is_name.ensures ∙ c.if-is_name.false) in
-    subst (λ (r : Option (List SourceTerms)). TellsSpelled (λ (found : Vec SpelledSource Global). map source_view found.items) c.shared_sources.result r) (none ∙ sym split) c.shared_sources.ensures.exact
+    subst (λ (r : Option (List SourceTerms)). TellsSpelled (λ (found : Vec SpelledSource Global). map source_view found.items) c.shared_sources.result r) (none
+    ∙ sym split) c.shared_sources.ensures.exact

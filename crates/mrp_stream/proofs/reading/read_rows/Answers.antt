@@ -8,17 +8,21 @@ pub returns-in-Ok-false-clause-records : goal.returns-in-Ok-false-clause-records
 returns-in-Ok-false-clause-records g c =
     let before = rows_left g.R.Read.remaining c.loop-number.rows in
     let after = rows_left g.R.Read.remaining c.read_next.new.rows in
-    let ends = told_none c.args.items.now c.in-Ok-false.field-0 before after c.loop-number.records.items c.read_next.new.records.items c.in-Ok-false.field-0-test c.in-Ok-false.ensures.exact in
-    ended c.args.items.now (rows_left g.R.Read.remaining c.args.rows.now) before c.loop-number.records.items c.read_next.new.records.items c.loop-number.invariant.so_far c.loop-number.invariant.few ends
+    let ends = told_none c.args.items.now c.in-Ok-false.field-0 before after c.loop-number.records.items c.read_next.new.records.items
+    c.in-Ok-false.field-0-test c.in-Ok-false.ensures.exact in
+    ended c.args.items.now (rows_left g.R.Read.remaining c.args.rows.now) before c.loop-number.records.items c.read_next.new.records.items
+    c.loop-number.invariant.so_far c.loop-number.invariant.few ends
 
 pub returns-in-Err-clause-fault : goal.returns-in-Err-clause-fault
 returns-in-Err-clause-fault g c =
-    stopped c.args.items.now (rows_left g.R.Read.remaining c.args.rows.now) (rows_left g.R.Read.remaining c.loop-number.rows) c.loop-number.records.items c.loop-number.number c.in-Err.kind
+    stopped c.args.items.now (rows_left g.R.Read.remaining c.args.rows.now)
+    (rows_left g.R.Read.remaining c.loop-number.rows) c.loop-number.records.items c.loop-number.number c.in-Err.kind
     c.loop-number.invariant.so_far (sym c.loop-number.invariant.count) c.loop-number.invariant.few c.in-Err.ensures.exact
 
 pub returns-in-Err-clause-failed : goal.returns-in-Err-clause-failed
 returns-in-Err-clause-failed g c =
-    stops_all c.args.items.now (rows_left g.R.Read.remaining c.args.rows.now) (rows_left g.R.Read.remaining c.loop-number.rows) c.loop-number.records.items c.loop-number.number c.in-Err.kind
+    stops_all c.args.items.now (rows_left g.R.Read.remaining c.args.rows.now)
+    (rows_left g.R.Read.remaining c.loop-number.rows) c.loop-number.records.items c.loop-number.number c.in-Err.kind
     (has_failed c.read_next.new.rows) c.loop-number.invariant.so_far (sym c.loop-number.invariant.count) c.loop-number.invariant.few c.in-Err.ensures.failed
 
 pub loop-number-preserved : goal.loop-number-preserved

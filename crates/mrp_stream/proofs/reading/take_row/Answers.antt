@@ -7,7 +7,8 @@ use Rattle.mrp_stream.proofs.reading.take_row.Goals as goal
 
 pub returns-in-Ok-clause-exact : goal.returns-in-Ok-clause-exact
 returns-in-Ok-clause-exact g c =
-    found_or_not g.R.Read.remaining c.args.rows.now c.read_record.new.self (fields_of c.read_record.new.row) c.in-Ok.found c.requires.gives (c.in-Ok.ensures.reads c.requires.gives.1 c.requires.gives.2)
+    found_or_not g.R.Read.remaining c.args.rows.now c.read_record.new.self (fields_of c.read_record.new.row) c.in-Ok.found c.requires.gives
+    (c.in-Ok.ensures.reads c.requires.gives.1 c.requires.gives.2)
 
 pub read_fault-requires : goal.read_fault-requires
 read_fault-requires g c =
@@ -15,8 +16,10 @@ read_fault-requires g c =
 
 pub returns-in-Err-clause-exact : goal.returns-in-Err-clause-exact
 returns-in-Err-clause-exact g c =
-    explains_as_kind g.R.Read.remaining c.args.rows.now c.read_record.new.self _ _ _ c.requires.gives c.in-Err.ensures.why c.kind.ensures c.read_fault.ensures.value
+    explains_as_kind g.R.Read.remaining c.args.rows.now c.read_record.new.self _ _ _ c.requires.gives c.in-Err.ensures.why c.kind.ensures
+    c.read_fault.ensures.value
 
 pub returns-in-Err-clause-failed : goal.returns-in-Err-clause-failed
 returns-in-Err-clause-failed g c =
-    has_stopped g.R.Read.remaining c.args.rows.now c.read_record.new.self c.requires.gives _ _ c.in-Err.ensures.why c.kind.ensures record_fault_of fault.ReadFault _ (λ pos e is. cc) c.in-Err.ensures.fails c.read_fault.ensures.value
+    has_stopped g.R.Read.remaining c.args.rows.now c.read_record.new.self c.requires.gives _ _ c.in-Err.ensures.why c.kind.ensures record_fault_of
+    fault.ReadFault _ (λ pos e is. cc) c.in-Err.ensures.fails c.read_fault.ensures.value

@@ -16,7 +16,8 @@ returns-in_err-extend_from_slice-2-clause-kept c =
 
 pub fields-preserved : goal.fields-preserved
 fields-preserved c = record {
-  so_far = field_added (λ f. f.now) c.args.out.now.items c.fields.out.items c.push.new.self.items c.extend_from_slice-in-fields.new.self.items c.args.word.now c.args.fields.now c.fields.field-index _
+  so_far = field_added (λ f. f.now) c.args.out.now.items c.fields.out.items c.push.new.self.items c.extend_from_slice-in-fields.new.self.items c.args.word.now
+      c.args.fields.now c.fields.field-index _
       (omega arith) c.fields.invariant.so_far c.in_ok-push.ensures.items c.in_ok-extend_from_slice-2.ensures.items;
 }
 

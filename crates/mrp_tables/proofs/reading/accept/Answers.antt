@@ -14,7 +14,8 @@ abbrev nothing : SourceRow
 nothing = record { pair = record { 0 = 0 }; plant = record { 0 = 0 }; low = 0; high = 0 }
 
 -- the row that is named is that of the source's pair
-named_row : (N : Table) (sources : List SourceRow) (plants place row : ℕ) → sources ≡ N.sources → plants ≡ length N.plants → row ≡ plants + 1 + (get_or sources place nothing).pair.0 + 1
+named_row : (N : Table) (sources : List SourceRow) (plants place row : ℕ) → sources ≡ N.sources → plants ≡ length N.plants
+    → row ≡ plants + 1 + (get_or sources place nothing).pair.0 + 1
     → row ≡ pair_row_number N (get_or N.sources place nothing).pair.0
 named_row N sources plants place row same count is = omega (arith, ap (λ (ss : List SourceRow). (get_or ss place nothing).pair.0) same, count, is)
 
@@ -27,7 +28,8 @@ of-requires c = record { table = table_is c.args.draft.lists c.args.draft.last c
 
 pub returns-in-Some-clause-exact : goal.returns-in-Some-clause-exact
 returns-in-Some-clause-exact c =
-    waits_at c.args.draft.lists c.in-Some.place _ nothing (sym c.in-Some.ensures.place) (named_row c.args.draft.lists _ _ c.in-Some.place _ c.sources.ensures.value c.plants-above.ensures.value refl)
+    waits_at c.args.draft.lists c.in-Some.place _ nothing (sym c.in-Some.ensures.place)
+    (named_row c.args.draft.lists _ _ c.in-Some.place _ c.sources.ensures.value c.plants-above.ensures.value refl)
 
 pub returns-clause-exact : goal.returns-clause-exact
 returns-clause-exact c =
@@ -50,9 +52,21 @@ bounds-sources-place c = rw c.sources.ensures.value (here c)
 pub overflow_add-result : goal.overflow_add-result
 overflow_add-result c =
     let is = c.requires.draft.holds.rows.sources c.in-Some.place nothing (here (goal.at.overflow_add-result c).After-sources) in
-    rw c.sources.ensures.value (omega (arith, c.plants-above.ensures.value, c.requires.draft.holds.rows.limits.plants, is.pair, c.requires.draft.holds.rows.limits.pairs))
+    rw c.sources.ensures.value (omega (
+      arith,
+      c.plants-above.ensures.value,
+      c.requires.draft.holds.rows.limits.plants,
+      is.pair,
+      c.requires.draft.holds.rows.limits.pairs,
+    ))
 
 pub overflow_add-result-in-Some : goal.overflow_add-result-in-Some
 overflow_add-result-in-Some c =
     let is = c.requires.draft.holds.rows.sources c.in-Some.place nothing (here (goal.at.overflow_add-result-in-Some c).After-sources) in
-    rw c.sources.ensures.value (omega (arith, c.plants-above.ensures.value, c.requires.draft.holds.rows.limits.plants, is.pair, c.requires.draft.holds.rows.limits.pairs))
+    rw c.sources.ensures.value (omega (
+      arith,
+      c.plants-above.ensures.value,
+      c.requires.draft.holds.rows.limits.plants,
+      is.pair,
+      c.requires.draft.holds.rows.limits.pairs,
+    ))

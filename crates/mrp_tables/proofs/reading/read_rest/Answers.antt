@@ -21,8 +21,10 @@ no_more d number is rows far = omega (arith, draft_rows-le d is)
 
 pub returns-in_err-read_next-clause-exact : goal.returns-in_err-read_next-clause-exact
 returns-in_err-read_next-clause-exact g c =
-    rw (handed_on c.from_residual.result _ c.from_residual.ensures.1) (goes_to_fault (rows_left g.R.Read.remaining c.args.rows.now) (rows_left g.R.Read.remaining c.loop-number.rows) 2 c.loop-number.number
-    (draft_state c.args.draft.now) (draft_state c.loop-number.draft) _ c.in_err-read_next.ensures.number c.loop-number.invariant.goes c.in_err-read_next.ensures.exact)
+    rw (handed_on c.from_residual.result _ c.from_residual.ensures.1)
+    (goes_to_fault (rows_left g.R.Read.remaining c.args.rows.now) (rows_left g.R.Read.remaining c.loop-number.rows) 2 c.loop-number.number
+    (draft_state c.args.draft.now) (draft_state c.loop-number.draft) _ c.in_err-read_next.ensures.number c.loop-number.invariant.goes
+    c.in_err-read_next.ensures.exact)
 
 pub returns-in_err-read_next-clause-failed : goal.returns-in_err-read_next-clause-failed
 returns-in_err-read_next-clause-failed g c = rw (handed_on c.from_residual.result _ c.from_residual.ensures.1) c.in_err-read_next.ensures.failed
@@ -31,12 +33,15 @@ pub returns-in_err-read_next-clause-later : goal.returns-in_err-read_next-clause
 returns-in_err-read_next-clause-later g c = rw (handed_on c.from_residual.result _ c.from_residual.ensures.1) (omega (arith, c.in_err-read_next.ensures.number))
 
 pub returns-in_err-read_next-clause-least : goal.returns-in_err-read_next-clause-least
-returns-in_err-read_next-clause-least g c = rw (handed_on c.from_residual.result _ c.from_residual.ensures.1) (omega (arith, c.in_err-read_next.ensures.number, c.tick.ensures, c.loop-number.invariant.steps))
+returns-in_err-read_next-clause-least g c = rw (handed_on c.from_residual.result _ c.from_residual.ensures.1)
+    (omega (arith, c.in_err-read_next.ensures.number, c.tick.ensures, c.loop-number.invariant.steps))
 
 pub returns-then-not-branch-clause-all : goal.returns-then-not-branch-clause-all
 returns-then-not-branch-clause-all g c =
-    read_all (rows_left g.R.Read.remaining c.args.rows.now) (rows_left g.R.Read.remaining c.loop-number.rows) 2 c.loop-number.number (draft_state c.args.draft.now) (draft_state c.loop-number.draft)
-    c.args.steps.now c.loop-number.steps c.tick.new.self c.loop-number.invariant.goes (c.in_ok-read_next.ensures.last c.if-not-branch.true) c.loop-number.invariant.steps c.tick.ensures
+    read_all (rows_left g.R.Read.remaining c.args.rows.now) (rows_left g.R.Read.remaining c.loop-number.rows) 2 c.loop-number.number
+    (draft_state c.args.draft.now) (draft_state c.loop-number.draft)
+    c.args.steps.now c.loop-number.steps c.tick.new.self c.loop-number.invariant.goes
+    (c.in_ok-read_next.ensures.last c.if-not-branch.true) c.loop-number.invariant.steps c.tick.ensures
 
 pub loop-number-preserved : goal.loop-number-preserved
 loop-number-preserved g c = record {
@@ -45,8 +50,10 @@ loop-number-preserved g c = record {
   steps = steps_more _ _ _ _ c.loop-number.invariant.steps c.tick.ensures;
   gives = c.in_ok-read_next.ensures.gives;
   kept = c.in_ok-read_next.ensures.kept;
-  goes = next_true c.in_ok-read_next.field-0 (rows_left g.R.Read.remaining c.args.rows.now) (rows_left g.R.Read.remaining c.loop-number.rows) (rows_left g.R.Read.remaining c.read_next.new.rows) 2 c.loop-number.number
-      (draft_state c.args.draft.now) (draft_state c.loop-number.draft) (draft_state c.read_next.new.draft) c.if-not-branch.false c.loop-number.invariant.goes c.in_ok-read_next.ensures.exact;
+  goes = next_true c.in_ok-read_next.field-0 (rows_left g.R.Read.remaining c.args.rows.now) (rows_left g.R.Read.remaining c.loop-number.rows)
+      (rows_left g.R.Read.remaining c.read_next.new.rows) 2 c.loop-number.number
+      (draft_state c.args.draft.now) (draft_state c.loop-number.draft)
+      (draft_state c.read_next.new.draft) c.if-not-branch.false c.loop-number.invariant.goes c.in_ok-read_next.ensures.exact;
 }
 
 pub returns-in_err-read_next-clause-draft : goal.returns-in_err-read_next-clause-draft
@@ -82,8 +89,10 @@ read_next-requires-clause-kept g c = c.loop-number.invariant.kept
 
 pub returns-then-not-branch-clause-exact : goal.returns-then-not-branch-clause-exact
 returns-then-not-branch-clause-exact g c =
-    next_false c.in_ok-read_next.field-0 (rows_left g.R.Read.remaining c.args.rows.now) (rows_left g.R.Read.remaining c.loop-number.rows) (rows_left g.R.Read.remaining c.read_next.new.rows) 2 c.loop-number.number
-    (draft_state c.args.draft.now) (draft_state c.loop-number.draft) (draft_state c.read_next.new.draft) c.if-not-branch.true c.loop-number.invariant.goes c.in_ok-read_next.ensures.exact
+    next_false c.in_ok-read_next.field-0 (rows_left g.R.Read.remaining c.args.rows.now) (rows_left g.R.Read.remaining c.loop-number.rows)
+    (rows_left g.R.Read.remaining c.read_next.new.rows) 2 c.loop-number.number
+    (draft_state c.args.draft.now) (draft_state c.loop-number.draft)
+    (draft_state c.read_next.new.draft) c.if-not-branch.true c.loop-number.invariant.goes c.in_ok-read_next.ensures.exact
 
 pub returns-then-not-branch-clause-failed : goal.returns-then-not-branch-clause-failed
 returns-then-not-branch-clause-failed g c = tt

@@ -15,21 +15,28 @@ use Rattle.mrp_grammar.proofs.KeepingSteps.{handed_on}
 use Rattle.mrp_tables.proofs.reading.read_rows.Goals as goal
 
 pub returns-in_err-next_row-clause-table : goal.returns-in_err-next_row-clause-table
-returns-in_err-next_row-clause-table g c = rw (handed_on c.from_residual.result _ c.from_residual.ensures.1) (bad_first (rows_left g.R.Read.remaining c.args.rows.now) _ c.in_err-next_row.ensures.number c.in_err-next_row.ensures.exact)
+returns-in_err-next_row-clause-table g c = rw (handed_on c.from_residual.result _ c.from_residual.ensures.1)
+    (bad_first (rows_left g.R.Read.remaining c.args.rows.now) _ c.in_err-next_row.ensures.number c.in_err-next_row.ensures.exact)
 
 pub returns-in_err-draft-clause-table : goal.returns-in_err-draft-clause-table
 returns-in_err-draft-clause-table g c =
-    let takes = some_there c.in_ok-next_row.field-0 (rows_left g.R.Read.remaining c.args.rows.now) (rows_left g.R.Read.remaining c.next_row.new.rows) 1 (fields_of c.next_row.new.row) c.if-not-branch.false c.in_ok-next_row.ensures.exact in
-    rw (handed_on c.from_residual-in_err-draft.result _ c.from_residual-in_err-draft.ensures.1) (first_fault (rows_left g.R.Read.remaining c.args.rows.now) (rows_left g.R.Read.remaining c.next_row.new.rows) (fields_of c.next_row.new.row) _ takes c.in_err-draft.ensures.exact)
+    let takes = some_there c.in_ok-next_row.field-0 (rows_left g.R.Read.remaining c.args.rows.now) (rows_left g.R.Read.remaining c.next_row.new.rows) 1
+    (fields_of c.next_row.new.row) c.if-not-branch.false c.in_ok-next_row.ensures.exact in
+    rw (handed_on c.from_residual-in_err-draft.result _ c.from_residual-in_err-draft.ensures.1)
+    (first_fault (rows_left g.R.Read.remaining c.args.rows.now) (rows_left g.R.Read.remaining c.next_row.new.rows)
+    (fields_of c.next_row.new.row) _ takes c.in_err-draft.ensures.exact)
 
 pub returns-in-Ok-clause-table : goal.returns-in-Ok-clause-table
 returns-in-Ok-clause-table g c =
-    let takes = some_there c.in_ok-next_row.field-0 (rows_left g.R.Read.remaining c.args.rows.now) (rows_left g.R.Read.remaining c.next_row.new.rows) 1 (fields_of c.next_row.new.row) c.if-not-branch.false c.in_ok-next_row.ensures.exact in
-    whole (rows_left g.R.Read.remaining c.args.rows.now) (rows_left g.R.Read.remaining c.next_row.new.rows) (fields_of c.next_row.new.row) c.in_ok-draft.draft.lists c.in_ok-draft.draft.last c.read_rest.new.draft.lists _
+    let takes = some_there c.in_ok-next_row.field-0 (rows_left g.R.Read.remaining c.args.rows.now) (rows_left g.R.Read.remaining c.next_row.new.rows) 1
+    (fields_of c.next_row.new.row) c.if-not-branch.false c.in_ok-next_row.ensures.exact in
+    whole (rows_left g.R.Read.remaining c.args.rows.now) (rows_left g.R.Read.remaining c.next_row.new.rows)
+    (fields_of c.next_row.new.row) c.in_ok-draft.draft.lists c.in_ok-draft.draft.last c.read_rest.new.draft.lists _
     takes c.in_ok-draft.ensures.exact c.in-Ok.ensures.exact c.accept.ensures.exact
 
 -- a turn for the first row, and so many more
-counted : {E : Type 0} (r : Result Table E) (N : Table) (new mid old rows : ℕ) → IfOk r (λ t. t ≡ N) → mid ≡ old + 1 → new ≡ mid + rows → rows ≡ row_count N → IfOk r (λ t. new ≡ old + row_count t + 1)
+counted : {E : Type 0} (r : Result Table E) (N : Table) (new mid old rows : ℕ) → IfOk r (λ t. t ≡ N) → mid ≡ old + 1 → new ≡ mid + rows → rows ≡ row_count N
+    → IfOk r (λ t. new ≡ old + row_count t + 1)
 counted (Ok t) N new mid old rows same first more is = omega (arith, ap row_count same, first, more, is)
 counted (Err e) N new mid old rows same first more is = tt
 
@@ -46,7 +53,8 @@ returns-in_err-next_row-clause-failed g c = rw (handed_on c.from_residual.result
 
 pub returns-in_err-draft-clause-failed : goal.returns-in_err-draft-clause-failed
 returns-in_err-draft-clause-failed g c =
-    rw (handed_on c.from_residual-in_err-draft.result _ c.from_residual-in_err-draft.ensures.1) (λ failed. absurd (first_no_read_fault (fields_of c.next_row.new.row) _ c.in_err-draft.ensures.exact.0 failed))
+    rw (handed_on c.from_residual-in_err-draft.result _ c.from_residual-in_err-draft.ensures.1)
+    (λ failed. absurd (first_no_read_fault (fields_of c.next_row.new.row) _ c.in_err-draft.ensures.exact.0 failed))
 
 pub returns-in-Ok-clause-failed : goal.returns-in-Ok-clause-failed
 returns-in-Ok-clause-failed g c = whole_own c.read_rest.new.draft.lists c.accept.result _ c.accept.ensures.exact
@@ -57,13 +65,16 @@ least_named : (old new row : ℕ) → row ≡ 1 → new ≡ old + 1 → old + ma
 least_named old new row first tick = omega (arith, first, tick)
 
 pub returns-in_err-next_row-clause-least : goal.returns-in_err-next_row-clause-least
-returns-in_err-next_row-clause-least g c = rw (handed_on c.from_residual.result _ c.from_residual.ensures.1) (least_named _ _ _ c.in_err-next_row.ensures.number c.tick.ensures)
+returns-in_err-next_row-clause-least g c = rw (handed_on c.from_residual.result _ c.from_residual.ensures.1)
+    (least_named _ _ _ c.in_err-next_row.ensures.number c.tick.ensures)
 
 pub returns-in_err-draft-clause-least : goal.returns-in_err-draft-clause-least
-returns-in_err-draft-clause-least g c = rw (handed_on c.from_residual-in_err-draft.result _ c.from_residual-in_err-draft.ensures.1) (least_named _ _ _ c.in_err-draft.ensures.exact.1 c.tick.ensures)
+returns-in_err-draft-clause-least g c = rw (handed_on c.from_residual-in_err-draft.result _ c.from_residual-in_err-draft.ensures.1)
+    (least_named _ _ _ c.in_err-draft.ensures.exact.1 c.tick.ensures)
 
 -- the table is all read, so the row that waits is one of those that were counted
-waited : (r : Result Table TableFault) (N : Table) (new mid old rows : ℕ) → IfErr r (λ e. e.row ≤ row_count N) → mid ≡ old + 1 → new ≡ mid + rows → rows ≡ row_count N → IfErr r (λ e. old + max 1 e.row ≤ new)
+waited : (r : Result Table TableFault) (N : Table) (new mid old rows : ℕ) → IfErr r (λ e. e.row ≤ row_count N) → mid ≡ old + 1 → new ≡ mid + rows
+    → rows ≡ row_count N → IfErr r (λ e. old + max 1 e.row ≤ new)
 waited (Ok t) N new mid old rows above first more is = tt
 waited (Err e) N new mid old rows above first more is = omega (arith, above, first, more, is)
 
@@ -75,37 +86,46 @@ returns-in-Ok-clause-least g c =
 -- ---- and exactly
 
 pub returns-in_err-next_row-clause-named : goal.returns-in_err-next_row-clause-named
-returns-in_err-next_row-clause-named g c = rw (handed_on c.from_residual.result _ c.from_residual.ensures.1) (of_missing _ _ (first_step _ _ _ c.in_err-next_row.ensures.number c.tick.ensures))
+returns-in_err-next_row-clause-named g c = rw (handed_on c.from_residual.result _ c.from_residual.ensures.1)
+    (of_missing _ _ (first_step _ _ _ c.in_err-next_row.ensures.number c.tick.ensures))
 
 pub returns-in_err-draft-clause-named : goal.returns-in_err-draft-clause-named
-returns-in_err-draft-clause-named g c = rw (handed_on c.from_residual-in_err-draft.result _ c.from_residual-in_err-draft.ensures.1) (of_missing _ _ (first_step _ _ _ c.in_err-draft.ensures.exact.1 c.tick.ensures))
+returns-in_err-draft-clause-named g c = rw (handed_on c.from_residual-in_err-draft.result _ c.from_residual-in_err-draft.ensures.1)
+    (of_missing _ _ (first_step _ _ _ c.in_err-draft.ensures.exact.1 c.tick.ensures))
 
 pub returns-in-Ok-clause-named : goal.returns-in-Ok-clause-named
 returns-in-Ok-clause-named g c = when_missing c.accept.result _ c.accept.ensures.missing
 
 pub returns-in_err-next_row-clause-ends : goal.returns-in_err-next_row-clause-ends
-returns-in_err-next_row-clause-ends g c = rw (handed_on c.from_residual.result _ c.from_residual.ensures.1) (steps_named (rows_left g.R.Read.remaining c.args.rows.now) _ _ _ (first_step _ _ _ c.in_err-next_row.ensures.number c.tick.ensures))
+returns-in_err-next_row-clause-ends g c = rw (handed_on c.from_residual.result _ c.from_residual.ensures.1)
+    (steps_named (rows_left g.R.Read.remaining c.args.rows.now) _ _ _ (first_step _ _ _ c.in_err-next_row.ensures.number c.tick.ensures))
 
 pub returns-then-not-branch-clause-ends : goal.returns-then-not-branch-clause-ends
 returns-then-not-branch-clause-ends g c = steps_named (rows_left g.R.Read.remaining c.args.rows.now) c.args.steps.now c.tick.new.self 0 c.tick.ensures
 
 pub returns-in_err-draft-clause-ends : goal.returns-in_err-draft-clause-ends
 returns-in_err-draft-clause-ends g c =
-    rw (handed_on c.from_residual-in_err-draft.result _ c.from_residual-in_err-draft.ensures.1) (steps_named (rows_left g.R.Read.remaining c.args.rows.now) _ _ _ (first_step _ _ _ c.in_err-draft.ensures.exact.1 c.tick.ensures))
+    rw (handed_on c.from_residual-in_err-draft.result _ c.from_residual-in_err-draft.ensures.1)
+    (steps_named (rows_left g.R.Read.remaining c.args.rows.now) _ _ _ (first_step _ _ _ c.in_err-draft.ensures.exact.1 c.tick.ensures))
 
 pub returns-in-Ok-clause-ends : goal.returns-in-Ok-clause-ends
 returns-in-Ok-clause-ends g c =
-    let takes = some_there c.in_ok-next_row.field-0 (rows_left g.R.Read.remaining c.args.rows.now) (rows_left g.R.Read.remaining c.next_row.new.rows) 1 (fields_of c.next_row.new.row) c.if-not-branch.false c.in_ok-next_row.ensures.exact in
+    let takes = some_there c.in_ok-next_row.field-0 (rows_left g.R.Read.remaining c.args.rows.now) (rows_left g.R.Read.remaining c.next_row.new.rows) 1
+    (fields_of c.next_row.new.row) c.if-not-branch.false c.in_ok-next_row.ensures.exact in
     of_each c.accept.result (λ e. OfLeft (rows_left g.R.Read.remaining c.args.rows.now) (StepsTo c.args.steps.now c.read_rest.new.steps e.row)) (λ e.
-    steps_all (rows_left g.R.Read.remaining c.args.rows.now) (rows_left g.R.Read.remaining c.next_row.new.rows) (fields_of c.next_row.new.row) e.row c.args.steps.now c.tick.new.self c.read_rest.new.steps
+    steps_all (rows_left g.R.Read.remaining c.args.rows.now) (rows_left g.R.Read.remaining c.next_row.new.rows)
+    (fields_of c.next_row.new.row) e.row c.args.steps.now c.tick.new.self c.read_rest.new.steps
     takes c.in-Ok.ensures.all c.tick.ensures)
 
 -- ---- a fault of a later row
 
 pub returns-clause-table : goal.returns-clause-table
 returns-clause-table g c =
-    let takes = some_there c.in_ok-next_row.field-0 (rows_left g.R.Read.remaining c.args.rows.now) (rows_left g.R.Read.remaining c.next_row.new.rows) 1 (fields_of c.next_row.new.row) c.if-not-branch.false c.in_ok-next_row.ensures.exact in
-    rest_fault (rows_left g.R.Read.remaining c.args.rows.now) (rows_left g.R.Read.remaining c.next_row.new.rows) (fields_of c.next_row.new.row) c.in_ok-draft.draft.lists c.in_ok-draft.draft.last c.in-Err.fault takes c.in_ok-draft.ensures.exact c.in-Err.ensures.exact
+    let takes = some_there c.in_ok-next_row.field-0 (rows_left g.R.Read.remaining c.args.rows.now) (rows_left g.R.Read.remaining c.next_row.new.rows) 1
+    (fields_of c.next_row.new.row) c.if-not-branch.false c.in_ok-next_row.ensures.exact in
+    rest_fault (rows_left g.R.Read.remaining c.args.rows.now) (rows_left g.R.Read.remaining c.next_row.new.rows)
+    (fields_of c.next_row.new.row) c.in_ok-draft.draft.lists c.in_ok-draft.draft.last c.in-Err.fault takes c.in_ok-draft.ensures.exact
+    c.in-Err.ensures.exact
 
 pub returns-clause-named : goal.returns-clause-named
 returns-clause-named g c = of_missing _ _ (later_step _ _ _ _ c.in-Err.ensures.later c.tick.ensures c.in-Err.ensures.least)
@@ -151,7 +171,8 @@ returns-clause-least g c = least_rest _ _ _ _ c.in-Err.ensures.later c.tick.ensu
 
 pub returns-then-not-branch-clause-table : goal.returns-then-not-branch-clause-table
 returns-then-not-branch-clause-table g c =
-    no_first (rows_left g.R.Read.remaining c.args.rows.now) (none_there c.in_ok-next_row.field-0 (rows_left g.R.Read.remaining c.args.rows.now) (rows_left g.R.Read.remaining c.next_row.new.rows) 1 (fields_of c.next_row.new.row) c.if-not-branch.true c.in_ok-next_row.ensures.exact)
+    no_first (rows_left g.R.Read.remaining c.args.rows.now) (none_there c.in_ok-next_row.field-0 (rows_left g.R.Read.remaining c.args.rows.now)
+    (rows_left g.R.Read.remaining c.next_row.new.rows) 1 (fields_of c.next_row.new.row) c.if-not-branch.true c.in_ok-next_row.ensures.exact)
 
 pub returns-then-not-branch-clause-failed : goal.returns-then-not-branch-clause-failed
 returns-then-not-branch-clause-failed g c = λ failed. absurd (empty_read failed)

@@ -24,7 +24,8 @@ pub returns-in-Some-clause-refusal : goal.returns-in-Some-clause-refusal
 returns-in-Some-clause-refusal g c =
     let off : c.in-Plan.single ≡ false = search rules in
     rw (c.in-Plan.is)
-    (subst (λ (asked : Question). IfErr c.plan_text.result (Refuses (g.R.Read.remaining c.args.reader) asked)) (sym (asks_threads c.in-Plan.workers c.in-Plan.capacity c.in-Plan.single off))
+    (subst (λ (asked : Question). IfErr c.plan_text.result (Refuses (g.R.Read.remaining c.args.reader) asked))
+    (sym (asks_threads c.in-Plan.workers c.in-Plan.capacity c.in-Plan.single off))
     c.plan_text.ensures.refusal)
 
 pub returns-in-Plan-default-default-true-clause-gate : goal.returns-in-Plan-default-default-true-clause-gate
@@ -37,7 +38,8 @@ pub returns-in-Check-clause-gate : goal.returns-in-Check-clause-gate
 returns-in-Check-clause-gate g c = never_gate _ AskWhole c.headed_check_text.result (λ said. said) c.headed_check_text.ensures.refusal
 
 pub returns-in-Peg-clause-gate : goal.returns-in-Peg-clause-gate
-returns-in-Peg-clause-gate g c = never_gate _ (AskPair c.in-Peg.plant.now c.in-Peg.item.now c.in-Peg.period) c.headed_peg_text.result (λ said. said) c.headed_peg_text.ensures.refusal
+returns-in-Peg-clause-gate g c = never_gate _ (AskPair c.in-Peg.plant.now c.in-Peg.item.now c.in-Peg.period) c.headed_peg_text.result
+    (λ said. said) c.headed_peg_text.ensures.refusal
 
 pub returns-in-Cums-clause-gate : goal.returns-in-Cums-clause-gate
 returns-in-Cums-clause-gate g c = never_gate _ AskWhole c.headed_cums_text.result (λ said. said) c.headed_cums_text.ensures.refusal
@@ -70,7 +72,8 @@ pub returns-in-Schedule-clause-text : goal.returns-in-Schedule-clause-text
 returns-in-Schedule-clause-text g c = rw (c.in-Schedule.is) c.schedule_text.ensures.text
 
 pub returns-in-Schedule-clause-gate : goal.returns-in-Schedule-clause-gate
-returns-in-Schedule-clause-gate g c = never_gate _ (AskPlants (name_of c.in-Schedule.from) (name_of c.in-Schedule.to)) c.schedule_text.result (λ said. said) c.schedule_text.ensures.refusal
+returns-in-Schedule-clause-gate g c = never_gate _ (AskPlants (name_of c.in-Schedule.from) (name_of c.in-Schedule.to)) c.schedule_text.result
+    (λ said. said) c.schedule_text.ensures.refusal
 
 pub returns-in-Schedule-clause-rows : goal.returns-in-Schedule-clause-rows
 returns-in-Schedule-clause-rows g c = rows-kept g.W.Write.contents _ _ c.schedule_text.result _ c.schedule_text.ensures.untouched

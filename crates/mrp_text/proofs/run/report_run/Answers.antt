@@ -38,12 +38,15 @@ returns-clause-text g c =
 pub returns-in_err-plan_rows_by_threads-clause-rows : goal.returns-in_err-plan_rows_by_threads-clause-rows
 returns-in_err-plan_rows_by_threads-clause-rows g c =
     let p = err_from_is_err_and c.from_residual.result c.from_residual.ensures.1 in
-    rw p.1 (rows-fail g.W.Write.contents _ _ c.in_err-plan_rows_by_threads.field-0.0 p.0 (IsPlanRows c.args.net.now.network) (λ same. c.in_err-plan_rows_by_threads.ensures.untouched (ap Err same)) p.2)
+    rw p.1 (rows-fail g.W.Write.contents _ _ c.in_err-plan_rows_by_threads.field-0.0 p.0 (IsPlanRows c.args.net.now.network)
+    (λ same. c.in_err-plan_rows_by_threads.ensures.untouched (ap Err same)) p.2)
 
 pub returns-in_err-late_rows-clause-rows : goal.returns-in_err-late_rows-clause-rows
 returns-in_err-late_rows-clause-rows g c =
     let p = err_from_is_err_and c.from_residual-in_err-late_rows.result c.from_residual-in_err-late_rows.ensures.1 in
     let N = c.args.net.now.network in
     rw p.1
-    (late-fails g.W.Write.contents c.args.writer.now c.plan_rows_by_threads.new.out c.late_rows.new.out (plan_text N c.args.plan.now) c.in_err-late_rows.field-0.0 p.0 (IsPlanRows N)
-    (are_plan_rows N c.args.plan.now c.requires.plannable c.requires.fits) c.in_ok-plan_rows_by_threads.ensures.text (λ same. c.in_err-late_rows.ensures.untouched (ap Err same)) p.2)
+    (late-fails g.W.Write.contents c.args.writer.now c.plan_rows_by_threads.new.out c.late_rows.new.out
+    (plan_text N c.args.plan.now) c.in_err-late_rows.field-0.0 p.0 (IsPlanRows N)
+    (are_plan_rows N c.args.plan.now c.requires.plannable c.requires.fits) c.in_ok-plan_rows_by_threads.ensures.text
+    (λ same. c.in_err-late_rows.ensures.untouched (ap Err same)) p.2)

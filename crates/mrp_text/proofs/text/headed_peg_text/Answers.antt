@@ -6,7 +6,8 @@ use Rattle.mrp_text.proofs.text.headed_peg_text.Goals as goal
 
 pub returns-clause-text : goal.returns-clause-text
 returns-clause-text g c =
-    writes-of _ _ c.write_pegs-written.result (IsHeaded c.args.heading peg_names (IsPegReport c.args.plant.now c.args.item.now c.args.period c.in_ok-network.network)) _
+    writes-of _ _ c.write_pegs-written.result (IsHeaded c.args.heading peg_names
+    (IsPegReport c.args.plant.now c.args.item.now c.args.period c.in_ok-network.network)) _
     (λ text is. (c.in_ok-network.network, c.in_ok-network.ensures.rows, is)) c.write_pegs-written.ensures.text
 
 pub returns-clause-refusal : goal.returns-clause-refusal

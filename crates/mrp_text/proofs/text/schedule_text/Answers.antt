@@ -10,4 +10,5 @@ returns-clause-text g c =
 
 pub returns-clause-refusal : goal.returns-clause-refusal
 returns-clause-refusal g c =
-    refuses-of _ (AskPlants (name_of c.args.from) (name_of c.args.to)) c.in_ok-network.network c.write_schedule-written.result c.in_ok-network.ensures.rows c.write_schedule-written.ensures.refusal
+    refuses-of _ (AskPlants (name_of c.args.from) (name_of c.args.to)) c.in_ok-network.network c.write_schedule-written.result c.in_ok-network.ensures.rows
+    c.write_schedule-written.ensures.refusal

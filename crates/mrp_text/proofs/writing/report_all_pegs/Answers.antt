@@ -20,5 +20,8 @@ returns-in_err-pegs_rows-clause-text g c =
 
 pub returns-clause-text : goal.returns-clause-text
 returns-clause-text g c =
-    let N = c.args.net.now.network in
-    (_, (pegs_text N c.in_ok-plan.plan, (c.requires, ap (λ (plans : List PlanRows). pegs_text N plans) c.in_ok-plan.ensures.value), refl), c.in_ok-pegs_rows.ensures.text)
+    let N = c.args.net.now.network in (
+      _,
+      (pegs_text N c.in_ok-plan.plan, (c.requires, ap (λ (plans : List PlanRows). pegs_text N plans) c.in_ok-plan.ensures.value), refl),
+      c.in_ok-pegs_rows.ensures.text,
+    )

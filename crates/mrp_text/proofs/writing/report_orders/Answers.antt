@@ -11,7 +11,8 @@ returns-in_err-order_rows-clause-text g c =
     let p = err_from_is_err_and c.from_residual-in_err-order_rows.result c.from_residual-in_err-order_rows.ensures.1 in
     let N = c.args.net.now.network in
     rw p.1
-    (report-fails _ _ (order_text c.args.heading c.args.until N c.in_ok-plan.plan) c.in_err-order_rows.field-0.0 p.0 (IsOrderReport c.args.until c.args.heading N)
+    (report-fails _ _ (order_text c.args.heading c.args.until N c.in_ok-plan.plan) c.in_err-order_rows.field-0.0 p.0
+    (IsOrderReport c.args.until c.args.heading N)
     (c.requires, ap (λ (plans : List PlanRows). order_text c.args.heading c.args.until N plans) c.in_ok-plan.ensures.value) c.in_err-order_rows.ensures.text
     (λ same. ap g.W.Write.contents (c.in_err-order_rows.ensures.untouched (ap Err same))) p.2)
 

@@ -10,5 +10,6 @@ report_advice-requires g c = subst (λ (N : Table). IsSized N) (sym c.in_ok-net.
 
 pub returns-clause-text : goal.returns-clause-text
 returns-clause-text g c =
-    subst (λ (N : Table). Writes (g.W.Write.contents c.args.writer.now) (g.W.Write.contents c.report_advice.new.writer) c.report_advice.result (IsAdviceReport c.args.heading N))
+    subst (λ (N : Table). Writes (g.W.Write.contents c.args.writer.now) (g.W.Write.contents c.report_advice.new.writer) c.report_advice.result
+    (IsAdviceReport c.args.heading N))
     c.in_ok-net.ensures.network c.report_advice.ensures.text

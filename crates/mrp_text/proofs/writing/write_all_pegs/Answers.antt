@@ -11,5 +11,6 @@ report_all_pegs-requires g c = subst (λ (N : Table). IsSized N) (sym c.in_ok-ne
 
 pub returns-clause-text : goal.returns-clause-text
 returns-clause-text g c =
-    subst (λ (N : Table). Writes (g.W.Write.contents c.args.writer.now) (g.W.Write.contents c.report_all_pegs.new.writer) c.report_all_pegs.result (IsHeaded c.args.heading pegs_names (IsPegsReport N)))
+    subst (λ (N : Table). Writes (g.W.Write.contents c.args.writer.now) (g.W.Write.contents c.report_all_pegs.new.writer) c.report_all_pegs.result
+    (IsHeaded c.args.heading pegs_names (IsPegsReport N)))
     c.in_ok-net.ensures.network c.report_all_pegs.ensures.text

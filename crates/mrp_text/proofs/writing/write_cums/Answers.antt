@@ -11,5 +11,6 @@ report_cums-requires g c = subst (λ (N : Table). IsSized N) (sym c.in_ok-net.en
 
 pub returns-clause-text : goal.returns-clause-text
 returns-clause-text g c =
-    subst (λ (N : Table). Writes (g.W.Write.contents c.args.writer.now) (g.W.Write.contents c.report_cums.new.writer) c.report_cums.result (IsHeaded c.args.heading lane_names (IsCumReport N)))
+    subst (λ (N : Table). Writes (g.W.Write.contents c.args.writer.now) (g.W.Write.contents c.report_cums.new.writer) c.report_cums.result
+    (IsHeaded c.args.heading lane_names (IsCumReport N)))
     c.in_ok-net.ensures.network c.report_cums.ensures.text

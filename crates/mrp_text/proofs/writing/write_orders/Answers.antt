@@ -10,5 +10,6 @@ report_orders-requires g c = subst (λ (N : Table). IsSized N) (sym c.in_ok-net.
 
 pub returns-clause-text : goal.returns-clause-text
 returns-clause-text g c =
-    subst (λ (N : Table). Writes (g.W.Write.contents c.args.writer.now) (g.W.Write.contents c.report_orders.new.writer) c.report_orders.result (IsOrderReport c.args.until c.args.heading N))
+    subst (λ (N : Table). Writes (g.W.Write.contents c.args.writer.now) (g.W.Write.contents c.report_orders.new.writer) c.report_orders.result
+    (IsOrderReport c.args.until c.args.heading N))
     c.in_ok-net.ensures.network c.report_orders.ensures.text

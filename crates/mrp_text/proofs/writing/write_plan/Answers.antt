@@ -15,4 +15,5 @@ returns-clause-text g c =
 
 pub returns-clause-rows : goal.returns-clause-rows
 returns-clause-rows g c =
-    subst (λ (N : Table). WritesRows g.W.Write.contents c.args.writer.now c.report_plan.new.writer c.report_plan.result (IsPlanRows N)) c.in_ok-net.ensures.network c.report_plan.ensures.rows
+    subst (λ (N : Table). WritesRows g.W.Write.contents c.args.writer.now c.report_plan.new.writer c.report_plan.result (IsPlanRows N))
+    c.in_ok-net.ensures.network c.report_plan.ensures.rows

@@ -14,7 +14,8 @@ returns-clause-text g c =
 
 pub returns-clause-rows : goal.returns-clause-rows
 returns-clause-rows g c =
-    subst (λ (N : Table). WritesRows g.W.Write.contents c.args.writer.now c.report_run.new.writer c.report_run.result (IsPlanRows N)) c.in_ok-net.ensures.network c.report_run.ensures.rows
+    subst (λ (N : Table). WritesRows g.W.Write.contents c.args.writer.now c.report_run.new.writer c.report_run.result (IsPlanRows N))
+    c.in_ok-net.ensures.network c.report_run.ensures.rows
 
 pub returns-clause-gate : goal.returns-clause-gate
 returns-clause-gate g c =

@@ -15,5 +15,12 @@ returns-clause-text g c =
     let t = c.in_ok-customer.customer in
     writes-of _ _ c.report_schedule.result (AreSchedules f t c.args.heading c.in_ok-net.net.network)
     (IsScheduleReport (name_of c.args.from) (name_of c.args.to) c.args.heading c.args.network.now)
-    (λ text is. (f, t, c.in_ok-supplier.ensures.plant, c.in_ok-customer.ensures.plant, subst (λ (N : Table). AreSchedules f t c.args.heading N text) c.in_ok-net.ensures.network is))
+    (λ text is. (
+      f,
+      t,
+      c.in_ok-supplier.ensures.plant,
+      c.in_ok-customer.ensures.plant,
+      subst (λ (N : Table). AreSchedules f t c.args.heading N text)
+          c.in_ok-net.ensures.network is,
+    ))
     c.report_schedule.ensures.text

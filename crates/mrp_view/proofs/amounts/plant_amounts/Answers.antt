@@ -5,8 +5,10 @@ use Rattle.mrp_view.proofs.amounts.plant_amounts.Goals as goal
 
 pub loop-pair-preserved : goal.loop-pair-preserved
 loop-pair-preserved c =
-    rows_more (λ p. row_of c.args.network.now (amount_of c.args.which c.args.network.now p.number.0)) c.args.pairs.now c.loop-pair.pair-index _ _ _ _ c.loop-pair.invariant c.loop-pair-test.true c.pair-item.is c.amount_row.ensures
+    rows_more (λ p. row_of c.args.network.now (amount_of c.args.which c.args.network.now p.number.0)) c.args.pairs.now c.loop-pair.pair-index _ _ _ _
+    c.loop-pair.invariant c.loop-pair-test.true c.pair-item.is c.amount_row.ensures
     c.in_ok-extend_from_slice.ensures.items
 
 pub returns : goal.returns
-returns c = rows_whole (λ p. row_of c.args.network.now (amount_of c.args.which c.args.network.now p.number.0)) c.args.pairs.now c.loop-pair.pair-index _ c.loop-pair.invariant c.loop-pair-test.false
+returns c = rows_whole (λ p. row_of c.args.network.now (amount_of c.args.which c.args.network.now p.number.0)) c.args.pairs.now c.loop-pair.pair-index _
+    c.loop-pair.invariant c.loop-pair-test.false

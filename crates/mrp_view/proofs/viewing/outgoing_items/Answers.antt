@@ -10,10 +10,12 @@ loop-item-init c = c.new-items.ensures
 
 pub loop-item-preserved : goal.loop-item-preserved
 loop-item-preserved c =
-    map_pushed (outgoing_item c.args.network.now (lane_at c.args.network.now c.args.l.0)) c.lane_items-item-items.result.now c.loop-item.item-index (record { 0 = 0 }) _ _ _
+    map_pushed (outgoing_item c.args.network.now (lane_at c.args.network.now c.args.l.0)) c.lane_items-item-items.result.now c.loop-item.item-index
+    (record { 0 = 0 }) _ _ _
     c.loop-item-test.true (rw (c.outgoing_item.ensures, c.sent_on-shipments.ensures) refl) c.loop-item.invariant c.in_ok-push.ensures
 
 pub returns : goal.returns
 returns c =
     let f = map (outgoing_item c.args.network.now (lane_at c.args.network.now c.args.l.0)) in
-    taken_all f c.lane_items-item-items.result.now c.loop-item.item-index _ c.loop-item-test.false c.loop-item.invariant ∙ ap f c.lane_items-item-items.ensures.value
+    taken_all f c.lane_items-item-items.result.now c.loop-item.item-index _ c.loop-item-test.false c.loop-item.invariant
+    ∙ ap f c.lane_items-item-items.ensures.value

@@ -10,4 +10,5 @@ pub returns : goal.returns
 returns c =
     let start : app_of c.explained-advice.result ≡ new_app (codes "advice") = search rules in
     let alone : (out-Command c.explained-advice.result).has_globals ≡ false = search rules in
-    IfOk-weaker c.arg.result _ _ (λ r h. worded_more (new_app (codes "advice")) rule.header c.explained-advice.result r c.header_flag.result (start, alone) c.header_flag.ensures h.shape h.globals) c.arg.ensures
+    IfOk-weaker c.arg.result _ _ (λ r h. worded_more (new_app (codes "advice")) rule.header c.explained-advice.result r c.header_flag.result
+    (start, alone) c.header_flag.ensures h.shape h.globals) c.arg.ensures

@@ -17,7 +17,8 @@ chosen-requires c =
 
 pub returns-in-Ok-try_get_matches_from-clause-choice : goal.returns-in-Ok-try_get_matches_from-clause-choice
 returns-in-Ok-try_get_matches_from-clause-choice c =
-    let is = its_command (app_of c.in-Ok.command) (texts_of c.args.words.now) (subcommand_rows_of c.in-Ok-try_get_matches_from.matches) c.in-Ok.ensures c.in-Ok-try_get_matches_from.ensures.matches in
+    let is = its_command (app_of c.in-Ok.command) (texts_of c.args.words.now)
+    (subcommand_rows_of c.in-Ok-try_get_matches_from.matches) c.in-Ok.ensures c.in-Ok-try_get_matches_from.ensures.matches in
     subst (λ o. IsMeantBy o c.chosen.result) is c.chosen.ensures.choice
 
 pub returns-in-Ok-try_get_matches_from-clause-free : goal.returns-in-Ok-try_get_matches_from-clause-free

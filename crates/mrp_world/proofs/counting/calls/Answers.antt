@@ -6,4 +6,5 @@ pub returns : goal.returns
 returns c =
     let N = c.args.network.now in
     let s = c.args.source in
-    c.calls_in.ensures ∙ count.called_by N s c.args.plan.now _ _ c.requires.fits c.requires.plan c.requires.pair c.pair-of_pair.ensures c.release.ensures c.len-periods.ensures.rows
+    c.calls_in.ensures ∙ count.called_by N s c.args.plan.now _ _ c.requires.fits c.requires.plan c.requires.pair c.pair-of_pair.ensures c.release.ensures
+    c.len-periods.ensures.rows

@@ -8,7 +8,13 @@ use Rattle.mrp_world.proofs.counting.steps_by.Goals as goal
 pub loop-l-preserved : goal.loop-l-preserved
 loop-l-preserved c =
     let N = c.network-network.result.now in
-    omega (arith, c.loop-l.invariant, c.text_length-records.ensures, sum_by_more (count.text_of_lane N) (lanes N) c.loop-l.l count.no_lane (omega (arith, c.loop-l-test.true, c.lanes-l-end.ensures)))
+    omega (
+      arith,
+      c.loop-l.invariant,
+      c.text_length-records.ensures,
+      sum_by_more (count.text_of_lane N) (lanes N) c.loop-l.l count.no_lane
+          (omega (arith, c.loop-l-test.true, c.lanes-l-end.ensures)),
+    )
 
 pub overflow_add-records : goal.overflow_add-records
 overflow_add-records c =

@@ -15,7 +15,8 @@ overflow_add-records c =
     let lane = lane_at N c.args.lane.0 in
     let f : ItemNo → ℕ = λ item. block_length (load_of N lane item) in
     let items : List ItemNo = c.lane_items-item-items.result.now in
-    let whole : sum_by f items + 1 ≡ count.text_of_lane N lane = ap (λ (xs : List ItemNo). sum_by f xs + 1) c.lane_items-item-items.ensures.value ∙ count.blocks_are_text N lane in
+    let whole : sum_by f items + 1 ≡ count.text_of_lane N lane = ap (λ (xs : List ItemNo). sum_by f xs + 1) c.lane_items-item-items.ensures.value
+    ∙ count.blocks_are_text N lane in
     omega (
       arith,
       whole,
@@ -29,7 +30,13 @@ pub loop-item-preserved : goal.loop-item-preserved
 loop-item-preserved c =
     let N = c.args.network.now in
     let f : ItemNo → ℕ = λ item. block_length (load_of N (lane_at N c.args.lane.0) item) in
-    omega (arith, c.loop-item.invariant, c.block_length-records.ensures, sum_by_more f c.lane_items-item-items.result.now c.loop-item.item-index (record { 0 = 0 }) c.loop-item-test.true)
+    omega (
+      arith,
+      c.loop-item.invariant,
+      c.block_length-records.ensures,
+      sum_by_more f c.lane_items-item-items.result.now c.loop-item.item-index
+          (record { 0 = 0 }) c.loop-item-test.true,
+    )
 
 pub returns : goal.returns
 returns c =
@@ -37,6 +44,7 @@ returns c =
     let lane = lane_at N c.args.lane.0 in
     let f : ItemNo → ℕ = λ item. block_length (load_of N lane item) in
     let items : List ItemNo = c.lane_items-item-items.result.now in
-    let whole : sum_by f items + 1 ≡ count.text_of_lane N lane = ap (λ (xs : List ItemNo). sum_by f xs + 1) c.lane_items-item-items.ensures.value ∙ count.blocks_are_text N lane in
+    let whole : sum_by f items + 1 ≡ count.text_of_lane N lane = ap (λ (xs : List ItemNo). sum_by f xs + 1) c.lane_items-item-items.ensures.value
+    ∙ count.blocks_are_text N lane in
     let all : take c.loop-item.item-index items ≡ items = take_all c.loop-item.item-index items c.loop-item-test.false in
     omega (arith, c.loop-item.invariant, whole, ap (sum_by f) all)

@@ -12,7 +12,10 @@ loop-record-preserved g c = drive.on_more _ _ _ _ _ _ _ _ c.loop-record.invarian
 
 pub returns-then-not-move_one : goal.returns-then-not-move_one
 returns-then-not-move_one g c =
-    record { runs = drive.on_to _ _ _ _ _ _ _ _ c.loop-record.invariant (c.move_one.ensures.plants c.if-not-move_one.true) (c.move_one.ensures.boxes c.if-not-move_one.true) }
+    record {
+      runs = drive.on_to _ _ _ _ _ _ _ _ c.loop-record.invariant (c.move_one.ensures.plants c.if-not-move_one.true)
+          (c.move_one.ensures.boxes c.if-not-move_one.true);
+    }
 
 pub returns : goal.returns
 returns g c = record { runs = c.loop-record.invariant }

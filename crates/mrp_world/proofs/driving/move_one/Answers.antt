@@ -7,4 +7,5 @@ returns-then-receive-clause-leads g c _ = (Receive c.args.lane, c.receive.ensure
 
 pub returns-clause-leads : goal.returns-clause-leads
 returns-clause-leads g c sent =
-    drive.leads_from _ _ _ _ _ _ (Send c.args.lane) _ _ (c.receive.ensures.plants c.if-receive.false) (c.receive.ensures.boxes c.if-receive.false) (c.send.ensures.leads sent)
+    drive.leads_from _ _ _ _ _ _ (Send c.args.lane) _ _ (c.receive.ensures.plants c.if-receive.false) (c.receive.ensures.boxes c.if-receive.false)
+    (c.send.ensures.leads sent)

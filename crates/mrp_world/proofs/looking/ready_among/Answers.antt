@@ -10,7 +10,8 @@ returns-in-Some-clause-some g c =
 pub loop-p-preserved : goal.loop-p-preserved
 loop-p-preserved g c =
     look.loop_more (PlantRests g.P.Plant.shows c.args.network.now c.args.plants.now c.args.boxes.now) _ _ c.loop-p.invariant
-    (look.plant_rests _ _ _ _ _ _ (omega (arith, c.loop-p-test.true, c.requires.plants)) c.index-plants-p.is (look.none_gives _ _ c.ready.ensures.none c.in_default.is))
+    (look.plant_rests _ _ _ _ _ _ (omega (arith, c.loop-p-test.true, c.requires.plants)) c.index-plants-p.is
+    (look.none_gives _ _ c.ready.ensures.none c.in_default.is))
 
 pub returns-clause-none : goal.returns-clause-none
 returns-clause-none g c p low high = c.loop-p.invariant p low (omega (arith, high, c.loop-p-test.false))

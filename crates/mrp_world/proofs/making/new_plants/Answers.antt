@@ -9,11 +9,13 @@ use Rattle.mrp_world.proofs.making.new_plants.Goals as goal
 pub loop-p-preserved : goal.loop-p-preserved
 loop-p-preserved g c =
     let grown = c.in_ok-push.ensures.items in
-    let size : length (c.loop-p.plants.items ++ c.in_ok-plant.plant ∷ []) ≡ c.loop-p.p + 1 = omega (arith, c.loop-p.invariant.size, length-append c.loop-p.plants.items (c.in_ok-plant.plant ∷ [])) in
+    let size : length (c.loop-p.plants.items ++ c.in_ok-plant.plant ∷ []) ≡ c.loop-p.p + 1 =
+    omega (arith, c.loop-p.invariant.size, length-append c.loop-p.plants.items (c.in_ok-plant.plant ∷ [])) in
     record {
       size = ap length grown ∙ size;
       each = make.plants_more g.P.Plant.shows _ _ _ _ _ c.loop-p.invariant.size grown c.loop-p.invariant.each
-          (c.in_ok-plant.ensures.opens _ _ (subst IsSized (sym c.network-network.ensures.value) c.network-network.ensures.sized) (omega (arith, c.loop-p-test.true, c.plants-p-end.ensures)) c.in_ok-view.ensures);
+          (c.in_ok-plant.ensures.opens _ _ (subst IsSized (sym c.network-network.ensures.value) c.network-network.ensures.sized)
+          (omega (arith, c.loop-p-test.true, c.plants-p-end.ensures)) c.in_ok-view.ensures);
     }
 
 pub loop-p-init : goal.loop-p-init

@@ -25,7 +25,8 @@ on_lane c = record {
   read = c.index_mut.ensures.value;
 }
 
-added : (c : After-end_block) → HasAdded (the_view c.self.inside) (indexes_of c.self.inside) c.incoming_near-k.result c.args.entry.now c.incoming-2.result.now c.index-incoming-k.result
+added : (c : After-end_block) → HasAdded (the_view c.self.inside)
+    (indexes_of c.self.inside) c.incoming_near-k.result c.args.entry.now c.incoming-2.result.now c.index-incoming-k.result
     c.add_entry.new.came.items c.add_entry.new.called.items c.end_block.new.progress
 added c = record { lanes_are = c.incoming-2.ensures; comes = c.add_entry.ensures.came; calls = c.add_entry.ensures.called; ended = c.end_block.ensures }
 
@@ -84,7 +85,8 @@ pub add_entry-requires-clause-called : goal.add_entry-requires-clause-called
 add_entry-requires-clause-called c = c.self.invariant.rooms.called
 
 -- a book that refuses a record is as it was
-unchanged : (c : In_err-book) → record (the_view c.self.inside) { books = set c.self.inside.lanes.books.items c.incoming_near-k.result c.book.new.self } ≡ the_view c.self.inside
+unchanged : (c : In_err-book) → record (the_view c.self.inside) { books = set c.self.inside.lanes.books.items c.incoming_near-k.result c.book.new.self }
+    ≡ the_view c.self.inside
 unchanged c =
     let A : AgentState = the_view c.self.inside in
     let j : ℕ = c.incoming_near-k.result in
@@ -109,4 +111,5 @@ returns-in_err-book-clause-unchanged c =
 
 pub incoming_near-k-requires : goal.incoming_near-k-requires
 incoming_near-k-requires c =
-    subst (λ (z : List IncomingLane). count_by (λ l. l.number.0 == c.args.lane.0) z ≤ 1) (sym c.incoming.ensures) (c.self.invariant.view.incoming_once c.args.lane.0)
+    subst (λ (z : List IncomingLane). count_by (λ l. l.number.0 == c.args.lane.0) z ≤ 1) (sym c.incoming.ensures)
+    (c.self.invariant.view.incoming_once c.args.lane.0)

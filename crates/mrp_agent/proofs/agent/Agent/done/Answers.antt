@@ -12,5 +12,6 @@ use Rattle.mrp_agent.proofs.agent.Agent.done.Goals as goal
 pub returns-clause-finished : goal.returns-clause-finished
 returns-clause-finished c =
     let A : AgentState = the_view c.self.inside in
-    let P : AgentState → Type 0 = λ a. c.is_done.result ≡ is_done a → (sent taken : ℕ → List Record) (planned : ℕ → Bool) → ShowsHistory a sent taken planned → IsTrue c.is_done.result ↔ HasDone a.view sent taken planned in
+    let P : AgentState → Type 0 = λ a. c.is_done.result ≡ is_done a → (sent taken : ℕ → List Record) (planned : ℕ → Bool) → ShowsHistory a sent taken planned
+    → IsTrue c.is_done.result ↔ HasDone a.view sent taken planned in
     subst P c.self.view_is (done_said A (indexes_of c.self.inside) c.self.invariant c.is_done.result) c.is_done.ensures

@@ -14,5 +14,6 @@ returns-clause-count c = search rules
 pub returns-clause-unplanned : goal.returns-clause-unplanned
 returns-clause-unplanned c =
     let A : AgentState = the_view c.self.inside in
-    let P : AgentState → Type 0 = λ a. (sent taken : ℕ → List Record) (planned : ℕ → Bool) → ShowsHistory a sent taken planned → c.left.result ≡ unplanned_pairs a.view planned in
+    let P : AgentState → Type 0 = λ a. (sent taken : ℕ → List Record) (planned : ℕ → Bool) → ShowsHistory a sent taken planned
+    → c.left.result ≡ unplanned_pairs a.view planned in
     subst P c.self.view_is (left_said A (indexes_of c.self.inside) c.self.invariant c.left.result c.left.ensures)

@@ -6,12 +6,14 @@ use Rattle.mrp_agent.proofs.agent.Agent.left_at.Goals as goal
 
 pub index-requires : goal.index-requires
 index-requires c =
-    let within : c.args.k < length (the_view c.self.inside).view.outgoing = subst (λ (a : AgentState). c.args.k < length a.view.outgoing) (sym c.self.view_is) c.requires in
+    let within : c.args.k < length (the_view c.self.inside).view.outgoing =
+    subst (λ (a : AgentState). c.args.k < length a.view.outgoing) (sym c.self.view_is) c.requires in
     omega (arith, within, c.self.invariant.rooms.cursors.count, c.self.inside.lanes.outs.ok.0)
 
 pub index-requires-2 : goal.index-requires-2
 index-requires-2 c =
-    let within : c.args.k < length (the_view c.self.inside).view.outgoing = subst (λ (a : AgentState). c.args.k < length a.view.outgoing) (sym c.self.view_is) c.requires in
+    let within : c.args.k < length (the_view c.self.inside).view.outgoing =
+    subst (λ (a : AgentState). c.args.k < length a.view.outgoing) (sym c.self.view_is) c.requires in
     omega (arith, within, c.self.invariant.rooms.cursors.count, c.self.inside.lanes.outs.ok.0)
 
 pub bounds-outgoing-k : goal.bounds-outgoing-k

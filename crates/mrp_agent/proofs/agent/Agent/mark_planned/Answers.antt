@@ -4,7 +4,8 @@ use Rattle.mrp_agent.specs.State.{AgentState}
 use Rattle.mrp_agent.specs.Marking.{IsMarked}
 use Rattle.mrp_agent.specs.Shows.{joins_of}
 use Rattle.mrp_agent.specs.contracts.agent.Agent.{the_view}
-use Rattle.mrp_agent.proofs.Marked.{components_known, components_are, components_within, components_are_waiting, free_before, kept_marked, lanes_known, outs_settled, queues_are, queues_begin, queues_rise}
+use Rattle.mrp_agent.proofs.Marked.{components_known, components_are, components_within, components_are_waiting, free_before, kept_marked, lanes_known}
+use Rattle.mrp_agent.proofs.Marked.{outs_settled, queues_are, queues_begin, queues_rise}
 use Rattle.mrp_agent.proofs.agent.Agent.mark_planned.Goals as goal
 use Rattle.mrp_agent.proofs.agent.Agent.mark_planned.Goals.{After-queue_item}
 
@@ -13,28 +14,35 @@ of-requires c = components_known (the_view c.self.inside) (indexes_of c.self.ins
 
 pub settle-requires-clause-known : goal.settle-requires-clause-known
 settle-requires-clause-known c =
-    components_within (the_view c.self.inside) (indexes_of c.self.inside) c.self.invariant c.args.place (free_before c.self.view_is c.requires.free) c.of.result.now c.of.ensures
+    components_within (the_view c.self.inside) (indexes_of c.self.inside) c.self.invariant c.args.place
+    (free_before c.self.view_is c.requires.free) c.of.result.now c.of.ensures
 
 pub settle-requires-clause-waits : goal.settle-requires-clause-waits
 settle-requires-clause-waits c =
-    components_are_waiting (the_view c.self.inside) (indexes_of c.self.inside) c.self.invariant c.args.place (free_before c.self.view_is c.requires.free) c.of.result.now c.of.ensures
+    components_are_waiting (the_view c.self.inside) (indexes_of c.self.inside) c.self.invariant c.args.place
+    (free_before c.self.view_is c.requires.free) c.of.result.now c.of.ensures
 
 pub get-requires-clause-group : goal.get-requires-clause-group
-get-requires-clause-group c = queues_begin (the_view c.self.inside) (indexes_of c.self.inside) c.self.invariant c.args.place (free_before c.self.view_is c.requires.free)
+get-requires-clause-group c = queues_begin (the_view c.self.inside) (indexes_of c.self.inside) c.self.invariant c.args.place
+    (free_before c.self.view_is c.requires.free)
 
 pub get-requires-clause-rises : goal.get-requires-clause-rises
-get-requires-clause-rises c = (queues_rise (the_view c.self.inside) (indexes_of c.self.inside) c.self.invariant c.args.place (free_before c.self.view_is c.requires.free)).0
+get-requires-clause-rises c = (queues_rise (the_view c.self.inside) (indexes_of c.self.inside) c.self.invariant c.args.place
+    (free_before c.self.view_is c.requires.free)).0
 
 pub get-requires-clause-within : goal.get-requires-clause-within
-get-requires-clause-within c = (queues_rise (the_view c.self.inside) (indexes_of c.self.inside) c.self.invariant c.args.place (free_before c.self.view_is c.requires.free)).1
+get-requires-clause-within c = (queues_rise (the_view c.self.inside) (indexes_of c.self.inside) c.self.invariant c.args.place
+    (free_before c.self.view_is c.requires.free)).1
 
 pub queue_item-requires : goal.queue_item-requires
 queue_item-requires c =
     let A : AgentState = the_view c.self.inside in
     let free = free_before c.self.view_is c.requires.free in
-    lanes_known A (indexes_of c.self.inside) c.self.invariant c.args.place free (queues_are A (indexes_of c.self.inside) c.self.invariant c.args.place free c.get.ensures)
+    lanes_known A (indexes_of c.self.inside) c.self.invariant c.args.place free
+    (queues_are A (indexes_of c.self.inside) c.self.invariant c.args.place free c.get.ensures)
 
-marked : (c : After-queue_item) → IsMarked (the_view c.self.inside) c.args.place (record (the_view c.self.inside) { progress = c.settle.new.self; outs = c.queue_item.new.outs.items })
+marked : (c : After-queue_item) → IsMarked (the_view c.self.inside) c.args.place
+    (record (the_view c.self.inside) { progress = c.settle.new.self; outs = c.queue_item.new.outs.items })
 marked c =
     let A : AgentState = the_view c.self.inside in
     let free = free_before c.self.view_is c.requires.free in
@@ -57,7 +65,8 @@ marked c =
 pub invariant_of-self : goal.invariant_of-self
 invariant_of-self c =
     let now = marked (goal.at.invariant_of-self c).After-queue_item in
-    kept_marked (the_view c.self.inside) (indexes_of c.self.inside) c.args.place _ c.settle.new.self c.queue_item.new.outs.items c.self.invariant now.settled now.queued
+    kept_marked (the_view c.self.inside) (indexes_of c.self.inside) c.args.place _ c.settle.new.self c.queue_item.new.outs.items c.self.invariant now.settled
+    now.queued
 
 pub returns : goal.returns
 returns c =

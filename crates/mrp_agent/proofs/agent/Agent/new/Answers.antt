@@ -16,4 +16,5 @@ of_parts-requires c =
     }
 
 pub returns-clause-view : goal.returns-clause-view
-returns-clause-view c = subst (λ (V : PlantRows). IfOk c.of_parts.result (λ (agent : AgentState). agent.view ≡ V)) c.into_parts-frame.ensures.frame c.of_parts.ensures.view
+returns-clause-view c = subst (λ (V : PlantRows). IfOk c.of_parts.result (λ (agent : AgentState). agent.view ≡ V)) c.into_parts-frame.ensures.frame
+    c.of_parts.ensures.view

@@ -18,7 +18,8 @@ next_there : (c : After-next_record) → c.next_record.result ≡ next_out (the_
 next_there c =
     let A : AgentState = the_view c.self.inside in
     let k : ℕ = outgoing_place A.view c.args.lane.0 in
-    let at : c.outgoing_place-k.result ≡ k = c.outgoing_place-k.ensures ∙ ap (λ (z : List OutgoingLane). position_or_len (λ (l : OutgoingLane). l.number.0 == c.args.lane.0) z) c.outgoing.ensures in
+    let at : c.outgoing_place-k.result ≡ k = c.outgoing_place-k.ensures
+    ∙ ap (λ (z : List OutgoingLane). position_or_len (λ (l : OutgoingLane). l.number.0 == c.args.lane.0) z) c.outgoing.ensures in
     let inside : k < length A.outs = omega (arith, lane_there c, c.self.invariant.rooms.cursors.count) in
     next_is A c.outgoing_place-k.result k c.index.result.now c.left_at.result c.next_record.result at inside c.index.ensures
     (c.left_at.ensures ∙ ap (λ (a : AgentState). left_at a c.outgoing_place-k.result) (sym c.self.view_is)) c.next_record.ensures

@@ -7,11 +7,13 @@ use Rattle.mrp_agent.proofs.agent.Agent.of_parts.Goals as goal
 use Rattle.mrp_agent.proofs.agent.Agent.of_parts.Goals.{In_ok-amounts}
 
 opens : (c : In_ok-amounts)
-    → agent_of c.args.view c.in_ok-lanes.lanes.books.items c.in_ok-amounts.amounts.came.items c.in_ok-amounts.amounts.called.items c.in_ok-amounts.amounts.plans.items
+    → agent_of c.args.view c.in_ok-lanes.lanes.books.items c.in_ok-amounts.amounts.came.items c.in_ok-amounts.amounts.called.items
+    c.in_ok-amounts.amounts.plans.items
     c.in_ok-structure.structure.progress c.in_ok-lanes.lanes.outs.items
     ≡ opened c.args.view c.in_ok-structure.structure.progress c.in_ok-lanes.lanes.outs.items
 opens c =
-    agent_opened c.args.view c.in_ok-lanes.lanes.books.items c.in_ok-amounts.amounts.came.items c.in_ok-amounts.amounts.called.items c.in_ok-amounts.amounts.plans.items
+    agent_opened c.args.view c.in_ok-lanes.lanes.books.items c.in_ok-amounts.amounts.came.items c.in_ok-amounts.amounts.called.items
+    c.in_ok-amounts.amounts.plans.items
     c.in_ok-structure.structure.progress c.in_ok-lanes.lanes.outs.items
     (record {
       books_are = c.in_ok-lanes.ensures.books;
@@ -41,11 +43,13 @@ invariant_of-result c =
       room = c.in_ok-amounts.ensures.room;
     } in
     subst (λ (a : AgentState). IsKept a I) (sym (opens here))
-    (opening_kept c.args.view structure.progress c.in_ok-lanes.lanes.outs.items c.requires.seen c.requires.openings c.in_ok-structure.ensures.first c.in_ok-lanes.ensures.outs I indexes)
+    (opening_kept c.args.view structure.progress c.in_ok-lanes.lanes.outs.items c.requires.seen c.requires.openings c.in_ok-structure.ensures.first
+    c.in_ok-lanes.ensures.outs I indexes)
 
 pub returns-clause-opens : goal.returns-clause-opens
 returns-clause-opens c =
     let here = (goal.at.returns-clause-opens c).In_ok-amounts in
     subst (λ (a : AgentState). ShowsHistory a nothing nothing none_planned) (sym (opens here))
-    (opening_shows c.args.view c.in_ok-structure.structure.progress c.in_ok-lanes.lanes.outs.items c.requires.seen c.requires.openings c.in_ok-structure.ensures.first
+    (opening_shows c.args.view c.in_ok-structure.structure.progress c.in_ok-lanes.lanes.outs.items c.requires.seen c.requires.openings
+    c.in_ok-structure.ensures.first
     c.in_ok-lanes.ensures.outs c.in_ok-amounts.ensures.receipts c.in_ok-amounts.ensures.demands)

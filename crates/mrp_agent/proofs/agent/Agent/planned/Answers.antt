@@ -27,14 +27,16 @@ pub returns-then-planned-clause-exact : goal.returns-then-planned-clause-exact
 returns-then-planned-clause-exact c =
     let A : AgentState = the_view c.self.inside in
     let at = place_said A c.args.x c.place.result c.in_ok-place.place c.place.ensures c.in_ok-place.was in
-    let flag : is_planned A.progress.planned (pair_place A.view c.args.x.0) ≡ true = ap (is_planned A.progress.planned) at.0 ∙ sym c.planned.ensures ∙ c.if-planned.true in
+    let flag : is_planned A.progress.planned (pair_place A.view c.args.x.0) ≡ true =
+    ap (is_planned A.progress.planned) at.0 ∙ sym c.planned.ensures ∙ c.if-planned.true in
     planned_said c.args.x (Some c.index.result) c.self.view_is c.self.invariant (λ _. flag, λ _. refl)
 
 pub returns-else-planned-clause-exact : goal.returns-else-planned-clause-exact
 returns-else-planned-clause-exact c =
     let A : AgentState = the_view c.self.inside in
     let at = place_said A c.args.x c.place.result c.in_ok-place.place c.place.ensures c.in_ok-place.was in
-    let flag : is_planned A.progress.planned (pair_place A.view c.args.x.0) ≡ false = ap (is_planned A.progress.planned) at.0 ∙ sym c.planned.ensures ∙ c.if-planned.false in
+    let flag : is_planned A.progress.planned (pair_place A.view c.args.x.0) ≡ false =
+    ap (is_planned A.progress.planned) at.0 ∙ sym c.planned.ensures ∙ c.if-planned.false in
     planned_said {X = Bor PairPlan} c.args.x None c.self.view_is c.self.invariant (none_there _ flag)
 
 pub returns-then-planned-clause-plan : goal.returns-then-planned-clause-plan
@@ -49,5 +51,6 @@ pub returns-else-planned-clause-there : goal.returns-else-planned-clause-there
 returns-else-planned-clause-there c =
     let A : AgentState = the_view c.self.inside in
     let at = place_said A c.args.x c.place.result c.in_ok-place.place c.place.ensures c.in_ok-place.was in
-    let flag : is_planned A.progress.planned (pair_place A.view c.args.x.0) ≡ false = ap (is_planned A.progress.planned) at.0 ∙ sym c.planned.ensures ∙ c.if-planned.false in
+    let flag : is_planned A.progress.planned (pair_place A.view c.args.x.0) ≡ false =
+    ap (is_planned A.progress.planned) at.0 ∙ sym c.planned.ensures ∙ c.if-planned.false in
     none_there _ (subst (λ (a : AgentState). is_planned a.progress.planned (pair_place a.view c.args.x.0) ≡ false) c.self.view_is flag)

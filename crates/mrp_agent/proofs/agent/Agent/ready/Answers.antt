@@ -14,7 +14,8 @@ pub returns-clause-given : goal.returns-clause-given
 returns-clause-given c =
     let A : AgentState = c.args.self.now in
     let first : c.copied.result ≡ slice_get (ready_numbers A) 0 = search rules in
-    first_can_be_planned A (ready_numbers A) c.copied.result first (subst (λ (z : List PairNo). All (IsOwnPair A.view) z) c.ready_pairs.ensures.numbers c.ready_pairs.ensures.own)
+    first_can_be_planned A (ready_numbers A) c.copied.result first
+    (subst (λ (z : List PairNo). All (IsOwnPair A.view) z) c.ready_pairs.ensures.numbers c.ready_pairs.ensures.own)
     (subst (HasReady A) c.ready_pairs.ensures.numbers c.ready_pairs.ensures.exact)
 
 pub returns-clause-none : goal.returns-clause-none

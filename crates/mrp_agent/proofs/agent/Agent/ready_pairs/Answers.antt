@@ -14,7 +14,8 @@ use Rattle.mrp_agent.proofs.agent.Agent.ready_pairs.Goals as goal
 pub returns-clause-own : goal.returns-clause-own
 returns-clause-own c =
     let A : AgentState = the_view c.self.inside in
-    let own : All (IsOwnPair A.view) c.ready_pairs.result.now = subst (λ (z : List PairNo). All (IsOwnPair A.view) z) (sym c.ready_pairs.ensures.pairs) (ready_own A c.self.invariant.view c.self.invariant.rooms c.ready_pairs.ensures.listed) in
+    let own : All (IsOwnPair A.view) c.ready_pairs.result.now = subst (λ (z : List PairNo). All (IsOwnPair A.view) z) (sym c.ready_pairs.ensures.pairs)
+    (ready_own A c.self.invariant.view c.self.invariant.rooms c.ready_pairs.ensures.listed) in
     subst (λ (a : AgentState). All (IsOwnPair a.view) c.ready_pairs.result.now) c.self.view_is own
 
 pub returns-clause-once : goal.returns-clause-once

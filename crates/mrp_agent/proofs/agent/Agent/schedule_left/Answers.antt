@@ -18,12 +18,14 @@ use Rattle.mrp_agent.proofs.agent.Agent.schedule_left.Goals.{After-incoming_near
 facts_there : (c : After-incoming_near-before) → CallFacts (the_view c.self.inside) c.args.lane.now c.args.place
 facts_there c =
     let A : AgentState = the_view c.self.inside in
-    let there : Contains A.view.outgoing c.args.lane.now = subst (λ (a : AgentState). Contains a.view.outgoing c.args.lane.now) (sym c.self.view_is) c.requires.lane in
+    let there : Contains A.view.outgoing c.args.lane.now = subst (λ (a : AgentState). Contains a.view.outgoing c.args.lane.now)
+    (sym c.self.view_is) c.requires.lane in
     call_facts A c.self.invariant c.args.lane.now there c.requires.schedule c.args.place c.requires.place
 
 -- the lane before it, over which its customer ships, has a place
 place_there : (c : After-incoming_near-before) → c.incoming_near-before.result ≡ incoming_place (the_view c.self.inside).view (c.args.lane.now.number.0 - 1)
-place_there c = c.incoming_near-before.ensures ∙ ap (λ (z : List IncomingLane). position_or_len (λ (l : IncomingLane). l.number.0 == c.args.lane.now.number.0 - 1) z) c.incoming.ensures
+place_there c = c.incoming_near-before.ensures ∙ ap (λ (z : List IncomingLane). position_or_len
+    (λ (l : IncomingLane). l.number.0 == c.args.lane.now.number.0 - 1) z) c.incoming.ensures
 
 -- and its book is read
 book_there : (c : After-index) → CallFacts (the_view c.self.inside) c.args.lane.now c.args.place
@@ -35,14 +37,16 @@ book_there c facts at =
     read_is A.books c.incoming_near-before.result c.index.result.now no_book c.index.ensures inside ∙ ap (book_at A) at
 
 -- what is called for of the item
-call_there : (c : In-Some) → CallFacts (the_view c.self.inside) c.args.lane.now c.args.place → c.in-Some.call ≡ call_of (load_at c.args.lane.now.items c.args.place)
+call_there : (c : In-Some) → CallFacts (the_view c.self.inside) c.args.lane.now c.args.place
+    → c.in-Some.call ≡ call_of (load_at c.args.lane.now.items c.args.place)
 call_there c facts =
     let some : Some c.in-Some.call ≡ Some (call_of (load_at c.args.lane.now.items c.args.place)) =
     sym c.in-Some.is ∙ ap (λ (i : OutgoingItem). i.call) c.get-item.ensures ∙ facts.there in
     cc some
 
 -- the place of the pair that takes it
-customer_there : (c : After-place) → CallFacts (the_view c.self.inside) c.args.lane.now c.args.place → c.in-Some.call ≡ call_of (load_at c.args.lane.now.items c.args.place)
+customer_there : (c : After-place) → CallFacts (the_view c.self.inside) c.args.lane.now c.args.place
+    → c.in-Some.call ≡ call_of (load_at c.args.lane.now.items c.args.place)
     → c.place.result ≡ Some (pair_place (the_view c.self.inside).view (call_of (load_at c.args.lane.now.items c.args.place)).customer.0)
 customer_there c facts same =
     let A : AgentState = the_view c.self.inside in
@@ -68,7 +72,8 @@ index-requires c =
 pub left_to_call-requires-clause-book : goal.left_to_call-requires-clause-book
 left_to_call-requires-clause-book c =
     let facts = facts_there (goal.at.left_to_call-requires-clause-book c).After-incoming_near-before in
-    subst IsShowing (sym (book_there (goal.at.left_to_call-requires-clause-book c).After-index facts (place_there (goal.at.left_to_call-requires-clause-book c).After-incoming_near-before))) facts.showing
+    subst IsShowing (sym (book_there (goal.at.left_to_call-requires-clause-book c).After-index facts
+    (place_there (goal.at.left_to_call-requires-clause-book c).After-incoming_near-before))) facts.showing
 
 pub left_to_call-requires-clause-shares : goal.left_to_call-requires-clause-shares
 left_to_call-requires-clause-shares c =

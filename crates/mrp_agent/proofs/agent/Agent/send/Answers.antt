@@ -16,7 +16,8 @@ lane_there : (c : After-send_next) → outgoing_place (the_view c.self.inside).v
 lane_there c = subst (λ (a : AgentState). outgoing_place a.view c.args.lane.0 < length a.view.outgoing) (sym c.self.view_is) c.requires.outgoing
 
 place_there : (c : After-send_next) → c.outgoing_near-k.result ≡ outgoing_place (the_view c.self.inside).view c.args.lane.0
-place_there c = c.outgoing_near-k.ensures ∙ ap (λ (z : List OutgoingLane). position_or_len (λ (l : OutgoingLane). l.number.0 == c.args.lane.0) z) c.outgoing.ensures
+place_there c = c.outgoing_near-k.ensures ∙ ap (λ (z : List OutgoingLane). position_or_len (λ (l : OutgoingLane). l.number.0 == c.args.lane.0) z)
+    c.outgoing.ensures
 
 -- it is given its next record
 next_there : (c : After-send_next) → c.send_next.result ≡ next_out (the_view c.self.inside) (outgoing_place (the_view c.self.inside).view c.args.lane.0)
@@ -35,7 +36,8 @@ gone_there c =
     let A : AgentState = the_view c.self.inside in
     let k : ℕ = outgoing_place A.view c.args.lane.0 in
     let inside : k < length A.outs = omega (arith, lane_there c, c.self.invariant.rooms.cursors.count) in
-    gone_outs A c.outgoing_near-k.result k c.index_mut.result.now c.send_next.new.out c.left_at-left.result c.send_next.result (place_there c) inside c.index_mut.ensures.value
+    gone_outs A c.outgoing_near-k.result k c.index_mut.result.now c.send_next.new.out c.left_at-left.result c.send_next.result
+    (place_there c) inside c.index_mut.ensures.value
     (c.left_at-left.ensures ∙ ap (λ (a : AgentState). left_at a c.outgoing_near-k.result) (sym c.self.view_is)) c.send_next.ensures.after
 
 pub invariant_of-self : goal.invariant_of-self
@@ -92,7 +94,8 @@ returns-clause-appended c =
     let B : AgentState = record A { outs = set A.outs c.outgoing_near-k.result c.send_next.new.out } in
     let P : AgentState → Type 0 = λ a. IfSome c.send_next.result (λ r. IsAppended a B (outgoing_place a.view c.args.lane.0) r) in
     subst P c.self.view_is
-    (record_appended A B c.self.invariant _ (lane_there at) c.send_next.result (next_there at) (ap (λ (z : List OutFigures). record A { outs = z }) (gone_there at)))
+    (record_appended A B c.self.invariant _ (lane_there at) c.send_next.result (next_there at)
+    (ap (λ (z : List OutFigures). record A { outs = z }) (gone_there at)))
 
 pub returns-clause-unchanged : goal.returns-clause-unchanged
 returns-clause-unchanged c =
@@ -105,4 +108,5 @@ returns-clause-unchanged c =
 
 pub outgoing_near-k-requires : goal.outgoing_near-k-requires
 outgoing_near-k-requires c =
-    subst (λ (z : List OutgoingLane). count_by (λ l. l.number.0 == c.args.lane.0) z ≤ 1) (sym c.outgoing.ensures) (c.self.invariant.view.outgoing_once c.args.lane.0)
+    subst (λ (z : List OutgoingLane). count_by (λ l. l.number.0 == c.args.lane.0) z ≤ 1) (sym c.outgoing.ensures)
+    (c.self.invariant.view.outgoing_once c.args.lane.0)

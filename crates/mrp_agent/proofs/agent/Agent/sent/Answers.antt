@@ -24,7 +24,8 @@ stepped_there : (c : After-step) → (let A : AgentState = the_view c.self.insid
 stepped_there c =
     let A : AgentState = the_view c.self.inside in
     let k : ℕ = outgoing_place A.view c.args.lane.0 in
-    let at : c.outgoing_place-k.result ≡ k = c.outgoing_place-k.ensures ∙ ap (λ (z : List OutgoingLane). position_or_len (λ (l : OutgoingLane). l.number.0 == c.args.lane.0) z) c.outgoing.ensures in
+    let at : c.outgoing_place-k.result ≡ k = c.outgoing_place-k.ensures
+    ∙ ap (λ (z : List OutgoingLane). position_or_len (λ (l : OutgoingLane). l.number.0 == c.args.lane.0) z) c.outgoing.ensures in
     let inside : k < length A.outs = omega (arith, lane_there c, c.self.invariant.rooms.cursors.count) in
     stepped_outs A c.outgoing_place-k.result k c.index_mut.result.now c.step.new.self c.left_at-left.result at inside c.index_mut.ensures.value
     (c.left_at-left.ensures ∙ ap (λ (a : AgentState). left_at a c.outgoing_place-k.result) (sym c.self.view_is)) c.step.ensures
@@ -39,8 +40,10 @@ returns-clause-appended c =
     let at = (goal.at.returns-clause-appended c).After-step in
     let A : AgentState = the_view c.self.inside in
     let B : AgentState = record A { outs = set A.outs c.outgoing_place-k.result c.step.new.self } in
-    let P : AgentState → Type 0 = λ a. (r : Record) → next_out a (outgoing_place a.view c.args.lane.0) ≡ Some r → IsAppended a B (outgoing_place a.view c.args.lane.0) r in
-    subst P c.self.view_is (λ r given. appended A B c.self.invariant _ (lane_there at) (ap (λ (z : List OutFigures). record A { outs = z }) (stepped_there at)) r given)
+    let P : AgentState → Type 0 = λ a. (r : Record) → next_out a (outgoing_place a.view c.args.lane.0) ≡ Some r
+    → IsAppended a B (outgoing_place a.view c.args.lane.0) r in
+    subst P c.self.view_is (λ r given. appended A B c.self.invariant _ (lane_there at)
+    (ap (λ (z : List OutFigures). record A { outs = z }) (stepped_there at)) r given)
 
 pub index_mut-requires : goal.index_mut-requires
 index_mut-requires c =

@@ -38,7 +38,8 @@ mark_planned-requires-clause-ready c =
 
 pub mark_planned-requires-clause-free : goal.mark_planned-requires-clause-free
 mark_planned-requires-clause-free c =
-    let ready = ready_at c.self.view_is (placed (goal.at.mark_planned-requires-clause-free c).In-Some) c.ready_pairs-ready.ensures.listed c.requires.can.ready in
+    let ready = ready_at c.self.view_is (placed (goal.at.mark_planned-requires-clause-free c).In-Some) c.ready_pairs-ready.ensures.listed c.requires.can.ready
+    in
     (c.ready_pairs-ready.ensures.listed.exact c.in-Some.place).0 ready
 
 planned : (c : After-mark_planned) → HasPlanned c.args.self.now c.args.x c.mark_planned.new.self

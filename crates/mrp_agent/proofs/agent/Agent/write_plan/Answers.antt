@@ -11,7 +11,8 @@ use Rattle.mrp_agent.proofs.agent.Agent.write_plan.Goals.{After-deref-3}
 pub pair_rows-rows-requires-clause-place : goal.pair_rows-rows-requires-clause-place
 pair_rows-rows-requires-clause-place c = place_within (placed_at c.self.view_is c.self.invariant c.requires.can c.requires.place)
 
-read : (c : After-deref-3) → HasRead (the_view c.self.inside) (indexes_of c.self.inside) c.args.x c.args.place c.pair_rows-rows.result.params c.pair_rows-rows.result.came.now
+read : (c : After-deref-3) → HasRead (the_view c.self.inside) (indexes_of c.self.inside) c.args.x c.args.place c.pair_rows-rows.result.params
+    c.pair_rows-rows.result.came.now
     c.pair_rows-rows.result.called.now c.pair_rows-rows.result.edges.now c.deref-3.result.now
 read c =
     rows_read (placed_at c.self.view_is c.self.invariant c.requires.can c.requires.place) (can_before c.self.view_is c.requires.can)
@@ -39,4 +40,5 @@ invariant_of-self c =
     (ap (λ (z : PlanRows). length z.gross) c.exchange.ensures.taken ∙ old_periods rows.placed c.index_mut.ensures.value)
 
 pub returns : goal.returns
-returns c = plans_written c.args.x c.args.place c.self.view_is (c.exchange.ensures.given ∙ c.draft_rows.ensures ∙ draft_made (read (goal.at.returns c).After-deref-3))
+returns c = plans_written c.args.x c.args.place c.self.view_is (c.exchange.ensures.given ∙ c.draft_rows.ensures
+    ∙ draft_made (read (goal.at.returns c).After-deref-3))

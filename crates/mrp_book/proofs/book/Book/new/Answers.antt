@@ -6,14 +6,17 @@ loop-item-init c = opened_none c.args.items.now c.new-places.result c.new-figure
 
 pub push-requires : goal.push-requires
 push-requires c = record {
-  fresh = item_is_new c.loop-item.item-index c.args.items.now c.loop-item.places c.loop-item.figures.items c.item-item.result c.loop-item.invariant c.requires.once c.loop-item-test.true
+  fresh = item_is_new c.loop-item.item-index c.args.items.now c.loop-item.places c.loop-item.figures.items c.item-item.result c.loop-item.invariant
+      c.requires.once c.loop-item-test.true
       c.item-item.is;
 }
 
 pub loop-item-preserved : goal.loop-item-preserved
 loop-item-preserved c =
-    opened_more c.loop-item.item-index c.args.items.now c.loop-item.places c.push.new.self c.loop-item.figures.items c.push-in-loop-item.new.self.items c.item-item.result c.opened.result
-    c.loop-item.invariant c.loop-item-test.true c.item-item.is c.in_ok-push.ensures.keys c.in_ok-push-2.ensures.items c.opened.ensures.value c.opened.ensures.small
+    opened_more c.loop-item.item-index c.args.items.now c.loop-item.places c.push.new.self c.loop-item.figures.items c.push-in-loop-item.new.self.items
+    c.item-item.result c.opened.result
+    c.loop-item.invariant c.loop-item-test.true c.item-item.is c.in_ok-push.ensures.keys c.in_ok-push-2.ensures.items c.opened.ensures.value
+    c.opened.ensures.small
 
 pub invariant_of-result : goal.invariant_of-result
 invariant_of-result c =
@@ -23,6 +26,7 @@ pub returns : goal.returns
 returns c =
     record {
       shows =
-          opened_shows c.loop-item.item-index c.args.items.now c.loop-item.places c.loop-item.figures.items c.args.kind c.args.horizon c.rises_on.result c.loop-item.invariant
+          opened_shows c.loop-item.item-index c.args.items.now c.loop-item.places c.loop-item.figures.items c.args.kind c.args.horizon c.rises_on.result
+          c.loop-item.invariant
           c.loop-item-test.false c.requires.once c.rises_on.ensures;
     }

@@ -94,7 +94,8 @@ pub returns-clause-shut : goal.returns-clause-shut
 returns-clause-shut g c =
     where_err c.wave_end.result _ _ c.wave_end.ensures.shut (λ fault shut is.
     subst (λ (crew : CrewState). WasShutToWorker g.G.Gate.worker_shut crew.workers c.args.plant) c.self.view_is
-    (shut_to_one (WasShutToWorker g.G.Gate.worker_shut c.self.inside.workers c.args.plant) c.in_ok-drafts.drafts.works.items c.settle_all-open.result c.in_ok-drafts.ensures.shut
+    (shut_to_one (WasShutToWorker g.G.Gate.worker_shut c.self.inside.workers c.args.plant) c.in_ok-drafts.drafts.works.items c.settle_all-open.result
+    c.in_ok-drafts.ensures.shut
     c.settle_all-open.ensures.let_in (shut is)))
 
 pub returns-in_err-refill-clause-refused : goal.returns-in_err-refill-clause-refused

@@ -14,7 +14,11 @@ loop-alloc-preserved g c =
     let next = c.plan_wave.ensures.planned in
     record {
       crew = c.plan_wave.ensures.crew ∙ before.crew;
-      planned = (before.planned.0 ++ next.0, plans_append c.args.agent.now c.loop-alloc.agent c.plan_wave.new.agent before.planned.0 next.0 before.planned.1 next.1);
+      planned = (
+        before.planned.0 ++ next.0,
+        plans_append c.args.agent.now c.loop-alloc.agent c.plan_wave.new.agent before.planned.0 next.0 before.planned.1
+            next.1,
+      );
       plannable = plannable_after c.loop-alloc.agent c.plan_wave.new.agent next.0 before.plannable next.1;
     }
 
@@ -23,7 +27,11 @@ returns-in_err-plan_wave-clause-planned g c =
     let before = c.loop-alloc.invariant in
     let next = c.plan_wave.ensures.planned in
     let p = err_from_is_err_and c.from_residual.result c.from_residual.ensures.1 in
-    rw p.1 (before.planned.0 ++ next.0, plans_append c.args.agent.now c.loop-alloc.agent c.plan_wave.new.agent before.planned.0 next.0 before.planned.1 next.1, tt)
+    rw p.1 (
+      before.planned.0 ++ next.0,
+      plans_append c.args.agent.now c.loop-alloc.agent c.plan_wave.new.agent before.planned.0 next.0 before.planned.1 next.1,
+      tt,
+    )
 
 pub returns-clause-planned : goal.returns-clause-planned
 returns-clause-planned g c =
@@ -39,7 +47,8 @@ returns-clause-planned g c =
 pub returns-in_err-plan_wave-clause-shut : goal.returns-in_err-plan_wave-clause-shut
 returns-in_err-plan_wave-clause-shut g c =
     let p = err_from_is_err_and c.from_residual.result c.from_residual.ensures.1 in
-    rw (p.1, p.2) (λ is. subst (λ (crew : CrewState). WasShutToWorker g.G.Gate.worker_shut crew.workers c.args.plant) c.loop-alloc.invariant.crew (c.in_err-plan_wave.ensures.shut is))
+    rw (p.1, p.2) (λ is. subst (λ (crew : CrewState). WasShutToWorker g.G.Gate.worker_shut crew.workers c.args.plant) c.loop-alloc.invariant.crew
+    (c.in_err-plan_wave.ensures.shut is))
 
 pub returns-in_err-plan_wave-clause-refused : goal.returns-in_err-plan_wave-clause-refused
 returns-in_err-plan_wave-clause-refused g c =

@@ -13,7 +13,8 @@ returns-then-quantity-gt0 c =
     let t : ℕ = c.loop-period.period in
     let amount : ℕ → ℕ = called_in N (source_on N (lane_at N c.args.l.0) c.args.item) in
     c.loop-period.invariant
-    ∙ amount_there amount (horizon N) t (omega (arith, c.loop-period-test.true, c.get-period-end.ensures.value, c.horizon.ensures)) (omega (arith, c.if-quantity-gt0.true, c.call-quantity.ensures))
+    ∙ amount_there amount (horizon N) t (omega (arith, c.loop-period-test.true, c.get-period-end.ensures.value, c.horizon.ensures))
+    (omega (arith, c.if-quantity-gt0.true, c.call-quantity.ensures))
     ∙ (λ j. record { period = t; quantity = sym c.call-quantity.ensures j } ∷ calls_from N (lane_at N c.args.l.0) c.args.item (t + 1))
 
 pub loop-period-preserved : goal.loop-period-preserved
@@ -22,4 +23,5 @@ loop-period-preserved c =
     let t : ℕ = c.loop-period.period in
     let amount : ℕ → ℕ = called_in N (source_on N (lane_at N c.args.l.0) c.args.item) in
     c.loop-period.invariant
-    ∙ amount_none amount (horizon N) t (omega (arith, c.loop-period-test.true, c.get-period-end.ensures.value, c.horizon.ensures)) (omega (arith, c.if-quantity-gt0.false, c.call-quantity.ensures))
+    ∙ amount_none amount (horizon N) t (omega (arith, c.loop-period-test.true, c.get-period-end.ensures.value, c.horizon.ensures))
+    (omega (arith, c.if-quantity-gt0.false, c.call-quantity.ensures))

@@ -14,10 +14,12 @@ push-requires-clause-legal g c =
     (subst (λ (e : End). IsNextRecord e c.args.entry) (sym c.self.view_is) c.requires.legal)
 
 pub add-requires-clause-number : goal.add-requires-clause-number
-add-requires-clause-number g c = number_fits c.self.invariant.1 c.args.entry (subst (λ (e : End). IsNextRecord e c.args.entry) (sym c.self.view_is) c.requires.legal)
+add-requires-clause-number g c = number_fits c.self.invariant.1 c.args.entry
+    (subst (λ (e : End). IsNextRecord e c.args.entry) (sym c.self.view_is) c.requires.legal)
 
 pub add-requires-clause-fits : goal.add-requires-clause-fits
-add-requires-clause-fits g c = more_fits c.self.invariant.1 c.args.entry (subst (λ (e : End). IsNextRecord e c.args.entry) (sym c.self.view_is) c.requires.legal)
+add-requires-clause-fits g c = more_fits c.self.invariant.1 c.args.entry
+    (subst (λ (e : End). IsNextRecord e c.args.entry) (sym c.self.view_is) c.requires.legal)
 
 pub invariant_of-self-2 : goal.invariant_of-self-2
 invariant_of-self-2 g c =
@@ -34,11 +36,13 @@ pub push-requires-clause-named : goal.push-requires-clause-named
 push-requires-clause-named g c = c.self.invariant.1.named
 
 pub invariant_of-self : goal.invariant_of-self
-invariant_of-self g c = stays_sending _ c.self.inside.pass c.push.new.pass c.self.inside.lane.0 c.self.inside.tally c.self.invariant c.in-Err.ensures.same c.in-Err.ensures.unchanged
+invariant_of-self g c = stays_sending _ c.self.inside.pass c.push.new.pass c.self.inside.lane.0 c.self.inside.tally c.self.invariant c.in-Err.ensures.same
+    c.in-Err.ensures.unchanged
 
 pub returns-clause-name : goal.returns-clause-name
 returns-clause-name g c =
-    same_name (arc_value c.self.inside.mailbox) c.self.inside.pass c.push.new.pass c.self.inside.lane.0 _ _ _ c.self.view_is c.push.ensures.same (ap (λ (v : LaneView). v.network) c.in_default.ensures.sent)
+    same_name (arc_value c.self.inside.mailbox) c.self.inside.pass c.push.new.pass c.self.inside.lane.0 _ _ _ c.self.view_is c.push.ensures.same
+    (ap (λ (v : LaneView). v.network) c.in_default.ensures.sent)
 
 pub returns-clause-sent : goal.returns-clause-sent
 returns-clause-sent g c = ap (λ (v : LaneView). v.sent) c.in_default.ensures.sent ∙ ap (λ (e : End). e.list ++ c.args.entry ∷ []) c.self.view_is

@@ -9,12 +9,14 @@ use Rattle.mrp_lane.proofs.take.TakeEnd.take.Goals as goal
 pub add-requires-clause-number : goal.add-requires-clause-number
 add-requires-clause-number g c =
     let h = c.self.invariant.1 in
-    number_fits h c.in_ok-entry.entry (taken_is_legal (view c.self.inside.pass) (view c.pop.new.pass) c.in_ok-entry.entry c.self.inside.lane.0 h.lane c.in_ok-entry.ensures.taken)
+    number_fits h c.in_ok-entry.entry (taken_is_legal (view c.self.inside.pass)
+    (view c.pop.new.pass) c.in_ok-entry.entry c.self.inside.lane.0 h.lane c.in_ok-entry.ensures.taken)
 
 pub add-requires-clause-fits : goal.add-requires-clause-fits
 add-requires-clause-fits g c =
     let h = c.self.invariant.1 in
-    more_fits h c.in_ok-entry.entry (taken_is_legal (view c.self.inside.pass) (view c.pop.new.pass) c.in_ok-entry.entry c.self.inside.lane.0 h.lane c.in_ok-entry.ensures.taken)
+    more_fits h c.in_ok-entry.entry (taken_is_legal (view c.self.inside.pass)
+    (view c.pop.new.pass) c.in_ok-entry.entry c.self.inside.lane.0 h.lane c.in_ok-entry.ensures.taken)
 
 pub invariant_of-self-2 : goal.invariant_of-self-2
 invariant_of-self-2 g c =
@@ -22,7 +24,8 @@ invariant_of-self-2 g c =
     c.pop.ensures.same c.in_ok-entry.ensures.taken c.add.ensures
 
 pub returns-clause-legal : goal.returns-clause-legal
-returns-clause-legal g c = taken_stays_legal (view c.self.inside.pass) (view c.pop.new.pass) c.in_ok-entry.entry c.self.inside.lane.0 c.self.invariant.1.lane c.in_ok-entry.ensures.taken
+returns-clause-legal g c = taken_stays_legal (view c.self.inside.pass)
+    (view c.pop.new.pass) c.in_ok-entry.entry c.self.inside.lane.0 c.self.invariant.1.lane c.in_ok-entry.ensures.taken
 
 pub pop-requires-clause-pass : goal.pop-requires-clause-pass
 pop-requires-clause-pass g c = ours_there c.self.invariant.1 c.deref.ensures
@@ -35,11 +38,13 @@ pop-requires-clause-named g c = c.self.invariant.1.named
 
 pub invariant_of-self : goal.invariant_of-self
 invariant_of-self g c =
-    stays_taking _ c.self.inside.pass c.pop.new.pass c.self.inside.lane.0 c.self.inside.tally c.self.invariant c.pop.ensures.same c.in_err-entry.ensures.unchanged
+    stays_taking _ c.self.inside.pass c.pop.new.pass c.self.inside.lane.0 c.self.inside.tally c.self.invariant c.pop.ensures.same
+    c.in_err-entry.ensures.unchanged
 
 pub returns-clause-name : goal.returns-clause-name
 returns-clause-name g c =
-    same_name (arc_value c.self.inside.mailbox) c.self.inside.pass c.pop.new.pass c.self.inside.lane.0 _ _ _ c.self.view_is c.pop.ensures.same (ap (λ (v : LaneView). v.network) c.in_ok-entry.ensures.taken.is)
+    same_name (arc_value c.self.inside.mailbox) c.self.inside.pass c.pop.new.pass c.self.inside.lane.0 _ _ _ c.self.view_is c.pop.ensures.same
+    (ap (λ (v : LaneView). v.network) c.in_ok-entry.ensures.taken.is)
 
 pub returns-clause-taken : goal.returns-clause-taken
 returns-clause-taken g c = ap (λ (v : LaneView). v.taken) c.in_ok-entry.ensures.taken.is ∙ ap (λ (e : End). e.list ++ c.in_ok-entry.entry ∷ []) c.self.view_is

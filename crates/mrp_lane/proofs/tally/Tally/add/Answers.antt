@@ -11,7 +11,8 @@ invariant_of-self c =
     let new = c.add_pieces-self-inside.new.items in
     let back : length new ≡ c.self.inside.items.len = omega (arith, c.add_pieces-self-inside.auto.items, c.as_mut_slice.ensures.len) in
     subst (IsDistinct is_same_pieces) (sym (take_at new (drop (length new) old) c.self.inside.items.len back ∙ c.add_pieces-self-inside.ensures))
-    (apart_after (more_of c.in-Line.item.0 c.in-Line.quantity) (λ i. refl) c.as_mut_slice.result.now (subst (IsDistinct is_same_pieces) (sym c.as_mut_slice.ensures.value) c.self.invariant))
+    (apart_after (more_of c.in-Line.item.0 c.in-Line.quantity) (λ i. refl) c.as_mut_slice.result.now
+    (subst (IsDistinct is_same_pieces) (sym c.as_mut_slice.ensures.value) c.self.invariant))
 
 pub returns-in_default : goal.returns-in_default
 returns-in_default c =

@@ -8,8 +8,13 @@ returns c =
     let N = c.args.tables.now in
     let places : List ℕ = c.count_pairs.new.places in
     let rows : List ℕ = c.add_ships.new.rows in
-    let kept = take_at places (drop (length places) c.in_ok-places.places.items) c.in_ok-places.places.len (omega (arith, c.count_pairs.auto.places, c.as_mut_slice.ensures.len)) in
-    let back = take_at rows (drop (length rows) c.in_ok-rows.rows.items) c.in_ok-rows.rows.len (omega (arith, c.add_ships.auto.rows, c.as_mut_slice-2.ensures.len)) in
-    incoming_of N c.as_slice.result.now c.count_pairs.new.pairs.items places c.as_slice-3.result.now c.in_ok-rows.rows.items c.as_mut_slice-2.result.now rows c.ships.result.now _
-    c.pairs.ensures.table c.ships.ensures.value (ap length kept ∙ omega (arith, c.count_pairs.auto.places, c.as_mut_slice.ensures.len, c.in_ok-places.ensures.len, ap length c.pairs.ensures.value))
-    c.in_ok-count_pairs.ensures c.as_slice.ensures.value kept c.as_slice-3.ensures.value c.in_ok-rows.ensures c.as_mut_slice-2.ensures.value c.add_ships.auto.rows back c.add_ships.ensures
+    let kept = take_at places (drop (length places) c.in_ok-places.places.items) c.in_ok-places.places.len
+    (omega (arith, c.count_pairs.auto.places, c.as_mut_slice.ensures.len)) in
+    let back = take_at rows (drop (length rows) c.in_ok-rows.rows.items) c.in_ok-rows.rows.len
+    (omega (arith, c.add_ships.auto.rows, c.as_mut_slice-2.ensures.len)) in
+    incoming_of N c.as_slice.result.now c.count_pairs.new.pairs.items places c.as_slice-3.result.now c.in_ok-rows.rows.items c.as_mut_slice-2.result.now rows
+    c.ships.result.now _
+    c.pairs.ensures.table c.ships.ensures.value (ap length kept ∙ omega
+    (arith, c.count_pairs.auto.places, c.as_mut_slice.ensures.len, c.in_ok-places.ensures.len, ap length c.pairs.ensures.value))
+    c.in_ok-count_pairs.ensures c.as_slice.ensures.value kept c.as_slice-3.ensures.value c.in_ok-rows.ensures c.as_mut_slice-2.ensures.value
+    c.add_ships.auto.rows back c.add_ships.ensures

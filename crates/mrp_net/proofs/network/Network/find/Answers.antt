@@ -28,6 +28,7 @@ pub returns-clause-missing : goal.returns-clause-missing
 returns-clause-missing c =
     let N = c.self.inside.tables in
     subst (λ (z : Table). IfNone c.find_pair.result ((x : ℕ) → ¬ (IsNamed z x c.args.plant.now c.args.item.now))) c.self.view_is
-    (missing_pair N c.in_ok-plant.plant.0 c.in_ok-item.item.0 c.args.plant.now c.args.item.now c.find_pair.result c.self.invariant.table c.find_pair.ensures.found
+    (missing_pair N c.in_ok-plant.plant.0 c.in_ok-item.item.0 c.args.plant.now c.args.item.now c.find_pair.result c.self.invariant.table
+    c.find_pair.ensures.found
     (name_at_place N.plants c.args.plant.now c.in_ok-plant.plant.0 c.in_ok-plant.ensures.place)
     (name_at_place N.items c.args.item.now c.in_ok-item.item.0 c.in_ok-item.ensures.place))

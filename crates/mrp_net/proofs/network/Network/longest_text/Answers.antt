@@ -12,8 +12,10 @@ overflow_add-records c =
     let M = c.args.self.now in
     let lane : Lane = lane_at M c.args.l.0 in
     let item : ItemNo = get_or c.lane_items-item-items.result.now c.loop-item.item-index (record { 0 = 0 }) in
-    let few : length c.lane_items-item-items.result.now ≤ 80000 = omega (arith, ap length c.lane_items-item-items.ensures.value, lane_items_are_few M lane c.pairs-pairs.ensures.table) in
-    let short : c.longest_block-records.result ≤ 1000002 = omega (arith, c.longest_block-records.ensures, block_is_short M lane item c.pairs-pairs.ensures.table) in
+    let few : length c.lane_items-item-items.result.now ≤ 80000 =
+    omega (arith, ap length c.lane_items-item-items.ensures.value, lane_items_are_few M lane c.pairs-pairs.ensures.table) in
+    let short : c.longest_block-records.result ≤ 1000002 = omega
+    (arith, c.longest_block-records.ensures, block_is_short M lane item c.pairs-pairs.ensures.table) in
     omega (arith, few, short, c.loop-item.invariant.few, c.loop-item-test.true)
 
 pub loop-item-preserved : goal.loop-item-preserved
@@ -22,9 +24,16 @@ loop-item-preserved c =
     let lane : Lane = lane_at M c.args.l.0 in
     let items : List ItemNo = c.lane_items-item-items.result.now in
     let item : ItemNo = get_or items c.loop-item.item-index (record { 0 = 0 }) in
-    let short : c.longest_block-records.result ≤ 1000002 = omega (arith, c.longest_block-records.ensures, block_is_short M lane item c.pairs-pairs.ensures.table) in
+    let short : c.longest_block-records.result ≤ 1000002 = omega
+    (arith, c.longest_block-records.ensures, block_is_short M lane item c.pairs-pairs.ensures.table) in
     record {
-      sum = omega (arith, c.loop-item.invariant.sum, c.longest_block-records.ensures, sum_by_more (longest_block M lane) items c.loop-item.item-index (record { 0 = 0 }) c.loop-item-test.true);
+      sum = omega (
+        arith,
+        c.loop-item.invariant.sum,
+        c.longest_block-records.ensures,
+        sum_by_more (longest_block M lane) items c.loop-item.item-index
+            (record { 0 = 0 }) c.loop-item-test.true,
+      );
       few = omega (arith, c.loop-item.invariant.few, short);
     }
 

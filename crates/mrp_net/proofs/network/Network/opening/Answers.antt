@@ -13,7 +13,8 @@ returns-in-Despatch c =
     let lane = c.lane-lane.result in
     let x : ℕ = pair_on M lane c.args.item in
     let p : ℕ = supplier_of lane in
-    let read = sent_at _ M figure c.self.inside.lanes.figures.items c.source-at.result x p c.index.result.now c.self.view_is c.self.invariant.lanes.openings c.source-at.ensures.value c.source-at.ensures.taken c.index.ensures in
+    let read = sent_at _ M figure c.self.inside.lanes.figures.items c.source-at.result x p c.index.result.now c.self.view_is c.self.invariant.lanes.openings
+    c.source-at.ensures.value c.source-at.ensures.taken c.index.ensures in
     read
     ∙ sym (opening_despatch M lane c.args.item c.in-Despatch.is)
     ∙ ap (λ (z : Lane). opening M z c.args.item) c.lane-lane.ensures.value
@@ -24,8 +25,10 @@ returns-in-Schedule c =
     let lane = c.lane-lane.result in
     let x : ℕ = pair_on M lane c.args.item in
     let p : ℕ = supplier_of lane in
-    let one = sent_at _ M figure c.self.inside.lanes.figures.items c.source-at.result x p c.index-in-Schedule.result.now c.self.view_is c.self.invariant.lanes.openings c.source-at.ensures.value c.source-at.ensures.taken c.index-in-Schedule.ensures in
-    let two = sent_at _ M shipped_from c.self.inside.lanes.shipped.items c.source-at.result x p c.index-in-Schedule-2.result.now c.self.view_is c.self.invariant.lanes.sent c.source-at.ensures.value c.source-at.ensures.taken c.index-in-Schedule-2.ensures in
+    let one = sent_at _ M figure c.self.inside.lanes.figures.items c.source-at.result x p c.index-in-Schedule.result.now c.self.view_is
+    c.self.invariant.lanes.openings c.source-at.ensures.value c.source-at.ensures.taken c.index-in-Schedule.ensures in
+    let two = sent_at _ M shipped_from c.self.inside.lanes.shipped.items c.source-at.result x p c.index-in-Schedule-2.result.now c.self.view_is
+    c.self.invariant.lanes.sent c.source-at.ensures.value c.source-at.ensures.taken c.index-in-Schedule-2.ensures in
     ap (λ (z : ℕ). z + c.index-in-Schedule-2.result.now) one
     ∙ ap (λ (z : ℕ). figure M x p + z) two
     ∙ sym (opening_schedule M lane c.args.item c.in-Schedule.is)
@@ -38,6 +41,8 @@ overflow_add-result c =
     let x : ℕ = pair_on M lane c.args.item in
     let p : ℕ = supplier_of lane in
     let table : IsTable M = subst IsTable c.self.view_is c.self.invariant.table in
-    let one = sent_at _ M figure c.self.inside.lanes.figures.items c.source-at.result x p c.index-in-Schedule.result.now c.self.view_is c.self.invariant.lanes.openings c.source-at.ensures.value c.source-at.ensures.taken c.index-in-Schedule.ensures in
-    let two = sent_at _ M shipped_from c.self.inside.lanes.shipped.items c.source-at.result x p c.index-in-Schedule-2.result.now c.self.view_is c.self.invariant.lanes.sent c.source-at.ensures.value c.source-at.ensures.taken c.index-in-Schedule-2.ensures in
+    let one = sent_at _ M figure c.self.inside.lanes.figures.items c.source-at.result x p c.index-in-Schedule.result.now c.self.view_is
+    c.self.invariant.lanes.openings c.source-at.ensures.value c.source-at.ensures.taken c.index-in-Schedule.ensures in
+    let two = sent_at _ M shipped_from c.self.inside.lanes.shipped.items c.source-at.result x p c.index-in-Schedule-2.result.now c.self.view_is
+    c.self.invariant.lanes.sent c.source-at.ensures.value c.source-at.ensures.taken c.index-in-Schedule-2.ensures in
     omega (arith, one, two, figure_within M table x p, shipped_from_within M table x p)

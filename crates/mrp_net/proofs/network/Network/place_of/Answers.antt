@@ -11,4 +11,10 @@ overflow_mul-result c =
 pub overflow_add-result : goal.overflow_add-result
 overflow_add-result c =
     let w = c.get.ensures.value ∙ c.horizon.ensures.value ∙ ap horizon c.self.view_is in
-    omega (arith, place_fits c.args.self.now c.args.x.0 c.get.result (subst IsTable c.self.view_is c.self.invariant.table) c.requires.pair w, w, c.requires.period)
+    omega (
+      arith,
+      place_fits c.args.self.now c.args.x.0 c.get.result
+          (subst IsTable c.self.view_is c.self.invariant.table) c.requires.pair w,
+      w,
+      c.requires.period,
+    )

@@ -10,7 +10,8 @@ use Rattle.mrp_net.proofs.network.Network.receiver_pair.Goals as goal
 pub unwrap-requires : goal.unwrap-requires
 unwrap-requires c =
     let M = c.args.self.now in
-    let has : IsPair M (pair_no M (lane_at M c.args.l.0).receiver.0 c.args.item.0) = receiver_within M (lane_at M c.args.l.0) c.args.item (subst IsTable c.self.view_is c.self.invariant.table) c.requires.item in
+    let has : IsPair M (pair_no M (lane_at M c.args.l.0).receiver.0 c.args.item.0) =
+    receiver_within M (lane_at M c.args.l.0) c.args.item (subst IsTable c.self.view_is c.self.invariant.table) c.requires.item in
     c.find_pair.ensures.found.1
     (subst (λ (z : Table). IsPair z (pair_no z c.lane.result.receiver.0 c.args.item.0)) (sym c.self.view_is)
     (subst (λ (z : Lane). IsPair M (pair_no M z.receiver.0 c.args.item.0)) (sym c.lane.ensures.value) has))

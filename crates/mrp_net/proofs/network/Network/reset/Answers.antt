@@ -12,5 +12,6 @@ returns c =
     let lane = c.lane.result in
     let rows = c.self.inside.lanes.resets.items in
     let resets = subst (λ (z : Table). AreResetsOf z z.resets rows) c.self.view_is c.self.invariant.lanes.resets in
-    reset_at M rows c.source-at.result (pair_on M lane c.args.item) (supplier_of lane) c.index.result.now resets c.source-at.ensures.value c.source-at.ensures.taken c.index.ensures
+    reset_at M rows c.source-at.result (pair_on M lane c.args.item)
+    (supplier_of lane) c.index.result.now resets c.source-at.ensures.value c.source-at.ensures.taken c.index.ensures
     ∙ ap (λ (z : Lane). reset M z c.args.item) c.lane.ensures.value

@@ -6,11 +6,20 @@ use Rattle.mrp_net.proofs.network.Network.route.Goals as goal
 
 pub overflow_mul-result : goal.overflow_mul-result
 overflow_mul-result c =
-    omega (arith, route_fits c.args.self.now c.customer.result.0 (supplier_of c.args.lane) c.plants.result (subst IsTable c.self.view_is c.self.invariant.table) (omega (arith, c.customer.ensures, c.requires.customer)) c.requires.supplier c.plants.ensures)
+    omega (
+      arith,
+      route_fits c.args.self.now c.customer.result.0 (supplier_of c.args.lane) c.plants.result (subst IsTable c.self.view_is c.self.invariant.table)
+          (omega (arith, c.customer.ensures, c.requires.customer)) c.requires.supplier c.plants.ensures,
+    )
 
 pub overflow_add-result : goal.overflow_add-result
 overflow_add-result c =
-    omega (arith, c.supplier.ensures, route_fits c.args.self.now c.customer.result.0 (supplier_of c.args.lane) c.plants.result (subst IsTable c.self.view_is c.self.invariant.table) (omega (arith, c.customer.ensures, c.requires.customer)) c.requires.supplier c.plants.ensures)
+    omega (
+      arith,
+      c.supplier.ensures,
+      route_fits c.args.self.now c.customer.result.0 (supplier_of c.args.lane) c.plants.result
+          (subst IsTable c.self.view_is c.self.invariant.table) (omega (arith, c.customer.ensures, c.requires.customer)) c.requires.supplier c.plants.ensures,
+    )
 
 pub returns : goal.returns
 returns c =

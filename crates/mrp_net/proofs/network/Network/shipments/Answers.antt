@@ -7,10 +7,12 @@ use Rattle.mrp_net.proofs.Sourcing.{shipments_ends, shipments_slice}
 use Rattle.mrp_net.proofs.network.Network.shipments.Goals as goal
 
 pub get-requires-clause-rises : goal.get-requires-clause-rises
-get-requires-clause-rises c = (shipments_ends _ c.args.self.now c.self.inside.lanes.shipments.rows.items c.self.inside.lanes.shipments.starts.items c.source-at.result c.self.view_is c.self.invariant.lanes.shipments c.source-at.ensures.within).0
+get-requires-clause-rises c = (shipments_ends _ c.args.self.now c.self.inside.lanes.shipments.rows.items c.self.inside.lanes.shipments.starts.items
+    c.source-at.result c.self.view_is c.self.invariant.lanes.shipments c.source-at.ensures.within).0
 
 pub get-requires-clause-within : goal.get-requires-clause-within
-get-requires-clause-within c = (shipments_ends _ c.args.self.now c.self.inside.lanes.shipments.rows.items c.self.inside.lanes.shipments.starts.items c.source-at.result c.self.view_is c.self.invariant.lanes.shipments c.source-at.ensures.within).1
+get-requires-clause-within c = (shipments_ends _ c.args.self.now c.self.inside.lanes.shipments.rows.items c.self.inside.lanes.shipments.starts.items
+    c.source-at.result c.self.view_is c.self.invariant.lanes.shipments c.source-at.ensures.within).1
 
 pub returns : goal.returns
 returns c =

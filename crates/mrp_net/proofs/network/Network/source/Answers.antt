@@ -11,14 +11,16 @@ pub unwrap-x-requires : goal.unwrap-x-requires
 unwrap-x-requires c =
     let N = c.self.inside.tables in
     let taken = item_is_taken N c.args.lane c.args.item c.self.invariant.table (rw c.self.view_is c.requires) in
-    let has : IsPair N (pair_on N c.args.lane c.args.item) = taker_within N (pair_on N c.args.lane c.args.item) (supplier_of c.args.lane) c.self.invariant.table taken in
+    let has : IsPair N (pair_on N c.args.lane c.args.item) = taker_within N (pair_on N c.args.lane c.args.item)
+    (supplier_of c.args.lane) c.self.invariant.table taken in
     c.find_pair.ensures.found.1 (subst (λ (z : ℕ). IsPair N (pair_no N z c.args.item.0)) (sym c.customer.ensures) has)
 
 pub source_of-requires-clause-taken : goal.source_of-requires-clause-taken
 source_of-requires-clause-taken c =
     let N = c.self.inside.tables in
     let taken = item_is_taken N c.args.lane c.args.item c.self.invariant.table (rw c.self.view_is c.requires) in
-    let found : c.unwrap-x.result.0 ≡ pair_no N c.customer.result.0 c.args.item.0 = subst (λ (o : Option PairNo). IfSome o (λ x. x.0 ≡ pair_no N c.customer.result.0 c.args.item.0)) c.unwrap-x.ensures c.find_pair.ensures.value in
+    let found : c.unwrap-x.result.0 ≡ pair_no N c.customer.result.0 c.args.item.0 =
+    subst (λ (o : Option PairNo). IfSome o (λ x. x.0 ≡ pair_no N c.customer.result.0 c.args.item.0)) c.unwrap-x.ensures c.find_pair.ensures.value in
     let is : c.unwrap-x.result.0 ≡ pair_on N c.args.lane c.args.item = found ∙ ap (λ (z : ℕ). pair_no N z c.args.item.0) c.customer.ensures in
     ap (λ (z : Table). is_taken_from z c.unwrap-x.result.0 c.supplier.result.0) c.rows.ensures
     ∙ ap (λ (z : ℕ). is_taken_from N z c.supplier.result.0) is
@@ -28,7 +30,8 @@ source_of-requires-clause-taken c =
 pub returns-clause-value : goal.returns-clause-value
 returns-clause-value c =
     let N = c.self.inside.tables in
-    let found : c.unwrap-x.result.0 ≡ pair_no N c.customer.result.0 c.args.item.0 = subst (λ (o : Option PairNo). IfSome o (λ x. x.0 ≡ pair_no N c.customer.result.0 c.args.item.0)) c.unwrap-x.ensures c.find_pair.ensures.value in
+    let found : c.unwrap-x.result.0 ≡ pair_no N c.customer.result.0 c.args.item.0 =
+    subst (λ (o : Option PairNo). IfSome o (λ x. x.0 ≡ pair_no N c.customer.result.0 c.args.item.0)) c.unwrap-x.ensures c.find_pair.ensures.value in
     let is : c.unwrap-x.result.0 ≡ pair_on N c.args.lane c.args.item = found ∙ ap (λ (z : ℕ). pair_no N z c.args.item.0) c.customer.ensures in
     c.source_of.ensures.value
     ∙ ap (λ (z : Table). source_no z c.unwrap-x.result.0 c.supplier.result.0) c.rows.ensures

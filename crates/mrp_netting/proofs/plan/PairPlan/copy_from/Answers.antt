@@ -15,8 +15,20 @@ invariant_of-self c =
     let a = ap length c.copy_from-5.ensures in
     let was = ap (λ (rows : PlanRows). length rows.gross) c.self.view_is in
     let periods = ap (λ (rows : PlanRows). length rows.gross) c.other.view_is in
-    let ok = c.extend_from_slice.ensures.succeeds (omega (arith, own.4, inv.6, was, periods, c.requires, c.clear.ensures.len, c.clear.ensures.capacity, ap length c.as_slice.ensures.value)) in
-    let late = refilled _ c.other.inside.late.items _ _ c.extend_from_slice.new.self.items ok c.as_slice.ensures.value c.clear.ensures.items c.extend_from_slice.ensures.items in
+    let ok = c.extend_from_slice.ensures.succeeds (omega (
+      arith,
+      own.4,
+      inv.6,
+      was,
+      periods,
+      c.requires,
+      c.clear.ensures.len,
+      c.clear.ensures.capacity,
+      ap
+          length c.as_slice.ensures.value,
+    )) in
+    let late = refilled _ c.other.inside.late.items _ _ c.extend_from_slice.new.self.items ok c.as_slice.ensures.value c.clear.ensures.items
+    c.extend_from_slice.ensures.items in
     let lates : AreLate c.other.inside.lead c.copy_from-3.new.self c.extend_from_slice.new.self.items =
     subst (AreLate c.other.inside.lead c.copy_from-3.new.self) (sym late)
     (subst (λ (order : List ℕ). AreLate c.other.inside.lead order c.other.inside.late.items) (sym c.copy_from-3.ensures) inv.5) in (
@@ -35,7 +47,19 @@ returns c =
     let inv = c.other.invariant in
     let was = ap (λ (rows : PlanRows). length rows.gross) c.self.view_is in
     let periods = ap (λ (rows : PlanRows). length rows.gross) c.other.view_is in
-    let ok = c.extend_from_slice.ensures.succeeds (omega (arith, own.4, inv.6, was, periods, c.requires, c.clear.ensures.len, c.clear.ensures.capacity, ap length c.as_slice.ensures.value)) in
-    let late = refilled _ c.other.inside.late.items _ _ c.extend_from_slice.new.self.items ok c.as_slice.ensures.value c.clear.ensures.items c.extend_from_slice.ensures.items in
+    let ok = c.extend_from_slice.ensures.succeeds (omega (
+      arith,
+      own.4,
+      inv.6,
+      was,
+      periods,
+      c.requires,
+      c.clear.ensures.len,
+      c.clear.ensures.capacity,
+      ap
+          length c.as_slice.ensures.value,
+    )) in
+    let late = refilled _ c.other.inside.late.items _ _ c.extend_from_slice.new.self.items ok c.as_slice.ensures.value c.clear.ensures.items
+    c.extend_from_slice.ensures.items in
     copied _ _ _ _ _ _ _ _ _ _ _ _ _ c.copy_from.ensures c.copy_from-2.ensures c.copy_from-3.ensures c.copy_from-4.ensures c.copy_from-5.ensures late
     ∙ c.other.view_is

@@ -6,10 +6,12 @@ pub get-requires-clause-group : goal.get-requires-clause-group
 get-requires-clause-group c = within_starts c.self.inside.groups.rows.items c.self.inside.groups.starts.items c.args.self.now c.args.x c.self.view_is c.requires
 
 pub get-requires-clause-rises : goal.get-requires-clause-rises
-get-requires-clause-rises c = c.self.invariant.rises c.args.x (within_starts c.self.inside.groups.rows.items c.self.inside.groups.starts.items c.args.self.now c.args.x c.self.view_is c.requires)
+get-requires-clause-rises c = c.self.invariant.rises c.args.x (within_starts c.self.inside.groups.rows.items c.self.inside.groups.starts.items c.args.self.now
+    c.args.x c.self.view_is c.requires)
 
 pub get-requires-clause-within : goal.get-requires-clause-within
-get-requires-clause-within c = c.self.invariant.within c.args.x (within_starts c.self.inside.groups.rows.items c.self.inside.groups.starts.items c.args.self.now c.args.x c.self.view_is c.requires)
+get-requires-clause-within c = c.self.invariant.within c.args.x (within_starts c.self.inside.groups.rows.items c.self.inside.groups.starts.items c.args.self.now
+    c.args.x c.self.view_is c.requires)
 
 pub returns : goal.returns
 returns c =

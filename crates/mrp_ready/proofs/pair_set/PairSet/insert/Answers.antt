@@ -7,7 +7,8 @@ use Rattle.mrp_ready.proofs.pair_set.PairSet.insert.Goals.{After-exchange-arg-1}
 late : (c : After-exchange-arg-1) → (c.self.inside.end ≤ c.index-slot.result.now) × (c.index-slot.result.now < length c.self.inside.slots.slots.items)
 late c =
     let s = c.self.inside.slots in
-    let is = later_slot s.numbers.items s.places.items s.slots.items c.self.inside.begin c.self.inside.end c.args.x c.index-slot.result.now c.args.self.now c.self.invariant c.self.view_is c.index-slot.ensures c.requires.known c.requires.absent c.requires.fresh in
+    let is = later_slot s.numbers.items s.places.items s.slots.items c.self.inside.begin c.self.inside.end c.args.x c.index-slot.result.now c.args.self.now
+    c.self.invariant c.self.view_is c.index-slot.ensures c.requires.known c.requires.absent c.requires.fresh in
     (is.2, is.3)
 
 pub exchange-requires-clause-first : goal.exchange-requires-clause-first
@@ -33,15 +34,20 @@ overflow_add-self c =
 pub invariant_of-self : goal.invariant_of-self
 invariant_of-self c =
     let s = c.self.inside.slots in
-    (inserted s.numbers.items s.places.items s.slots.items c.self.inside.begin c.self.inside.end c.args.x c.index-slot.result.now c.args.self.now _ _ _ c.self.invariant c.self.view_is c.index-slot.ensures c.requires.known c.requires.absent c.requires.fresh c.exchange.ensures.numbers c.exchange.ensures.places c.exchange.ensures.slots).0
+    (inserted s.numbers.items s.places.items s.slots.items c.self.inside.begin c.self.inside.end c.args.x c.index-slot.result.now c.args.self.now _ _ _
+    c.self.invariant c.self.view_is c.index-slot.ensures c.requires.known c.requires.absent c.requires.fresh c.exchange.ensures.numbers
+    c.exchange.ensures.places c.exchange.ensures.slots).0
 
 pub returns : goal.returns
 returns c =
     let s = c.self.inside.slots in
-    let is = inserted s.numbers.items s.places.items s.slots.items c.self.inside.begin c.self.inside.end c.args.x c.index-slot.result.now c.args.self.now _ _ _ c.self.invariant c.self.view_is c.index-slot.ensures c.requires.known c.requires.absent c.requires.fresh c.exchange.ensures.numbers c.exchange.ensures.places c.exchange.ensures.slots in
+    let is = inserted s.numbers.items s.places.items s.slots.items c.self.inside.begin c.self.inside.end c.args.x c.index-slot.result.now c.args.self.now _ _ _
+    c.self.invariant c.self.view_is c.index-slot.ensures c.requires.known c.requires.absent c.requires.fresh c.exchange.ensures.numbers
+    c.exchange.ensures.places c.exchange.ensures.slots in
     record { numbers = is.1; gone = is.2; added = is.3 }
 
 pub index-slot-requires : goal.index-slot-requires
 index-slot-requires c =
     let s = c.self.inside.slots in
-    rw s.slots.ok.0 (has_slot s.numbers.items s.places.items s.slots.items c.self.inside.begin c.self.inside.end c.args.x c.args.self.now c.self.view_is c.requires.known)
+    rw s.slots.ok.0 (has_slot s.numbers.items s.places.items s.slots.items c.self.inside.begin c.self.inside.end c.args.x c.args.self.now c.self.view_is
+    c.requires.known)

@@ -14,4 +14,5 @@ returns-clause-pairs c =
 pub returns-clause-once : goal.returns-clause-once
 returns-clause-once c =
     let s = c.self.inside.slots in
-    subst (λ (w : Chosen). AreApart w.places) c.self.view_is (apart_chosen s.numbers.items s.places.items s.slots.items c.self.inside.begin c.self.inside.end c.self.invariant)
+    subst (λ (w : Chosen). AreApart w.places) c.self.view_is (apart_chosen s.numbers.items s.places.items s.slots.items c.self.inside.begin c.self.inside.end
+    c.self.invariant)

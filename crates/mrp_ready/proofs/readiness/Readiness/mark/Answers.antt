@@ -16,11 +16,13 @@ overflow_sub-self c =
 
 pub invariant_of-self : goal.invariant_of-self
 invariant_of-self c =
-    planned_inside _ c.args.self.now c.self.inside.ready.gone c.remove.new.self.gone c.self.inside.left c.args.x c.remove.new.self.numbers c.remove.new.self.places c.self.invariant c.self.view_is c.requires c.remove.ensures.gone c.remove.ensures.numbers c.remove.ensures.others
+    planned_inside _ c.args.self.now c.self.inside.ready.gone c.remove.new.self.gone c.self.inside.left c.args.x c.remove.new.self.numbers
+    c.remove.new.self.places c.self.invariant c.self.view_is c.requires c.remove.ensures.gone c.remove.ensures.numbers c.remove.ensures.others
 
 pub returns-clause-listed : goal.returns-clause-listed
 returns-clause-listed c =
-    (planned_inside _ c.args.self.now c.self.inside.ready.gone c.remove.new.self.gone c.self.inside.left c.args.x c.remove.new.self.numbers c.remove.new.self.places c.self.invariant c.self.view_is c.requires c.remove.ensures.gone c.remove.ensures.numbers c.remove.ensures.others).listed
+    (planned_inside _ c.args.self.now c.self.inside.ready.gone c.remove.new.self.gone c.self.inside.left c.args.x c.remove.new.self.numbers
+    c.remove.new.self.places c.self.invariant c.self.view_is c.requires c.remove.ensures.gone c.remove.ensures.numbers c.remove.ensures.others).listed
 
 pub returns-clause-others : goal.returns-clause-others
 returns-clause-others c = λ y was ne. (c.remove.ensures.others y).1 (subst (λ (v : Progress). Contains v.ready y) (sym c.self.view_is) was, ne)

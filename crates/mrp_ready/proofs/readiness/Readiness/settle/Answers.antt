@@ -7,7 +7,8 @@ use Rattle.mrp_ready.proofs.readiness.Readiness.settle.Goals as goal
 pub returns-clause-counts : goal.returns-clause-counts
 returns-clause-counts c = λ joins blocks components was.
     let fewer = subst (λ (w : List ℕ). IsLess w c.lower_each.new.self.waits c.args.components.now) c.mark.ensures.waits c.lower_each.ensures.fewer in
-    AreCounts-settled c.args.self.now.waits c.lower_each.new.self.waits joins c.args.self.now.planned c.lower_each.new.self.planned blocks c.args.components.now c.args.x c.mark.ensures.known c.mark.ensures.was_free.unplanned (c.lower_each.ensures.planned ∙ c.mark.ensures.planned) fewer components was
+    AreCounts-settled c.args.self.now.waits c.lower_each.new.self.waits joins c.args.self.now.planned c.lower_each.new.self.planned blocks c.args.components.now
+    c.args.x c.mark.ensures.known c.mark.ensures.was_free.unplanned (c.lower_each.ensures.planned ∙ c.mark.ensures.planned) fewer components was
 
 pub mark-requires : goal.mark-requires
 mark-requires c = c.requires.ready
@@ -34,4 +35,5 @@ pub returns-clause-others : goal.returns-clause-others
 returns-clause-others c = λ y has other. c.lower_each.ensures.others y (c.mark.ensures.others y has other)
 
 pub returns-clause-left : goal.returns-clause-left
-returns-clause-left c = rw (c.lower_each.ensures.planned, c.mark.ensures.planned) (left-planned c.args.self.now.planned c.args.x c.mark.ensures.known c.mark.ensures.was_free.unplanned)
+returns-clause-left c = rw (c.lower_each.ensures.planned, c.mark.ensures.planned)
+    (left-planned c.args.self.now.planned c.args.x c.mark.ensures.known c.mark.ensures.was_free.unplanned)

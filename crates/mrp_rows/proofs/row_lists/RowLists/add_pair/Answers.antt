@@ -21,13 +21,15 @@ returns-clause-table c =
 
 pub returns-clause-rows : goal.returns-clause-rows
 returns-clause-rows c =
-    subst IsRead (sym (returns-clause-table c)) (read-with_pair c.args.self.now c.args.row (subst IsRead c.self.view_is c.self.invariant.0) c.requires.row c.requires.room)
+    subst IsRead (sym (returns-clause-table c)) (read-with_pair c.args.self.now c.args.row
+    (subst IsRead c.self.view_is c.self.invariant.0) c.requires.row c.requires.room)
 
 pub invariant_of-self-2 : goal.invariant_of-self-2
 invariant_of-self-2 c =
     let row = c.args.row in
     let fresh = subst (λ (N : Table). list_any (is_at row.plant.0 row.item.0) N.pairs ≡ false) (sym c.self.view_is) c.requires.fresh in (
       returns-clause-rows c,
-      found_more (get is_same_place c.self.inside.pair_places) (get is_same_place c.insert.new.self) c.self.inside.pairs.items c.push.new.self.items row (record { 0 = c.len.result })
+      found_more (get is_same_place c.self.inside.pair_places) (get is_same_place c.insert.new.self) c.self.inside.pairs.items c.push.new.self.items row
+          (record { 0 = c.len.result })
           c.self.invariant.1 fresh (omega (arith, c.len.ensures, c.self.inside.pairs.ok.0)) (more c) (λ key. c.in_ok-insert.ensures.updates.0 key),
     )

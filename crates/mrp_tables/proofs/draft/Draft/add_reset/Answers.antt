@@ -28,7 +28,8 @@ add_reset-requires-clause-room c =
     let fresh = any_reset r.from r.pair _ _ old.reset_keys ∙ c.in_ok-reset.ensures.fresh in
     let keys = c.in_ok-insert.ensures.keys ∙ ap (λ b. if b then self.reset_keys.keys else self.reset_keys.keys ++ k ∷ []) fresh in
     let here = found_lane r.from r.pair self.lane_keys.keys self.lists.sources _ d old.fits.lane_keys refl c.in_ok-reset.ensures.source in
-    let few : length self.reset_keys.keys < length self.lane_keys.keys = resets_room self.lane_keys.keys self.reset_keys.keys k (subst (IsDistinct is_same_lane) keys c.insert.ensures.unique) old.resets here in
+    let few : length self.reset_keys.keys < length self.lane_keys.keys =
+    resets_room self.lane_keys.keys self.reset_keys.keys k (subst (IsDistinct is_same_lane) keys c.insert.ensures.unique) old.resets here in
     let n1 = ap length old.reset_keys ∙ length-map self.lists.resets reset_key_of in
     let n2 = ap length old.fits.lane_keys ∙ length-map self.lists.sources _ in
     omega (arith, few, n1, n2, old.rows.limits.sources)
@@ -45,9 +46,19 @@ returns-clause-adds c =
     let keys = c.in_ok-insert.ensures.keys ∙ ap (λ b. if b then self.reset_keys.keys else self.reset_keys.keys ++ k ∷ []) fresh in
     let here = found_lane r.from r.pair self.lane_keys.keys self.lists.sources _ d old.fits.lane_keys refl c.in_ok-reset.ensures.source in
     let made = sym c.in_ok-add_reset.ensures.table in
-    let fits : FitsRows (with_reset N r) self.lane_keys.keys self.lanes.items = record { lane_keys = old.fits.lane_keys; apart = old.fits.apart; each = old.fits.each; lanes = old.fits.lanes; sources = old.fits.sources; items = old.fits.items } in
+    let fits : FitsRows (with_reset N r) self.lane_keys.keys self.lanes.items =
+    record {
+      lane_keys = old.fits.lane_keys;
+      apart = old.fits.apart;
+      each = old.fits.each;
+      lanes = old.fits.lanes;
+      sources = old.fits.sources;
+      items =
+          old.fits.items;
+    } in
     let count : row_count (with_reset N r) ≡ row_count N + 1 = omega (arith, length_push N.resets r) in
-    let named : self.reset_keys.keys ++ k ∷ [] ≡ map reset_key_of (N.resets ++ r ∷ []) = ap (λ (ks : List LaneKey). ks ++ k ∷ []) old.reset_keys ∙ sym (map-append reset_key_of N.resets (r ∷ [])) in
+    let named : self.reset_keys.keys ++ k ∷ [] ≡ map reset_key_of (N.resets ++ r ∷ []) =
+    ap (λ (ks : List LaneKey). ks ++ k ∷ []) old.reset_keys ∙ sym (map-append reset_key_of N.resets (r ∷ [])) in
     record {
       holds = record {
         rows = search rules;

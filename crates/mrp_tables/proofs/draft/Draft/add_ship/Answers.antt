@@ -21,7 +21,8 @@ returns-clause-adds c =
     let old = c.requires.draft.holds in
     let d : SourceRow = record { pair = x.pair; plant = x.from; low = 0; high = 0 } in
     let l : Lane = c.index_mut.result.now in
-    let each = states_ship N.ships x self.lane_keys.keys N.sources self.lanes.items k d l old.fits.lane_keys old.fits.apart old.fits.each c.in_ok-ship.ensures.place c.index_mut.ensures.value in
+    let each = states_ship N.ships x self.lane_keys.keys N.sources self.lanes.items k d l old.fits.lane_keys old.fits.apart old.fits.each
+    c.in_ok-ship.ensures.place c.index_mut.ensures.value in
     let v = after_ship l x.period in
     let fits : FitsRows (with_ship N x) self.lane_keys.keys (set self.lanes.items k v) = record {
       lane_keys = old.fits.lane_keys;

@@ -35,7 +35,8 @@ returns-clause-adds c =
     let fresh = any_source from c.args.pair _ _ c.requires.fits.lane_keys ∙ other in
     let keys = c.in_ok-insert.ensures.keys ∙ ap (λ b. if b then self.lane_keys.keys else self.lane_keys.keys ++ lane_of s ∷ []) fresh in
     let table = c.in_ok-add_source.ensures.table in
-    let fits = source_fit N c.add_source.new.self s self.lane_keys.keys c.insert.new.self.keys self.lanes.items c.push.new.self.items table keys c.insert.ensures.unique c.in_ok-push.ensures.items c.requires.fits c.requires.ships c.requires.room in
+    let fits = source_fit N c.add_source.new.self s self.lane_keys.keys c.insert.new.self.keys self.lanes.items c.push.new.self.items table keys
+    c.insert.ensures.unique c.in_ok-push.ensures.items c.requires.fits c.requires.ships c.requires.room in
     record {
       rows = c.in_ok-add_source.ensures.rows;
       knows = subst (λ (M : Table). Knows M self.known) (sym table) c.requires.knows;
@@ -44,7 +45,8 @@ returns-clause-adds c =
       bills = (refl, ap (λ (T : Table). T.bills) table);
       cums = (refl, ap (λ (T : Table). T.cums) table);
       resets = (refl, ap (λ (T : Table). T.resets) table);
-      lanes = λ h. subst (λ (ks : List LaneKey). AreLanes ks self.reset_keys.keys) (sym keys) (lanes_more self.lane_keys.keys self.reset_keys.keys (lane_of s) h);
+      lanes = λ h. subst (λ (ks : List LaneKey). AreLanes ks self.reset_keys.keys) (sym keys)
+          (lanes_more self.lane_keys.keys self.reset_keys.keys (lane_of s) h);
       pairs = ap (λ (T : Table). length T.pairs) table;
       sources = ap (λ (T : Table). length T.sources) table ∙ length_push N.sources s;
     }

@@ -28,14 +28,17 @@ module _ (N M : Table) (x : ℕ) (xs : List SpelledSource) (i : ℕ) (is : M ≡
   seen_at j = get_or-map source_view xs j nothing
 
   turn_known : knows_sources N (map source_view xs) ≡ true → has_plant M (get_or xs i nothing).plant.now ≡ true
-  turn_known known = subst (λ (s : SourceTerms). has_plant M s.plant ≡ true) (seen_at i) (sources_known N M x (map source_view xs) i (source_view nothing) is known among)
+  turn_known known = subst (λ (s : SourceTerms). has_plant M s.plant ≡ true) (seen_at i)
+      (sources_known N M x (map source_view xs) i (source_view nothing) is known among)
 
-  turn_fresh : IsNewPair N x → knows_sources N (map source_view xs) ≡ true → IsDistinct is_same_spelled_plant xs → is_taken_from M x (source_row M x (source_view (get_or xs i nothing))).plant.0 ≡ false
+  turn_fresh : IsNewPair N x → knows_sources N (map source_view xs) ≡ true → IsDistinct is_same_spelled_plant xs
+      → is_taken_from M x (source_row M x (source_view (get_or xs i nothing))).plant.0 ≡ false
   turn_fresh new known apart =
       subst (λ (s : SourceTerms). is_taken_from M x (source_row M x s).plant.0 ≡ false) (seen_at i)
       (sources_fresh N M x (map source_view xs) i (source_view nothing) is new known other among)
     where
-      other : (j : ℕ) → j < i → bytes_eq (get_or (map source_view xs) j (source_view nothing)).plant (get_or (map source_view xs) i (source_view nothing)).plant ≡ false
+      other : (j : ℕ) → j < i → bytes_eq (get_or (map source_view xs) j (source_view nothing)).plant (get_or (map source_view xs) i (source_view nothing)).plant
+          ≡ false
       other j before =
           ap (λ (s : SourceTerms). bytes_eq s.plant (get_or (map source_view xs) i (source_view nothing)).plant) (seen_at j)
           ∙ ap (λ (s : SourceTerms). bytes_eq (get_or xs j nothing).plant.now s.plant) (seen_at i)
@@ -43,15 +46,18 @@ module _ (N M : Table) (x : ℕ) (xs : List SpelledSource) (i : ℕ) (is : M ≡
 
   turn_more : (L : Table) → L ≡ with_source M (source_row M x (source_view (get_or xs i nothing))) → L ≡ with_sources N x (take (i + 1) (map source_view xs))
   turn_more L made =
-      sources_more N M x (map source_view xs) i (source_view nothing) is L (made ∙ ap (λ (s : SourceTerms). with_source M (source_row M x s)) (sym (seen_at i))) among
+      sources_more N M x (map source_view xs) i (source_view nothing) is L (made
+      ∙ ap (λ (s : SourceTerms). with_source M (source_row M x s)) (sym (seen_at i))) among
 
 pub add_source-requires-clause-known : goal.add_source-requires-clause-known
 add_source-requires-clause-known c =
-    turn_known c.args.self.now.lists c.loop-source.self.lists c.args.pair.0 c.args.sources.now c.loop-source.source-index c.loop-source.invariant.1 c.loop-source-test.true c.requires.known
+    turn_known c.args.self.now.lists c.loop-source.self.lists c.args.pair.0 c.args.sources.now c.loop-source.source-index c.loop-source.invariant.1
+    c.loop-source-test.true c.requires.known
 
 pub add_source-requires-clause-fresh : goal.add_source-requires-clause-fresh
 add_source-requires-clause-fresh c =
-    turn_fresh c.args.self.now.lists c.loop-source.self.lists c.args.pair.0 c.args.sources.now c.loop-source.source-index c.loop-source.invariant.1 c.loop-source-test.true c.requires.fresh c.requires.known c.requires.sources.apart
+    turn_fresh c.args.self.now.lists c.loop-source.self.lists c.args.pair.0 c.args.sources.now c.loop-source.source-index c.loop-source.invariant.1
+    c.loop-source-test.true c.requires.fresh c.requires.known c.requires.sources.apart
 
 pub loop-source-preserved : goal.loop-source-preserved
 loop-source-preserved c =
@@ -69,5 +75,6 @@ loop-source-preserved c =
         pairs = a.pairs ∙ p.pairs;
         sources = omega (arith, a.sources, p.sources);
       },
-      turn_more c.args.self.now.lists c.loop-source.self.lists c.args.pair.0 c.args.sources.now c.loop-source.source-index c.loop-source.invariant.1 c.loop-source-test.true c.add_source.new.self.lists c.in_ok-add_source.ensures.table,
+      turn_more c.args.self.now.lists c.loop-source.self.lists c.args.pair.0 c.args.sources.now c.loop-source.source-index c.loop-source.invariant.1
+          c.loop-source-test.true c.add_source.new.self.lists c.in_ok-add_source.ensures.table,
     )

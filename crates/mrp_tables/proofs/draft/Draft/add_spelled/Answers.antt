@@ -40,7 +40,8 @@ pub add_sources-requires-clause-pair : goal.add_sources-requires-clause-pair
 add_sources-requires-clause-pair c = rw (c.pairs.ensures.value, c.in_ok-add_pair.ensures.table) (simp length-append (omega arith))
 
 pub add_sources-requires-clause-room : goal.add_sources-requires-clause-room
-add_sources-requires-clause-room c = rw (c.in_ok-add_pair.ensures.table, c.in_ok-item.ensures.table) (simp length-append (omega (arith, c.requires.draft.holds.fits.sources)))
+add_sources-requires-clause-room c = rw (c.in_ok-add_pair.ensures.table, c.in_ok-item.ensures.table)
+    (simp length-append (omega (arith, c.requires.draft.holds.fits.sources)))
 
 pub add_sources-requires-clause-fits : goal.add_sources-requires-clause-fits
 add_sources-requires-clause-fits c = grind (arith, common_steps)
@@ -76,4 +77,5 @@ add_sources-requires-clause-known c = rw (c.named_sources.ensures.exact, c.in_ok
 pub add_sources-requires-clause-fresh : goal.add_sources-requires-clause-fresh
 add_sources-requires-clause-fresh c =
     let at = ap length c.pairs.ensures.value ∙ ap (λ (T : Table). length T.pairs) c.in_ok-item.ensures.table in
-    pair_new c.args.self.now.lists c.item_no.new.lists c.add_pair.new.lists _ _ _ c.in_ok-item.ensures.table c.in_ok-add_pair.ensures.table at c.requires.draft.holds.rows
+    pair_new c.args.self.now.lists c.item_no.new.lists c.add_pair.new.lists _ _ _ c.in_ok-item.ensures.table c.in_ok-add_pair.ensures.table at
+    c.requires.draft.holds.rows

@@ -18,7 +18,8 @@ returns-in_err-item-clause-exact c =
 
 -- what the look-up finds
 found : (c : After-get_index_of)
-    → position (same_pair.it (record { plant = c.in_ok-plant.plant; item = c.in_ok-item.item })) c.args.self.now.known.pairs.keys ≡ pair_named c.args.self.now.lists (option_map (λ p. p.0) c.args.plant) c.args.item.now
+    → position (same_pair.it (record { plant = c.in_ok-plant.plant; item = c.in_ok-item.item })) c.args.self.now.known.pairs.keys
+    ≡ pair_named c.args.self.now.lists (option_map (λ p. p.0) c.args.plant) c.args.item.now
 found c =
     let item = c.args.item.now in
     let keys = c.args.self.now.known.pairs.keys in

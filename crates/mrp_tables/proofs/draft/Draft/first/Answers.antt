@@ -23,14 +23,16 @@ pub returns-in_err-calendar-clause-exact : goal.returns-in_err-calendar-clause-e
 returns-in_err-calendar-clause-exact c =
     let k = c.in_ok-row_kind.field-0 in
     let row = fields_of c.args.row.now in
-    let bad = first-calendar row c.requires.text k _ (sym c.row_kind.ensures ∙ c.in_ok-row_kind.was) (run_kind k c.if-ne.ensures) c.in_err-calendar.ensures.exact in
+    let bad = first-calendar row c.requires.text k _ (sym c.row_kind.ensures ∙ c.in_ok-row_kind.was)
+    (run_kind k c.if-ne.ensures) c.in_err-calendar.ensures.exact in
     rw (handed_on c.from_residual-in_err-calendar.result _ c.from_residual-in_err-calendar.ensures.1) (unless_memory _ _ bad)
 
 pub returns-clause-exact : goal.returns-clause-exact
 returns-clause-exact c =
     let k = c.in_ok-row_kind.field-0 in
     let row = fields_of c.args.row.now in
-    let starts = first-calendar row c.requires.text k _ (sym c.row_kind.ensures ∙ c.in_ok-row_kind.was) (run_kind k c.if-ne.ensures) c.in_ok-calendar.ensures.exact in
+    let starts = first-calendar row c.requires.text k _ (sym c.row_kind.ensures ∙ c.in_ok-row_kind.was)
+    (run_kind k c.if-ne.ensures) c.in_ok-calendar.ensures.exact in
     (subst (λ (N : Table). Starts row (Ok N)) (sym c.new.ensures.table) starts, refl)
 
 pub returns-clause-draft : goal.returns-clause-draft

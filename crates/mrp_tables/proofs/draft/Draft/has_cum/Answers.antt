@@ -4,5 +4,6 @@ use Rattle.mrp_tables.proofs.draft.Draft.has_cum.Goals as goal
 
 pub returns-in-Some-Some : goal.returns-in-Some-Some
 returns-in-Some-Some c = record {
-  exact = rw (c.in-Some-Some.is-0, c.in-Some-Some.is-1) (c.contains.ensures ∙ any_cum c.in-Some-Some.from c.in-Some-Some.pair _ _ c.requires.draft.holds.cum_keys);
+  exact = rw (c.in-Some-Some.is-0, c.in-Some-Some.is-1) (c.contains.ensures
+      ∙ any_cum c.in-Some-Some.from c.in-Some-Some.pair _ _ c.requires.draft.holds.cum_keys);
 }

@@ -10,5 +10,6 @@ is_some_of (Some p) = refl
 
 pub returns : goal.returns
 returns c = record {
-  exact = c.is_some.ensures ∙ is_some_of c.find_plant.result ∙ ap (λ (o : Option ℕ). is_some o) c.find_plant.ensures.place ∙ is_some-position (bytes_eq c.args.name.now) c.args.self.now.lists.plants;
+  exact = c.is_some.ensures ∙ is_some_of c.find_plant.result ∙ ap (λ (o : Option ℕ). is_some o) c.find_plant.ensures.place
+      ∙ is_some-position (bytes_eq c.args.name.now) c.args.self.now.lists.plants;
 }

@@ -13,7 +13,8 @@ pub returns-in_err-lane-clause-exact : goal.returns-in_err-lane-clause-exact
 returns-in_err-lane-clause-exact c =
     let periods = c.horizon.ensures.value ∙ ap (λ (k : CalendarTerms). k.periods) c.calendar.ensures.value in
     rw (handed_on c.from_residual-in_err-lane.result _ c.from_residual-in_err-lane.ensures.1)
-    (reset_unknown c.args.self.now.lists (fields_of c.args.row.now) _ (lane_view c.in_ok-names.names, c.in_ok-names.period) c.lane_named-named.result _ c.in_ok-names.ensures.exact periods c.lane_named-named.ensures.exact
+    (reset_unknown c.args.self.now.lists (fields_of c.args.row.now) _
+    (lane_view c.in_ok-names.names, c.in_ok-names.period) c.lane_named-named.result _ c.in_ok-names.ensures.exact periods c.lane_named-named.ensures.exact
     c.if-has_reset.ensures.exact c.in_err-lane.ensures.exact)
 
 pub returns-in_err-names-clause-row : goal.returns-in_err-names-clause-row
@@ -82,4 +83,5 @@ returns-clause-row c =
 
 pub returns-clause-source : goal.returns-clause-source
 returns-clause-source c =
-    rw (placed c.args.self.now.lists c.lane_named-named.result c.in_ok-lane.lane c.lane_named-named.ensures.place c.in_ok-lane.ensures.from c.in_ok-lane.ensures.pair c.in_ok-lane.ensures.place) refl
+    rw (placed c.args.self.now.lists c.lane_named-named.result c.in_ok-lane.lane c.lane_named-named.ensures.place c.in_ok-lane.ensures.from
+    c.in_ok-lane.ensures.pair c.in_ok-lane.ensures.place) refl

@@ -15,7 +15,8 @@ pub returns-in_err-lane-clause-exact : goal.returns-in_err-lane-clause-exact
 returns-in_err-lane-clause-exact c =
     let periods = c.horizon.ensures.value ∙ ap (λ (k : CalendarTerms). k.periods) c.calendar.ensures.value in
     rw (handed_on c.from_residual-in_err-lane.result _ c.from_residual-in_err-lane.ensures.1)
-    (ship_unknown c.args.self.now.lists (fields_of c.args.row.now) _ (lane_view c.in_ok-names.names, c.in_ok-names.period, c.in_ok-names.quantity) c.lane_named.result _ c.in_ok-names.ensures.exact periods
+    (ship_unknown c.args.self.now.lists (fields_of c.args.row.now) _
+    (lane_view c.in_ok-names.names, c.in_ok-names.period, c.in_ok-names.quantity) c.lane_named.result _ c.in_ok-names.ensures.exact periods
     c.lane_named.ensures.exact c.in_err-lane.ensures.exact)
 
 pub returns-in_err-names-clause-row : goal.returns-in_err-names-clause-row
@@ -49,7 +50,8 @@ pub returns-then-ships-ge-MOST_OF_A_KIND-clause-exact : goal.returns-then-ships-
 returns-then-ships-ge-MOST_OF_A_KIND-clause-exact c =
     let periods = c.horizon.ensures.value ∙ ap (λ (k : CalendarTerms). k.periods) c.calendar.ensures.value in
     let many = subst (λ (xs : List ShipRow). MOST_OF_A_KIND ≤ length xs) c.ships.ensures.value c.if-ships-ge-MOST_OF_A_KIND.true in
-    ship_full c.args.self.now.lists (fields_of c.args.row.now) _ (lane_view c.in_ok-names.names, c.in_ok-names.period, c.in_ok-names.quantity) c.lane_named.result c.in_ok-lane.lane
+    ship_full c.args.self.now.lists (fields_of c.args.row.now) _
+    (lane_view c.in_ok-names.names, c.in_ok-names.period, c.in_ok-names.quantity) c.lane_named.result c.in_ok-lane.lane
     c.in_ok-names.ensures.exact periods c.lane_named.ensures.exact c.in_ok-lane.ensures.exact many
 
 pub returns-clause-exact : goal.returns-clause-exact
@@ -57,7 +59,8 @@ returns-clause-exact c =
     let periods = c.horizon.ensures.value ∙ ap (λ (k : CalendarTerms). k.periods) c.calendar.ensures.value in
     let room = subst (λ (xs : List ShipRow). length xs < MOST_OF_A_KIND) c.ships.ensures.value c.if-ships-ge-MOST_OF_A_KIND.false in
     rw c.of.ensures
-    (ship_known c.args.self.now.lists (fields_of c.args.row.now) _ (lane_view c.in_ok-names.names, c.in_ok-names.period, c.in_ok-names.quantity) c.lane_named.result c.in_ok-lane.lane
+    (ship_known c.args.self.now.lists (fields_of c.args.row.now) _
+    (lane_view c.in_ok-names.names, c.in_ok-names.period, c.in_ok-names.quantity) c.lane_named.result c.in_ok-lane.lane
     c.in_ok-names.ensures.exact periods c.lane_named.ensures.exact c.in_ok-lane.ensures.exact room)
 
 pub returns-clause-row : goal.returns-clause-row
@@ -73,4 +76,5 @@ returns-clause-row c =
     }
 
 pub returns-clause-place : goal.returns-clause-place
-returns-clause-place c = placed c.args.self.now.lists c.lane_named.result c.in_ok-lane.lane c.lane_named.ensures.place c.in_ok-lane.ensures.from c.in_ok-lane.ensures.pair c.in_ok-lane.ensures.place
+returns-clause-place c = placed c.args.self.now.lists c.lane_named.result c.in_ok-lane.lane c.lane_named.ensures.place c.in_ok-lane.ensures.from
+    c.in_ok-lane.ensures.pair c.in_ok-lane.ensures.place

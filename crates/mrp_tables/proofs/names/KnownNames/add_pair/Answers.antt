@@ -35,5 +35,11 @@ returns-clause-knows c =
     let fresh = new_key (goal.at.returns-clause-knows c).After-insert in
     let grown = c.in_ok-insert.ensures.keys ∙ ap (λ b. if b then keys else keys ++ (record { plant = row.plant; item = c.in-Some.item }) ∷ []) fresh
     ∙ ap (λ (k : NameKey). keys ++ (record { plant = row.plant; item = k }) ∷ []) (key_is name c.in-Some.item c.in-Some.ensures) in
-    pair_more c.args.lists.now c.add_pair.new.self c.args.self.now (record { plants = c.args.self.now.plants; items = c.args.self.now.items; pairs = c.insert.new.self }) row name c.requires.knows c.item_name.ensures.value
+    pair_more c.args.lists.now c.add_pair.new.self c.args.self.now
+    (record {
+      plants = c.args.self.now.plants;
+      items = c.args.self.now.items;
+      pairs =
+          c.insert.new.self;
+    }) row name c.requires.knows c.item_name.ensures.value
     c.in_ok-add_pair.ensures.table refl refl grown

@@ -11,7 +11,8 @@ use Rattle.mrp_tables.proofs.names.KnownNames.add_plant.Goals.{After-insert}
 new_key : (c : After-insert) → list_any (same_name.it c.in-Some.key) c.args.self.now.plants.keys ≡ false
 new_key c =
     let name = c.args.name.now in
-    any_by_key name c.args.lists.now.plants c.args.self.now.plants.keys c.in-Some.key c.requires.knows.plants c.requires.named (key_is name c.in-Some.key c.in-Some.ensures) ∙ c.requires.fresh
+    any_by_key name c.args.lists.now.plants c.args.self.now.plants.keys c.in-Some.key c.requires.knows.plants c.requires.named
+    (key_is name c.in-Some.key c.in-Some.ensures) ∙ c.requires.fresh
 
 pub unreachable-requires-then-not-branch : goal.unreachable-requires-then-not-branch
 unreachable-requires-then-not-branch c =
@@ -25,5 +26,11 @@ returns-clause-knows c =
     let fresh = new_key (goal.at.returns-clause-knows c).After-insert in
     let grown = c.in_ok-insert.ensures.keys ∙ ap (λ b. if b then keys else keys ++ c.in-Some.key ∷ []) fresh
     ∙ ap (λ (k : NameKey). keys ++ k ∷ []) (key_is name c.in-Some.key c.in-Some.ensures) in
-    plant_more c.args.lists.now c.add_plant.new.self c.args.self.now (record { plants = c.insert.new.self; items = c.args.self.now.items; pairs = c.args.self.now.pairs }) name c.requires.knows c.requires.named c.requires.fresh
+    plant_more c.args.lists.now c.add_plant.new.self c.args.self.now
+    (record {
+      plants = c.insert.new.self;
+      items = c.args.self.now.items;
+      pairs =
+          c.args.self.now.pairs;
+    }) name c.requires.knows c.requires.named c.requires.fresh
     c.in_ok-add_plant.ensures.table grown refl refl

@@ -13,7 +13,8 @@ is_new : (c : In_ok-place) → c.in_ok-place.is_new ≡ not (list_any (bytes_eq 
 is_new c =
     let name = c.args.name.now in
     c.in_ok-place.ensures.added
-    ∙ ap not (any_by_key name c.args.lists.now.items c.args.self.now.items.keys c.in-Some.key c.requires.knows.items c.requires.named (key_is name c.in-Some.key c.in-Some.ensures))
+    ∙ ap not (any_by_key name c.args.lists.now.items c.args.self.now.items.keys c.in-Some.key c.requires.knows.items c.requires.named
+    (key_is name c.in-Some.key c.in-Some.ensures))
 
 pub returns-then-not-is_new-clause-table : goal.returns-then-not-is_new-clause-table
 returns-then-not-is_new-clause-table c =
@@ -22,7 +23,8 @@ returns-then-not-is_new-clause-table c =
 pub returns-then-not-is_new-clause-place : goal.returns-then-not-is_new-clause-place
 returns-then-not-is_new-clause-place c =
     let name = c.args.name.now in
-    place_by_key name c.args.lists.now.items c.args.self.now.items.keys c.in-Some.key c.in_ok-place.place c.requires.knows.items c.requires.named (key_is name c.in-Some.key c.in-Some.ensures)
+    place_by_key name c.args.lists.now.items c.args.self.now.items.keys c.in-Some.key c.in_ok-place.place c.requires.knows.items c.requires.named
+    (key_is name c.in-Some.key c.in-Some.ensures)
     (turned _ _ false (is_new (goal.at.returns-then-not-is_new-clause-place c).In_ok-place) c.if-not-is_new.true) c.in_ok-place.ensures.index
 
 pub add_item-requires-clause-fresh : goal.add_item-requires-clause-fresh
@@ -35,18 +37,27 @@ returns-clause-knows c =
     let key = key_is name c.in-Some.key c.in-Some.ensures in
     let fresh = turned _ _ true (is_new (goal.at.returns-clause-knows c).In_ok-place) c.if-not-is_new.false in
     let grown = c.in_ok-place.ensures.keys
-    ∙ ap (λ b. if b then keys else keys ++ c.in-Some.key ∷ []) (any_by_key name c.args.lists.now.items keys c.in-Some.key c.requires.knows.items c.requires.named key ∙ fresh)
+    ∙ ap (λ b. if b then keys else keys ++ c.in-Some.key ∷ []) (any_by_key name c.args.lists.now.items keys c.in-Some.key c.requires.knows.items
+    c.requires.named key ∙ fresh)
     ∙ ap (λ (k : NameKey). keys ++ k ∷ []) key in
-    item_more c.args.lists.now c.add_item.new.self c.args.self.now (record { plants = c.args.self.now.plants; items = c.insert_full.new.self; pairs = c.args.self.now.pairs }) name c.requires.rows c.requires.knows c.requires.named fresh
+    item_more c.args.lists.now c.add_item.new.self c.args.self.now
+    (record {
+      plants = c.args.self.now.plants;
+      items = c.insert_full.new.self;
+      pairs =
+          c.args.self.now.pairs;
+    }) name c.requires.rows c.requires.knows c.requires.named fresh
     c.in_ok-add_item.ensures.table refl grown refl
 
 pub returns-clause-place : goal.returns-clause-place
 returns-clause-place c =
     let name = c.args.name.now in
     let fresh = turned _ _ true (is_new (goal.at.returns-clause-place c).In_ok-place) c.if-not-is_new.false in
-    place_of_last name c.args.lists.now.items c.args.self.now.items.keys c.in-Some.key c.in_ok-place.place c.requires.knows.items c.requires.named (key_is name c.in-Some.key c.in-Some.ensures) fresh
+    place_of_last name c.args.lists.now.items c.args.self.now.items.keys c.in-Some.key c.in_ok-place.place c.requires.knows.items c.requires.named
+    (key_is name c.in-Some.key c.in-Some.ensures) fresh
     c.in_ok-place.ensures.index
     ∙ ap (λ (N : Table). unwrap_or (position (bytes_eq name) N.items) 0) (sym c.in_ok-add_item.ensures.table)
 
 pub returns-clause-within : goal.returns-clause-within
-returns-clause-within c = within_names c.add_item.new.self.items c.insert_full.new.self.keys c.in_ok-place.place (returns-clause-knows c).items c.in_ok-place.ensures.within
+returns-clause-within c = within_names c.add_item.new.self.items c.insert_full.new.self.keys c.in_ok-place.place
+    (returns-clause-knows c).items c.in_ok-place.ensures.within

@@ -10,12 +10,14 @@ use Rattle.mrp_view.proofs.view.PlantView.of.Goals as goal
 pub returns : goal.returns
 returns c =
     let N = c.args.network.now in
-    rows_are N c.args.plant.0 c.horizon.result c.in_ok-pairs.pairs.items c.in_ok-edges.edges.items c.of.result.value.items c.of-2.result.value.items c.in_ok-incoming.incoming.items c.in_ok-outgoing.outgoing.items
+    rows_are N c.args.plant.0 c.horizon.result c.in_ok-pairs.pairs.items c.in_ok-edges.edges.items c.of.result.value.items c.of-2.result.value.items
+    c.in_ok-incoming.incoming.items c.in_ok-outgoing.outgoing.items
     c.horizon.ensures
     c.in_ok-pairs.ensures.value
     (c.in_ok-edges.ensures ∙ ap (flat_map (λ (p : PlantPair). edges_to N p.number.0)) c.as_slice.ensures.value)
     (ap (λ v. v.items) c.of.ensures ∙ c.in_ok-demands.ensures ∙ ap (flat_map (λ (p : PlantPair). row_of N (demand N p.number.0))) c.as_slice-2.ensures.value)
-    (ap (λ v. v.items) c.of-2.ensures ∙ c.in_ok-receipts.ensures ∙ ap (flat_map (λ (p : PlantPair). row_of N (received N p.number.0))) c.as_slice-3.ensures.value)
+    (ap (λ v. v.items) c.of-2.ensures ∙ c.in_ok-receipts.ensures
+    ∙ ap (flat_map (λ (p : PlantPair). row_of N (received N p.number.0))) c.as_slice-3.ensures.value)
     c.in_ok-incoming.ensures
     c.in_ok-outgoing.ensures
 

@@ -7,11 +7,13 @@ plan-requires-clause-own c = has_own c.args.self.now c.args.x c.requires.pair
 
 pub plan-requires-clause-within : goal.plan-requires-clause-within
 plan-requires-clause-within c =
-    plans_within c.args.self.now c.ready_pairs-ready.result.now (ready_numbers c.args.self.now) c.ready_pairs-ready.ensures.numbers c.ready_pairs-ready.ensures.exact c.args.x c.requires.pair
+    plans_within c.args.self.now c.ready_pairs-ready.result.now (ready_numbers c.args.self.now) c.ready_pairs-ready.ensures.numbers
+    c.ready_pairs-ready.ensures.exact c.args.x c.requires.pair
 
 pub returns-clause-can : goal.returns-clause-can
 returns-clause-can c =
-    planned_could c.args.self.now c.ready_pairs-ready.result.now (ready_numbers c.args.self.now) c.ready_pairs-ready.ensures.numbers c.ready_pairs-ready.ensures.exact c.args.x
+    planned_could c.args.self.now c.ready_pairs-ready.result.now
+    (ready_numbers c.args.self.now) c.ready_pairs-ready.ensures.numbers c.ready_pairs-ready.ensures.exact c.args.x
     c.plan.result c.plan.ensures.can
 
 pub returns-clause-planned : goal.returns-clause-planned
@@ -19,5 +21,6 @@ returns-clause-planned c = planned_shows c.args.self.now c.plan.new.self c.args.
 
 pub returns-clause-cannot : goal.returns-clause-cannot
 returns-clause-cannot c =
-    unplanned_could_not c.args.self.now c.ready_pairs-ready.result.now (ready_numbers c.args.self.now) c.ready_pairs-ready.ensures.numbers c.ready_pairs-ready.ensures.exact c.args.x
+    unplanned_could_not c.args.self.now c.ready_pairs-ready.result.now
+    (ready_numbers c.args.self.now) c.ready_pairs-ready.ensures.numbers c.ready_pairs-ready.ensures.exact c.args.x
     c.plan.result c.plan.ensures.can

@@ -20,7 +20,8 @@ returns-clause-leads g c _ = world.world_leads _ _ _ _ _ _ _ _ _ _ c.self.view_i
 
 pub returns-clause-step : goal.returns-clause-step
 returns-clause-step g c _ =
-    let some : 1 ≤ c.self.inside.left = world.some_left _ _ _ _ _ _ _ _ _ c.self.invariant (look.leads_if _ _ _ _ _ _ _ _ c.act_on-acted.ensures c.if-not-acted.false) in
+    let some : 1 ≤ c.self.inside.left = world.some_left _ _ _ _ _ _ _ _ _ c.self.invariant
+    (look.leads_if _ _ _ _ _ _ _ _ c.act_on-acted.ensures c.if-not-acted.false) in
     let is : c.self.inside.left ≡ c.args.self.now.left = ap (λ w. w.left) c.self.view_is in
     omega (arith, some, is)
 
@@ -58,4 +59,10 @@ pub invariant_of-self : goal.invariant_of-self
 invariant_of-self g c =
     let still = look.still_if _ _ _ _ _ _ _ _ c.act_on-acted.ensures c.if-not-acted.true in
     let w = c.self.inside in
-    subst (IsWorld g.P.Plant.shows) (λ j. record { network = w.network.now; capacity = w.capacity; plants = sym still.same_plants j; boxes = sym still.same_boxes j; left = w.left }) c.self.invariant
+    subst (IsWorld g.P.Plant.shows) (λ j. record {
+      network = w.network.now;
+      capacity = w.capacity;
+      plants = sym still.same_plants j;
+      boxes = sym still.same_boxes j;
+      left = w.left;
+    }) c.self.invariant

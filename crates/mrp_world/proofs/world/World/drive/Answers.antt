@@ -7,7 +7,8 @@ pub invariant_of-self : goal.invariant_of-self
 invariant_of-self g c = drive.world_driven _ _ _ _ _ _ _ _ c.self.invariant c.drive_on-self-inside.ensures.runs c.drive_on-self-inside.ensures.rests
 
 pub returns-clause-runs : goal.returns-clause-runs
-returns-clause-runs g c = drive.world_runs _ _ _ _ _ _ _ _ _ c.self.view_is c.self.invariant c.drive_on-self-inside.ensures.runs c.drive_on-self-inside.ensures.rests
+returns-clause-runs g c = drive.world_runs _ _ _ _ _ _ _ _ _ c.self.view_is c.self.invariant c.drive_on-self-inside.ensures.runs
+    c.drive_on-self-inside.ensures.rests
 
 pub returns-clause-finished : goal.returns-clause-finished
 returns-clause-finished g c s shown = world.none_left_is_finished _ _ s shown refl

@@ -9,11 +9,13 @@ drive_on-near-requires g c = let net = c.network-network.ensures in
 
 pub invariant_of-result : goal.invariant_of-result
 invariant_of-result g c = let net = c.network-network.ensures in
-    drive.new_is_driven _ _ _ _ _ _ _ _ c.requires.capacity.0 net.value net.sized c.in_ok-plants.ensures c.in_ok-boxes.ensures c.drive_on-near.ensures.runs c.drive_on-near.ensures.rests
+    drive.new_is_driven _ _ _ _ _ _ _ _ c.requires.capacity.0 net.value net.sized c.in_ok-plants.ensures c.in_ok-boxes.ensures c.drive_on-near.ensures.runs
+    c.drive_on-near.ensures.rests
 
 pub returns-clause-shows : goal.returns-clause-shows
 returns-clause-shows g c = let net = c.network-network.ensures in
-    let is = drive.new_is_driven _ _ _ _ _ _ _ _ c.requires.capacity.0 net.value net.sized c.in_ok-plants.ensures c.in_ok-boxes.ensures c.drive_on-near.ensures.runs c.drive_on-near.ensures.rests in
+    let is = drive.new_is_driven _ _ _ _ _ _ _ _ c.requires.capacity.0 net.value net.sized c.in_ok-plants.ensures c.in_ok-boxes.ensures
+    c.drive_on-near.ensures.runs c.drive_on-near.ensures.rests in
     (is.state, is.shown)
 
 pub returns-clause-finished : goal.returns-clause-finished

@@ -6,7 +6,10 @@ use Rattle.mrp_world.proofs.Worlds as world
 use Rattle.mrp_world.proofs.world.World.into_plan.Goals as goal
 
 pub plans_by_plant-requires : goal.plans_by_plant-requires
-plans_by_plant-requires g c = record { finished = world.finished_somewhere g.P.Plant.shows _ c.self.invariant (ap (λ w. w.left) c.self.view_is ∙ c.requires.finished) }
+plans_by_plant-requires g c = record {
+  finished = world.finished_somewhere g.P.Plant.shows _ c.self.invariant
+      (ap (λ w. w.left) c.self.view_is ∙ c.requires.finished);
+}
 
 pub gather-requires-2 : goal.gather-requires-2
 gather-requires-2 g c =

@@ -16,6 +16,7 @@ returns c =
     let is = ap (λ (row : PairRow). row.plant.0) (sym c.pair.ensures) in
     let some = hand.somewhere c.requires.alone.run in
     record {
-      alone = hand.planned_or_not c.args.network.now _ _ _ _ _ _ c.requires.pair (step.owner_known _ _ _ _ _ _ some c.requires.pair is) is c.requires.alone c.plan.ensures.can
+      alone = hand.planned_or_not c.args.network.now _ _ _ _ _ _ c.requires.pair
+          (step.owner_known _ _ _ _ _ _ some c.requires.pair is) is c.requires.alone c.plan.ensures.can
           c.plan.ensures.planned c.plan.ensures.unchanged;
     }
