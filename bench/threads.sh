@@ -6,7 +6,7 @@
 #   bench/threads.sh table                prints the table of a firm whose planning is much of the work
 #
 # With no TABLE it measures that firm and the one of bench/firm.sh, whose 64 plants all take from each other.
-# It needs awk and GNU time.
+# It needs awk and GNU time. MRP may name the program; else it is bin/mrp's.
 set -eu
 top=$(CDPATH='' cd -- "$(dirname -- "$0")/.." && pwd)
 
@@ -60,16 +60,17 @@ least_and_middle() {
     sort -n -k "$2,$2" "$1" | awk -v column="$2" '{ v[NR] = $column } END { printf "%s %s", v[1], v[int((NR + 1) / 2)] }'
 }
 
-"$top/bin/mrp" --help >/dev/null
+program=${MRP:-$top/bin/mrp}
+"$program" --help >/dev/null
 echo "table words wall_least wall_middle processor_least processor_middle peak_kib"
 for table; do
-    "$top/bin/mrp" plan --single <"$table" >"$folder/single.csv"
+    "$program" plan --single <"$table" >"$folder/single.csv"
     run=0
     while [ "$run" -lt "$runs" ]; do
         for words in --single '--workers 1' '--workers 4' '--capacity 1' '--capacity 65536'; do
             # (the words are several)
             # shellcheck disable=SC2086
-            command time -f '%e %U %S %M' -o "$folder/time" "$top/bin/mrp" plan $words <"$table" >"$folder/report.csv"
+            command time -f '%e %U %S %M' -o "$folder/time" "$program" plan $words <"$table" >"$folder/report.csv"
             cmp -s "$folder/single.csv" "$folder/report.csv" || {
                 echo "bench/threads.sh: another report with $words" >&2
                 exit 1
