@@ -1,7 +1,7 @@
 -- With which status the program ends, and what it reports, where the words are refused or ask for help or the version.
 use Rattle.std.specs.Prelude.{ℕ, Option, Some, None, Result, Ok, Err}
-use Rattle.mrp_words.specs.declared.meaning.Meaning.{Meaning}
-use Rattle.mrp_words.specs.declared.meaning.Meaning.TheVariants as means
+use Rattle.mrp_arguments.specs.declared.meaning.Meaning.{Meaning}
+use Rattle.mrp_arguments.specs.declared.meaning.Meaning.TheVariants as means
 use Rattle.mrp_sheet.specs.declared.fault.ReportFault.{ReportFault}
 use Rattle.mrp_sheet.specs.declared.fault.ReportFault.TheVariants as report
 use Rattle.mrp_text.specs.declared.fault.TextFault.{TextFault}

@@ -8,9 +8,9 @@ ghost use Rattle.std.specs.Process.{exit_status};
 ghost use Rattle.mrp_text.specs.Ending.{Reports};
 ghost use Rattle.mrp.specs.Ending.{refusal_fault, refusal_printed, refusal_status};
 
+use mrp_arguments::{ChooseFault, Meaning, choose, means, named_words};
 use mrp_report::{ReportFault, send};
 use mrp_text::{Ending, REFUSED, TextFault, after_help, answer, ended, unread};
-use mrp_words::{ChooseFault, Meaning, choose, means, named_words};
 use std::env::FillError;
 use std::io::{IsTerminal, Stderr, Write};
 use std::process::ExitCode;

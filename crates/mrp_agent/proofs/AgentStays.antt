@@ -22,7 +22,7 @@ use Rattle.mrp_book.specs.Figures as book
 use Rattle.mrp_events.specs.State.{State}
 use Rattle.mrp_record.specs.Cursor.{Goods}
 use Rattle.mrp_record.specs.Shows.{ShowsSent}
-use Rattle.mrp_ready.specs.Counts.{Awaited, AreCounts, open_blocks}
+use Rattle.mrp_agent.specs.Counts.{Awaited, AreCounts, open_blocks}
 use Rattle.mrp_events.proofs.Seeing.{pairs_are_at}
 use Rattle.mrp_events.specs.Goods.{goods_by, goods_of, schedule_goods, IsSendable}
 use Rattle.mrp_events.specs.LocalPlans.{amount_at, asked_within, booked_on, is_of_kind, lanes_in, local_gross, local_incoming}

@@ -12,7 +12,7 @@ use Rattle.mrp_book.specs.declared.fault.BookFault.{BookFault}
 use Rattle.mrp_book.specs.Faults.{first_fault}
 use Rattle.mrp_book.specs.Figures as book
 use Rattle.mrp_book.specs.Figures.{Figures, figures}
-use Rattle.mrp_ready.specs.Progress.{Progress}
+use Rattle.mrp_agent.specs.Progress.{Progress}
 use Rattle.mrp_events.specs.State.{changed}
 use Rattle.mrp_agent.specs.State.{AgentState, book_at, incoming_at, incoming_place, no_book, no_incoming}
 use Rattle.mrp_agent.specs.After.{after_booked, came_by, called_after, ended_place, items_of, BlockEnded, IsAwaited}

@@ -26,8 +26,8 @@ use Rattle.mrp_book.specs.Figures as book
 use Rattle.mrp_book.specs.Figures.{Figures}
 use Rattle.mrp_record.specs.Cursor.{Goods}
 use Rattle.mrp_record.proofs.Queues.{looks_at_queued}
-use Rattle.mrp_ready.specs.Counts.{open_blocks}
-use Rattle.mrp_ready.specs.Progress.{Progress, is_planned}
+use Rattle.mrp_agent.specs.Counts.{open_blocks}
+use Rattle.mrp_agent.specs.Progress.{Progress, is_planned}
 use Rattle.mrp_events.specs.Goods.{goods_by, goods_of, called_for, by_period_from, IsSendable}
 use Rattle.mrp_events.specs.LocalPlans.{amount_at, asked_within, booked_on, is_of_kind, lanes_in, local_gross, local_incoming, local_plan, local_row}
 use Rattle.mrp_events.specs.LocalPlans.{AwaitsNothing, Carries, IsLocal, IsPlannedLocally}

@@ -15,9 +15,9 @@ use Rattle.mrp_record.specs.declared.record.Record.{Record}
 use Rattle.mrp_record.specs.declared.record.Record.TheVariants.{Line, ItemEnd, Reset, Close}
 use Rattle.mrp_record.specs.Entries.{LineOf, EndOf, ResetOf, content, contents, is_ended}
 use Rattle.mrp_record.specs.Form.{EntryFits}
-use Rattle.mrp_ready.specs.declared.join.Join.{Join}
-use Rattle.mrp_ready.specs.Counts.{Awaited, AreCounts, IsOneEnded, open_blocks}
-use Rattle.mrp_ready.specs.Progress.{Progress}
+use Rattle.mrp_agent.specs.declared.join.Join.{Join}
+use Rattle.mrp_agent.specs.Counts.{Awaited, AreCounts, IsOneEnded, open_blocks}
+use Rattle.mrp_agent.specs.Progress.{Progress}
 use Rattle.mrp_agent.specs.State.{incoming_at, pair_place, no_incoming}
 use Rattle.mrp_agent.specs.After.{items_of, place_of, ended_place, Falls, IsAwaited}
 use Rattle.mrp_agent.specs.Shows.{form_of, awaited, awaited_on, block_awaited}

@@ -9,7 +9,7 @@ use Rattle.std.proofs.lemmas.List.Sums.{sum_by-cons, get_or-le-sum_by}
 use Rattle.mrp_rows.specs.declared.numbers.ItemNo.{ItemNo}
 use Rattle.mrp_rows.specs.contracts.numbers.ItemNoPartialEq.TheImpl.{eq-value}
 use Rattle.mrp_rows.proofs.Keys.{same_test}
-use Rattle.mrp_spell.proofs.Mapped.{list_any_keys}
+use Rattle.mrp_rows.proofs.Mapped.{list_any_keys}
 use Rattle.mrp_view.specs.declared.view.IncomingItem.{IncomingItem}
 use Rattle.mrp_view.proofs.Once.{one, none}
 use Rattle.mrp_book.specs.Figures.{is_same_book_item}

@@ -13,11 +13,11 @@ use Rattle.mrp_view.specs.declared.view.OutgoingLane.{OutgoingLane}
 use Rattle.mrp_view.specs.declared.view.PlantEdge.{PlantEdge}
 use Rattle.mrp_view.specs.Seen.{IsPlantEdge}
 use Rattle.mrp_record.specs.Cursor.{OutFigures}
-use Rattle.mrp_group.proofs.Sorting.{IsGrouped-within}
-use Rattle.mrp_ready.specs.declared.join.Join.{Join}
-use Rattle.mrp_ready.specs.Counts.{components_of, open_blocks}
-use Rattle.mrp_ready.specs.Progress.{IsFree, Progress, times}
-use Rattle.mrp_ready.proofs.Counting.{components_wait}
+use Rattle.mrp_rows.proofs.Sorting.{IsGrouped-within}
+use Rattle.mrp_agent.specs.declared.join.Join.{Join}
+use Rattle.mrp_agent.specs.Counts.{components_of, open_blocks}
+use Rattle.mrp_agent.specs.Progress.{IsFree, Progress, times}
+use Rattle.mrp_agent.proofs.Counting.{components_wait}
 use Rattle.mrp_agent.specs.declared.queues.QueuePlace.{QueuePlace}
 use Rattle.mrp_agent.specs.After.{AreOutsSettled, PairSettled, items_of, place_of, queued_at, queued_by}
 use Rattle.mrp_agent.specs.Kept.{Indexes, IsKept}

@@ -19,11 +19,11 @@ use Rattle.mrp_view.specs.Seen.{IsView, IsOwnPair, IsIncomingItem}
 use Rattle.mrp_view.specs.View.{PlantRows}
 use Rattle.mrp_record.specs.declared.record.Record.{Record}
 use Rattle.mrp_record.specs.Entries.{contents, is_ended}
-use Rattle.mrp_ready.specs.declared.join.Join.{Join}
-use Rattle.mrp_ready.specs.Counts.{Awaited}
-use Rattle.mrp_ready.specs.Laws.{NothingIsOpen}
-use Rattle.mrp_ready.specs.Progress.{IsListed, is_planned}
-use Rattle.mrp_ready.proofs.Counting.{ready_where_nothing_is_open}
+use Rattle.mrp_agent.specs.declared.join.Join.{Join}
+use Rattle.mrp_agent.specs.Counts.{Awaited}
+use Rattle.mrp_agent.specs.ReadinessLaws.{NothingIsOpen}
+use Rattle.mrp_agent.specs.Progress.{IsListed, is_planned}
+use Rattle.mrp_agent.proofs.Counting.{ready_where_nothing_is_open}
 use Rattle.mrp_events.specs.State.{changed}
 use Rattle.mrp_events.specs.LocalPlans.{amount_at, asked_within, booked_on, local_incoming, local_gross, local_plan, local_row, AwaitsNothing, Carries, HasCome}
 use Rattle.mrp_agent.specs.Drafts.{CanDraft, drafted}

@@ -27,9 +27,9 @@ use Rattle.mrp_book.specs.Figures.{Figures}
 use Rattle.mrp_book.proofs.Opening.{empty_in_form, items_once}
 use Rattle.mrp_record.specs.Cursor.{OutFigures}
 use Rattle.mrp_record.proofs.Lists.{range_below, range_has}
-use Rattle.mrp_ready.specs.declared.join.Join.{Join}
-use Rattle.mrp_ready.specs.Counts.{Awaited, AreCounts, open_blocks}
-use Rattle.mrp_ready.specs.Progress.{Progress, is_planned, times}
+use Rattle.mrp_agent.specs.declared.join.Join.{Join}
+use Rattle.mrp_agent.specs.Counts.{Awaited, AreCounts, open_blocks}
+use Rattle.mrp_agent.specs.Progress.{Progress, is_planned, times}
 use Rattle.mrp_events.specs.Goods.{goods_of, IsSendable}
 use Rattle.mrp_events.specs.LocalPlans.{amount_at, booked_on, lanes_in}
 use Rattle.mrp_agent.specs.State.{AgentState, incoming_at, outgoing_at, book_at, out_at, no_book, no_incoming, pair_place, plans_of}

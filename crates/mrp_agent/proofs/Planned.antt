@@ -3,7 +3,7 @@ use Rattle.std.proofs.Common.{◌≡◌, ℕ, ◌+◌, ◌<◌, Bool, true, List
 use Rattle.std.specs.List.{Contains}
 use Rattle.mrp_rows.specs.declared.numbers.PairNo.{PairNo}
 use Rattle.mrp_record.specs.declared.record.Record.{Record}
-use Rattle.mrp_ready.specs.Progress.{IsListed, left_of}
+use Rattle.mrp_agent.specs.Progress.{IsListed, left_of}
 use Rattle.mrp_events.specs.State.{changed}
 use Rattle.mrp_agent.specs.Drafts.{CanDraft, drafted, ready_numbers}
 use Rattle.mrp_agent.specs.Kept.{Indexes}

@@ -26,7 +26,7 @@ use Rattle.mrp_book.specs.Figures as book
 use Rattle.mrp_book.specs.Figures.{Figures}
 use Rattle.mrp_record.specs.Cursor.{OutFigures}
 use Rattle.mrp_record.proofs.Texts.{closed_is_shown}
-use Rattle.mrp_ready.specs.Progress.{is_planned, left_of}
+use Rattle.mrp_agent.specs.Progress.{is_planned, left_of}
 use Rattle.mrp_events.specs.Goods.{goods_of}
 use Rattle.mrp_agent.specs.State.{AgentState, incoming_at, outgoing_at, book_at, out_at, no_book, no_incoming, no_out, no_outgoing, no_plant_pair, pair_place}
 use Rattle.mrp_agent.specs.State.{plans_of, incoming_place}

@@ -7,9 +7,9 @@ use Rattle.std.proofs.lemmas.List.Sums.{passes_at_first}
 use Rattle.mrp_rows.specs.declared.numbers.PairNo.{PairNo}
 use Rattle.mrp_view.specs.declared.view.PlantPair.{PlantPair}
 use Rattle.mrp_view.specs.Seen.{IsView, IsOwnPair}
-use Rattle.mrp_ready.specs.Chosen.{number_at}
-use Rattle.mrp_ready.specs.declared.join.Join.{Join}
-use Rattle.mrp_ready.specs.Progress.{IsListed, Progress}
+use Rattle.mrp_agent.specs.Chosen.{number_at}
+use Rattle.mrp_agent.specs.declared.join.Join.{Join}
+use Rattle.mrp_agent.specs.Progress.{IsListed, Progress}
 use Rattle.mrp_agent.specs.After.{PairSettled}
 use Rattle.mrp_agent.specs.Drafts.{ready_numbers}
 use Rattle.mrp_agent.specs.Kept.{HasRooms}

@@ -15,7 +15,7 @@ use Rattle.mrp_view.specs.Seen.{IsOwnPair}
 use Rattle.mrp_view.specs.View.{PlantRows}
 use Rattle.mrp_record.specs.declared.record.Record.{Record}
 use Rattle.mrp_record.specs.Cursor.{OutFigures}
-use Rattle.mrp_ready.specs.Progress.{Progress, is_planned}
+use Rattle.mrp_agent.specs.Progress.{Progress, is_planned}
 use Rattle.mrp_events.specs.State.{changed}
 use Rattle.mrp_events.specs.LocalPlans.{amount_at, booked_on, local_incoming, local_gross, local_plan, local_row}
 use Rattle.mrp_agent.specs.State.{AgentState, pair_place, plans_of, no_plan}

@@ -10,8 +10,8 @@ use Rattle.mrp_view.specs.Seen.{IsOwnPair}
 use Rattle.mrp_record.specs.declared.record.Record.{Record}
 use Rattle.mrp_record.specs.Cursor.{OutFigures}
 use Rattle.mrp_record.specs.Shows.{ShowsSent}
-use Rattle.mrp_ready.specs.Progress.{IsListed, Progress}
-use Rattle.mrp_ready.specs.Counts.{open_blocks}
+use Rattle.mrp_agent.specs.Progress.{IsListed, Progress}
+use Rattle.mrp_agent.specs.Counts.{open_blocks}
 use Rattle.mrp_events.specs.State.{changed}
 use Rattle.mrp_events.specs.Goods.{goods_of, IsSendable}
 use Rattle.mrp_events.specs.LocalPlans.{AwaitsNothing, IsPlannedLocally, IsLocal}

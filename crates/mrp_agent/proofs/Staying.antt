@@ -10,9 +10,9 @@ use Rattle.mrp_net.proofs.Members.{In, In-from_contains, In-map, All-in}
 use Rattle.mrp_view.specs.declared.view.PlantEdge.{PlantEdge}
 use Rattle.mrp_view.specs.View.{PlantRows}
 use Rattle.mrp_record.specs.Cursor.{OutFigures}
-use Rattle.mrp_ready.specs.declared.join.Join.{Join}
-use Rattle.mrp_ready.specs.Progress.{IsListed, Progress, is_planned}
-use Rattle.mrp_ready.proofs.Counting.{ready_where_nothing_is_open}
+use Rattle.mrp_agent.specs.declared.join.Join.{Join}
+use Rattle.mrp_agent.specs.Progress.{IsListed, Progress, is_planned}
+use Rattle.mrp_agent.proofs.Counting.{ready_where_nothing_is_open}
 use Rattle.mrp_events.specs.LocalPlans.{amount_at, asked_within}
 use Rattle.mrp_agent.specs.After.{after_settled}
 use Rattle.mrp_agent.specs.Drafts.{CanDraft, drafted, drafted_gross, drafted_incoming, ready_numbers}

@@ -16,12 +16,12 @@ use Rattle.mrp_view.specs.View.{PlantRows}
 use Rattle.mrp_view.proofs.Seeing.{All-flat_map}
 use Rattle.mrp_record.specs.declared.record.Record.{Record}
 use Rattle.mrp_record.specs.Entries.{contents, is_ended}
-use Rattle.mrp_ready.specs.declared.join.Join.{Join}
-use Rattle.mrp_ready.specs.Chosen.{AreApart, number_at}
-use Rattle.mrp_ready.specs.Counts.{Awaited}
-use Rattle.mrp_ready.specs.Laws.{NothingIsOpen}
-use Rattle.mrp_ready.specs.Progress.{is_planned, IsListed}
-use Rattle.mrp_ready.proofs.Counting.{ready_where_nothing_is_open}
+use Rattle.mrp_agent.specs.declared.join.Join.{Join}
+use Rattle.mrp_agent.specs.Chosen.{AreApart, number_at}
+use Rattle.mrp_agent.specs.Counts.{Awaited}
+use Rattle.mrp_agent.specs.ReadinessLaws.{NothingIsOpen}
+use Rattle.mrp_agent.specs.Progress.{is_planned, IsListed}
+use Rattle.mrp_agent.proofs.Counting.{ready_where_nothing_is_open}
 use Rattle.mrp_events.specs.LocalPlans.{CanBePlanned, Carries, HasCome}
 use Rattle.mrp_agent.specs.State.{AgentState, pair_owned, pair_place, item_place, no_plant_pair}
 use Rattle.mrp_agent.specs.Drafts.{ready_numbers}

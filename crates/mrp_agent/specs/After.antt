@@ -13,9 +13,9 @@ use Rattle.mrp_book.specs.Figures.{Figures}
 use Rattle.mrp_record.specs.declared.remainder.Remainder.{Remainder}
 use Rattle.mrp_record.specs.Cursor.{OutFigures}
 use Rattle.mrp_record.specs.Next.{stepped, queued}
-use Rattle.mrp_ready.specs.declared.join.Join.{Join}
-use Rattle.mrp_ready.specs.Counts.{AreCounts, IsOneEnded}
-use Rattle.mrp_ready.specs.Progress.{Progress, left_of}
+use Rattle.mrp_agent.specs.declared.join.Join.{Join}
+use Rattle.mrp_agent.specs.Counts.{AreCounts, IsOneEnded}
+use Rattle.mrp_agent.specs.Progress.{Progress, left_of}
 use Rattle.mrp_agent.specs.State.{AgentState, incoming_at, out_at, no_out, no_outgoing}
 use Rattle.mrp_agent.specs.Sending.{left_at}
 use Rattle.mrp_agent.specs.Shows.{up_to_last}

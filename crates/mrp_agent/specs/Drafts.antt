@@ -4,7 +4,7 @@ use Rattle.mrp_lot.specs.One.{PlanRows, one}
 use Rattle.mrp_lot.specs.Bound.{IsWithin}
 use Rattle.mrp_rows.specs.declared.numbers.PairNo.{PairNo}
 use Rattle.mrp_view.specs.Seen.{IsOwnPair}
-use Rattle.mrp_ready.specs.Chosen.{number_at}
+use Rattle.mrp_agent.specs.Chosen.{number_at}
 use Rattle.mrp_events.specs.LocalPlans.{amount_at, asked_within, local_row}
 use Rattle.mrp_agent.specs.State.{AgentState, plans_of, pair_owned}
 

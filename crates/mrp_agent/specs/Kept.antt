@@ -3,7 +3,7 @@ use Rattle.std.specs.Prelude.{◌≡◌, ℕ, ◌*◌, ◌<◌, ◌≤◌, List,
 use Rattle.std.specs.List.{range_with_len}
 use Rattle.mrp_lot.specs.One.{PlanRows}
 use Rattle.mrp_rows.specs.declared.numbers.ItemNo.{ItemNo}
-use Rattle.mrp_group.specs.Starts.{IsGrouped}
+use Rattle.mrp_rows.specs.Starts.{IsGrouped}
 use Rattle.mrp_view.specs.declared.view.IncomingLane.{IncomingLane}
 use Rattle.mrp_view.specs.declared.view.PlantEdge.{PlantEdge}
 use Rattle.mrp_view.specs.Seen.{IsView}
@@ -14,8 +14,8 @@ use Rattle.mrp_record.specs.Form.{LaneForm}
 use Rattle.mrp_book.specs.Figures as book
 use Rattle.mrp_book.specs.Figures.{Figures}
 use Rattle.mrp_record.specs.Cursor.{OutFigures}
-use Rattle.mrp_ready.specs.Counts.{components_of}
-use Rattle.mrp_ready.specs.Progress.{Progress}
+use Rattle.mrp_agent.specs.Counts.{components_of}
+use Rattle.mrp_agent.specs.Progress.{Progress}
 use Rattle.mrp_agent.specs.declared.edges.ParentEdge.{ParentEdge}
 use Rattle.mrp_agent.specs.declared.queues.QueuePlace.{QueuePlace}
 use Rattle.mrp_agent.specs.After.{items_of}

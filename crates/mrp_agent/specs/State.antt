@@ -13,7 +13,7 @@ use Rattle.mrp_view.specs.declared.view.PlantPair.{PlantPair}
 use Rattle.mrp_view.specs.View.{PlantRows}
 use Rattle.mrp_book.specs.Figures.{Figures}
 use Rattle.mrp_record.specs.Cursor.{OutFigures}
-use Rattle.mrp_ready.specs.Progress.{Progress}
+use Rattle.mrp_agent.specs.Progress.{Progress}
 
 -- What it sees; the book of each lane that comes in; by pair and period what comes in and what is asked for
 -- beside the parents, as far as it has come; the plan of each pair; which pairs are planned or can be; and

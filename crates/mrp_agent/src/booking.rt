@@ -5,11 +5,10 @@ ghost use Rattle.std.specs.List.{position_or_len};
 ghost use Rattle.mrp_agent.specs.After.{came_by, called_after, items_of, with_line, added_at, ended_place, BlockEnded};
 ghost use Rattle.mrp_agent.specs.After.{IsAwaited};
 
-use crate::Agent;
 use crate::places::ItemPlaces;
+use crate::{Agent, Readiness};
 use mrp_book::BookFault;
 use mrp_net::{LaneKind, LaneNo};
-use mrp_ready::Readiness;
 use mrp_record::Record;
 use mrp_view::{IncomingLane, PlantFrame};
 

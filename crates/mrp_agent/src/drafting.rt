@@ -3,7 +3,7 @@
 ghost use Rattle.std.specs.Prelude.{◌≡◌, ◌<◌, ◌≤◌, ◌+◌, ◌*◌, ℕ, All, length, map, slice_index};
 ghost use Rattle.mrp_qty.specs.declared.quantity.TheConstants.{MOST};
 ghost use Rattle.mrp_lot.specs.One.{one};
-ghost use Rattle.mrp_group.specs.Starts.{IsGrouped};
+ghost use Rattle.mrp_rows.specs.Starts.{IsGrouped};
 ghost use Rattle.mrp_agent.specs.Asking.{ParentCanAsk, HasDraft, asked_by, asked_on, grossed};
 ghost use Rattle.mrp_agent.specs.Kept.{parent_edge};
 ghost use Rattle.mrp_agent.specs.Rows.{edges_at, part_at};
@@ -11,11 +11,11 @@ ghost use Rattle.mrp_agent.specs.State.{plant_pair_at};
 
 use crate::Agent;
 use crate::edges::ParentEdge;
-use mrp_group::Groups;
 use mrp_lot::PairParams;
 use mrp_net::PairNo;
 use mrp_netting::{PairPlan, plan_pair};
 use mrp_qty::Row;
+use mrp_rows::Groups;
 use mrp_view::PlantFrame;
 
 /// What the plan of a pair is drafted from, beside the plans of its parents: what it is planned by, what

@@ -7,9 +7,9 @@ ghost use Rattle.mrp_agent.specs.State.{pair_place};
 ghost use Rattle.mrp_qty.specs.declared.limits.TheConstants.{MOST_PAIRS};
 ghost use Rattle.mrp_view.specs.Seen.{IsOwnPair, IsPlantEdge};
 
-use mrp_group::KeyOf;
+use crate::Join;
 use mrp_net::PairNo;
-use mrp_ready::Join;
+use mrp_rows::KeyOf;
 use mrp_view::{PlantEdge, PlantFrame};
 use std::alloc::{AllocError, Global};
 

@@ -2,7 +2,7 @@
 
 ghost use Rattle.std.specs.Prelude.{◌≡◌, IfOk, length, map, replicate};
 ghost use Rattle.std.specs.List.{range_with_len};
-ghost use Rattle.mrp_ready.specs.Counts.{components_of};
+ghost use Rattle.mrp_agent.specs.Counts.{components_of};
 ghost use Rattle.mrp_view.specs.Seen.{IsView};
 ghost use Rattle.mrp_agent.specs.Kept.{parent_edge};
 ghost use Rattle.mrp_agent.specs.Making.{IsFirstProgress};
@@ -13,12 +13,12 @@ use crate::making::{are_fit, first_progress, idle_outs, new_books};
 use crate::places::ItemPlaces;
 use crate::queues::{QueuePlace, queues};
 use crate::room::Room;
+use crate::{Components, Join, Readiness};
 use mrp_book::Book;
-use mrp_group::{Groups, group};
 use mrp_netting::{PairPlan, blank_plans};
 use mrp_qty::Memory;
-use mrp_ready::{Components, Join, Readiness};
 use mrp_record::OutCursor;
+use mrp_rows::{Groups, group};
 use mrp_view::PlantFrame;
 use std::alloc::Global;
 
@@ -32,7 +32,7 @@ pub(crate) struct Structure {
 }
 
 impl Structure {
-    ghost use Rattle.mrp_group.specs.Starts.{IsGrouped};
+    ghost use Rattle.mrp_rows.specs.Starts.{IsGrouped};
 
     /// The pairs of a plant where nothing is planned and nothing has come.
     pub(crate) fn new(alloc: Global, view: &PlantFrame) -> Result<Structure, Memory>
@@ -120,7 +120,7 @@ pub(crate) struct Lanes {
 }
 
 impl Lanes {
-    ghost use Rattle.mrp_group.specs.Starts.{IsGrouped};
+    ghost use Rattle.mrp_rows.specs.Starts.{IsGrouped};
     ghost use Rattle.mrp_agent.specs.After.{items_of};
     ghost use Rattle.mrp_agent.specs.Kept.{HasSmallOpenings};
     ghost use Rattle.mrp_agent.specs.Making.{AreIdleOuts, new_figures};

@@ -2,8 +2,7 @@
 
 ghost use Rattle.std.specs.Prelude.{◌≡◌, IfOk, map};
 
-use mrp_group::Places;
-use mrp_rows::ItemNo;
+use mrp_rows::{ItemNo, Places};
 use mrp_view::PlantPair;
 use std::alloc::{AllocError, Global};
 use std::marker::Model;

@@ -11,7 +11,7 @@ impl Agent {
     ghost use Rattle.mrp_lot.specs.Bound.{IsWithin};
     ghost use Rattle.mrp_rows.specs.declared.numbers.PairNo.{PairNo};
     ghost use Rattle.mrp_record.specs.declared.record.Record.{Record};
-    ghost use Rattle.mrp_ready.specs.Progress.{IsFree, left_of};
+    ghost use Rattle.mrp_agent.specs.Progress.{IsFree, left_of};
     ghost use Rattle.mrp_view.specs.Seen.{IsOwnPair};
     ghost use Rattle.mrp_events.specs.State.{changed};
     ghost use Rattle.mrp_agent.specs.State.{pair_owned, pair_place, plans_of};

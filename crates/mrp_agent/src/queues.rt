@@ -2,11 +2,11 @@
 
 ghost use Rattle.std.specs.Prelude.{◌≡◌, ◌++◌, ◌^◌, ◌<◌, IfOk, length};
 ghost use Rattle.mrp_agent.specs.Queues.{item_queues, lane_queues, queue_place, queue_places};
-ghost use Rattle.mrp_group.specs.Starts.{IsGrouped};
+ghost use Rattle.mrp_rows.specs.Starts.{IsGrouped};
 
 use crate::places::ItemPlaces;
-use mrp_group::{Groups, KeyOf, group};
 use mrp_net::LaneKind;
+use mrp_rows::{Groups, KeyOf, group};
 use mrp_view::{OutgoingItems, OutgoingLane};
 use std::alloc::{AllocError, Global};
 

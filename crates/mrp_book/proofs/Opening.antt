@@ -9,7 +9,7 @@ use Rattle.std.proofs.lemmas.List.{take_all}
 use Rattle.mrp_qty.specs.declared.quantity.TheConstants.{MOST}
 use Rattle.mrp_rows.specs.declared.numbers.ItemNo.{ItemNo}
 use Rattle.mrp_rows.specs.contracts.numbers.ItemNoPartialEq.TheImpl.{eq-value}
-use Rattle.mrp_spell.proofs.Mapped.{list_any_keys}
+use Rattle.mrp_rows.proofs.Mapped.{list_any_keys}
 use Rattle.mrp_rows.proofs.Keys.{same_test}
 use Rattle.mrp_record.specs.Form.{FormItem, LaneForm, IsInForm}
 use Rattle.mrp_record.proofs.Fronts.{nothing_after}

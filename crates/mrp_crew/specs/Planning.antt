@@ -5,7 +5,7 @@ use Rattle.mrp_rows.specs.Table.{Table}
 use Rattle.mrp_loops.specs.Sized.{IsSized}
 use Rattle.mrp_record.specs.declared.record.Record.{Record}
 use Rattle.mrp_events.specs.State.{changed}
-use Rattle.mrp_ready.specs.Progress.{left_of}
+use Rattle.mrp_agent.specs.Progress.{left_of}
 use Rattle.mrp_agent.specs.Laws.{WorksIn}
 use Rattle.mrp_agent.specs.Shows.{ShowsHistory}
 use Rattle.mrp_agent.specs.State.{AgentState}

@@ -1,7 +1,6 @@
 //! Demands and receipts of a table added up by pair and period.
 
-use mrp_group::{AmountOf, KeyOf};
-use mrp_rows::{CumRow, DemandRow, ReceiptRow, ShipRow};
+use mrp_rows::{AmountOf, CumRow, DemandRow, KeyOf, ReceiptRow, ShipRow};
 
 /// The pair of a row as its key.
 pub struct OfPair;

@@ -3,7 +3,7 @@ use Rattle.std.proofs.Common.{◌≡◌, ◌≤◌, ◌<◌, ◌+◌, ◌-◌, �
 use Rattle.std.specs.List.{list_all}
 use Rattle.std.proofs.lemmas.Bool.Decides.{nat_tests}
 use Rattle.std.proofs.Math.Nat.{mul-le-mul_left}
-use Rattle.mrp_spell.specs.Spelling.{is_name_byte}
+use Rattle.mrp_rows.specs.Spelling.{is_name_byte}
 use Rattle.mrp_rows.specs.Table.{IsName, IsTable, Table}
 use Rattle.mrp_net.specs.Names.{IsNamed}
 use Rattle.mrp_net.specs.Sums.{no_pair, pair_at}

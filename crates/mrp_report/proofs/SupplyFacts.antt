@@ -7,9 +7,9 @@ use Rattle.std.proofs.lemmas.Bool.{cases_eq, cases_Bool, eq-eqb, ne_eqb}
 use Rattle.std.proofs.lemmas.List.{flat_map_more}
 use Rattle.std.proofs.lemmas.List.Elements.{All-filter, All-head, All-tail, filter-append}
 use Rattle.std.proofs.lemmas.Option.{slice_get-get_or}
-use Rattle.mrp_group.specs.Groups.{group, sorted_by}
-use Rattle.mrp_group.proofs.Grouping.{sorted_by-suc}
-use Rattle.mrp_group.proofs.Sorting.{filter-no, filter-sorted_by, filter-yes, filter_none}
+use Rattle.mrp_rows.specs.Groups.{group, sorted_by}
+use Rattle.mrp_rows.proofs.Grouping.{sorted_by-suc}
+use Rattle.mrp_rows.proofs.Sorting.{filter-no, filter-sorted_by, filter-yes, filter_none}
 use Rattle.mrp_rows.specs.declared.rows.BillRow.{BillRow}
 use Rattle.mrp_rows.specs.declared.rows.PairRow.{PairRow}
 use Rattle.mrp_rows.specs.declared.rows.SourceRow.{SourceRow}
@@ -24,8 +24,8 @@ use Rattle.mrp_net.proofs.Local.{source_pairs_are_there}
 use Rattle.mrp_net.proofs.Routing.{filter-map}
 use Rattle.mrp_report.specs.Orders.{source_part, spelled_supply}
 use Rattle.mrp_sheet.specs.Names.{plant_of}
-use Rattle.mrp_spell.specs.Supplies.{supply_text}
-use Rattle.mrp_grammar.specs.Written.{plant_name, supply_said}
+use Rattle.mrp_rows.specs.Supplies.{supply_text}
+use Rattle.mrp_rows.specs.Said.{plant_name, supply_said}
 use Rattle.mrp_rows.specs.declared.numbers.PlantNo.{PlantNo}
 use Rattle.std.specs.Prelude.{codes, slice_index_or}
 use Rattle.mrp_report.proofs.SupplyTexts.{said_part, supply_spelled}

@@ -1,7 +1,7 @@
 -- A table without its bill rows and demand rows is one.
 use Rattle.std.proofs.Common.{◌≡◌, arith}
 use Rattle.std.proofs.lemmas.List.Elements.{All-nil}
-use Rattle.mrp_spell.proofs.Lists.{IsDistinct-nil}
+use Rattle.mrp_rows.proofs.SpelledLists.{IsDistinct-nil}
 use Rattle.mrp_rows.specs.declared.rows.BillRow.{BillRow}
 use Rattle.mrp_rows.specs.declared.rows.Supply.TheVariants as supply
 use Rattle.mrp_rows.specs.Dropping.{without_bills_and_demands}

@@ -9,7 +9,7 @@ use Rattle.std.proofs.lemmas.List.Quantifiers.{position-Some}
 use Rattle.std.proofs.lemmas.List.Sums.{fails_before_first, position_or_len_is}
 use Rattle.std.proofs.lemmas.Bool.{lt-ltb}
 use Rattle.std.proofs.lemmas.List.Elements.{All-head, All-tail}
-use Rattle.mrp_spell.proofs.Mapped.{list_any_keys}
+use Rattle.mrp_rows.proofs.Mapped.{list_any_keys}
 use Rattle.mrp_rows.specs.declared.numbers.PairNo.{PairNo}
 
 pub position_or_len_keys : {X K : Type 0} (f : X → K) (p : K → Bool) (q : X → Bool) → ((x : X) → p (f x) ≡ q x) → (xs : List X)

@@ -9,8 +9,8 @@ use Rattle.std.proofs.lemmas.List.{map-append}
 use Rattle.std.proofs.lemmas.List.Quantifiers.{position-Some}
 use Rattle.std.proofs.lemmas.Map.Keys.{apart_from_distinct}
 use Rattle.std.proofs.lemmas.Slice.Eq.{bytes_eq-Decides}
-use Rattle.mrp_spell.proofs.Lists.{distinct_push}
-use Rattle.mrp_group.proofs.Finding.{last_passes}
+use Rattle.mrp_rows.proofs.SpelledLists.{distinct_push}
+use Rattle.mrp_rows.proofs.Finding.{last_passes}
 use Rattle.mrp_rows.specs.Growing.{with_item}
 use Rattle.mrp_rows.specs.Table.{Table}
 use Rattle.mrp_rows.proofs.Keys.{any-from_no_position, any-from_position, position_is}

@@ -1,3 +1,15 @@
+pub mod Digits
+pub mod Parsing
+pub mod Spelled
+pub mod Spelling
+pub mod Steps
+pub mod Supplies
+pub mod SupplyParsing
+pub mod Added
+pub mod Counts
+pub mod Groups
+pub mod GroupingLaws
+pub mod Starts
 pub mod Dropping
 pub mod Growing
 pub mod Names
@@ -5,3 +17,4 @@ pub mod Places
 pub mod Rows
 pub mod Table
 pub mod Turns
+pub mod Said

@@ -23,7 +23,7 @@ use Rattle.mrp_rows.specs.declared.rows.ShipRow.{ShipRow}
 use Rattle.mrp_rows.specs.declared.rows.SourceRow.{SourceRow}
 use Rattle.mrp_rows.specs.declared.rows.Supply.{Supply}
 use Rattle.mrp_rows.specs.declared.rows.Supply.TheVariants as supply
-use Rattle.mrp_spell.specs.Spelling.{is_name}
+use Rattle.mrp_rows.specs.Spelling.{is_name}
 
 -- The lists of rows, each in table order. A name is the list of its bytes; everywhere else a plant,
 -- an item or a pair is its place in its list.

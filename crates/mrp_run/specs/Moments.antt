@@ -4,7 +4,7 @@ use Rattle.mrp_rows.specs.Table.{Table}
 use Rattle.mrp_net.specs.Lanes.{lanes, lane_at}
 use Rattle.mrp_loops.specs.Sized.{IsSized}
 use Rattle.mrp_record.specs.declared.record.Record.{Record}
-use Rattle.mrp_ready.specs.Progress.{is_planned}
+use Rattle.mrp_agent.specs.Progress.{is_planned}
 use Rattle.mrp_events.specs.State.{State, IsReached}
 use Rattle.mrp_events.specs.LocalLaws.{IsPairAt}
 use Rattle.mrp_lane.specs.Ends.{End}

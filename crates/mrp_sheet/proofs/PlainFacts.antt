@@ -11,7 +11,7 @@ use Rattle.csv.specs.Writing.{default_writer, needs_byte}
 use Rattle.mrp_cal.specs.Calendar.{CalendarTerms, first_day}
 use Rattle.mrp_cal.specs.Days.{date_text}
 use Rattle.mrp_cal.specs.Days.{date_at as day_parts}
-use Rattle.mrp_spell.specs.Spelling.{is_name_byte}
+use Rattle.mrp_rows.specs.Spelling.{is_name_byte}
 use Rattle.mrp_rows.specs.Table.{IsName, IsTable, Table}
 use Rattle.mrp_sheet.specs.Dates.{dates_of, period_date}
 use Rattle.mrp_sheet.specs.DateLists.{date_in}

@@ -8,9 +8,9 @@ use Rattle.std.proofs.lemmas.Bool.Decides.{nat_tests}
 use Rattle.std.proofs.lemmas.Str.{IsUtf8-from_ascii, is_utf8-from_IsUtf8}
 use Rattle.std.proofs.lemmas.Str.Ascii.{IsAscii-nil}
 use Rattle.csv.specs.Writing.{default_writer, needs_byte}
-use Rattle.mrp_spell.specs.Spelling.{is_name, is_name_byte, number_text}
-use Rattle.mrp_spell.specs.Parsing.{IsShort, is_number, spelled_number, read_on}
-use Rattle.mrp_spell.proofs.Decimals.{number-written}
+use Rattle.mrp_rows.specs.Spelling.{is_name, is_name_byte, number_text}
+use Rattle.mrp_rows.specs.Parsing.{IsShort, is_number, spelled_number, read_on}
+use Rattle.mrp_rows.proofs.Decimals.{number-written}
 
 pub both_true : (a b : Bool) → (a && b) ≡ true → (a ≡ true) × (b ≡ true)
 both_true true b e = (refl, e)

@@ -2,12 +2,12 @@
 use Rattle.std.proofs.Common.{◌≡◌, ℕ, ◌==◌, ◌&&◌, not, Bool, true, false, cond, List, length, Option, Some, None, is_some, Ok, Err, ok_or, if◌then◌else◌, refl}
 use Rattle.std.specs.List.{list_all}
 use Rattle.std.specs.Str.{is_utf8}
-use Rattle.mrp_spell.specs.Parsing.{spelled_number}
+use Rattle.mrp_rows.specs.Parsing.{spelled_number}
 use Rattle.mrp_rows.specs.declared.numbers.ItemNo.{ItemNo}
 use Rattle.mrp_rows.specs.Table.{Table}
 use Rattle.mrp_record.specs.declared.record.Record.{Record}
 use Rattle.mrp_record.specs.declared.record.Record.TheVariants.{Line, ItemEnd, Reset, Close}
-use Rattle.mrp_grammar.specs.Grammar.{◌>>=◌, check, field}
+use Rattle.mrp_tables.specs.Grammar.{◌>>=◌, check, field}
 use Rattle.mrp_stream.specs.declared.fault.RecordFaultKind.{RecordFaultKind}
 use Rattle.mrp_stream.specs.declared.fault.RecordFaultKind.TheVariants as fault
 use Rattle.mrp_stream.specs.declared.kind.Kind.{Kind}

@@ -9,13 +9,13 @@ use Rattle.csv.specs.Records.{field_at}
 use Rattle.csv.specs.Writing.{comma, default_writer, fields_text, is_blank, row_text}
 use Rattle.csv.specs.declared.parser.State.TheVariants.{StartRecord}
 use Rattle.csv.proofs.RoundTrip.{read-write-many}
-use Rattle.mrp_spell.specs.Parsing.{IsShort, spelled_number}
-use Rattle.mrp_spell.proofs.Decimals.{number-written}
+use Rattle.mrp_rows.specs.Parsing.{IsShort, spelled_number}
+use Rattle.mrp_rows.proofs.Decimals.{number-written}
 use Rattle.mrp_rows.specs.declared.numbers.ItemNo.{ItemNo}
 use Rattle.mrp_rows.specs.Table.{IsName, IsTable, Table}
 use Rattle.mrp_record.specs.declared.record.Record.{Record}
 use Rattle.mrp_record.specs.declared.record.Record.TheVariants.{Line, ItemEnd, Reset, Close}
-use Rattle.mrp_grammar.proofs.Records.{none_left, one_left}
+use Rattle.mrp_tables.proofs.Records.{none_left, one_left}
 use Rattle.mrp_stream.specs.Rows.{HasRow, record_item_name, record_fields, record_text, records_text, record_line}
 use Rattle.mrp_stream.specs.Grammar.{spelled_close, spelled_end, item_named, spelled_line, record_of, spelled_reset, record_row_kind, spelled_record}
 use Rattle.mrp_stream.proofs.Bytes.{IsPlain, name_plain, number_text_plain, plain_unquoted, plain_utf8}

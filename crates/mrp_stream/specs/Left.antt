@@ -5,7 +5,7 @@ use Rattle.csv.specs.declared.error.ErrorKind.{ErrorKind}
 use Rattle.csv.specs.declared.error.ErrorKind.TheVariants as error
 use Rattle.mrp_rows.specs.Table.{Table}
 use Rattle.mrp_record.specs.declared.record.Record.{Record}
-use Rattle.mrp_grammar.specs.Left.{OfLeft, TakesRow}
+use Rattle.mrp_tables.specs.Left.{OfLeft, TakesRow}
 use Rattle.mrp_stream.specs.declared.fault.RecordFaultKind.{RecordFaultKind}
 use Rattle.mrp_stream.specs.declared.fault.RecordFaultKind.TheVariants as fault
 use Rattle.mrp_qty.specs.declared.limits.TheConstants.{MOST_RECORDS}

@@ -4,8 +4,8 @@ use Rattle.std.specs.Prelude.{IfSome}
 use Rattle.std.specs.List.{flat_map, join_with_byte}
 use Rattle.csv.specs.Machine.{line_feed}
 use Rattle.csv.specs.Writing.{comma}
-use Rattle.mrp_spell.specs.Spelling.{number_text}
-use Rattle.mrp_spell.specs.Parsing.{IsShort}
+use Rattle.mrp_rows.specs.Spelling.{number_text}
+use Rattle.mrp_rows.specs.Parsing.{IsShort}
 use Rattle.mrp_rows.specs.declared.numbers.ItemNo.{ItemNo}
 use Rattle.mrp_rows.specs.Table.{Table}
 use Rattle.mrp_record.specs.declared.record.Record.{Record}

@@ -5,9 +5,9 @@ use Rattle.std.specs.Prelude.{◌≡◌, ℕ, ◌==◌, ◌&&◌, not, Bool, tru
 use Rattle.std.specs.Prelude.{None, is_some, Result, Ok, Err}
 use Rattle.std.specs.List.{list_all}
 use Rattle.std.specs.Str.{is_utf8}
-use Rattle.mrp_spell.specs.Parsing.{spelled_number}
+use Rattle.mrp_rows.specs.Parsing.{spelled_number}
 use Rattle.mrp_rows.specs.Table.{Table}
-use Rattle.mrp_grammar.specs.Grammar.{field}
+use Rattle.mrp_tables.specs.Grammar.{field}
 use Rattle.mrp_stream.specs.declared.fault.RecordFaultKind.{RecordFaultKind}
 use Rattle.mrp_stream.specs.declared.fault.RecordFaultKind.TheVariants as fault
 use Rattle.mrp_stream.specs.declared.kind.Kind.{Kind}

@@ -3,8 +3,8 @@
 ghost use Rattle.std.specs.Prelude.{true, false, ◌≡◌, ◌+◌, ◌≤◌, [], length, IfOk, IfErr, OnOk, OnErr, option_map};
 ghost use Rattle.csv.specs.Reading.{has_failed, strip_bom};
 ghost use Rattle.csv.specs.Records.{AllText, fields_of};
-ghost use Rattle.mrp_grammar.specs.Left.{GivesAll, MayCome, OfLeft, rows_left};
-ghost use Rattle.mrp_grammar.specs.Written.{OfRecords};
+ghost use Rattle.mrp_tables.specs.Left.{GivesAll, MayCome, OfLeft, rows_left};
+ghost use Rattle.mrp_tables.specs.Written.{OfRecords};
 ghost use Rattle.mrp_stream.specs.Left.{record_fault_of, is_of_row, StopsReading, TellsNextRecord, TellsTakenRecord};
 ghost use Rattle.mrp_rows.specs.Table.{Table};
 ghost use Rattle.mrp_stream.specs.Reading.{AreRowsOf, HasFault};

@@ -2,7 +2,7 @@
 
 ghost use Rattle.std.specs.Prelude.{◌≡◌, IfOk};
 ghost use Rattle.csv.specs.Records.{fields_of};
-ghost use Rattle.mrp_grammar.specs.Grammar.{field, is_free};
+ghost use Rattle.mrp_tables.specs.Grammar.{field, is_free};
 ghost use Rattle.mrp_stream.specs.Grammar.{spelled_close, spelled_end, record_is_empty_from, item_field};
 ghost use Rattle.mrp_stream.specs.Grammar.{spelled_line, number_field, spelled_reset, record_row_kind, spelled_record};
 
@@ -12,7 +12,7 @@ use crate::kind::Kind;
 use csv::StringRecord;
 use mrp_net::ItemNo;
 use mrp_record::Record;
-use mrp_spell::number;
+use mrp_rows::number;
 
 /// How many fields a row has.
 const FIELDS: usize = 6;

@@ -12,7 +12,7 @@ use Rattle.mrp_rows.specs.declared.rows.CumRow.{CumRow}
 use Rattle.mrp_rows.specs.declared.rows.SourceRow.{SourceRow}
 use Rattle.mrp_rows.specs.declared.numbers.PlantNo.{PlantNo}
 use Rattle.mrp_rows.specs.declared.numbers.PairNo.{PairNo}
-use Rattle.mrp_spell.proofs.Mapped.{list_any_keys}
+use Rattle.mrp_rows.proofs.Mapped.{list_any_keys}
 use Rattle.mrp_rows.proofs.Keys.{position_keys, swap}
 
 -- whether there is a bill row of two pairs

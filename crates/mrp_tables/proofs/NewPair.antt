@@ -19,15 +19,15 @@ use Rattle.mrp_rows.specs.declared.rows.PairRow.{PairRow}
 use Rattle.mrp_rows.specs.declared.rows.SourceRow.{SourceRow}
 use Rattle.mrp_tables.specs.Drafts.{IsNewPair, with_sources}
 use Rattle.mrp_rows.specs.Names.{has_plant, pair_named, pair_of_item, plant_no}
-use Rattle.mrp_grammar.specs.Grammar.{knows_sources, pair_with, PairTerms, source_row, with_pair_terms}
-use Rattle.mrp_spell.specs.SupplyParsing.{named_sources}
+use Rattle.mrp_tables.specs.Grammar.{knows_sources, pair_with, PairTerms, source_row, with_pair_terms}
+use Rattle.mrp_rows.specs.SupplyParsing.{named_sources}
 use Rattle.mrp_rows.specs.Growing.{add_item, with_item, with_pair, with_source}
 use Rattle.mrp_tables.specs.Lists.{FitsRows}
-use Rattle.mrp_spell.specs.Supplies.{SourceTerms}
+use Rattle.mrp_rows.specs.Supplies.{SourceTerms}
 use Rattle.mrp_rows.specs.Table.{IsRead, is_taken_from, Table}
 use Rattle.mrp_rows.proofs.Grow.{length-add_item-le}
 use Rattle.mrp_rows.proofs.Keys.{All-from_position, position_is}
-use Rattle.mrp_spell.proofs.Mapped.{list_any_keys}
+use Rattle.mrp_rows.proofs.Mapped.{list_any_keys}
 
 -- a read within a list has any default
 any_default : {X : Type 0} (xs : List X) (k : ℕ) (a b : X) → k < length xs → get_or xs k a ≡ get_or xs k b

@@ -1,3 +1,10 @@
+pub mod Faults
+pub mod Grammar
+pub mod Left
+pub mod Missing
+pub mod Reading
+pub mod Tests
+pub mod Written
 pub mod Drafts
 pub mod Keys
 pub mod Lists

@@ -3,14 +3,14 @@ use Rattle.std.specs.Prelude.{◌≤◌}
 use Rattle.mrp_lot.specs.Lot.{IsRule}
 use Rattle.mrp_lot.specs.declared.rule.TheConstants.{LONGEST_LEAD}
 use Rattle.mrp_qty.specs.declared.limits.TheConstants.{MOST_IN_ROW}
-use Rattle.mrp_spell.specs.Spelled.{HasSources, supply_view}
+use Rattle.mrp_rows.specs.Spelled.{HasSources, supply_view}
 use Rattle.mrp_tables.specs.declared.spelled.SpelledPair.{SpelledPair}
 use Rattle.mrp_tables.specs.declared.spelled.SpelledBill.{SpelledBill}
 use Rattle.mrp_tables.specs.declared.spelled.SpelledAmount.{SpelledAmount}
 use Rattle.mrp_tables.specs.declared.spelled.SpelledLane.{SpelledLane}
 use Rattle.mrp_tables.specs.declared.spelled.SpelledRun.{SpelledRun}
 use Rattle.mrp_rows.specs.Table.{IsName}
-use Rattle.mrp_grammar.specs.Grammar.{AmountTerms, BillTerms, LaneTerms, PairTerms, RunTerms}
+use Rattle.mrp_tables.specs.Grammar.{AmountTerms, BillTerms, LaneTerms, PairTerms, RunTerms}
 
 -- a pair row whose item is a name, and whose numbers are in their ranges
 pub record IsSpelledPair (p : SpelledPair) : Type 0 where

@@ -1,9 +1,9 @@
 //! Bill, demand and receipt rows, tested against the rows before them.
 
+use crate::TableFaultKind;
 use crate::draft::{BillKey, Draft};
 use crate::spelled::{SpelledBill, spelled_amount, spelled_bill};
 use csv::StringRecord;
-use mrp_grammar::TableFaultKind;
 use mrp_qty::Qty;
 use mrp_rows::{
     BillRow, DemandRow, MOST_BILLS, MOST_OF_A_KIND, PairNo, PlantNo, ReceiptRow, Supply,
@@ -13,8 +13,8 @@ impl Draft {
     ghost use Rattle.std.specs.Prelude.{◌≡◌, ◌+◌, ◌≤◌, ◌<◌, length, option_map, Some, false, OnOk, IfOk, IfSome};
     ghost use Rattle.csv.specs.Records.{fields_of};
     ghost use Rattle.mrp_qty.specs.declared.limits.TheConstants.{MOST_BILLS, MOST_OF_A_KIND, MOST_PER};
-    ghost use Rattle.mrp_grammar.specs.Grammar.{bill_fits, bill_of, bill_row, demand_of, demand_row, has_bill};
-    ghost use Rattle.mrp_grammar.specs.Grammar.{is_made, known_pair, receipt_of, receipt_row, seen, TellsMade};
+    ghost use Rattle.mrp_tables.specs.Grammar.{bill_fits, bill_of, bill_row, demand_of, demand_row, has_bill};
+    ghost use Rattle.mrp_tables.specs.Grammar.{is_made, known_pair, receipt_of, receipt_row, seen, TellsMade};
     ghost use Rattle.mrp_rows.specs.Names.{plant_no};
     ghost use Rattle.mrp_tables.specs.Spelled.{bill_view};
     ghost use Rattle.mrp_rows.specs.Table.{IsBillRow, IsDemandRow, IsReceiptRow};
@@ -63,7 +63,7 @@ impl Draft {
     }
 
     /// The bill row of what was spelled, where it fits the rows before it.
-    #[tactic(auto, unfolding(mrp_grammar::specs::Grammar::bill_fits))]
+    #[tactic(auto, unfolding(crate::specs::Grammar::bill_fits))]
     fn bill_fits(&self, spelled: &SpelledBill<'_>) -> Result<BillRow, TableFaultKind>
         requires draft { IsDraft self.now }
         requires per { (1 ≤ spelled.now.per) × (spelled.now.per ≤ MOST_PER) }
@@ -119,7 +119,7 @@ impl Draft {
     }
 
     /// The plant and the pair of a demand or a receipt row.
-    #[tactic(auto, unfolding(mrp_grammar::specs::Grammar::known_pair))]
+    #[tactic(auto, unfolding(crate::specs::Grammar::known_pair))]
     fn known_pair(&self, plant: &str, item: &str) -> Result<(PlantNo, PairNo), TableFaultKind>
         requires rows { IsRead self.now.lists }
         requires knows { Knows self.now.lists self.now.known }
@@ -145,7 +145,7 @@ impl Draft {
     }
 
     /// What a demand row says, with the plant that it names.
-    #[tactic(auto, unfolding(mrp_grammar::specs::Grammar::demand_of))]
+    #[tactic(auto, unfolding(crate::specs::Grammar::demand_of))]
     fn demand_of(&self, row: &StringRecord) -> Result<(DemandRow, PlantNo), TableFaultKind>
         requires draft { IsDraft self.now }
         ensures exact { seen (λ found. found.0) result ≡ demand_of self.now.lists (fields_of row.now) }
@@ -178,7 +178,7 @@ impl Draft {
     }
 
     /// What a receipt row says, with the plant that it names.
-    #[tactic(auto, unfolding(mrp_grammar::specs::Grammar::receipt_of))]
+    #[tactic(auto, unfolding(crate::specs::Grammar::receipt_of))]
     fn receipt_of(&self, row: &StringRecord) -> Result<(ReceiptRow, PlantNo), TableFaultKind>
         requires draft { IsDraft self.now }
         ensures exact { seen (λ found. found.0) result ≡ receipt_of self.now.lists (fields_of row.now) }

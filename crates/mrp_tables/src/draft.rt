@@ -5,9 +5,9 @@ ghost use Rattle.std.specs.Prelude.{◌≡◌, ◌+◌, OnOk, IfOk};
 use crate::kind::may_follow;
 use crate::names::KnownNames;
 use crate::spelled::{row_kind, spelled_run};
+use crate::{Kind, TableFaultKind};
 use csv::StringRecord;
 use indexmap::IndexSet;
-use mrp_grammar::{Kind, TableFaultKind};
 use mrp_rows::{PairNo, PlantNo, RowLists};
 use std::alloc::Global;
 
@@ -71,9 +71,9 @@ pub(crate) struct Draft {
 impl Draft {
     ghost use Rattle.std.specs.Prelude.{◌≡◌, ◌+◌, ◌<◌, OnOk, IfOk};
     ghost use Rattle.csv.specs.Records.{AllText, fields_of};
-    ghost use Rattle.mrp_grammar.specs.Grammar.{TellsMade};
+    ghost use Rattle.mrp_tables.specs.Grammar.{TellsMade};
     ghost use Rattle.mrp_tables.specs.Lists.{IsDraft, AddsRow};
-    ghost use Rattle.mrp_grammar.specs.Reading.{row_of_kind};
+    ghost use Rattle.mrp_tables.specs.Reading.{row_of_kind};
     ghost use Rattle.mrp_tables.specs.Drafts.{TellsAdded, TellsFirst};
 
     /// What a first row makes.
@@ -122,7 +122,7 @@ impl Draft {
     }
 
     /// Adds a row of that kind, which is not counted yet.
-    #[tactic(auto, unfolding(mrp_grammar::specs::Reading::row_of_kind))]
+    #[tactic(auto, unfolding(crate::specs::Reading::row_of_kind))]
     fn add_row(
         &mut self,
         alloc: Global,

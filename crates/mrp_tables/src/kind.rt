@@ -1,9 +1,30 @@
-//! What the kind of a row says of its fields and of its place.
+//! The kinds of rows, by their first field, and what the kind says of a row's fields and of its place.
 
 ghost use Rattle.std.specs.Prelude.{◌≡◌};
-ghost use Rattle.mrp_grammar.specs.Grammar.{used, may_follow};
+ghost use Rattle.mrp_tables.specs.Grammar.{used, may_follow};
 
-use mrp_grammar::Kind;
+/// The kinds of rows, in the order in which they stand in a table.
+#[derive(Clone, Copy, Debug, PartialEq, Eq)]
+pub enum Kind {
+    /// The first day, the days of a period and the number of periods.
+    Run,
+    /// A plant.
+    Plant,
+    /// An item at a plant.
+    Pair,
+    /// A component of a made pair.
+    Bill,
+    /// A demand from outside the firm.
+    Demand,
+    /// A scheduled receipt.
+    Receipt,
+    /// A shipment between two plants that is on its way.
+    Ship,
+    /// A cumulative figure between two plants.
+    Cum,
+    /// Where such a figure starts anew.
+    Reset,
+}
 
 /// How many of the eight fields a row of this kind uses.
 pub(crate) fn used(kind: Kind) -> usize

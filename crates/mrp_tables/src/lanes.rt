@@ -2,10 +2,10 @@
 
 ghost use Rattle.std.specs.Prelude.{◌≡◌, IfOk};
 
+use crate::TableFaultKind;
 use crate::draft::{Draft, LaneKey};
 use crate::spelled::{SpelledLane, spelled_cum, spelled_reset, spelled_ship};
 use csv::StringRecord;
-use mrp_grammar::TableFaultKind;
 use mrp_qty::Qty;
 use mrp_rows::{CumRow, MOST_OF_A_KIND, PairNo, PlantNo, ResetRow, ShipRow};
 
@@ -57,8 +57,8 @@ impl Draft {
     ghost use Rattle.std.specs.Prelude.{false, not, IsSome, Some};
     ghost use Rattle.csv.specs.Records.{fields_of};
     ghost use Rattle.mrp_rows.specs.Table.{arrivals, rises_from};
-    ghost use Rattle.mrp_grammar.specs.Grammar.{cum_between, cum_of, cum_row, reset_between, reset_in_row};
-    ghost use Rattle.mrp_grammar.specs.Grammar.{reset_row, seen, ship_of, ship_row, TellsMade};
+    ghost use Rattle.mrp_tables.specs.Grammar.{cum_between, cum_of, cum_row, reset_between, reset_in_row};
+    ghost use Rattle.mrp_tables.specs.Grammar.{reset_row, seen, ship_of, ship_row, TellsMade};
     ghost use Rattle.mrp_tables.specs.Spelled.{lane_view};
     ghost use Rattle.mrp_tables.specs.Lists.{AddsRow, Finds, IsDraft, IsNamedLane, source_at, source_named};
     ghost use Rattle.mrp_rows.specs.Table.{IsRead};
@@ -109,7 +109,7 @@ impl Draft {
     }
 
     /// What a ship row says, with the place of its source.
-    #[tactic(auto, using(crate::proofs::Finding::known_err, crate::proofs::Finding::known_ok), unfolding(mrp_grammar::specs::Grammar::ship_of))]
+    #[tactic(auto, using(crate::proofs::Finding::known_err, crate::proofs::Finding::known_ok), unfolding(crate::specs::Grammar::ship_of))]
     fn ship_of(&self, row: &StringRecord) -> Result<(ShipRow, usize), TableFaultKind>
         requires draft { IsDraft self.now }
         ensures exact { seen (λ s. s.0) result ≡ ship_of self.now.lists (fields_of row.now) }
@@ -150,7 +150,7 @@ impl Draft {
     }
 
     /// What a cum row says.
-    #[tactic(auto, using(crate::proofs::Finding::known_err, crate::proofs::Finding::known_ok), unfolding(mrp_grammar::specs::Grammar::cum_of))]
+    #[tactic(auto, using(crate::proofs::Finding::known_err, crate::proofs::Finding::known_ok), unfolding(crate::specs::Grammar::cum_of))]
     fn cum_of(&self, row: &StringRecord) -> Result<CumRow, TableFaultKind>
         requires draft { IsDraft self.now }
         ensures exact { result ≡ cum_of self.now.lists (fields_of row.now) }
@@ -205,7 +205,7 @@ impl Draft {
     }
 
     /// What a reset row says.
-    #[tactic(auto, using(crate::proofs::Finding::known_err, crate::proofs::Finding::known_ok), unfolding(mrp_grammar::specs::Grammar::reset_in_row))]
+    #[tactic(auto, using(crate::proofs::Finding::known_err, crate::proofs::Finding::known_ok), unfolding(crate::specs::Grammar::reset_in_row))]
     fn reset_of(&self, row: &StringRecord) -> Result<ResetRow, TableFaultKind>
         requires draft { IsDraft self.now }
         ensures exact { result ≡ reset_in_row self.now.lists (fields_of row.now) }

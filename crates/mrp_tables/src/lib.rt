@@ -2,13 +2,16 @@
 //!
 //! A table is comma-separated text of eight fields a row: the run, plants, pairs, bills, demands,
 //! receipts, shipments between plants, cumulative figures and where those start anew. What is
-//! accepted are the [`Tables`](mrp_rows::Tables) of its rows.
+//! accepted are the [`Tables`](mrp_rows::Tables) of its rows. The grammar is in `specs/`: what each row says,
+//! which rows make which table, and which fault a text has first. Its laws are functions that do nothing.
 #![tactic(auto)]
 
 mod amounts;
 mod draft;
+mod fault;
 mod kind;
 mod lanes;
+mod laws;
 mod name_key;
 mod names;
 mod pairs;
@@ -17,7 +20,15 @@ mod spelled;
 mod spelling;
 mod steps;
 
-pub use mrp_grammar::{TableFault, TableFaultKind};
+pub use fault::{TableFault, TableFaultKind};
+pub use kind::Kind;
+pub use laws::{
+    a_run_has_one_calendar, a_table_is_read_from_its_own_rows_alone, faults_rise,
+    items_are_numbered_by_their_pairs, missing_pairs_are_told, reads_are_one,
+    records_are_all_records, rows_are_the_table_written_out, rows_have_listed_faults,
+    rows_have_their_first_fault, tables_have_one_list_of_rows, tables_written_out_are_read,
+    what_is_read_is_a_table,
+};
 pub use mrp_qty::MAX_TURNS;
 pub use reading::{read_tables, read_tables_uncounted};
 pub use steps::Steps;

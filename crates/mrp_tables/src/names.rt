@@ -4,10 +4,10 @@ ghost use Rattle.std.specs.Prelude.{◌≡◌, ℕ, List, position};
 ghost use Rattle.std.specs.Str.{bytes_eq};
 ghost use Rattle.mrp_tables.specs.Keys.{FindsNames};
 
+use crate::TableFaultKind;
 use crate::draft::Draft;
 use crate::name_key::{NameKey, PairKey};
 use indexmap::IndexSet;
-use mrp_grammar::TableFaultKind;
 use mrp_rows::{ItemNo, PairNo, PairRow, PlantNo, RowLists, is_same_text};
 use std::alloc::Global;
 
@@ -25,7 +25,7 @@ impl KnownNames {
     ghost use Rattle.std.specs.Prelude.{OnOk};
     ghost use Rattle.std.specs.List.{list_any};
     ghost use Rattle.std.specs.Str.{bytes_eq};
-    ghost use Rattle.mrp_grammar.specs.declared.fault.TableFaultKind.TheVariants.{Memory};
+    ghost use Rattle.mrp_tables.specs.declared.fault.TableFaultKind.TheVariants.{Memory};
     ghost use Rattle.mrp_qty.specs.declared.limits.TheConstants.{MOST_PAIRS, MOST_PLANTS};
     ghost use Rattle.mrp_rows.specs.Growing.{with_item, with_pair, with_plant};
     ghost use Rattle.mrp_rows.specs.Names.{has_plant};

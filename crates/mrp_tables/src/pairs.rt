@@ -1,36 +1,38 @@
 //! Plant and pair rows, tested against the rows before them.
 
 ghost use Rattle.std.specs.Prelude.{◌≡◌, map};
-ghost use Rattle.mrp_spell.specs.SupplyParsing.{named_sources};
-ghost use Rattle.mrp_grammar.specs.Grammar.{supply_kind};
-ghost use Rattle.mrp_spell.specs.Spelled.{source_view, supply_view, AreSources, HasSources};
+ghost use Rattle.mrp_rows.specs.SupplyParsing.{named_sources};
+ghost use Rattle.mrp_tables.specs.Grammar.{supply_kind};
+ghost use Rattle.mrp_rows.specs.Spelled.{source_view, supply_view, AreSources, HasSources};
 
+use crate::TableFaultKind;
 use crate::draft::{Draft, Lane, LaneKey};
 use crate::spelled::{SpelledPair, spelled_pair, spelled_plant};
 use csv::StringRecord;
-use mrp_grammar::TableFaultKind;
 use mrp_qty::Qty;
-use mrp_rows::{MOST_PAIRS, MOST_PLANTS, PairNo, PairRow, PlantNo, SourceRow, Supply};
-use mrp_spell::{SpelledSource, SpelledSupply, names_plant};
+use mrp_rows::{
+    MOST_PAIRS, MOST_PLANTS, PairNo, PairRow, PlantNo, SourceRow, SpelledSource, SpelledSupply,
+    Supply, names_plant,
+};
 use std::alloc::Global;
 
 impl Draft {
     ghost use Rattle.std.specs.Prelude.{◌≡◌, ◌+◌, ◌*◌, ◌≤◌, ◌<◌, false, true, length, map, All, OnOk, IfErr, IfOk};
     ghost use Rattle.std.specs.List.{list_all};
     ghost use Rattle.csv.specs.Records.{fields_of};
-    ghost use Rattle.mrp_grammar.specs.declared.fault.TableFaultKind.TheVariants.{Memory};
+    ghost use Rattle.mrp_tables.specs.declared.fault.TableFaultKind.TheVariants.{Memory};
     ghost use Rattle.mrp_qty.specs.declared.limits.TheConstants.{MOST_PLANTS};
     ghost use Rattle.mrp_qty.specs.declared.limits.TheConstants.{MOST_SOURCES_OF_PAIR};
     ghost use Rattle.mrp_tables.specs.Drafts.{FitsPair, IsNewPair, with_sources};
     ghost use Rattle.mrp_rows.specs.Names.{has_plant};
-    ghost use Rattle.mrp_grammar.specs.Grammar.{knows_sources, pair_fits, pair_row, plant_in_row, plant_row, seen};
-    ghost use Rattle.mrp_grammar.specs.Grammar.{source_row, TellsMade, with_pair_terms};
+    ghost use Rattle.mrp_tables.specs.Grammar.{knows_sources, pair_fits, pair_row, plant_in_row, plant_row, seen};
+    ghost use Rattle.mrp_tables.specs.Grammar.{source_row, TellsMade, with_pair_terms};
     ghost use Rattle.mrp_tables.specs.Keys.{Knows};
     ghost use Rattle.mrp_tables.specs.Lists.{IsDraft, AddsRow, FitsRows, AddsSources};
     ghost use Rattle.mrp_rows.specs.Table.{IsRead};
     ghost use Rattle.mrp_rows.specs.Growing.{with_source};
     ghost use Rattle.mrp_tables.specs.Spelled.{pair_view, IsSpelledPair};
-    ghost use Rattle.mrp_spell.specs.Spelled.{source_view, AreSources, IsSource};
+    ghost use Rattle.mrp_rows.specs.Spelled.{source_view, AreSources, IsSource};
     ghost use Rattle.mrp_rows.specs.Table.{is_taken_from, IsName};
 
     /// Adds a plant row.
@@ -48,7 +50,7 @@ impl Draft {
     }
 
     /// The name of the plant that a plant row adds.
-    #[tactic(auto, unfolding(mrp_grammar::specs::Grammar::plant_in_row))]
+    #[tactic(auto, unfolding(crate::specs::Grammar::plant_in_row))]
     fn plant_of<'r>(&self, row: &'r StringRecord) -> Result<&'r str, TableFaultKind>
         requires knows { Knows self.now.lists self.now.known }
         ensures exact { seen (λ name. name.now) result ≡ plant_in_row self.now.lists (fields_of row.now) }
@@ -82,7 +84,7 @@ impl Draft {
     }
 
     /// The plant of a pair row that fits the rows before it.
-    #[tactic(auto, unfolding(mrp_grammar::specs::Grammar::pair_fits))]
+    #[tactic(auto, unfolding(crate::specs::Grammar::pair_fits))]
     fn pair_fits(&self, spelled: &SpelledPair<'_>) -> Result<PlantNo, TableFaultKind>
         requires rows { IsRead self.now.lists }
         requires knows { Knows self.now.lists self.now.known }

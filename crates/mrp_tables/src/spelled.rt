@@ -5,22 +5,21 @@ ghost use Rattle.mrp_qty.specs.declared.quantity.TheConstants.{MOST};
 ghost use Rattle.mrp_qty.specs.declared.horizon.TheConstants.{LONGEST};
 ghost use Rattle.mrp_qty.specs.declared.limits.TheConstants.{MOST_IN_ROW, MOST_PER};
 ghost use Rattle.csv.specs.Records.{fields_of};
-ghost use Rattle.mrp_grammar.specs.Grammar.{amount_terms, bill_terms, cum_terms, field, is_empty_from, is_free};
-ghost use Rattle.mrp_grammar.specs.Grammar.{kind_of, lane_terms, pair_terms, plant_terms, reset_terms, row_kind};
-ghost use Rattle.mrp_grammar.specs.Grammar.{run_terms, seen, ship_terms, TellsSeen};
+ghost use Rattle.mrp_tables.specs.Grammar.{amount_terms, bill_terms, cum_terms, field, is_empty_from, is_free};
+ghost use Rattle.mrp_tables.specs.Grammar.{kind_of, lane_terms, pair_terms, plant_terms, reset_terms, row_kind};
+ghost use Rattle.mrp_tables.specs.Grammar.{run_terms, seen, ship_terms, TellsSeen};
 ghost use Rattle.mrp_tables.specs.Spelled.{amount_view, bill_view, lane_view, pair_view, run_view, IsSpelledPair};
 ghost use Rattle.mrp_rows.specs.Table.{IsName};
 ghost use Rattle.mrp_tables.specs.Drafts.{TellsRun};
 
 use crate::kind::used;
 use crate::spelling::{name, ranged};
+use crate::{Kind, TableFaultKind};
 use csv::StringRecord;
 use mrp_cal::Calendar;
-use mrp_grammar::{Kind, TableFaultKind};
 use mrp_lot::{LONGEST_LEAD, Rule};
 use mrp_qty::{Horizon, LONGEST, MOST};
-use mrp_rows::{MOST_IN_ROW, MOST_PER, is_same_text};
-use mrp_spell::{SpelledSupply, number, rule, supply};
+use mrp_rows::{MOST_IN_ROW, MOST_PER, SpelledSupply, is_same_text, number, rule, supply};
 use std::alloc::Global;
 
 /// How many fields a row has.
@@ -81,7 +80,7 @@ fn is_empty_from(row: &StringRecord, used: usize) -> bool
 }
 
 /// The kind of a row that has the fields of its kind.
-#[tactic(auto, unfolding(mrp_grammar::specs::Grammar::row_kind))]
+#[tactic(auto, unfolding(crate::specs::Grammar::row_kind))]
 pub(crate) fn row_kind(row: &StringRecord) -> Result<Kind, TableFaultKind>
     ensures { result ≡ row_kind (fields_of row.now) }
 {
@@ -105,7 +104,7 @@ struct SpelledRun<'r> {
 }
 
 /// What a run row spells.
-#[tactic(auto, unfolding(mrp_grammar::specs::Grammar::run_terms))]
+#[tactic(auto, unfolding(crate::specs::Grammar::run_terms))]
 fn run_of(row: &StringRecord) -> Result<SpelledRun<'_>, TableFaultKind>
     ensures exact { seen run_view result ≡ run_terms (fields_of row.now) }
     ensures periods { IfOk result (λ run. (1 ≤ run.periods) × (run.periods ≤ LONGEST)) }
@@ -154,7 +153,7 @@ pub(crate) struct SpelledPair<'r> {
 }
 
 /// What a pair row spells.
-#[tactic(auto, unfolding(mrp_grammar::specs::Grammar::pair_terms))]
+#[tactic(auto, unfolding(crate::specs::Grammar::pair_terms))]
 pub(crate) fn spelled_pair(
     alloc: Global,
     row: &StringRecord,
@@ -190,7 +189,7 @@ pub(crate) struct SpelledBill<'r> {
 }
 
 /// What a bill row spells.
-#[tactic(auto, unfolding(mrp_grammar::specs::Grammar::bill_terms))]
+#[tactic(auto, unfolding(crate::specs::Grammar::bill_terms))]
 pub(crate) fn spelled_bill(row: &StringRecord) -> Result<SpelledBill<'_>, TableFaultKind>
     ensures exact { seen bill_view result ≡ bill_terms (fields_of row.now) }
     ensures per { IfOk result (λ b. (1 ≤ b.per) × (b.per ≤ MOST_PER)) }
@@ -217,7 +216,7 @@ pub(crate) struct SpelledAmount<'r> {
 }
 
 /// What a demand or a receipt row spells.
-#[tactic(auto, unfolding(mrp_grammar::specs::Grammar::amount_terms))]
+#[tactic(auto, unfolding(crate::specs::Grammar::amount_terms))]
 pub(crate) fn spelled_amount(
     row: &StringRecord,
     horizon: Horizon,
@@ -246,7 +245,7 @@ pub(crate) struct SpelledLane<'r> {
 }
 
 /// The names of a ship, cum or reset row.
-#[tactic(auto, unfolding(mrp_grammar::specs::Grammar::lane_terms))]
+#[tactic(auto, unfolding(crate::specs::Grammar::lane_terms))]
 fn spelled_lane(row: &StringRecord) -> Result<SpelledLane<'_>, TableFaultKind>
     ensures exact { seen lane_view result ≡ lane_terms (fields_of row.now) }
 {
@@ -257,7 +256,7 @@ fn spelled_lane(row: &StringRecord) -> Result<SpelledLane<'_>, TableFaultKind>
 }
 
 /// What a ship row spells: its names, its period of arrival and its quantity.
-#[tactic(auto, unfolding(mrp_grammar::specs::Grammar::ship_terms))]
+#[tactic(auto, unfolding(crate::specs::Grammar::ship_terms))]
 pub(crate) fn spelled_ship(
     row: &StringRecord,
     horizon: Horizon,
@@ -272,7 +271,7 @@ pub(crate) fn spelled_ship(
 }
 
 /// What a cum row spells: its names and its figure.
-#[tactic(auto, unfolding(mrp_grammar::specs::Grammar::cum_terms))]
+#[tactic(auto, unfolding(crate::specs::Grammar::cum_terms))]
 pub(crate) fn spelled_cum(row: &StringRecord) -> Result<(SpelledLane<'_>, u64), TableFaultKind>
     ensures exact { seen (λ c. (lane_view c.0, c.1)) result ≡ cum_terms (fields_of row.now) }
     ensures figure { IfOk result (λ c. c.1 ≤ MOST) }
@@ -283,7 +282,7 @@ pub(crate) fn spelled_cum(row: &StringRecord) -> Result<(SpelledLane<'_>, u64), 
 }
 
 /// What a reset row spells: its names and its period.
-#[tactic(auto, unfolding(mrp_grammar::specs::Grammar::reset_terms))]
+#[tactic(auto, unfolding(crate::specs::Grammar::reset_terms))]
 pub(crate) fn spelled_reset(
     row: &StringRecord,
     horizon: Horizon,

@@ -2,10 +2,10 @@
 
 ghost use Rattle.std.specs.Prelude.{◌≡◌, ◌≤◌, IfOk};
 ghost use Rattle.mrp_rows.specs.Table.{IsName};
-ghost use Rattle.mrp_grammar.specs.Grammar.{name_field, ranged, seen};
+ghost use Rattle.mrp_tables.specs.Grammar.{name_field, ranged, seen};
 
-use mrp_grammar::TableFaultKind;
-use mrp_spell::{is_name, number_within};
+use crate::TableFaultKind;
+use mrp_rows::{is_name, number_within};
 
 /// The text itself, where it is a name.
 pub(crate) fn name(text: &str) -> Result<&str, TableFaultKind>

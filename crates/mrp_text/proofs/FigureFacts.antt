@@ -6,7 +6,7 @@ use Rattle.mrp_rows.specs.declared.numbers.ItemNo.{ItemNo}
 use Rattle.mrp_rows.specs.Table.{Table}
 use Rattle.mrp_net.specs.Lanes.{lane_at, lane_items, lanes, opening}
 use Rattle.mrp_world.specs.Figures.{settled_figure, last_figures, last_on}
-use Rattle.mrp_schedule.proofs.Carried.{called_is_carried}
+use Rattle.mrp_actions.proofs.Carried.{called_is_carried}
 use Rattle.mrp_text.specs.FigureLaws.{FiguresAreCalledFor, IsCalledFor}
 
 called_on : (N : Table) (l : ℕ) → All (IsCalledFor N) (last_on N l)

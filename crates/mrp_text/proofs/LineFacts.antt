@@ -6,9 +6,9 @@ use Rattle.std.specs.List.{flat_map}
 use Rattle.std.specs.Io.KnownBytes.{Appends}
 use Rattle.mrp_sheet.specs.Sending.{AppendsFront, AppendsSome}
 use Rattle.mrp_sheet.proofs.Fronts.{front-after, front-longer, some-front, some-whole, whole-after}
-use Rattle.mrp_grammar.specs.declared.fault.TableFault.{TableFault}
-use Rattle.mrp_grammar.specs.declared.fault.TableFaultKind.{TableFaultKind}
-use Rattle.mrp_grammar.specs.declared.fault.TableFaultKind.TheVariants as kind
+use Rattle.mrp_tables.specs.declared.fault.TableFault.{TableFault}
+use Rattle.mrp_tables.specs.declared.fault.TableFaultKind.{TableFaultKind}
+use Rattle.mrp_tables.specs.declared.fault.TableFaultKind.TheVariants as kind
 use Rattle.mrp_text.specs.Lines.{SendsText, table_line_of, row_line}
 
 -- the pieces so far, the next, and the rest

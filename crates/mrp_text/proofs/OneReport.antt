@@ -6,11 +6,11 @@ use Rattle.mrp_lot.specs.One.{PlanRows}
 use Rattle.mrp_rows.specs.declared.numbers.PlantNo.{PlantNo}
 use Rattle.mrp_rows.specs.Table.{Table, IsTable, pair_no}
 use Rattle.mrp_net.specs.Sums.{pair_at}
-use Rattle.mrp_grammar.specs.declared.fault.TableFault.{TableFault}
-use Rattle.mrp_grammar.specs.declared.fault.TableFaultKind.{TableFaultKind}
-use Rattle.mrp_grammar.specs.declared.fault.TableFaultKind.TheVariants as kind
-use Rattle.mrp_grammar.specs.Reading.{OfRows, Reads}
-use Rattle.mrp_grammar.proofs.OneWay.{reads_one_way}
+use Rattle.mrp_tables.specs.declared.fault.TableFault.{TableFault}
+use Rattle.mrp_tables.specs.declared.fault.TableFaultKind.{TableFaultKind}
+use Rattle.mrp_tables.specs.declared.fault.TableFaultKind.TheVariants as kind
+use Rattle.mrp_tables.specs.Reading.{OfRows, Reads}
+use Rattle.mrp_tables.proofs.OneWay.{reads_one_way}
 use Rattle.mrp_net.specs.Names.{IsNamed}
 use Rattle.mrp_net.specs.Plan.{plan_of}
 use Rattle.mrp_net.specs.PlanLaws.{Fits}
@@ -26,7 +26,7 @@ use Rattle.mrp_sheet.specs.Headings.{header_row}
 use Rattle.mrp_report.specs.Report.{plan_text, late_text}
 use Rattle.mrp_report.specs.Codes.{code_text}
 use Rattle.mrp_report.specs.Terms.{peg_text}
-use Rattle.mrp_schedule.specs.Rows.{schedule_text}
+use Rattle.mrp_actions.specs.ScheduleRows.{schedule_text}
 use Rattle.mrp_choice.specs.declared.choice.Choice.{Choice}
 use Rattle.mrp_choice.specs.declared.choice.Choice.TheVariants.{Plan, Check, Peg, Cums, Orders, Schedule, Pegs, Advice}
 use Rattle.mrp_text.specs.declared.fault.TextFault.{TextFault}

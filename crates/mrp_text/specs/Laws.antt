@@ -2,7 +2,7 @@
 use Rattle.std.specs.Prelude.{◌≡◌, ◌↔◌, List, ℕ, Some, Ok}
 use Rattle.csv.specs.Reading.{default_config, records, strip_bom}
 use Rattle.mrp_rows.specs.Table.{Table}
-use Rattle.mrp_grammar.specs.Reading.{Reads}
+use Rattle.mrp_tables.specs.Reading.{Reads}
 use Rattle.mrp_choice.specs.declared.choice.Choice.{Choice}
 use Rattle.mrp_text.specs.declared.fault.TextFault.{TextFault}
 use Rattle.mrp_text.specs.Answer.{IsAnswer, question_of}

@@ -4,8 +4,8 @@ use Rattle.mrp_choice.specs.declared.choice.Heading.TheVariants.{Names}
 use Rattle.mrp_net.specs.Plan.{plan_of}
 use Rattle.mrp_report.specs.Lanes.{lane_text}
 use Rattle.mrp_report.specs.Orders.{order_text}
-use Rattle.mrp_schedule.specs.Rows.{schedule_text}
-use Rattle.mrp_advice.specs.Rows.{advice_text}
+use Rattle.mrp_actions.specs.ScheduleRows.{schedule_text}
+use Rattle.mrp_actions.specs.AdviceRows.{advice_text}
 use Rattle.mrp_world.specs.Figures.{last_figures}
 use Rattle.mrp_text.specs.Pumps.{pumps}
 

@@ -3,8 +3,8 @@ use Rattle.std.specs.Prelude.{◌≡◌, ℕ, ◌<◌, ◌≤◌, ◌⊎◌, Lis
 use Rattle.std.specs.Prelude.{Contains, Err, string_bytes}
 use Rattle.csv.specs.Reading.{strip_bom}
 use Rattle.mrp_rows.specs.Table.{Table, horizon}
-use Rattle.mrp_grammar.specs.Reading.{TellsRows}
-use Rattle.mrp_grammar.specs.Written.{OfRecords}
+use Rattle.mrp_tables.specs.Reading.{TellsRows}
+use Rattle.mrp_tables.specs.Written.{OfRecords}
 use Rattle.mrp_net.specs.Names.{IsNamed}
 use Rattle.mrp_loops.specs.Loop.{IsLoopFree}
 use Rattle.mrp_loops.specs.Codes.{AreCodes}

@@ -17,8 +17,8 @@ use Rattle.mrp_report.specs.Report.{plan_text}
 use Rattle.mrp_report.specs.Codes.{code_text}
 use Rattle.mrp_report.specs.Terms.{peg_text}
 use Rattle.mrp_report.specs.Pegs.{pegs_text}
-use Rattle.mrp_schedule.specs.Rows.{schedule_text}
-use Rattle.mrp_advice.specs.Rows.{advice_text}
+use Rattle.mrp_actions.specs.ScheduleRows.{schedule_text}
+use Rattle.mrp_actions.specs.AdviceRows.{advice_text}
 use Rattle.mrp_world.specs.Figures.{last_figures}
 use Rattle.mrp_text.specs.declared.fault.TextFault.{TextFault}
 use Rattle.mrp_text.specs.declared.fault.TextFault.TheVariants as fault

@@ -3,8 +3,8 @@ use Rattle.std.specs.Prelude.{◌≡◌, ℕ, ◌⊎◌, List, ◌++◌, Option,
 use Rattle.std.specs.Io.KnownBytes.{Appends, Keeps}
 use Rattle.csv.specs.Reading.{strip_bom}
 use Rattle.mrp_rows.specs.Table.{Table, IsTable}
-use Rattle.mrp_grammar.specs.Written.{OfRecords}
-use Rattle.mrp_grammar.specs.Written.{AreNumbered, rows_of}
+use Rattle.mrp_tables.specs.Written.{OfRecords}
+use Rattle.mrp_tables.specs.Written.{AreNumbered, rows_of}
 use Rattle.mrp_net.specs.Plan.{plan_of}
 use Rattle.mrp_loops.specs.Sized.{IsSized}
 use Rattle.mrp_sheet.specs.Sending.{AppendsFront, AppendsSome}

@@ -4,8 +4,8 @@ ghost use Rattle.std.specs.Prelude.{◌≡◌, map, option_map, IfOk, IfErr, All
 ghost use Rattle.csv.specs.Reading.{strip_bom};
 ghost use Rattle.mrp_loops.specs.Sized.{IsSized};
 ghost use Rattle.mrp_rows.specs.Table.{IsPair};
-ghost use Rattle.mrp_grammar.specs.Reading.{TellsRows};
-ghost use Rattle.mrp_grammar.specs.Written.{OfRecords};
+ghost use Rattle.mrp_tables.specs.Reading.{TellsRows};
+ghost use Rattle.mrp_tables.specs.Written.{OfRecords};
 ghost use Rattle.mrp_loops.specs.Loop.{IsLoopFree};
 ghost use Rattle.mrp_loops.specs.Codes.{AreCodes};
 ghost use Rattle.mrp_text.specs.Text.{IsTableOf};

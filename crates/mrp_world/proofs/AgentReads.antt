@@ -13,7 +13,7 @@ use Rattle.mrp_net.proofs.Members.{Contains-from_in, In-from_contains, In-map}
 use Rattle.mrp_view.specs.View.{PlantRows, incoming_item, incoming_lane, plant_pair}
 use Rattle.mrp_view.specs.declared.view.IncomingLane.{IncomingLane}
 use Rattle.mrp_events.specs.LaneOrder.{cum_on}
-use Rattle.mrp_ready.specs.Progress.{is_planned}
+use Rattle.mrp_agent.specs.Progress.{is_planned}
 use Rattle.mrp_agent.specs.Reading.{received_over}
 use Rattle.mrp_agent.specs.State.{AgentState, pair_place, plans_of}
 use Rattle.mrp_agent.proofs.Network.{planned_pairs_have_the_plan}

@@ -5,11 +5,11 @@ use super::reports::{
     TWO_PLANTS_SCHEDULE,
 };
 use mrp_choice::Heading;
+use mrp_firm_cases::TWO_PLANTS;
 use mrp_tables::TableFaultKind;
 use mrp_text::{
     TextFault, advice_text, cums_text, drive_text, orders_text, pegs_text, schedule_text,
 };
-use mrp_worked::TWO_PLANTS;
 use std::alloc::Global;
 use std::test::Fail;
 

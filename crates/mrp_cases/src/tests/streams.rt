@@ -8,9 +8,9 @@ use super::reports::{
     BICYCLE_PLAN, EARLY, EARLY_ADVICE, TWO_PLANTS_CUMS, TWO_PLANTS_PEGS, TWO_PLANTS_SCHEDULE,
 };
 use mrp_choice::{Choice, Heading};
+use mrp_firm_cases::{BICYCLE, TWO_PLANTS};
 use mrp_tables::TableFaultKind;
 use mrp_text::{TextFault, answer, check_text, drive_text, status};
-use mrp_worked::{BICYCLE, TWO_PLANTS};
 use std::alloc::{AllocError, Global};
 use std::io;
 use std::io::{ErrorKind, Read, Write};

@@ -7,6 +7,7 @@ mod gates;
 mod refusals;
 mod workers;
 
+use crate::is_same_plan;
 use crate::tests::network_of;
 use mrp_agent::{Agent, NoGate};
 use mrp_crew::{Crew, CrewFault, Gate, MOST_WORKERS};
@@ -15,7 +16,6 @@ use mrp_net::{Network, PairNo, PlantNo};
 use mrp_plan::{Plan, plan_all};
 use mrp_qty::Memory;
 use mrp_view::PlantView;
-use mrp_worked::is_same_plan;
 use std::alloc::Global;
 use std::sync::Wait;
 use std::test::Fail;

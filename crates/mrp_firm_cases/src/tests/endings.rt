@@ -4,18 +4,18 @@
 ghost use Rattle.std.specs.Prelude.{◌≡◌, length};
 
 use super::trials::{Trial, holds_of};
+use crate::{
+    Ending, FOUR_PLANTS_ENDING, IDLE_RING_ENDING, LONG_RING_ENDING, NO_LANES_ENDING,
+    NO_PLANTS_ENDING, ONE_SHARED_ENDING, RESET_AT_RELEASE_ENDING, RESET_LATER_ENDING, RING_ENDING,
+    SHARED_AFTER_SHIPMENT_ENDING, SHARED_ENDING, TWO_CUSTOMERS_ENDING, TWO_PLANTS_ENDING,
+    TWO_SHIPMENTS_ENDING, has_pieces, is_same_plan,
+};
 use mrp_book::LaneFigure;
 use mrp_loops::SizedNet;
 use mrp_net::{Network, PairNo};
 use mrp_netting::PairPlan;
 use mrp_plan::{Plan, plan_all};
 use mrp_run::{NoGate, Outcome, Reconciled, Settings, run_network};
-use mrp_worked::{
-    Ending, FOUR_PLANTS_ENDING, IDLE_RING_ENDING, LONG_RING_ENDING, NO_LANES_ENDING,
-    NO_PLANTS_ENDING, ONE_SHARED_ENDING, RESET_AT_RELEASE_ENDING, RESET_LATER_ENDING, RING_ENDING,
-    SHARED_AFTER_SHIPMENT_ENDING, SHARED_ENDING, TWO_CUSTOMERS_ENDING, TWO_PLANTS_ENDING,
-    TWO_SHIPMENTS_ENDING, has_pieces, is_same_plan,
-};
 use std::alloc::Global;
 use std::sync::Wait;
 use std::test::Fail;

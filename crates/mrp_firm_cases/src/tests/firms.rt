@@ -8,10 +8,10 @@ mod random;
 mod refusals;
 mod trials;
 
+use crate::is_same_plan;
 use mrp_book::LaneFigure;
 use mrp_net::{Network, PairNo};
 use mrp_plan::Plan;
-use mrp_worked::is_same_plan;
 use mrp_world::Firm;
 use std::alloc::Global;
 use std::test::Fail;

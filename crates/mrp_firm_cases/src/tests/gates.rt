@@ -4,9 +4,9 @@
 //! time: on one thread the first would wait in vain.
 
 use super::trials::{Trial, holds_of};
+use crate::{BICYCLE, LONG_RING, NO_LANES, RING, TWO_CUSTOMERS, TWO_PLANTS};
 use mrp_loops::SizedNet;
 use mrp_run::{Gate, NoGate, PlantNo, RunFault, Settings, run_network, run_network_within};
-use mrp_worked::{BICYCLE, LONG_RING, NO_LANES, RING, TWO_CUSTOMERS, TWO_PLANTS};
 use std::alloc::Global;
 use std::sync::Wait;
 use std::sync::atomic::{AtomicBool, AtomicU64, Ordering};

@@ -12,6 +12,7 @@ ghost use Rattle.mrp_record.specs.Next.{IsWhatIsLeft, IsNextLine, IsRemainder};
 ghost use Rattle.mrp_firm_cases.specs.Feeding.{despatches_from, calls_from, item_goods, goods, IsOver, Feeds};
 
 use super::trials::{Trial, holds_of};
+use crate::{RING, TWO_PLANTS};
 use mrp_lane::{LaneNo, Reconciled, Record, SendEnd, TakeEnd, lane, reconcile};
 use mrp_loops::SizedNet;
 use mrp_net::{ItemNo, LaneKind, Network};
@@ -20,7 +21,6 @@ use mrp_qty::Qty;
 use mrp_record::{NextLine, OutCursor, Remainder};
 use mrp_rows::SourceRow;
 use mrp_run::NoGate;
-use mrp_worked::{RING, TWO_PLANTS};
 use std::alloc::{AllocError, Global};
 use std::marker::Brand;
 use std::sync::Wait;

@@ -8,10 +8,10 @@ ghost use Rattle.std.specs.Prelude.{◌≡◌, length};
 
 use super::endings::is_ending;
 use super::trials::{Trial, holds_of};
+use crate::{Ending, RING_ENDING, TWO_CUSTOMERS_ENDING};
 use mrp_loops::SizedNet;
 use mrp_plan::{Plan, plan_all};
 use mrp_run::{Gate, NoGate, Outcome, PlantNo, RunFault, Settings, run_network_within};
-use mrp_worked::{Ending, RING_ENDING, TWO_CUSTOMERS_ENDING};
 use std::alloc::Global;
 use std::sync::Wait;
 use std::sync::atomic::{AtomicBool, AtomicU64, Ordering};

@@ -5,9 +5,9 @@
 //! one another's calls, or the supplier, whose shipments both customers wait to hear of.
 
 use super::trials::{Trial, holds_of};
+use crate::{RING, TWO_CUSTOMERS};
 use mrp_loops::SizedNet;
 use mrp_run::{Gate, NoGate, PlantNo, RunFault, Settings, run_network};
-use mrp_worked::{RING, TWO_CUSTOMERS};
 use std::alloc::Global;
 use std::sync::Wait;
 use std::sync::atomic::{AtomicU64, Ordering};

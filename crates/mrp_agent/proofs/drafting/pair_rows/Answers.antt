@@ -1,6 +1,6 @@
 use Rattle.std.proofs.Common.{ℕ, ◌+◌, ◌<◌, ◌≤◌, List, length, map, slice_index, ◌∙◌, ap, subst, sym}
-use Rattle.mrp_group.specs.Starts.{IsGrouped}
-use Rattle.mrp_group.proofs.Sorting.{IsGrouped-within}
+use Rattle.mrp_rows.specs.Starts.{IsGrouped}
+use Rattle.mrp_rows.proofs.Sorting.{IsGrouped-within}
 use Rattle.mrp_view.specs.View.{PlantRows}
 use Rattle.mrp_agent.specs.declared.edges.ParentEdge.{ParentEdge}
 use Rattle.mrp_agent.specs.Kept.{parent_edge}

@@ -2,8 +2,8 @@ use Rattle.std.proofs.Common.{◌≡◌, ◌<◌, ◌∙◌, ℕ, List, length, 
 use Rattle.std.specs.List.{All, flat_map}
 use Rattle.std.proofs.lemmas.List.{length-map}
 use Rattle.mrp_rows.specs.declared.numbers.PairNo.{PairNo}
-use Rattle.mrp_ready.specs.Counts.{AreFirstCounts}
-use Rattle.mrp_ready.specs.Progress.{times}
+use Rattle.mrp_agent.specs.Counts.{AreFirstCounts}
+use Rattle.mrp_agent.specs.Progress.{times}
 use Rattle.mrp_view.specs.declared.view.IncomingLane.{IncomingLane}
 use Rattle.mrp_view.specs.declared.view.PlantPair.{PlantPair}
 use Rattle.mrp_view.specs.Seen.{IsIncomingLane}

@@ -3,12 +3,12 @@
 ghost use Rattle.mrp_firm_cases.specs.Hands.{AreAlone};
 
 use super::hands::{agents_of, hand_over, next_out, plan};
+use crate::has_pieces;
 use crate::tests::network_of;
 use mrp_agent::Agent;
 use mrp_loops::{SizedNet, bound, check};
 use mrp_net::{ItemNo, LaneNo, Network, PairNo};
 use mrp_record::Record;
-use mrp_worked::has_pieces;
 use std::alloc::Global;
 use std::test::Fail;
 

@@ -1,7 +1,7 @@
 //! Firms agent by agent, with each record handed over.
 
 use super::deeds::{Deed, go};
-use mrp_worked::{
+use crate::{
     NO_LANES, ONE_SHARED, RESET_AT_RELEASE, RESET_LATER, RING, SHARED, SHARED_AFTER_SHIPMENT,
     TWO_CUSTOMERS, TWO_PLANTS, TWO_SHIPMENTS,
 };

@@ -3,11 +3,11 @@
 use super::deeds::{Deed, takes};
 use super::hands::agents_of;
 use crate::tests::network_of;
+use crate::{RESET_LATER, has_pieces};
 use mrp_agent::Agent;
 use mrp_loops::{SizedNet, bound, check};
 use mrp_net::Network;
 use mrp_netting::PairPlan;
-use mrp_worked::{RESET_LATER, has_pieces};
 use std::alloc::Global;
 use std::test::Fail;
 

@@ -1,9 +1,9 @@
 //! Crews whose allocations are refused: each answer is that memory is out, or the true one.
 
 use super::plans;
+use crate::FIVE_ARTICLES;
 use mrp_agent::NoGate;
 use mrp_crew::CrewFault;
-use mrp_worked::FIVE_ARTICLES;
 use std::test::Fail;
 
 /// A crew of three plans the plant whole, or, where it is refused memory or a thread, goes on from there in

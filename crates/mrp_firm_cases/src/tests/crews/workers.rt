@@ -2,8 +2,8 @@
 
 use super::gates::{Counting, Meeting, ShutTo};
 use super::plans;
+use crate::{FIVE_ARTICLES, TWO_CUSTOMERS};
 use mrp_crew::CrewFault;
-use mrp_worked::{FIVE_ARTICLES, TWO_CUSTOMERS};
 use std::test::Fail;
 
 /// S plans P1 and P2 in one wave whose two workers wait for each other, and then nothing: Z waits for its

@@ -4,16 +4,16 @@ ghost use Rattle.std.specs.Prelude.{◌≡◌, length};
 
 use super::trials::{Trial, holds_of};
 use super::{Figures, are_received, follows, is_at_the_end, is_planned_whole, shows};
-use mrp_book::LaneFigure;
-use mrp_loops::SizedNet;
-use mrp_net::{LaneNo, Network, PairNo};
-use mrp_plan::{Plan, plan_all};
-use mrp_worked::{
+use crate::{
     Ending, IDLE_RING_ENDING, NO_LANES_ENDING, NO_PLANTS_ENDING, ONE_SHARED, ONE_SHARED_ENDING,
     RESET_AT_RELEASE, RESET_AT_RELEASE_ENDING, RESET_LATER, RESET_LATER_ENDING, RING, RING_ENDING,
     SHARED, SHARED_AFTER_SHIPMENT_ENDING, SHARED_ENDING, TWO_CUSTOMERS_ENDING, TWO_PLANTS,
     TWO_PLANTS_ENDING, TWO_SHIPMENTS_ENDING, has_pieces,
 };
+use mrp_book::LaneFigure;
+use mrp_loops::SizedNet;
+use mrp_net::{LaneNo, Network, PairNo};
+use mrp_plan::{Plan, plan_all};
 use mrp_world::{Event, Firm, MOST_ROOM};
 use std::alloc::Global;
 use std::test::Fail;

@@ -4,11 +4,11 @@ ghost use Rattle.std.specs.Prelude.{◌≡◌, length};
 
 use super::trials::{Trial, holds_of};
 use super::{are_received, follows, is_at_the_end, is_planned_whole};
+use crate::{FOUR_PLANTS, RESET_AT_RELEASE, RESET_LATER, RING, SHARED_AFTER_SHIPMENT};
 use mrp_book::LaneFigure;
 use mrp_loops::SizedNet;
 use mrp_net::{LaneNo, Network, PairNo};
 use mrp_plan::{Plan, plan_all};
-use mrp_worked::{FOUR_PLANTS, RESET_AT_RELEASE, RESET_LATER, RING, SHARED_AFTER_SHIPMENT};
 use mrp_world::{Event, Firm, MOST_ROOM};
 use std::alloc::Global;
 use std::test::Fail;

@@ -2,9 +2,9 @@
 
 use super::shows;
 use super::trials::{Trial, holds_of};
+use crate::TWO_PLANTS;
 use mrp_loops::SizedNet;
 use mrp_plan::fits;
-use mrp_worked::TWO_PLANTS;
 use mrp_world::Firm;
 use std::alloc::Global;
 use std::test::Fail;

@@ -7,10 +7,10 @@ use super::Figures;
 use super::events::{Tried, counts_what_is_enabled, ends_at_each_capacity, goes_so};
 use super::random::keep_on;
 use super::refusals::answers_or_is_refused;
+use crate::Ending;
 use crate::tests::network_of;
 use mrp_loops::{Levels, SizedNet, bound, check};
 use mrp_net::Network;
-use mrp_worked::Ending;
 use std::alloc::Global;
 use std::test::Fail;
 

@@ -1,5 +1,5 @@
 use Rattle.csv.specs.Records.{fields_of}
-use Rattle.mrp_grammar.proofs.Taken.{came, has_stopped}
+use Rattle.mrp_tables.proofs.Taken.{came, has_stopped}
 use Rattle.mrp_stream.specs.declared.fault.RecordFaultKind.TheVariants as fault
 use Rattle.mrp_stream.specs.Left.{record_fault_of}
 use Rattle.mrp_stream.proofs.Taking.{explains_as_kind, found_or_not}

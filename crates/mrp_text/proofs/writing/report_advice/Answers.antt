@@ -1,7 +1,7 @@
 use Rattle.std.proofs.Common.{List, Err, ap}
 use Rattle.std.proofs.lemmas.Result.{err_from_is_err_and}
 use Rattle.mrp_lot.specs.One.{PlanRows}
-use Rattle.mrp_advice.specs.Rows.{advice_text}
+use Rattle.mrp_actions.specs.AdviceRows.{advice_text}
 use Rattle.mrp_text.specs.Reports.{IsAdviceReport}
 use Rattle.mrp_text.proofs.TextFacts.{report-fails}
 use Rattle.mrp_text.proofs.writing.report_advice.Goals as goal

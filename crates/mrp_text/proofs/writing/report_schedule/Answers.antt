@@ -1,6 +1,6 @@
 use Rattle.std.proofs.Common.{Err, ap, refl}
 use Rattle.std.proofs.lemmas.Result.{err_from_is_err_and}
-use Rattle.mrp_schedule.specs.Rows.{schedule_text}
+use Rattle.mrp_actions.specs.ScheduleRows.{schedule_text}
 use Rattle.mrp_text.specs.Reports.{AreSchedules}
 use Rattle.mrp_text.proofs.TextFacts.{report-fails}
 use Rattle.mrp_text.proofs.writing.report_schedule.Goals as goal

@@ -1,7 +1,7 @@
 use Rattle.std.proofs.Common.{◌≡◌, ℕ, ◌<◌, ◌∙◌, false, true, None, Some, refl, Bor, get_or, length, sym, ap, subst, arith}
 use Rattle.std.proofs.lemmas.List.{get_or_default}
 use Rattle.mrp_netting.specs.declared.plan.PairPlan.{PairPlan}
-use Rattle.mrp_ready.specs.Progress.{is_planned}
+use Rattle.mrp_agent.specs.Progress.{is_planned}
 use Rattle.mrp_agent.specs.Fields.{indexes_of}
 use Rattle.mrp_agent.specs.State.{AgentState, no_plan, pair_place, plans_of}
 use Rattle.mrp_agent.specs.contracts.agent.Agent.{the_view}

@@ -8,7 +8,7 @@ use Rattle.mrp_rows.specs.Turns.{row_count}
 use Rattle.mrp_rows.specs.Growing.{with_ship}
 use Rattle.mrp_rows.specs.Table.{Table}
 use Rattle.mrp_tables.proofs.Arrivals.{states_ship}
-use Rattle.mrp_grammar.proofs.KeepingSteps.{handed_on}
+use Rattle.mrp_tables.proofs.KeepingSteps.{handed_on}
 use Rattle.mrp_tables.proofs.Starting.{told}
 use Rattle.mrp_tables.proofs.draft.Draft.add_ship.Goals as goal
 

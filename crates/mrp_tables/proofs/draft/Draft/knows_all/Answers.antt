@@ -1,7 +1,7 @@
 use Rattle.std.proofs.Common.{◌∙◌, sym, refl}
 use Rattle.mrp_rows.specs.Names.{has_plant}
-use Rattle.mrp_spell.specs.Spelled.{source_view}
-use Rattle.mrp_spell.proofs.Mapped.{list_all_keys}
+use Rattle.mrp_rows.specs.Spelled.{source_view}
+use Rattle.mrp_rows.proofs.Mapped.{list_all_keys}
 use Rattle.mrp_tables.proofs.draft.Draft.knows_all.Goals as goal
 
 pub returns : goal.returns

@@ -6,7 +6,7 @@ use Rattle.mrp_rows.specs.declared.numbers.PairNo.{PairNo}
 use Rattle.mrp_rows.specs.declared.numbers.PlantNo.{PlantNo}
 use Rattle.mrp_tables.specs.Spelled.{lane_view}
 use Rattle.mrp_tables.proofs.Finding.{from_not, of_found, placed, reset_falls, reset_known, reset_unknown}
-use Rattle.mrp_grammar.proofs.KeepingSteps.{handed_on}
+use Rattle.mrp_tables.proofs.KeepingSteps.{handed_on}
 use Rattle.mrp_tables.proofs.draft.Draft.reset_of.Goals as goal
 
 pub returns-in_err-lane-clause-exact : goal.returns-in_err-lane-clause-exact

@@ -8,7 +8,7 @@ use Rattle.mrp_rows.specs.declared.rows.ShipRow.{ShipRow}
 use Rattle.mrp_qty.specs.declared.limits.TheConstants.{MOST_OF_A_KIND}
 use Rattle.mrp_tables.specs.Spelled.{lane_view}
 use Rattle.mrp_tables.proofs.Finding.{of_found, placed, ship_full, ship_known, ship_unknown}
-use Rattle.mrp_grammar.proofs.KeepingSteps.{handed_on}
+use Rattle.mrp_tables.proofs.KeepingSteps.{handed_on}
 use Rattle.mrp_tables.proofs.draft.Draft.ship_of.Goals as goal
 
 pub returns-in_err-lane-clause-exact : goal.returns-in_err-lane-clause-exact

@@ -1,6 +1,0 @@
-pub mod Finding
-pub mod Needing
-pub mod Coming
-pub mod CoverFacts
-pub mod LineFacts
-pub mod SheetFacts

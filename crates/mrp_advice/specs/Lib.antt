@@ -1,9 +1,0 @@
-pub mod OpenOrders
-pub mod Needed
-pub mod Advice
-pub mod Covered
-pub mod Gathered
-pub mod Rows
-pub mod AdviceLines
-pub mod Sheets
-pub mod Laws

@@ -1,4 +1,0 @@
-pub mod Counting
-pub mod Grouping
-pub mod Listing
-pub mod Placing

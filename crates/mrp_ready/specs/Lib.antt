@@ -1,5 +1,0 @@
-pub mod Chosen
-pub mod Components
-pub mod Progress
-pub mod Counts
-pub mod Laws

@@ -1,5 +1,0 @@
-use Rattle.mrp_schedule.proofs.SheetFacts.{schedules_are_read}
-use Rattle.mrp_schedule.proofs.laws.schedules_are_read_back.Goals as goal
-
-pub returns : goal.returns
-returns c = schedules_are_read
