@@ -74,8 +74,8 @@ impl Agent {
         Agent::of_parts(alloc, frame, demands, receipts)
     }
 
-    /// The same, by the parts of the view: the sums of its demand rows and receipt rows become what is
-    /// called for and what has come.
+    /// The agent of the parts of a view: the sums of its demand rows and receipt rows become what is called for
+    /// and what has come.
     fn of_parts(
         alloc: Global,
         view: PlantFrame,
@@ -201,7 +201,7 @@ impl Agent {
         self.is_done()
     }
 
-    /// The same, by what is kept.
+    /// Whether no pair is left, and each lane has ended, by what the agent keeps and by no history.
     fn is_done(&self) -> bool
         ensures { result ≡ is_done self.now }
     {

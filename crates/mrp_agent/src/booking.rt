@@ -73,7 +73,7 @@ pub(crate) fn incoming_place(lanes: &[IncomingLane], lane: LaneNo) -> usize
     find_incoming(lanes, lane).unwrap_or(lanes.len())
 }
 
-/// The same of a lane that is looked for at the place `near` first.
+/// The place of a lane among those that come in, or how many these are. The lane is looked for at `near` first.
 pub(crate) fn incoming_near(lanes: &[IncomingLane], lane: LaneNo, near: usize) -> usize
     requires { count_by (λ l. l.number.0 == lane.0) lanes.now ≤ 1 }
     ensures { result ≡ position_or_len (λ l. l.number.0 == lane.0) lanes.now }

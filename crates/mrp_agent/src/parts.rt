@@ -49,7 +49,7 @@ impl Structure {
         Structure::of_edges(alloc, view, &parents)
     }
 
-    /// The same, by the plant's edges.
+    /// The pairs of a plant with these edges where nothing is planned and nothing has come.
     fn of_edges(
         alloc: Global,
         view: &PlantFrame,
@@ -93,7 +93,7 @@ fn first_waiting(
     waiting_by(alloc, view, &joins)
 }
 
-/// The same, by the joins of the edges.
+/// For each pair the components that wait for it by these joins, and what is planned at first.
 fn waiting_by(
     alloc: Global,
     view: &PlantFrame,

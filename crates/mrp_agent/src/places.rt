@@ -34,7 +34,7 @@ impl ItemPlaces {
         self.items.find(item)
     }
 
-    /// The same of an item that is looked for at the place `near` and right behind it first.
+    /// The place of an item, which is looked for at the place `near` and right behind it first.
     pub(crate) fn find_near(&self, item: ItemNo, near: usize) -> Option<usize>
         ensures place { result ≡ place_of self.now item }
         ensures within { IfSome result (λ place. place < length self.now) }

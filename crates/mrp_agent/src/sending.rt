@@ -185,7 +185,7 @@ fn outgoing_place(lanes: &[OutgoingLane], lane: LaneNo) -> usize
     find_outgoing(lanes, lane).unwrap_or(lanes.len())
 }
 
-/// The same of a lane that is looked for at the place `near` first.
+/// The place of a lane among those that go out, or how many these are. The lane is looked for at `near` first.
 fn outgoing_near(lanes: &[OutgoingLane], lane: LaneNo, near: usize) -> usize
     requires { count_by (λ l. l.number.0 == lane.0) lanes.now ≤ 1 }
     ensures { result ≡ position_or_len (λ l. l.number.0 == lane.0) lanes.now }

@@ -122,7 +122,8 @@ impl Book {
         self.cumulative_near(item, self.near)
     }
 
-    /// The same of an item that is looked for at the place `near` among the lane's, and right behind it, first.
+    /// The cumulative figure of an item, or `None` where it isn't on the lane. The item is looked for at the place
+    /// `near` among the lane's, and right behind it, first.
     pub fn cumulative_near(&self, item: ItemNo, near: usize) -> Option<Qty>
         ensures { (F : LaneForm) (records : List Record) → BookShows F self.now records
             → result ≡ option_map (λ i. cum i.opening i.item (contents records)) (item_on F item.0) }
@@ -231,7 +232,7 @@ impl Book {
         self.places.find(item)
     }
 
-    /// The same of an item that is looked for at the place `near` and right behind it first.
+    /// The place of an item, which is looked for at the place `near` and right behind it first.
     fn find_near(&self, item: ItemNo, near: usize) -> Option<usize>
         ensures place { result ≡ position (λ g. g.item.0 == item.0) self.now.items }
         ensures within { IfSome result (λ place. place < length self.now.items) }

@@ -58,7 +58,7 @@ pub(crate) fn draft_wave<R: Threads + Wait + Sync, G: Gate>(
     )
 }
 
-/// The same, with the scope in which the threads run.
+/// Drafts the pairs of a wave within the scope in which the threads run.
 fn draft_beside<'s, E, R: Threads, G: Gate>(
     scope: &Scope<'s, E>,
     rt: &R,

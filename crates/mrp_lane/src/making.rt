@@ -92,7 +92,7 @@ fn name(mailbox: &Mailbox, pass: &mut LanePass, network: &Network, lane: LaneNo)
     part::<Brand>(mailbox, pass, network, lane)
 }
 
-/// The same at any name.
+/// Tells the first pass of a mailbox its name, whichever that is, and makes the receiver's.
 fn part<N: Naming>(
     mailbox: &Mailbox,
     pass: &mut LanePass,

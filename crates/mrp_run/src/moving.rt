@@ -39,7 +39,7 @@ impl Looks {
         }
     }
 
-    /// The same where something may have changed at the plant's own ends.
+    /// At which of its lanes a plant looks where something may have changed at its own ends: at all, then.
     pub(crate) fn after(self, changed: bool) -> Looks {
         if changed { Looks::All } else { self }
     }

@@ -73,7 +73,7 @@ pub fn run_plant<R: Threads + Wait + Sync, G: Gate, S: StopRule>(
     Ok((agent, sends, takes))
 }
 
-/// The same for a plant in one piece.
+/// Runs one plant, whose agent and ends are in one piece, and gives it back so.
 pub(crate) fn run_owned<R: Threads + Wait + Sync, G: Gate, S: StopRule>(
     rt: &R,
     alloc: Global,

@@ -55,7 +55,7 @@ impl<S: StopRule> Stop<S> {
         }
     }
 
-    /// The same, with bells: a plant that waits sleeps until its bell is rung, for a moment at most.
+    /// No fault was told. A plant that waits sleeps until its bell is rung, for a moment at most.
     pub(crate) fn with_bells(bells: Bells) -> Stop<S> {
         Stop {
             told: OnceLock::new(),

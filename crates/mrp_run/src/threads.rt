@@ -66,7 +66,7 @@ pub(crate) fn run_plants<R: Threads + Wait + Sync, G: Gate, S: StopRule + Send +
     run_until(rt, alloc, plants, workers, gate, &stop, turns)
 }
 
-/// The same, where the plants share `stop`.
+/// Runs each plant in a thread of its own, where they share `stop`, and joins them all.
 fn run_until<R: Threads + Wait + Sync, G: Gate, S: StopRule + Send + Sync>(
     rt: &R,
     alloc: Global,
@@ -120,7 +120,7 @@ fn new_rooms(alloc: Global, plants: usize) -> Result<Rooms, Memory>
     })
 }
 
-/// The same, with the scope in which the threads run.
+/// Starts a thread for each plant within a scope, and joins them all.
 fn run_beside<'s, E, R: Threads + Wait + Sync, G: Gate, S: StopRule + Send + Sync>(
     scope: &Scope<'s, E>,
     rt: &'s R,
