@@ -34,7 +34,7 @@ pub use mrp_lane::{MOST_ROOM, Reconciled, SendEnd, Stamp, TakeEnd};
 pub use mrp_net::PlantNo;
 pub use mrp_netting::PairPlan;
 pub use mrp_qty::MOST_TURNS;
-pub use network::{Outcome, run_network, run_network_within};
+pub use network::{Outcome, plan_network, run_network, run_network_within};
 pub use running::run_plant;
 pub use settings::Settings;
 pub use stop::{Stop, StopRule};

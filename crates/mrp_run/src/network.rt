@@ -1,5 +1,6 @@
 //! A whole network, run by a thread for each plant.
 ghost use Rattle.std.specs.Prelude.{◌≡◌, IfErr, IfOk};
+ghost use Rattle.mrp_net.specs.Plan.{plan_of};
 ghost use Rattle.mrp_loops.specs.Sized.{IsSized};
 ghost use Rattle.mrp_run.specs.Ends.{AreThrough};
 ghost use Rattle.mrp_run.specs.declared.fault.RunFault.{RunFault};
@@ -80,8 +81,44 @@ pub fn run_network_within<R: Threads + Wait + Sync, G: Gate>(
     ensures outcome { IfOk result (λ o. IsOutcome net.now.network o) }
     ensures gate { GateTells G.turn_open G.turn_shut G.worker_shut settings.workers turns net.now.network result }
 {
+    let through = run_through(rt, alloc, net, settings, gate, turns)?;
+    outcome_of(rt, alloc, net.network(), through)
+}
+
+/// The plan of each pair, in table order, as [`run_network`] comes to it, where nobody asks what went over the
+/// lanes: their ends are dropped as the threads left them.
+///
+/// # Errors
+///
+/// Those of [`run_network`].
+pub fn plan_network<R: Threads + Wait + Sync, G: Gate>(
+    rt: &R,
+    alloc: Global,
+    net: &SizedNet<'_>,
+    settings: Settings,
+    gate: &G,
+) -> Result<Vec<PairPlan>, RunFault>
+    ensures plans { IfOk result (λ plans. plans.items ≡ plan_of net.now.network) }
+    ensures gate { GateTells G.turn_open G.turn_shut G.worker_shut settings.workers MOST_TURNS net.now.network result }
+{
+    let through = run_through(rt, alloc, net, settings, gate, MOST_TURNS)?;
+    plans_of(alloc, net.network(), through)
+}
+
+/// The plants of a network once the thread of each has finished, in so many turns at most.
+fn run_through<R: Threads + Wait + Sync, G: Gate>(
+    rt: &R,
+    alloc: Global,
+    net: &SizedNet<'_>,
+    settings: Settings,
+    gate: &G,
+    turns: u64,
+) -> Result<Vec<Plant>, RunFault>
+    ensures through { IfOk result (λ plants. AreThrough net.now.network plants.items) }
+    ensures gate { GateTells G.turn_open G.turn_shut G.worker_shut settings.workers turns net.now.network result }
+{
     let ready = ready_plants(rt, alloc, net, settings.capacity())?;
-    let through = run_plants::<R, G, Brand>(
+    run_plants::<R, G, Brand>(
         rt,
         alloc,
         ready,
@@ -89,8 +126,17 @@ pub fn run_network_within<R: Threads + Wait + Sync, G: Gate>(
         settings.capacity(),
         gate,
         turns,
-    )?;
-    outcome_of(rt, alloc, net.network(), through)
+    )
+}
+
+/// The plans of plants that have finished, in table order.
+fn plans_of(alloc: Global, network: &Network, plants: Vec<Plant>) -> Result<Vec<PairPlan>, RunFault>
+    requires sized { IsSized network.now }
+    requires through { AreThrough network.now plants.items }
+    ensures plans { IfOk result (λ plans. plans.items ≡ plan_of network.now) }
+    ensures fault { IfErr result (λ fault. fault ≡ RunFault.Memory) }
+{
+    Ok(gather(alloc, network, plants)?)
 }
 
 /// What plants that have finished come to.

@@ -15,7 +15,7 @@ use mrp_loops::SizedNet;
 use mrp_net::{Network, PlantNo};
 use mrp_plan::Plan;
 use mrp_report::{late_rows, plan_rows_by_threads};
-use mrp_run::{Gate, RunFault, Settings, run_network};
+use mrp_run::{Gate, RunFault, Settings, plan_network};
 use std::alloc::{AllocError, Global};
 use std::io::Write;
 use std::sync::Wait;
@@ -35,8 +35,8 @@ pub(crate) fn run_plan<T: Threads + Wait + Sync, G: Gate>(
     ensures gate { GateExplains G.turn_open G.turn_shut G.worker_shut settings.workers MOST_TURNS
         (λ says. says net.now.network) result }
 {
-    match run_network(rt, alloc, net, settings, gate) {
-        Ok(outcome) => Ok(Plan::gather(net, outcome.plans)),
+    match plan_network(rt, alloc, net, settings, gate) {
+        Ok(plans) => Ok(Plan::gather(net, plans)),
         Err(fault) => Err(named(alloc, net.network(), fault)?),
     }
 }

@@ -5,9 +5,9 @@ use Rattle.mrp_text.proofs.run.run_plan.Goals as goal
 pub gather-requires : goal.gather-requires
 gather-requires g c =
     let plannable = c.requires.plannable in
-    ap length c.in-Ok.ensures.outcome.plans ∙ (one_plan c.args.net.now.network plannable.table plannable.loop_free).fits.size
+    ap length c.in-Ok.ensures.plans ∙ (one_plan c.args.net.now.network plannable.table plannable.loop_free).fits.size
 
 pub returns-in-Ok-clause-fits : goal.returns-in-Ok-clause-fits
 returns-in-Ok-clause-fits g c =
     let plannable = c.requires.plannable in
-    rw (c.gather.ensures) (rw (c.in-Ok.ensures.outcome.plans) (one_plan c.args.net.now.network plannable.table plannable.loop_free).fits)
+    rw (c.gather.ensures) (rw (c.in-Ok.ensures.plans) (one_plan c.args.net.now.network plannable.table plannable.loop_free).fits)
