@@ -15,10 +15,11 @@ use mrp_plan::Plan;
 use mrp_world::Firm;
 use std::alloc::Global;
 
-/// The capacity of a mailbox where nothing depends on it, in records.
-const USUAL_CAPACITY: u64 = 64;
+/// The most records that a mailbox holds where one thread drives the firm. It has no use for more: the plan and the
+/// figures are those of every capacity, and the receiver acts as soon as a mailbox is full.
+const DRIVEN_CAPACITY: u64 = 8;
 
-/// The plan that the plants of a network come to.
+/// The plan that the plants of a network come to, whose mailboxes may hold so many records.
 pub(crate) fn driven_plan(
     alloc: Global,
     net: &SizedNet<'_>,
@@ -29,7 +30,7 @@ pub(crate) fn driven_plan(
     ensures fits { IfOk result (Fits net.now.network) }
     ensures fault { IfErr result (λ fault. fault ≡ TextFault.Memory) }
 {
-    let firm = Firm::driven(alloc, net, capacity)?;
+    let firm = Firm::driven(alloc, net, capacity.min(DRIVEN_CAPACITY))?;
     let plan = firm.into_plan(alloc, net)?;
     Ok(plan)
 }
@@ -43,7 +44,7 @@ pub(crate) fn driven_figures(
     ensures lanes { IfOk result (λ figures. All (IsFigure net.now.network) figures.items) }
     ensures fault { IfErr result (λ fault. fault ≡ TextFault.Memory) }
 {
-    let firm = Firm::driven(alloc, net, USUAL_CAPACITY)?;
+    let firm = Firm::driven(alloc, net, DRIVEN_CAPACITY)?;
     let figures = firm.figures(alloc)?;
     Ok(figures)
 }
