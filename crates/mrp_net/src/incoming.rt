@@ -86,7 +86,8 @@ fn add_ships(tables: &Tables, pairs: &[usize], places: &[usize], rows: &mut [u64
 {
     let periods = tables.horizon().get() as usize;
     let by = ByPlace { places };
-    add_amounts(&by, &ByPeriod, &Pieces, tables.ships(), periods, rows);
+    let ships = tables.rows().ships();
+    add_amounts(&by, &ByPeriod, &Pieces, ships, periods, rows);
 }
 
 impl Incoming {
@@ -95,9 +96,10 @@ impl Incoming {
         requires { ArePeriods tables.now (received tables.now) receipts.now }
         ensures { IfOk result (IsIncoming tables.now) }
     {
-        let mut places = vec![in alloc; 0; tables.pairs().len()]?;
+        let table = tables.rows();
+        let mut places = vec![in alloc; 0; table.pairs().len()]?;
         let mut pairs = Vec::new(alloc);
-        count_pairs(tables.ships(), &mut pairs, places.as_mut_slice())?;
+        count_pairs(table.ships(), &mut pairs, places.as_mut_slice())?;
         let mut rows = received_of(alloc, tables, receipts, pairs.as_slice())?;
         add_ships(
             tables,

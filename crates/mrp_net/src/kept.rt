@@ -1,14 +1,11 @@
 //! What a network keeps of its table.
 
-ghost use Rattle.std.specs.Prelude.{◌≡◌, ◌<◌, ◌==◌, ◌&&◌, ◌↔◌, Some, IsSome, IfSome, length, option_map, position};
-ghost use Rattle.std.specs.Prelude.{slice_get};
-ghost use Rattle.std.specs.Str.{bytes_eq};
+ghost use Rattle.std.specs.Prelude.{◌≡◌, ◌==◌, ◌&&◌, ◌↔◌, IsSome, IfSome, option_map, position};
 ghost use Rattle.mrp_rows.specs.Table.{IsPair, IsTable, horizon, pair_no};
 ghost use Rattle.mrp_rows.specs.Dropping.{without_bills_and_demands};
 
-use mrp_cal::Calendar;
 use mrp_qty::Horizon;
-use mrp_rows::{ItemNo, PairNo, PairRow, PlantNo, ReceiptRow, ShipRow, SourceRow, Tables};
+use mrp_rows::{ItemNo, PairNo, PlantNo, RowLists, Tables};
 use std::alloc::Global;
 use std::marker::Model;
 use std::snapshot::Snapshot;
@@ -19,7 +16,7 @@ use std::snapshot::Snapshot;
 #[derive(Drop)]
 pub struct Kept {
     whole: Snapshot<Tables>,
-    rows: Tables,
+    kept: Tables,
 }
 
 impl Model for Kept {
@@ -31,7 +28,7 @@ impl Model for Kept {
 
     ghost view = { λ k. k.whole.value };
 
-    ghost invariant = { λ k. IsTable k.whole.value × (k.rows ≡ without_bills_and_demands k.whole.value) };
+    ghost invariant = { λ k. IsTable k.whole.value × (k.kept ≡ without_bills_and_demands k.whole.value) };
 }
 
 impl Kept {
@@ -39,111 +36,33 @@ impl Kept {
     pub fn of(alloc: Global, tables: Tables) -> Kept
         ensures { result ≡ tables }
     {
-        let _pairs = tables.pairs();
+        let _rows = tables.rows();
         let whole = Snapshot::of(&tables);
-        let mut rows = tables;
-        rows.drop_bills_and_demands(alloc);
-        Kept { whole, rows }
+        let mut kept = tables;
+        kept.drop_bills_and_demands(alloc);
+        Kept { whole, kept }
     }
 
-    /// The rows that are kept, as a table.
-    pub fn rows(&self) -> &Tables
+    /// The table without the rows that were dropped.
+    pub fn as_tables(&self) -> &Tables
         ensures { result.now ≡ without_bills_and_demands self.now }
     {
-        &self.rows
+        &self.kept
     }
 
-    /// The days of the periods.
-    pub fn calendar(&self) -> &Calendar
-        ensures value { result.now ≡ self.now.calendar }
+    /// The rows that are kept: all but the bill rows and the demand rows.
+    pub fn rows(&self) -> &RowLists
+        ensures value { result.now ≡ without_bills_and_demands self.now }
         ensures table { IsTable self.now }
     {
-        self.rows.calendar()
+        self.kept.rows()
     }
 
     /// The number of periods.
     pub fn horizon(&self) -> Horizon
         ensures value { result ≡ horizon self.now }
     {
-        self.rows.horizon()
-    }
-
-    /// How many plants there are.
-    pub fn plants(&self) -> usize
-        ensures value { result ≡ length self.now.plants }
-    {
-        self.rows.plants()
-    }
-
-    /// The pairs in table order.
-    pub fn pairs(&self) -> &[PairRow]
-        ensures value { result.now ≡ self.now.pairs }
-        ensures table { IsTable self.now }
-    {
-        self.rows.pairs()
-    }
-
-    /// The sources of all pairs, in the order of the pairs and of their rows.
-    pub fn sources(&self) -> &[SourceRow]
-        ensures value { result.now ≡ self.now.sources }
-        ensures table { IsTable self.now }
-    {
-        self.rows.sources()
-    }
-
-    /// The receipt rows in table order.
-    pub fn receipts(&self) -> &[ReceiptRow]
-        ensures value { result.now ≡ self.now.receipts }
-        ensures table { IsTable self.now }
-    {
-        self.rows.receipts()
-    }
-
-    /// The ship rows in table order.
-    pub fn ships(&self) -> &[ShipRow]
-        ensures value { result.now ≡ self.now.ships }
-        ensures table { IsTable self.now }
-    {
-        self.rows.ships()
-    }
-
-    /// The name of a plant of the table.
-    pub fn plant_name(&self, plant: PlantNo) -> &str
-        requires known { plant.0 < length self.now.plants }
-        ensures value { slice_get self.now.plants plant.0 ≡ Some result.now }
-    {
-        self.rows.plant_name(plant)
-    }
-
-    /// The name of an item of the table.
-    pub fn item_name(&self, item: ItemNo) -> &str
-        requires known { item.0 < length self.now.items }
-        ensures value { slice_get self.now.items item.0 ≡ Some result.now }
-    {
-        self.rows.item_name(item)
-    }
-
-    /// How many items there are.
-    pub fn items(&self) -> usize
-        ensures value { result ≡ length self.now.items }
-    {
-        self.rows.items()
-    }
-
-    /// The plant of that name, if there is one. The names are looked through one by one.
-    pub fn find_plant(&self, name: &str) -> Option<PlantNo>
-        ensures place { option_map (λ p. p.0) result ≡ position (bytes_eq name.now) self.now.plants }
-        ensures within { IfSome result (λ p. p.0 < length self.now.plants) }
-    {
-        self.rows.find_plant(name)
-    }
-
-    /// The item of that name, if there is one. The names are looked through one by one.
-    pub fn find_item(&self, name: &str) -> Option<ItemNo>
-        ensures place { option_map (λ i. i.0) result ≡ position (bytes_eq name.now) self.now.items }
-        ensures within { IfSome result (λ i. i.0 < length self.now.items) }
-    {
-        self.rows.find_item(name)
+        self.kept.horizon()
     }
 
     /// The pair of a plant and an item, if there is one.
@@ -153,6 +72,6 @@ impl Kept {
         ensures found { IsSome result ↔ IsPair self.now (pair_no self.now plant.0 item.0) }
         ensures value { IfSome result (λ x. x.0 ≡ pair_no self.now plant.0 item.0) }
     {
-        self.rows.find_pair(plant, item)
+        self.kept.find_pair(plant, item)
     }
 }

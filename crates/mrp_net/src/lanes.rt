@@ -90,9 +90,10 @@ impl KeyOf<SourceRow> for ByTaker {
 fn all_taken(alloc: Global, tables: &Tables) -> Result<Vec<Taken>, Memory>
     ensures { IfOk result (λ v. v.items ≡ map (taken tables.now) tables.now.sources) }
 {
-    let pairs = tables.pairs();
-    let plants = tables.plants();
-    let sources = tables.sources();
+    let rows = tables.rows();
+    let pairs = rows.pairs();
+    let plants = rows.plants();
+    let sources = rows.sources();
     let mut all = Vec::with_capacity(alloc, sources.len())?;
     for source in sources {
         let pair = pairs[source.pair.0];
@@ -116,8 +117,7 @@ fn items_of(alloc: Global, all: &[Taken]) -> Result<Vec<ItemNo>, Memory>
 fn items(alloc: Global, tables: &Tables) -> Result<Groups<ItemNo>, Memory>
     ensures { IfOk result (λ g. AreItems tables.now g.rows.items g.starts.items) }
 {
-    let _pairs = tables.pairs();
-    let plants = tables.plants();
+    let plants = tables.rows().plants();
     let all = all_taken(alloc, tables)?;
     let Groups { rows, starts } = group(alloc, &ByRoute, all.as_slice(), plants * plants)?;
     let items = items_of(alloc, rows.as_slice())?;
@@ -155,8 +155,7 @@ fn add_lanes(
     requires items { AreItems tables.now items.now.rows.items items.now.starts.items }
     ensures { IfOk result (λ _. lanes.new.items ≡ lanes.old.items ++ lanes_of tables.now customer) }
 {
-    let _pairs = tables.pairs();
-    let plants = tables.plants();
+    let plants = tables.rows().plants();
     for supplier in 0..plants {
         let route = customer * plants + supplier;
         if items.starts[route] < items.starts[route + 1] {
@@ -172,7 +171,7 @@ fn all_lanes(alloc: Global, tables: &Tables, items: &Groups<ItemNo>) -> Result<V
     ensures { IfOk result (λ v. v.items ≡ lanes tables.now) }
 {
     let mut lanes = Vec::new(alloc);
-    for customer in 0..tables.plants() {
+    for customer in 0..tables.rows().plants() {
         add_lanes(&mut lanes, tables, items, customer)?;
     }
     Ok(lanes)
@@ -182,8 +181,9 @@ fn all_lanes(alloc: Global, tables: &Tables, items: &Groups<ItemNo>) -> Result<V
 fn source_starts(alloc: Global, tables: &Tables) -> Result<Vec<usize>, Memory>
     ensures { IfOk result (λ v. AreSourceStarts tables.now v.items) }
 {
-    let pairs = tables.pairs().len();
-    let begins = starts(alloc, &ByTaker, tables.sources(), pairs)?;
+    let rows = tables.rows();
+    let pairs = rows.pairs().len();
+    let begins = starts(alloc, &ByTaker, rows.sources(), pairs)?;
     Ok(begins)
 }
 
@@ -194,7 +194,7 @@ pub fn source_of(tables: &Tables, starts: &[usize], pair: PairNo, plant: PlantNo
     ensures value { result ≡ source_no tables.now pair.0 plant.0 }
     ensures within { result < length tables.now.sources }
 {
-    let sources = tables.sources();
+    let sources = tables.rows().sources();
     let mut at = starts[pair.0];
     while sources[at].plant.0 != plant.0 {
         at += 1;
@@ -207,7 +207,7 @@ fn all_sent(alloc: Global, tables: &Tables, starts: &[usize]) -> Result<Vec<Sent
     requires { AreSourceStarts tables.now starts.now }
     ensures { IfOk result (λ v. v.items ≡ map (sent tables.now) tables.now.ships) }
 {
-    let ships = tables.ships();
+    let ships = tables.rows().ships();
     let mut all = Vec::with_capacity(alloc, ships.len())?;
     for ship in ships {
         all.push(Sent {
@@ -234,7 +234,7 @@ fn shipments(alloc: Global, tables: &Tables, all: &[Sent]) -> Result<Groups<Ship
     requires { all.now ≡ map (sent tables.now) tables.now.ships }
     ensures { IfOk result (λ g. AreShipments tables.now g.rows.items g.starts.items) }
 {
-    let sources = tables.sources().len();
+    let sources = tables.rows().sources().len();
     let Groups { rows, starts } = group(alloc, &BySource, all, sources)?;
     let shipments = shipments_of(alloc, rows.as_slice())?;
     Ok(Groups {
@@ -250,7 +250,7 @@ fn add_figures(tables: &Tables, starts: &[usize], figures: &mut [u64])
     ensures { AddsTotals (λ c. source_no tables.now c.pair.0 c.from.0)
         (λ c. c.figure) tables.now.cums figures.old figures.new }
 {
-    for cum in tables.cums() {
+    for cum in tables.rows().cums() {
         let source = source_of(tables, starts, cum.pair, cum.from);
         figures[source] = figures[source].saturating_add(cum.figure.get());
     }
@@ -261,7 +261,7 @@ fn figures(alloc: Global, tables: &Tables, starts: &[usize]) -> Result<Vec<u64>,
     requires { AreSourceStarts tables.now starts.now }
     ensures { IfOk result (λ v. AreSent tables.now (figure tables.now) v.items) }
 {
-    let mut figures = vec![in alloc; 0; tables.sources().len()]?;
+    let mut figures = vec![in alloc; 0; tables.rows().sources().len()]?;
     add_figures(tables, starts, figures.as_mut_slice());
     Ok(figures)
 }
@@ -271,7 +271,7 @@ fn shipped(alloc: Global, tables: &Tables, all: &[Sent]) -> Result<Vec<u64>, Mem
     requires { all.now ≡ map (sent tables.now) tables.now.ships }
     ensures { IfOk result (λ v. AreSent tables.now (shipped_from tables.now) v.items) }
 {
-    let mut shipped = vec![in alloc; 0; tables.sources().len()]?;
+    let mut shipped = vec![in alloc; 0; tables.rows().sources().len()]?;
     add_totals(&BySource, &Pieces, all, shipped.as_mut_slice());
     Ok(shipped)
 }
@@ -282,8 +282,7 @@ fn put_resets(tables: &Tables, starts: &[usize], resets: &mut [Option<u64>])
     requires none { resets.old ≡ replicate (length tables.now.sources) None }
     ensures { AreResetsOf tables.now tables.now.resets resets.new }
 {
-    let _pairs = tables.pairs();
-    for reset in tables.resets() {
+    for reset in tables.rows().resets() {
         let source = source_of(tables, starts, reset.pair, reset.from);
         resets[source] = Some(reset.period as u64);
     }
@@ -294,7 +293,7 @@ fn resets(alloc: Global, tables: &Tables, starts: &[usize]) -> Result<Vec<Option
     requires { AreSourceStarts tables.now starts.now }
     ensures { IfOk result (λ v. AreResets tables.now v.items) }
 {
-    let mut resets = vec![in alloc; None; tables.sources().len()]?;
+    let mut resets = vec![in alloc; None; tables.rows().sources().len()]?;
     put_resets(tables, starts, resets.as_mut_slice());
     Ok(resets)
 }

@@ -103,7 +103,7 @@ impl Network {
     pub fn of(alloc: Global, tables: Tables) -> Result<Network, Memory>
         ensures { IfOk result (λ n. n ≡ tables) }
     {
-        let _pairs = tables.pairs();
+        let _rows = tables.rows();
         match Parts::of(alloc, &tables) {
             Ok(parts) => Ok(parts.join(alloc, tables)),
             Err(memory) => {
@@ -117,7 +117,7 @@ impl Network {
     pub fn plants(&self) -> usize
         ensures { result ≡ length self.now.plants }
     {
-        self.tables.plants()
+        self.tables.rows().plants()
     }
 
     /// The number of pairs.
@@ -125,7 +125,7 @@ impl Network {
         ensures value { result ≡ length self.now.pairs }
         ensures table { IsTable self.now }
     {
-        self.tables.pairs().len()
+        self.tables.rows().pairs().len()
     }
 
     /// The number of periods.
@@ -139,7 +139,7 @@ impl Network {
     pub fn calendar(&self) -> &Calendar
         ensures { result.now ≡ self.now.calendar }
     {
-        self.tables.calendar()
+        self.tables.rows().calendar()
     }
 
     /// The pair of the plant and the item with these names, or `None` where the table has none. The names are
@@ -148,8 +148,9 @@ impl Network {
         ensures found { IfSome result (λ x. IsNamed self.now x.0 plant.now item.now) }
         ensures missing { IfNone result ((x : ℕ) → ¬ (IsNamed self.now x plant.now item.now)) }
     {
-        let plant = self.tables.find_plant(plant)?;
-        let item = self.tables.find_item(item)?;
+        let rows = self.tables.rows();
+        let plant = rows.find_plant(plant)?;
+        let item = rows.find_item(item)?;
         self.tables.find_pair(plant, item)
     }
 
@@ -159,10 +160,8 @@ impl Network {
         ensures { IsNamed self.now x.0 result.0.now result.1.now }
     {
         let pair = self.pair(x);
-        (
-            self.tables.plant_name(pair.plant),
-            self.tables.item_name(pair.item),
-        )
+        let rows = self.tables.rows();
+        (rows.plant_name(pair.plant), rows.item_name(pair.item))
     }
 
     /// The name of a plant.
@@ -170,7 +169,7 @@ impl Network {
         requires { plant.0 < length self.now.plants }
         ensures { slice_get self.now.plants plant.0 ≡ Some result.now }
     {
-        self.tables.plant_name(plant)
+        self.tables.rows().plant_name(plant)
     }
 
     /// The name of an item.
@@ -178,14 +177,14 @@ impl Network {
         requires { item.0 < length self.now.items }
         ensures { slice_get self.now.items item.0 ≡ Some result.now }
     {
-        self.tables.item_name(item)
+        self.tables.rows().item_name(item)
     }
 
     /// The number of items.
     pub fn items(&self) -> usize
         ensures { result ≡ length self.now.items }
     {
-        self.tables.items()
+        self.tables.rows().items()
     }
 
     /// The plant of that name, or `None` where the table has none. The names are looked through one by one.
@@ -193,7 +192,7 @@ impl Network {
         ensures found { IfSome result (λ p. slice_get self.now.plants p.0 ≡ Some name.now) }
         ensures missing { IfNone result (¬ Contains self.now.plants name.now) }
     {
-        self.tables.find_plant(name)
+        self.tables.rows().find_plant(name)
     }
 
     /// The item of that name, or `None` where the table has none. The names are looked through one by one.
@@ -201,7 +200,7 @@ impl Network {
         ensures found { IfSome result (λ i. slice_get self.now.items i.0 ≡ Some name.now) }
         ensures missing { IfNone result (¬ Contains self.now.items name.now) }
     {
-        self.tables.find_item(name)
+        self.tables.rows().find_item(name)
     }
 
     /// The row of a pair.
@@ -209,7 +208,7 @@ impl Network {
         requires { IsPair self.now x.0 }
         ensures { result ≡ pair_at self.now x.0 }
     {
-        self.tables.pairs()[x.0]
+        self.tables.rows().pairs()[x.0]
     }
 
     /// Where the amount of a pair in a period stands among those of all pairs.
@@ -291,14 +290,14 @@ impl Network {
     pub fn receipts(&self) -> &[ReceiptRow]
         ensures { result.now ≡ self.now.receipts }
     {
-        self.tables.receipts()
+        self.tables.rows().receipts()
     }
 
     /// The shipments between plants that are on their way, in table order.
     pub fn ships(&self) -> &[ShipRow]
         ensures { result.now ≡ self.now.ships }
     {
-        self.tables.ships()
+        self.tables.rows().ships()
     }
 
     /// On hand, receipts, shipments and opening figures of the pair, or 2^64 - 1 where they are more.
@@ -411,7 +410,7 @@ impl Network {
         ensures { result ≡ source_on self.now (lane_at self.now l.0) item }
     {
         let at = self.source(self.lane(l), item);
-        self.tables.sources()[at]
+        self.tables.rows().sources()[at]
     }
 
     /// The pair of an item of the lane at the plant that receives the lane: the pair that takes it on a
@@ -461,7 +460,7 @@ impl Network {
         requires { IsLane self.now lane }
         ensures { result ≡ route_no self.now (customer_of lane) (supplier_of lane) }
     {
-        let _pairs = self.tables.pairs();
+        let _rows = self.tables.rows();
         lane.customer().0 * self.plants() + lane.supplier().0
     }
 
@@ -474,6 +473,6 @@ impl Network {
     {
         let x = self.tables.find_pair(lane.customer(), item).unwrap();
         let starts = self.lanes.sources.as_slice();
-        source_of(self.tables.rows(), starts, x, lane.supplier())
+        source_of(self.tables.as_tables(), starts, x, lane.supplier())
     }
 }

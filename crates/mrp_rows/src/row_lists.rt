@@ -1,4 +1,4 @@
-//! The lists of a table as they grow, row by row.
+//! The lists of a table: how they grow, row by row, and how they are read.
 
 use crate::names::{name_at, place_of, push_name};
 use crate::{
@@ -265,7 +265,7 @@ impl RowLists {
         self.pairs.as_slice()
     }
 
-    /// The sources in table order.
+    /// The sources of all pairs in table order: those of a pair stand together, as its row names them.
     pub fn sources(&self) -> &[SourceRow]
         ensures value { result.now ≡ self.now.sources }
     {

@@ -9,8 +9,9 @@ use Rattle.mrp_net.proofs.lanes.add_figures.Goals as goal
 pub source_of-source-requires-clause-taken : goal.source_of-source-requires-clause-taken
 source_of-source-requires-clause-taken c =
     let N = c.args.tables.now in
+    let cums_are = c.cums-cum-items.ensures.value ∙ ap (λ z. z.cums) c.rows.ensures.value in
     let cums = read_within (λ (k : CumRow). is_taken_from N k.pair.0 k.from.0
-    ≡ true) c.cums-cum-items.result.now N.cums c.cums-cum-items.ensures.value c.cums-cum-items.ensures.table.sourced.cums in
+    ≡ true) c.cums-cum-items.result.now N.cums cums_are c.rows.ensures.table.sourced.cums in
     subst (λ (k : CumRow). is_taken_from N k.pair.0 k.from.0 ≡ true) (sym c.cum-item.is) (cums c.loop-cum.cum-index c.cum-item.result c.loop-cum-test.true)
 
 pub bounds-figures-source : goal.bounds-figures-source
@@ -32,6 +33,7 @@ loop-cum-preserved c =
 pub returns : goal.returns
 returns c =
     let N = c.args.tables.now in
+    let cums_are = c.cums-cum-items.ensures.value ∙ ap (λ z. z.cums) c.rows.ensures.value in
     subst (λ (z : List CumRow). AddsTotals (λ k. source_no N k.pair.0 k.from.0) (λ k. k.figure) z c.args.figures.now c.loop-cum.figures)
-    (taken_whole c.cums-cum-items.result.now N.cums c.loop-cum.cum-index c.loop-cum-test.false c.cums-cum-items.ensures.value)
+    (taken_whole c.cums-cum-items.result.now N.cums c.loop-cum.cum-index c.loop-cum-test.false cums_are)
     c.loop-cum.invariant

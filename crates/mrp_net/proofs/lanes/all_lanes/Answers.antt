@@ -1,4 +1,4 @@
-use Rattle.std.proofs.Common.{◌≡◌, ℕ, List, ◌++◌, arith, sym, ap, ◌∙◌}
+use Rattle.std.proofs.Common.{◌≡◌, ℕ, List, ◌++◌, length, arith, sym, ap, ◌∙◌}
 use Rattle.std.specs.List.{flat_map, range_with_len}
 use Rattle.mrp_net.specs.declared.lane.Lane.{Lane}
 use Rattle.mrp_net.specs.Lanes.{lanes_of}
@@ -14,5 +14,6 @@ loop-customer-preserved c =
 
 pub returns : goal.returns
 returns c =
+    let plants_are = c.plants-customer-end.ensures.value ∙ ap (λ z. length z.plants) c.rows.ensures.value in
     let e : c.loop-customer.customer ≡ c.plants-customer-end.result = omega arith in
-    c.loop-customer.invariant ∙ ap (λ (z : ℕ). flat_map (lanes_of c.args.tables.now) (range_with_len 0 z)) (e ∙ c.plants-customer-end.ensures.value)
+    c.loop-customer.invariant ∙ ap (λ (z : ℕ). flat_map (lanes_of c.args.tables.now) (range_with_len 0 z)) (e ∙ plants_are)

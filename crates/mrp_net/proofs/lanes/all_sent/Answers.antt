@@ -8,8 +8,9 @@ use Rattle.mrp_net.proofs.lanes.all_sent.Goals as goal
 pub source_of-requires-clause-taken : goal.source_of-requires-clause-taken
 source_of-requires-clause-taken c =
     let N = c.args.tables.now in
+    let ships_are = c.ships-ships.ensures.value ∙ ap (λ z. z.ships) c.rows.ensures.value in
     let ships = read_within (λ (s : ShipRow). is_taken_from N s.pair.0 s.from.0
-    ≡ true) c.ships-ships.result.now N.ships c.ships-ships.ensures.value c.ships-ships.ensures.table.sourced.ships in
+    ≡ true) c.ships-ships.result.now N.ships ships_are c.rows.ensures.table.sourced.ships in
     subst (λ (s : ShipRow). is_taken_from N s.pair.0 s.from.0 ≡ true) (sym c.ship-item.is)
     (ships c.loop-ship.ship-index c.ship-item.result c.loop-ship-test.true)
 
@@ -24,4 +25,4 @@ pub returns : goal.returns
 returns c =
     let N = c.args.tables.now in
     c.loop-ship.invariant ∙ ap (map (sent N)) (taken_whole c.ships-ships.result.now N.ships c.loop-ship.ship-index c.loop-ship-test.false
-    c.ships-ships.ensures.value)
+    (c.ships-ships.ensures.value ∙ ap (λ z. z.ships) c.rows.ensures.value))

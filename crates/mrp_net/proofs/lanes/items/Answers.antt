@@ -9,15 +9,16 @@ use Rattle.mrp_net.proofs.lanes.items.Goals as goal
 pub group-requires-clause-keys : goal.group-requires-clause-keys
 group-requires-clause-keys c =
     let N = c.args.tables.now in
+    let plants_are = c.plants-plants.ensures.value ∙ ap (λ z. length z.plants) c.rows.ensures.value in
     subst (λ (z : List Taken). All (λ t. t.route < c.plants-plants.result * c.plants-plants.result) z) (sym (c.as_slice.ensures.value ∙ c.in_ok-all.ensures))
-    (subst (λ (z : ℕ). All (λ t. t.route < z * z) (map (taken N) N.sources)) (sym c.plants-plants.ensures.value) (routes_within N c.pairs-pairs.ensures.table))
+    (subst (λ (z : ℕ). All (λ t. t.route < z * z) (map (taken N) N.sources)) (sym plants_are) (routes_within N c.rows.ensures.table))
 
 pub returns : goal.returns
 returns c =
     let N = c.args.tables.now in
     let found = c.in_ok-rows.field-0 in
     let grouped = subst (λ (z : ℕ). IsGrouped (λ (t : Taken). t.route) (z * z) (map (taken N) N.sources) found.rows.items found.starts.items)
-    c.plants-plants.ensures.value
+    (c.plants-plants.ensures.value ∙ ap (λ z. length z.plants) c.rows.ensures.value)
     (subst (λ (z : List Taken). IsGrouped (λ t. t.route) (c.plants-plants.result * c.plants-plants.result) z found.rows.items found.starts.items)
     (c.as_slice.ensures.value ∙ c.in_ok-all.ensures) c.in_ok-rows.ensures) in
     let shown : c.in_ok-items.items.items ≡ map (λ (t : Taken). t.item) found.rows.items =

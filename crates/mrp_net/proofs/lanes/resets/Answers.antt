@@ -7,7 +7,7 @@ pub put_resets-requires-clause-none : goal.put_resets-requires-clause-none
 put_resets-requires-clause-none c =
     c.as_mut_slice.ensures.value
     ∙ c.in_ok-resets.ensures.items_if_clones_equal (λ y h. first_of (search (rules, h), cc (h), grind (arith, h)))
-    ∙ ap (λ (z : List SourceRow). replicate {A = Option ℕ} (length z) None) c.sources.ensures.value
+    ∙ ap (λ (z : List SourceRow). replicate {A = Option ℕ} (length z) None) (c.sources.ensures.value ∙ ap (λ z. z.sources) c.rows.ensures.value)
 
 pub returns : goal.returns
 returns c =

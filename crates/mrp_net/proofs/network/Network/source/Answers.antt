@@ -22,7 +22,7 @@ source_of-requires-clause-taken c =
     let found : c.unwrap-x.result.0 ≡ pair_no N c.customer.result.0 c.args.item.0 =
     subst (λ (o : Option PairNo). IfSome o (λ x. x.0 ≡ pair_no N c.customer.result.0 c.args.item.0)) c.unwrap-x.ensures c.find_pair.ensures.value in
     let is : c.unwrap-x.result.0 ≡ pair_on N c.args.lane c.args.item = found ∙ ap (λ (z : ℕ). pair_no N z c.args.item.0) c.customer.ensures in
-    ap (λ (z : Table). is_taken_from z c.unwrap-x.result.0 c.supplier.result.0) c.rows.ensures
+    ap (λ (z : Table). is_taken_from z c.unwrap-x.result.0 c.supplier.result.0) c.as_tables.ensures
     ∙ ap (λ (z : ℕ). is_taken_from N z c.supplier.result.0) is
     ∙ ap (is_taken_from N (pair_on N c.args.lane c.args.item)) c.supplier.ensures
     ∙ taken
@@ -34,7 +34,7 @@ returns-clause-value c =
     subst (λ (o : Option PairNo). IfSome o (λ x. x.0 ≡ pair_no N c.customer.result.0 c.args.item.0)) c.unwrap-x.ensures c.find_pair.ensures.value in
     let is : c.unwrap-x.result.0 ≡ pair_on N c.args.lane c.args.item = found ∙ ap (λ (z : ℕ). pair_no N z c.args.item.0) c.customer.ensures in
     c.source_of.ensures.value
-    ∙ ap (λ (z : Table). source_no z c.unwrap-x.result.0 c.supplier.result.0) c.rows.ensures
+    ∙ ap (λ (z : Table). source_no z c.unwrap-x.result.0 c.supplier.result.0) c.as_tables.ensures
     ∙ ap (λ (z : ℕ). source_no N z c.supplier.result.0) is
     ∙ ap (source_no N (pair_on N c.args.lane c.args.item)) c.supplier.ensures
     ∙ ap (λ (z : Table). source_no z (pair_on z c.args.lane c.args.item) (supplier_of c.args.lane)) c.self.view_is
