@@ -21,7 +21,8 @@ use Rattle.mrp_actions.specs.declared.orders.OrderKind.{OrderKind}
 use Rattle.mrp_actions.specs.declared.orders.OrderKind.TheVariants.{Receipt, Ship}
 use Rattle.mrp_actions.specs.Advice.{pair_advice}
 use Rattle.mrp_actions.specs.AdviceLaws.{AdviceIsReadBack}
-use Rattle.mrp_actions.specs.AdviceRows.{action_word, advice_fields, advice_names, advice_row, advice_text, order_kind_word, messages_text, needed_date, needed_period}
+use Rattle.mrp_actions.specs.AdviceRows.{action_word, advice_fields, advice_names, advice_row, advice_text, order_kind_word}
+use Rattle.mrp_actions.specs.AdviceRows.{messages_text, needed_date, needed_period}
 use Rattle.mrp_actions.specs.AdviceRows.{pair_advice_text, sender_name}
 use Rattle.mrp_actions.specs.AdviceSheets.{pair_advice_sheet}
 

@@ -9,7 +9,8 @@ use Rattle.mrp_sheet.specs.RowNames.{name_of_item}
 use Rattle.mrp_actions.specs.declared.line.ScheduleLine.{ScheduleLine}
 use Rattle.mrp_actions.specs.declared.line.ScheduleLine.TheVariants.{Opening, Call, Reset}
 use Rattle.mrp_actions.specs.declared.schedule_report.ItemRows.{ItemRows}
-use Rattle.mrp_actions.specs.ScheduleRows.{customer_name, is_between, lane_schedule_text, schedule_line_row, supplier_name}
+use Rattle.mrp_actions.specs.ScheduleRows.{customer_name, is_between, lane_schedule_text, schedule_line_row}
+use Rattle.mrp_actions.specs.ScheduleRows.{supplier_name}
 
 -- what the rows of an item's schedule have in common
 pub record AreOfItem (N : Table) (lane : Lane) (item : ItemNo) (rows : ItemRows) : Type 0 where

@@ -10,7 +10,8 @@ use Rattle.mrp_net.specs.Lanes.{lane_items, lanes}
 use Rattle.mrp_sheet.specs.Dates.{dates_of}
 use Rattle.mrp_sheet.specs.RowNames.{name_of_item}
 use Rattle.mrp_sheet.specs.Sheets.{IsReadAs, Sheet, header_sheet}
-use Rattle.mrp_actions.specs.ScheduleRows.{customer_name, is_between, schedule_line_fields, schedule_names, schedule_text}
+use Rattle.mrp_actions.specs.ScheduleRows.{customer_name, is_between, schedule_line_fields, schedule_names}
+use Rattle.mrp_actions.specs.ScheduleRows.{schedule_text}
 use Rattle.mrp_actions.specs.ScheduleRows.{supplier_name}
 use Rattle.mrp_actions.specs.Schedule.{schedule_of}
 

@@ -1,7 +1,8 @@
 //! Laws of open orders, of when they are needed, and of the report of their messages. Each is the contract of
 //! a function that does nothing.
 
-ghost use Rattle.mrp_actions.specs.AdviceLaws.{AdviceIsReadBack, NeedsRise, OrdersComeIn, OrdersAreKept, TimelyOrdersSuffice};
+ghost use Rattle.mrp_actions.specs.AdviceLaws.{AdviceIsReadBack, NeedsRise, OrdersComeIn, OrdersAreKept};
+ghost use Rattle.mrp_actions.specs.AdviceLaws.{TimelyOrdersSuffice};
 
 /// If each open order of a pair came in the period in which it is needed, and one that is needed in none never,
 /// then without any planned order the projected available balance would be at safety stock or above in each

@@ -16,7 +16,8 @@ ghost use Rattle.mrp_actions.specs.Covered.{Covers};
 ghost use Rattle.mrp_actions.specs.Gathered.{AreOpenOrders};
 ghost use Rattle.mrp_actions.specs.Needed.{first_short};
 ghost use Rattle.mrp_actions.specs.AdviceRows.{action_word, advice_names, advice_text, order_kind_word};
-ghost use Rattle.mrp_actions.specs.AdviceRows.{messages_text, needed_date, needed_period, pair_advice_text, sender_name};
+ghost use Rattle.mrp_actions.specs.AdviceRows.{messages_text, needed_date, needed_period, pair_advice_text};
+ghost use Rattle.mrp_actions.specs.AdviceRows.{sender_name};
 
 use crate::cover::{Cover, next_advice};
 use crate::gathering::open_orders;

@@ -1,6 +1,7 @@
 //! Laws of what pairs wait for. Each is the contract of a function that does nothing.
 
-ghost use Rattle.mrp_agent.specs.ReadinessLaws.{ReadyWhereNothingIsOpen, ComponentsWait, EndingOpensFewer, OpenBlocksAreAwaited};
+ghost use Rattle.mrp_agent.specs.ReadinessLaws.{ReadyWhereNothingIsOpen, ComponentsWait, EndingOpensFewer};
+ghost use Rattle.mrp_agent.specs.ReadinessLaws.{OpenBlocksAreAwaited};
 
 /// Where each pair waits for its joins with unplanned demanders and for its open blocks, exactly the
 /// ready pairs aren't planned, have no unplanned demander at the plant, and await no open block.

@@ -26,7 +26,8 @@ use Rattle.mrp_choice.specs.declared.choice.TheConstants.{MOST_WORKERS, MOST_CAP
 use Rattle.mrp_choice.specs.declared.choice.Choice.{Choice}
 use Rattle.mrp_arguments.specs.Values.{HasFlag, HasNumber, HasOrderValues, HasPegValues, HasPlanValues, HasText, HasCommandValues, IsWholeCommand, LiesWithin}
 use Rattle.mrp_arguments.specs.Values.{MayBeWithin, MayHaveNumber}
-use Rattle.mrp_arguments.proofs.RowFacts.{asks_at, defaults_gain, either, first_none, given_row, has_some, is_plain_rule, next_none, no_kind, no_value, rows_good}
+use Rattle.mrp_arguments.proofs.RowFacts.{asks_at, defaults_gain, either, first_none, given_row, has_some, is_plain_rule, next_none, no_kind}
+use Rattle.mrp_arguments.proofs.RowFacts.{no_value, rows_good}
 use Rattle.mrp_arguments.proofs.RowFacts.{rows_pass, unfailed, value_found, value_known, walk_good}
 
 -- ---- the command as clap builds it
