@@ -1,5 +1,6 @@
 """The reports of mrp as the tools for planners read them, and how all tools speak."""
 import argparse
+import contextlib
 import csv
 import mmap
 import os
@@ -328,6 +329,27 @@ class Names:
 def add_names(parser):
     """Adds the option of a tool that shows the names of sheets."""
     parser.add_argument("--names", metavar="FILE", type=Names, default=Names(), help="show the names, descriptions and notes that bin/sheets --names has kept")
+
+
+def add_out(parser):
+    """Adds the option of a tool that writes one file."""
+    parser.add_argument("--out", metavar="FILE", help="write this file, in whose place it comes once all went well, and not standard output")
+
+
+@contextlib.contextmanager
+def output(path):
+    """Gives standard output, or where a path is given a file beside it, which takes its place at the end and is gone where anything fails."""
+    if path is None:
+        yield sys.stdout
+        return
+    beside = f"{path}.new"
+    try:
+        with open(beside, "w", encoding="utf-8", newline="") as file:
+            yield file
+        os.replace(beside, path)
+    finally:
+        with contextlib.suppress(OSError):
+            os.remove(beside)
 
 
 def counted(number, word):

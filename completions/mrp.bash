@@ -5,13 +5,15 @@ _mrp() {
         --workers | --capacity | --until | --from | --to) return ;;
     esac
     if [ "$COMP_CWORD" -eq 1 ]; then
-        words="plan check peg cums orders schedule pegs advice --help --version"
+        words="plan check peg cums orders schedule pegs advice help --help --version"
     elif [ "${COMP_WORDS[1]}" = plan ]; then
         words="--single --workers --capacity --help"
     elif [ "${COMP_WORDS[1]}" = orders ]; then
         words="--until --header --help"
     elif [ "${COMP_WORDS[1]}" = schedule ]; then
         words="--from --to --header --help"
+    elif [ "${COMP_WORDS[1]}" = help ]; then
+        words="plan check peg cums orders schedule pegs advice"
     elif [[ ${COMP_WORDS[1]} =~ ^(check|peg|cums|pegs|advice)$ ]]; then
         words="--header --help"
     else

@@ -1,6 +1,7 @@
 /* Answers as mrp does, by the library: report plan|orders|schedule|check|cums [--header] < table
  *
- * The report goes to standard output, the line of a fault to standard error, and the status is that of the call.
+ * The report goes to standard output, the line of a fault to standard error, and the status is that of the call, 2 for other
+ * words, or 3 where standard input can't be read or standard output not be written.
  */
 #include "mrp.h"
 
@@ -32,6 +33,10 @@ static struct bytes read_all(FILE *file)
     for (;;) {
         grow(&read, room);
         read.size += fread(read.at + read.size, 1, room - read.size, file);
+        if (ferror(file)) {
+            fputs("report: the table can't be read\n", stderr);
+            exit(3);
+        }
         if (read.size < room)
             return read;
         room *= 2;
@@ -58,11 +63,11 @@ static uint32_t call(const char *name, bool header, struct bytes table, struct b
 
 int main(int count, char **words)
 {
-    if (count < 2) {
-        fputs("report: give it the name of a report\n", stderr);
+    bool header = count == 3 && !strcmp(words[2], "--header");
+    if (count < 2 || count > 2 + header) {
+        fputs("report: give it the name of a report, and --header where names of columns are wanted\n", stderr);
         return 2;
     }
-    bool header = count > 2 && !strcmp(words[2], "--header");
     struct bytes table = read_all(stdin), text = {NULL, 0};
     size_t size = 1 << 12;
     uint32_t status;
@@ -71,7 +76,11 @@ int main(int count, char **words)
         grow(&text, size);
         status = call(words[1], header, table, text, &size);
     } while (size > text.size);
-    fwrite(text.at, 1, size, status ? stderr : stdout);
+    FILE *out = status ? stderr : stdout;
+    if (fwrite(text.at, 1, size, out) < size || fflush(out)) {
+        fputs("report: the report can't be written\n", stderr);
+        status = 3;
+    }
     free(table.at);
     free(text.at);
     return (int)status;

@@ -1,7 +1,7 @@
 -- Reads the reports of mrp into PostgreSQL, version 15 or later: psql -qd firm -f report.postgresql.sql
 -- The files are those of report.sql, which has the same tables and views. The first run makes these.
--- All or nothing: where a report is missing or empty, plan.csv has no rows, or another has other names of columns, the database is
--- as it was, and the status is 3. Others read the old plan until the new one is whole; a second run waits.
+-- All or nothing: where a report is missing, plan.csv has no rows, or one with names of columns is empty or has others, the database
+-- is as it was, and the status is 3. Others read the old plan until the new one is whole; a second run waits.
 \set ON_ERROR_STOP on
 BEGIN;
 SELECT to_regclass('plan_rows') IS NULL AS is_first \gset

@@ -95,7 +95,7 @@ CREATE VIEW delivery_schedule AS
 SELECT supplier, customer, item, kind, nullif(date, '') AS leaves, nullif(quantity, '') AS quantity, cumulative
 FROM schedule_rows;
 
--- what each gross requirement consists of; the largest table makes ten million rows, and who asks for none leaves them out
+-- what each gross requirement consists of; the largest table makes some 30 million rows, and who asks for none leaves them out
 DROP VIEW IF EXISTS pegging;
 CREATE VIEW pegging AS
 SELECT plant, item, period, source, by_plant, by_item, release, per, quantity FROM pegs_rows;

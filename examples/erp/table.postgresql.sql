@@ -1,6 +1,7 @@
 -- Writes the table of mrp from PostgreSQL: psql -qd firm -f table.postgresql.sql
--- What was due before the first day counts in period 0, and what is due after the last period is left out. A date is 2026-12-16:
--- where it is none the period is empty, and where stock is of no item the row is a receipt of now. mrp refuses both.
+-- What was due before the first day counts in period 0, and what is due after the last period is left out; a shipment that arrives
+-- then counts in the cumulative figure. Lead times are in periods. A date is 2026-12-16: where it is none the period is empty, and
+-- where stock is of no item the row is a receipt of now. mrp refuses both.
 \set ON_ERROR_STOP on
 SET datestyle = ISO, YMD;
 CREATE TEMP VIEW wanted AS
@@ -14,6 +15,12 @@ CREATE TEMP VIEW under_way AS
 SELECT supplier, customer, item, CASE WHEN arrives::text ~ '^\d{4}-\d\d-\d\d' THEN greatest(0, (arrives::date - first_day::date) / days) END AS period, quantity
 FROM shipments, calendar
 WHERE received IS NULL;
+
+-- what the rows of shipments don't have: received, or to arrive after the last period
+CREATE TEMP VIEW shipped_before AS
+SELECT supplier, customer, item, quantity FROM shipments WHERE received IS NOT NULL
+UNION ALL
+SELECT supplier, customer, item, quantity FROM under_way, calendar WHERE period >= periods;
 
 -- the kinds in their order, and within a kind by names
 COPY (
@@ -44,8 +51,7 @@ COPY (
         WHERE coalesce(period, 0) < periods
         UNION ALL
         SELECT 8, 'cum', supplier, customer, item, sum(quantity)::text, NULL, NULL, NULL
-        FROM shipments
-        WHERE received IS NOT NULL
+        FROM shipped_before
         GROUP BY supplier, customer, item
     ) AS rows
     ORDER BY place, b, c, d, e

@@ -1,6 +1,7 @@
 -- Writes the table of mrp: sqlite3 -list -separator , firm.db < table.sql
--- What was due before the first day counts in period 0, and what is due after the last period is left out. A date is 2026-12-16:
--- where it is none the period is empty, and where stock is of no item the row is a receipt of now. mrp refuses both.
+-- What was due before the first day counts in period 0, and what is due after the last period is left out; a shipment that arrives
+-- then counts in the cumulative figure. Lead times are in periods. A date is 2026-12-16: where it is none the period is empty, and
+-- where stock is of no item the row is a receipt of now. mrp refuses both.
 CREATE TEMP VIEW wanted AS
 SELECT 'demand' AS kind, plant, item,
     CASE WHEN date(due, '+0 days') = substr(due, 1, 10) THEN max(0, CAST((julianday(due) - julianday(first_day)) / days AS INTEGER)) END AS period,
@@ -18,6 +19,12 @@ SELECT supplier, customer, item,
     quantity, shipments.rowid AS row
 FROM shipments, calendar
 WHERE received IS NULL;
+
+-- what the rows of shipments don't have: received, or to arrive after the last period
+CREATE TEMP VIEW shipped_before AS
+SELECT supplier, customer, item, quantity, rowid AS row FROM shipments WHERE received IS NOT NULL
+UNION ALL
+SELECT supplier, customer, item, quantity, row FROM under_way, calendar WHERE period >= periods;
 
 -- the kinds in their order, and within a kind the rows as they were entered
 SELECT kind, b, c, d, e, f, g, h
@@ -46,6 +53,8 @@ FROM (
     FROM under_way, calendar
     WHERE coalesce(period, 0) < periods
     UNION ALL
-    SELECT 8, min(rowid), 'cum', supplier, customer, item, sum(quantity), '', '', '' FROM shipments WHERE received IS NOT NULL GROUP BY supplier, customer, item
+    SELECT 8, min(row), 'cum', supplier, customer, item, sum(quantity), '', '', ''
+    FROM shipped_before
+    GROUP BY supplier, customer, item
 )
 ORDER BY place, row;
