@@ -25,7 +25,7 @@ pub enum Choice<'a> {
     Plan {
         /// Workers of each plant, 1 to [`MOST_WORKERS`].
         workers: u64,
-        /// Records that the mailbox between two plants holds, 1 to [`MOST_CAPACITY`].
+        /// Records that the mailbox between two plants may hold, 1 to [`MOST_CAPACITY`].
         capacity: u64,
         /// One thread plans all plants.
         single: bool,

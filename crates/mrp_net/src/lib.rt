@@ -1,7 +1,8 @@
 //! The network of a firm: its pairs, who takes from whom, and what its rows add up to.
 //!
-//! A network is made once from the rows of a table, by counting and placing, and then answers
-//! every question in constant time or with a slice (by construction; no clause says so).
+//! A network is made once from the rows of a table, by counting and placing, and then answers every question
+//! but those for a name in constant time or with a slice (by construction; no clause says so). Names it looks
+//! through one by one.
 #![tactic(auto)]
 
 mod build;

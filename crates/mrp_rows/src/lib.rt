@@ -3,8 +3,8 @@
 //!
 //! [`RowLists`] grows row by row while a table is read; [`Tables`] is the whole of it. [`number`], [`rule`] and
 //! [`supply`] read one field. [`group`] puts rows in order by a key, as that of a pair, a route or a low-level
-//! code, and [`add_amounts`] adds up their amounts by a key. Rows are counted, and then placed (a stable counting
-//! sort), so both are linear in rows and keys by construction; no clause says so.
+//! code: rows are counted, and then placed (a stable counting sort). [`add_totals`] and [`add_amounts`] add up their
+//! amounts by one key and by two. All are linear in rows and keys by construction; no clause says so.
 #![tactic(auto)]
 
 mod dropping;

@@ -92,6 +92,10 @@ impl RowLists {
     }
 
     /// Adds a plant behind the others. That no two have one name is for the reader of a table to see to.
+    ///
+    /// # Errors
+    ///
+    /// [`AllocError`] where a growth is refused.
     pub fn add_plant(&mut self, alloc: Global, name: &str) -> Result<(), AllocError>
         requires named { IsName name.now }
         requires room { length self.old.plants < MOST_PLANTS }
@@ -102,6 +106,10 @@ impl RowLists {
     }
 
     /// Adds an item behind the others, whose name isn't there yet.
+    ///
+    /// # Errors
+    ///
+    /// [`AllocError`] where a growth is refused.
     pub fn add_item(&mut self, alloc: Global, name: &str) -> Result<(), AllocError>
         requires named { IsName name.now }
         requires fresh { list_any (bytes_eq name.now) self.old.items ≡ false }
@@ -113,6 +121,10 @@ impl RowLists {
     }
 
     /// Adds a pair, of which there is no row yet.
+    ///
+    /// # Errors
+    ///
+    /// [`AllocError`] where a growth is refused.
     pub fn add_pair(&mut self, row: PairRow) -> Result<(), AllocError>
         requires row { IsPairRow self.old row }
         requires fresh { list_any (λ p. (p.plant.0 == row.plant.0) && (p.item.0 == row.item.0)) self.old.pairs ≡ false }
@@ -134,6 +146,10 @@ impl RowLists {
     }
 
     /// Adds a source row.
+    ///
+    /// # Errors
+    ///
+    /// [`AllocError`] where a growth is refused.
     pub fn add_source(&mut self, row: SourceRow) -> Result<(), AllocError>
         requires row { IsSourceRow self.old row }
         requires room { length self.old.sources < MOST_SOURCES }
@@ -145,6 +161,10 @@ impl RowLists {
     }
 
     /// Adds a bill row.
+    ///
+    /// # Errors
+    ///
+    /// [`AllocError`] where a growth is refused.
     pub fn add_bill(&mut self, row: BillRow) -> Result<(), AllocError>
         requires row { IsBillRow self.old row }
         requires room { length self.old.bills < MOST_BILLS }
@@ -156,6 +176,10 @@ impl RowLists {
     }
 
     /// Adds a demand row.
+    ///
+    /// # Errors
+    ///
+    /// [`AllocError`] where a growth is refused.
     pub fn add_demand(&mut self, row: DemandRow) -> Result<(), AllocError>
         requires row { IsDemandRow self.old row }
         requires room { length self.old.demands < MOST_OF_A_KIND }
@@ -167,6 +191,10 @@ impl RowLists {
     }
 
     /// Adds a receipt row.
+    ///
+    /// # Errors
+    ///
+    /// [`AllocError`] where a growth is refused.
     pub fn add_receipt(&mut self, row: ReceiptRow) -> Result<(), AllocError>
         requires row { IsReceiptRow self.old row }
         requires room { length self.old.receipts < MOST_OF_A_KIND }
@@ -178,6 +206,10 @@ impl RowLists {
     }
 
     /// Adds a ship row.
+    ///
+    /// # Errors
+    ///
+    /// [`AllocError`] where a growth is refused.
     pub fn add_ship(&mut self, row: ShipRow) -> Result<(), AllocError>
         requires row { IsShipRow self.old row }
         requires room { length self.old.ships < MOST_OF_A_KIND }
@@ -189,6 +221,10 @@ impl RowLists {
     }
 
     /// Adds a cum row.
+    ///
+    /// # Errors
+    ///
+    /// [`AllocError`] where a growth is refused.
     pub fn add_cum(&mut self, row: CumRow) -> Result<(), AllocError>
         requires row { IsCumRow self.old row }
         requires room { length self.old.cums < MOST_OF_A_KIND }
@@ -200,6 +236,10 @@ impl RowLists {
     }
 
     /// Adds a reset row.
+    ///
+    /// # Errors
+    ///
+    /// [`AllocError`] where a growth is refused.
     pub fn add_reset(&mut self, row: ResetRow) -> Result<(), AllocError>
         requires row { IsResetRow self.old row }
         requires room { length self.old.resets < MOST_SOURCES }

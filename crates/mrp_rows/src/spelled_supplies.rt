@@ -50,16 +50,22 @@ impl<T: Drop> From<AllocFailed<T>> for SupplyFault {
 /// thousandths, goes from `low` to `high`.
 #[derive(Clone, Copy, Debug)]
 pub struct SpelledSource<'r> {
+    /// The name of the plant.
     pub plant: &'r str,
+    /// Where its share begins, 0 to 1,000.
     pub low: u64,
+    /// Where its share ends, `low` to 1,000.
     pub high: u64,
 }
 
 /// Where a pair comes from, as its row spells it.
 #[derive(Debug, Drop)]
 pub enum SpelledSupply<'r> {
+    /// Its own plant makes it.
     Make,
+    /// It is bought.
     Buy,
+    /// It is taken from these plants, one to four.
     From(Vec<SpelledSource<'r>>),
 }
 

@@ -4,9 +4,9 @@
 //! what lies in its incoming lanes, plans what is ready and offers what it has, turn by turn, until it is
 //! done. (That there is a thread for each plant, that it has these ends and no others, and what it does in a
 //! turn, is by construction; no clause says so. That it ends isn't claimed.) A run that ends well, in whichever
-//! order the threads' steps fell, gives the one plan of the network, and for each lane what two joined ends of
-//! it showed: the list sent is a whole text of the lane, and the list taken is the same. (That these are the
-//! ends that the threads used stands in no clause.)
+//! order the threads' steps fell, gives the one plan of the network. [`run_network`] gives for each lane, too, what
+//! two joined ends of it showed: the list sent is a whole text of the lane, and the list taken is the same. (That
+//! these are the ends that the threads used stands in no clause.)
 #![tactic(auto)]
 
 mod bells;

@@ -36,6 +36,10 @@ pub fn rows_in(text: Vec<u8>) -> Writer<Vec<u8>>
 }
 
 /// Adds a row of these fields, of which there are two and more.
+///
+/// # Errors
+///
+/// [`ReportFault::Memory`] where a growth of the room is refused.
 pub fn put_row(rows: &mut Writer<Vec<u8>>, fields: &[&[u8]]) -> Result<(), ReportFault>
     requires between { IsBetweenRows rows.old }
     requires many { 2 ≤ length fields.now }
@@ -50,6 +54,10 @@ pub fn put_row(rows: &mut Writer<Vec<u8>>, fields: &[&[u8]]) -> Result<(), Repor
 }
 
 /// Adds a row of the names of the columns, of which there are two and more, where they are asked for.
+///
+/// # Errors
+///
+/// [`ReportFault::Memory`] where a growth of the room is refused.
 pub fn put_names(
     rows: &mut Writer<Vec<u8>>,
     heading: Heading,
@@ -69,6 +77,10 @@ pub fn put_names(
 }
 
 /// The text of the rows.
+///
+/// # Errors
+///
+/// [`ReportFault::Memory`] where a growth of the room is refused.
 pub fn text_of(rows: Writer<Vec<u8>>) -> Result<Vec<u8>, ReportFault>
     ensures text { IfOk result (λ text. text.items ≡ written rows) }
     ensures fault { IfErr result (λ fault. fault ≡ ReportFault.Memory) }

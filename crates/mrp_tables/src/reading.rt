@@ -52,7 +52,11 @@ pub fn read_tables<R: Read + Drop, L: Ledger>(
     read_rows(alloc, &mut rows, steps)
 }
 
-/// Reads a table as [`read_tables`] does, and counts nothing.
+/// Reads a table as [`read_tables`] does, and tells no count of its steps.
+///
+/// # Errors
+///
+/// Those of [`read_tables`].
 pub fn read_tables_uncounted<R: Read + Drop>(alloc: Global, reader: R) -> Result<Tables, TableFault>
     ensures table { OfRecords (option_map strip_bom (R.remaining reader)) (TellsRows result) }
 {

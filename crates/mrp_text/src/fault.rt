@@ -23,7 +23,8 @@ pub struct PairName {
 /// of several such faults any may be answered. A refused growth ends the work where it happens.
 #[derive(Debug, Drop, Error)]
 pub enum TextFault {
-    /// The table is refused: the first fault of the first row that has one.
+    /// The table is refused: the first fault of the first row that has one. Or reading it failed, or memory was
+    /// refused while it was read.
     #[error("the table is refused: {0}")]
     Table(TableFault),
     /// These pairs are a loop: each takes from the next, and the last from the first.

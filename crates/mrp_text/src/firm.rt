@@ -15,8 +15,9 @@ use mrp_plan::Plan;
 use mrp_world::Firm;
 use std::alloc::Global;
 
-/// The most records that a mailbox holds where one thread drives the firm. It has no use for more: the plan and the
-/// figures are those of every capacity, and the receiver acts as soon as a mailbox is full.
+/// The most records that a mailbox has room for where one thread drives the firm. It has no use for more: the plan
+/// and the figures are those of every capacity, and a receiver takes a record before its sender sends the next (by
+/// construction; no clause says so).
 const DRIVEN_CAPACITY: u64 = 8;
 
 /// The plan that the plants of a network come to, whose mailboxes may hold so many records.

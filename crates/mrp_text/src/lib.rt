@@ -15,7 +15,8 @@
 //! does both after the work, [`after_help`] after help or the version, and [`unread`] where the arguments
 //! can't be read.
 //!
-//! No call ends the process: a growth that is refused is [`TextFault::Memory`].
+//! No call ends the process: a growth that is refused is [`TextFault::Memory`], or while the table is read
+//! [`TextFault::Table`] with that kind.
 #![tactic(auto)]
 
 mod answers;

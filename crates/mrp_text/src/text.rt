@@ -71,8 +71,8 @@ pub fn plan_text<T: Threads + Wait + Sync, R: Read + Drop, W: Write, G: Gate>(
 
 /// Reads a table and writes its plan: a row for each pair and period, then a row for each late order.
 ///
-/// `capacity` is how many records the mailbox between two plants holds, 1 to [`MOST_CAPACITY`]. The
-/// text is the same for each.
+/// `capacity` is how many records the mailbox between two plants may hold, 1 to [`MOST_CAPACITY`]; it has room for
+/// eight at most. The text is the same for each.
 ///
 /// # Errors
 ///

@@ -20,7 +20,7 @@ use crate::world::World;
 /// - what a plant keeps as the plan of a planned pair are the pair's rows of the one plan of the whole network;
 /// - where it is finished, every line of every lane was booked once, and every pair has its plan.
 ///
-/// That a world can be made where memory is there, and that each enabled event moves it, is said by its calls
+/// That a world which is made shows the opening state, and that each enabled event moves it, is said by its calls
 /// ([`World::new`], [`World::apply`], [`World::run`], [`World::enabled`], [`World::drive`]).
 pub fn headline<P: Plant>(world: &World<P>)
     ensures shows { (s : State) × Shows P.shows world.now s }
