@@ -1,5 +1,5 @@
 -- What an agent drafts for a pair for which nothing is missing is the network's plan of it.
-use Rattle.std.proofs.Common.{◌≡◌, ℕ, ◌+◌, ◌<◌, ◌≤◌, ◌==◌, Bool, List, length, get_or, sum, slice_index, refl, sym, ap, ◌∙◌, subst, arith}
+use Rattle.std.proofs.Common.{◌≡◌, ℕ, ◌+◌, ◌<◌, ◌≤◌, ◌==◌, List, length, get_or, sum, slice_index, refl, sym, ap, ◌∙◌, subst, arith}
 use Rattle.std.specs.List.{Contains, filter, range_with_len}
 use Rattle.std.proofs.lemmas.Bool.{eqb-true}
 use Rattle.std.proofs.lemmas.List.{get_or-map, length-map}
@@ -16,14 +16,17 @@ use Rattle.mrp_view.specs.Seen.{IsOwnPair}
 use Rattle.mrp_view.specs.View.{PlantRows, is_of_plant, plant_pair, plant_pairs, plant_rows}
 use Rattle.mrp_loops.specs.Sized.{IsSized}
 use Rattle.mrp_record.specs.declared.record.Record.{Record}
-use Rattle.mrp_events.specs.LocalLaws.{IsPairAt, IsReadyAt, PlansLocally}
-use Rattle.mrp_events.specs.LocalPlans.{amount_at, asked_within, booked_on, local_incoming, local_gross, local_row, IsLocal}
+use Rattle.mrp_events.specs.State.{State}
+use Rattle.mrp_events.specs.LocalLaws.{IsPairAt, IsReadyAt}
+use Rattle.mrp_events.specs.LocalPlans.{amount_at, asked_within, booked_on, local_incoming, local_gross, local_row}
 use Rattle.mrp_events.proofs.LocalPlanned as network
 use Rattle.mrp_events.proofs.Seeing.{sees_pair}
 use Rattle.mrp_agent.specs.State.{AgentState, pair_owned, pair_place, plans_of, no_plant_pair}
 use Rattle.mrp_agent.specs.Shows.{up_to_last}
-use Rattle.mrp_agent.specs.Laws.{WorksIn, AgentDraftsAreThePlan, AgentDraftsAreWithin, numbered}
+use Rattle.mrp_agent.specs.InNetwork.{WorksIn}
+use Rattle.mrp_agent.specs.Laws.{AgentDraftsAreThePlan, AgentDraftsAreWithin, numbered}
 use Rattle.mrp_agent.proofs.Drafts.{map_same}
+use Rattle.mrp_agent.proofs.Network.{works}
 use Rattle.mrp_agent.proofs.Owning.{own_within}
 
 -- ---- small sums
@@ -82,11 +85,6 @@ module _ (V : PlantRows) (taken : ℕ → List Record) (plans : ℕ → PlanRows
 
 -- ---- the laws
 
-plans_locally : (N : Table) (plant : ℕ) (A : AgentState) (sent taken : ℕ → List Record) (planned : ℕ → Bool) → WorksIn N plant A sent taken planned
-    → PlansLocally N plant taken planned (plans_of A)
-plans_locally N plant A sent taken planned w =
-    record { legal = w.legal; local = subst (λ (V : PlantRows). IsLocal V taken planned (plans_of A)) w.view w.shows.local }
-
 -- the rows that it drafts from
 abbrev RowsAre : Table → (ℕ → List Record) → (ℕ → PlanRows) → List ℕ → List ℕ → ℕ → PlantRows → PlantRows → Type 0
 RowsAre N taken plans came called x R V =
@@ -94,50 +92,50 @@ RowsAre N taken plans came called x R V =
     × (local_row V (λ t. amount_at V came (numbered x) t) ≡ local_row R (local_incoming R taken (plant_pair N x)))
     × (local_row V (λ t. amount_at V called (numbered x) t + asked_within V plans (numbered x) t) ≡ local_row R (local_gross R taken plans (plant_pair N x)))
 
-rows_are : (N : Table) → IsSized N → (plant : ℕ) (A : AgentState) (sent taken : ℕ → List Record) (planned : ℕ → Bool) → WorksIn N plant A sent taken planned
-    → (x : ℕ) → IsPairAt N plant x → IsReadyAt N plant taken planned x
-    → RowsAre N taken (plans_of A) A.came A.called x (plant_rows N plant) A.view
-rows_are N sized plant A sent taken planned w x at ready =
+rows_are : (N : Table) → IsSized N → (plant : ℕ) (s : State) (A : AgentState) → WorksIn N plant s A
+    → (x : ℕ) → IsPairAt N plant x → IsReadyAt N plant s.taken s.planned x
+    → RowsAre N s.taken (plans_of A) A.came A.called x (plant_rows N plant) A.view
+rows_are N sized plant s A w x at ready =
     let R : PlantRows = plant_rows N plant in
     let p : PlantPair = plant_pair N x in
-    let small = network.drafts_are_within N sized plant taken planned (plans_of A) (plans_locally N plant A sent taken planned w) x at ready in
-    let there : Contains A.view.pairs p = subst (λ (V : PlantRows). Contains V.pairs p) (sym w.view)
+    let small = network.drafts_are_within N sized plant s.taken s.planned (plans_of A) (works N plant s A w) x at ready in
+    let there : Contains A.view.pairs p = subst (λ (V : PlantRows). Contains V.pairs p) (sym w.shown.view)
     (Contains-from_in (plant_pairs N plant) p (sees_pair N plant x at)) in
-    let comes = subst (λ (V : PlantRows). (t : ℕ) → t < V.horizon → amount_at V A.came p.number t ≡ up_to_last (local_incoming V taken p t)) w.view
-    (w.shows.came p there) in
+    let comes = subst (λ (V : PlantRows). (t : ℕ) → t < V.horizon → amount_at V A.came p.number t ≡ up_to_last (local_incoming V s.taken p t)) w.shown.view
+    (w.shown.history.came p there) in
     let is_called =
     subst (λ (V : PlantRows). (t : ℕ) → t < V.horizon → amount_at V A.called p.number t
-    ≡ up_to_last (amount_at V V.demands p.number t + booked_on Schedule V taken p.item t)) w.view (w.shows.called p there) in
-    subst (RowsAre N taken (plans_of A) A.came A.called x R) (sym w.view) (
+    ≡ up_to_last (amount_at V V.demands p.number t + booked_on Schedule V s.taken p.item t)) w.shown.view (w.shown.history.called p there) in
+    subst (RowsAre N s.taken (plans_of A) A.came A.called x R) (sym w.shown.view) (
       pair_is N plant x at,
-      incoming_is R taken (plans_of A) A.came A.called p small comes is_called,
-      gross_is R taken
+      incoming_is R s.taken (plans_of A) A.came A.called p small comes is_called,
+      gross_is R s.taken
           (plans_of A) A.came A.called p small comes is_called,
     )
 
 pub drafts_are_within : AgentDraftsAreWithin
-drafts_are_within N sized plant A sent taken planned w x at ready =
+drafts_are_within N sized plant s A w x at ready =
     let R : PlantRows = plant_rows N plant in
     let p : PlantPair = plant_pair N x in
-    let rows = rows_are N sized plant A sent taken planned w x at ready in
-    let small = network.drafts_are_within N sized plant taken planned (plans_of A) (plans_locally N plant A sent taken planned w) x at ready in
+    let rows = rows_are N sized plant s A w x at ready in
+    let small = network.drafts_are_within N sized plant s.taken s.planned (plans_of A) (works N plant s A w) x at ready in
     let V : PlantRows = A.view in
     let incoming : List ℕ = local_row V (λ t. amount_at V A.came (numbered x) t) in
     let gross : List ℕ = local_row V (λ t. amount_at V A.called (numbered x) t + asked_within V (plans_of A) (numbered x) t) in
     subst (λ (q : PlantPair). IsWithin q.params incoming gross) (sym rows.0)
     (subst (λ (z : List ℕ). IsWithin p.params z gross) (sym rows.1)
-    (subst (λ (z : List ℕ). IsWithin p.params (local_row R (local_incoming R taken p)) z) (sym rows.2) small))
+    (subst (λ (z : List ℕ). IsWithin p.params (local_row R (local_incoming R s.taken p)) z) (sym rows.2) small))
 
 pub drafts_are_the_plan : AgentDraftsAreThePlan
-drafts_are_the_plan N sized plant A sent taken planned w x at ready =
+drafts_are_the_plan N sized plant s A w x at ready =
     let R : PlantRows = plant_rows N plant in
     let p : PlantPair = plant_pair N x in
-    let rows = rows_are N sized plant A sent taken planned w x at ready in
+    let rows = rows_are N sized plant s A w x at ready in
     let V : PlantRows = A.view in
     let incoming : List ℕ = local_row V (λ t. amount_at V A.came (numbered x) t) in
     let gross : List ℕ = local_row V (λ t. amount_at V A.called (numbered x) t + asked_within V (plans_of A) (numbered x) t) in
     ap (λ (q : PlantPair). one q.params incoming gross) rows.0
     ∙ ap (λ (z : List ℕ). one p.params z gross) rows.1
-    ∙ ap (λ (z : List ℕ). one p.params (local_row R (local_incoming R taken p)) z) rows.2
-    ∙ (network.drafts_are_the_plan N sized.table sized.loop_free plant taken planned (plans_of A)
-    (plans_locally N plant A sent taken planned w) x at ready).plan
+    ∙ ap (λ (z : List ℕ). one p.params (local_row R (local_incoming R s.taken p)) z) rows.2
+    ∙ (network.drafts_are_the_plan N sized.table sized.loop_free plant s.taken s.planned (plans_of A)
+    (works N plant s A w) x at ready).plan

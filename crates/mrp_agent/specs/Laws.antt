@@ -1,5 +1,5 @@
 -- Laws of agents in a network: what they plan is its plan, and what they send is what its lanes carry.
-use Rattle.std.specs.Prelude.{◌≡◌, ℕ, ◌<◌, Bool, true, List, [], ◌∷◌, ◌++◌, length}
+use Rattle.std.specs.Prelude.{◌≡◌, ℕ, ◌<◌, true, [], ◌∷◌, ◌++◌, length}
 use Rattle.mrp_lot.specs.Bound.{IsWithin}
 use Rattle.mrp_rows.specs.declared.numbers.PairNo.{PairNo}
 use Rattle.mrp_rows.specs.Table.{Table, IsTable}
@@ -13,29 +13,20 @@ use Rattle.mrp_record.specs.declared.record.Record.{Record}
 use Rattle.mrp_record.specs.Entries.{content}
 use Rattle.mrp_record.specs.Text.{IsBeginning}
 use Rattle.mrp_events.specs.Loads.{loads}
-use Rattle.mrp_events.specs.Local.{AreLegal}
-use Rattle.mrp_events.specs.State.{IsDecided}
+use Rattle.mrp_events.specs.State.{State, IsDecided}
 use Rattle.mrp_events.specs.LocalLaws.{IsPairAt, IsReadyAt}
 use Rattle.mrp_agent.specs.State.{AgentState, outgoing_at, plans_of, pair_owned}
 use Rattle.mrp_agent.specs.Sending.{ContinuesSent, NothingContinues, IsWithin64}
 use Rattle.mrp_agent.specs.Kept.{HasSmallOpenings}
 use Rattle.mrp_agent.specs.Drafts.{drafted, drafted_gross, drafted_incoming}
-use Rattle.mrp_agent.specs.Shows.{ShowsHistory}
-
--- an agent of a plant of the network, to which legal beginnings have come
-pub record WorksIn (N : Table) (plant : ℕ) (A : AgentState) (sent taken : ℕ → List Record)
-    (planned : ℕ → Bool) : Type 0 where
-  pub view : A.view ≡ plant_rows N plant
-  pub legal : AreLegal N plant taken
-  pub shows : ShowsHistory A sent taken planned
+use Rattle.mrp_agent.specs.InNetwork.{WorksIn}
 
 -- the plan that it keeps of a planned pair is the network's
 abbrev pub PlannedPairsHaveThePlan : Type 0
 PlannedPairsHaveThePlan =
     (N : Table) → IsTable N → IsLoopFree N
-    → (plant : ℕ) (A : AgentState) (sent taken : ℕ → List Record) (planned : ℕ → Bool)
-    → WorksIn N plant A sent taken planned
-    → (x : ℕ) → IsPairAt N plant x → planned x ≡ true → plans_of A x ≡ plan_at N x
+    → (plant : ℕ) (s : State) (A : AgentState) → WorksIn N plant s A
+    → (x : ℕ) → IsPairAt N plant x → s.planned x ≡ true → plans_of A x ≡ plan_at N x
 
 -- a pair as calls name it
 abbrev pub numbered : ℕ → PairNo
@@ -45,47 +36,44 @@ numbered x = record { 0 = x }
 abbrev pub AgentDraftsAreWithin : Type 0
 AgentDraftsAreWithin =
     (N : Table) → IsSized N
-    → (plant : ℕ) (A : AgentState) (sent taken : ℕ → List Record) (planned : ℕ → Bool)
-    → WorksIn N plant A sent taken planned
-    → (x : ℕ) → IsPairAt N plant x → IsReadyAt N plant taken planned x
+    → (plant : ℕ) (s : State) (A : AgentState) → WorksIn N plant s A
+    → (x : ℕ) → IsPairAt N plant x → IsReadyAt N plant s.taken s.planned x
     → IsWithin (pair_owned A.view (numbered x)).params (drafted_incoming A (numbered x)) (drafted_gross A (numbered x))
 
 -- and what it drafts by them is the network's plan of the pair
 abbrev pub AgentDraftsAreThePlan : Type 0
 AgentDraftsAreThePlan =
     (N : Table) → IsSized N
-    → (plant : ℕ) (A : AgentState) (sent taken : ℕ → List Record) (planned : ℕ → Bool)
-    → WorksIn N plant A sent taken planned
-    → (x : ℕ) → IsPairAt N plant x → IsReadyAt N plant taken planned x
+    → (plant : ℕ) (s : State) (A : AgentState) → WorksIn N plant s A
+    → (x : ℕ) → IsPairAt N plant x → IsReadyAt N plant s.taken s.planned x
     → drafted A (numbered x) ≡ plan_at N x
 
 -- in a sized network the numbers and figures that it sends stay below 2^64
 abbrev pub SentIsWithin64 : Type 0
 SentIsWithin64 =
     (N : Table) → IsSized N
-    → (plant : ℕ) (A : AgentState) (sent taken : ℕ → List Record) (planned : ℕ → Bool)
-    → WorksIn N plant A sent taken planned
-    → (k : ℕ) → k < length A.view.outgoing → IsWithin64 A taken k
+    → (plant : ℕ) (s : State) (A : AgentState) → WorksIn N plant s A
+    → (k : ℕ) → k < length A.view.outgoing → IsWithin64 A s.taken k
 
 -- and a record that it is given to send continues what it sent to a legal beginning of the network's lane
 abbrev pub SentIsLegal : Type 0
 SentIsLegal =
     (N : Table) → IsSized N
-    → (plant : ℕ) (A : AgentState) (sent taken : ℕ → List Record) (planned : ℕ → Bool)
-    → WorksIn N plant A sent taken planned
-    → (k : ℕ) → k < length A.view.outgoing → (r : Record) → ContinuesSent A sent taken k r
-    → IsBeginning (loads N (lane_at N (outgoing_at A.view k).number.0)) (sent (outgoing_at A.view k).number.0 ++ r ∷ [])
+    → (plant : ℕ) (s : State) (A : AgentState) → WorksIn N plant s A
+    → (k : ℕ) → k < length A.view.outgoing → (r : Record) → ContinuesSent A s.sent s.taken k r
+    → IsBeginning (loads N (lane_at N (outgoing_at A.view k).number.0))
+    (s.sent (outgoing_at A.view k).number.0 ++ r ∷ [])
 
 -- where no record of its goods continues what it sent, none that the events let be sent does: none that
 -- keeps the network's lane a legal beginning and is, on a schedule lane, of an item whose pair is planned
 abbrev pub NothingLegalIsLeft : Type 0
 NothingLegalIsLeft =
     (N : Table) → IsSized N
-    → (plant : ℕ) (A : AgentState) (sent taken : ℕ → List Record) (planned : ℕ → Bool)
-    → WorksIn N plant A sent taken planned
-    → (k : ℕ) → k < length A.view.outgoing → NothingContinues A sent taken k
-    → (r : Record) → IsDecided N planned (lane_at N (outgoing_at A.view k).number.0) (content r)
-    → IsBeginning (loads N (lane_at N (outgoing_at A.view k).number.0)) (sent (outgoing_at A.view k).number.0 ++ r ∷ [])
+    → (plant : ℕ) (s : State) (A : AgentState) → WorksIn N plant s A
+    → (k : ℕ) → k < length A.view.outgoing → NothingContinues A s.sent s.taken k
+    → (r : Record) → IsDecided N s.planned (lane_at N (outgoing_at A.view k).number.0) (content r)
+    → IsBeginning (loads N (lane_at N (outgoing_at A.view k).number.0))
+    (s.sent (outgoing_at A.view k).number.0 ++ r ∷ [])
     → ⊥
 
 -- what a plant of a sized network sees is all that its agent needs to begin

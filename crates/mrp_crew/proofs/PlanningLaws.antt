@@ -3,19 +3,23 @@ use Rattle.std.proofs.Common.{◌≡◌, ℕ, ◌+◌, ◌==◌, if◌then◌els
 use Rattle.std.proofs.lemmas.Bool.{false≢true}
 use Rattle.std.proofs.lemmas.List.Elements.{All-nil, All-cons, All-append, All-weaker}
 use Rattle.mrp_rows.specs.declared.numbers.PairNo.{PairNo}
+use Rattle.mrp_view.specs.Seen.{IsView}
 use Rattle.mrp_record.specs.declared.record.Record.{Record}
 use Rattle.mrp_events.specs.State.{changed}
 use Rattle.mrp_agent.specs.Progress.{left_of}
 use Rattle.mrp_agent.specs.Shows.{ShowsHistory}
 use Rattle.mrp_agent.specs.State.{AgentState}
 use Rattle.mrp_crew.specs.Laws.{PlanningKeepsAtWork}
-use Rattle.mrp_crew.specs.Planning.{IsPlannable, PlansAll, all_planned}
+use Rattle.mrp_crew.specs.Planning.{IsPlannable, PlansAll, after_planning, all_planned}
 
 pub planning_keeps_at_work : PlanningKeepsAtWork
-planning_keeps_at_work N plant A B sent taken planned xs at plans = record {
-  view = plans.view ∙ at.view;
+planning_keeps_at_work N plant s A B xs at plans = record {
+  shown = record {
+    view = plans.view ∙ at.shown.view;
+    enough = subst IsView (sym plans.view) at.shown.enough;
+    history = plans.shows s.sent s.taken s.planned at.shown.history;
+  };
   legal = at.legal;
-  shows = plans.shows sent taken planned at.shows;
 }
 
 pub plannable_after : (A B : AgentState) (xs : List PairNo) → IsPlannable A → PlansAll A B xs → IsPlannable B
@@ -23,10 +27,8 @@ plannable_after A B xs can plans = record {
   network = can.network;
   sized = can.sized;
   plant = can.plant;
-  sent = can.sent;
-  taken = can.taken;
-  planned = all_planned can.planned xs;
-  works = planning_keeps_at_work can.network can.plant A B can.sent can.taken can.planned xs can.works plans;
+  state = after_planning can.state xs;
+  works = planning_keeps_at_work can.network can.plant can.state A B xs can.works plans;
 }
 
 -- ---- none

@@ -32,19 +32,20 @@ module _ (A : AgentState) (can : IsPlannable A) (numbers : List PairNo) (same : 
   own_ready x listed = All-contains (IsOwnPair A.view) (ready_numbers A) x (subst (All (IsOwnPair A.view)) same own) listed
 
   at_plant : (x : PairNo) → Contains (ready_numbers A) x → IsPairAt can.network can.plant x.0
-  at_plant x listed = own_at A.view can.network can.plant x can.works.view (own_ready x listed)
+  at_plant x listed = own_at A.view can.network can.plant x can.works.shown.view (own_ready x listed)
 
-  can_be : (x : PairNo) → Contains (ready_numbers A) x → CanBePlanned (plant_rows can.network can.plant) can.taken can.planned (plant_pair can.network x.0)
+  can_be : (x : PairNo) → Contains (ready_numbers A) x
+      → CanBePlanned (plant_rows can.network can.plant) can.state.taken can.state.planned (plant_pair can.network x.0)
   can_be x listed =
-      subst (λ (V : PlantRows). CanBePlanned V can.taken can.planned (plant_pair can.network x.0)) can.works.view
-      ((exact_ready can.sent can.taken can.planned can.works.shows (plant_pair can.network x.0)
-      (seen_there A.view can.network can.plant x.0 can.works.view (at_plant x listed))).0 listed)
+      subst (λ (V : PlantRows). CanBePlanned V can.state.taken can.state.planned (plant_pair can.network x.0)) can.works.shown.view
+      ((exact_ready can.state.sent can.state.taken can.state.planned can.works.shown.history (plant_pair can.network x.0)
+      (seen_there A.view can.network can.plant x.0 can.works.shown.view (at_plant x listed))).0 listed)
 
   pub can_draft : (x : PairNo) → Contains (ready_numbers A) x → CanDraft A x
   can_draft x listed = record {
     own = own_ready x listed;
     ready = listed;
-    within = drafts_are_within can.network can.sized can.plant A can.sent can.taken can.planned can.works x.0 (at_plant x listed) (can_be x listed).ready;
+    within = drafts_are_within can.network can.sized can.plant can.state A can.works x.0 (at_plant x listed) (can_be x listed).ready;
   }
 
   pub unplanned : (x : PairNo) → Contains (ready_numbers A) x

@@ -1,14 +1,14 @@
 -- The law of planning in a network.
-use Rattle.std.specs.Prelude.{ℕ, Bool, List}
+use Rattle.std.specs.Prelude.{ℕ, List}
 use Rattle.mrp_rows.specs.declared.numbers.PairNo.{PairNo}
 use Rattle.mrp_rows.specs.Table.{Table}
-use Rattle.mrp_record.specs.declared.record.Record.{Record}
-use Rattle.mrp_agent.specs.Laws.{WorksIn}
+use Rattle.mrp_events.specs.State.{State}
+use Rattle.mrp_agent.specs.InNetwork.{WorksIn}
 use Rattle.mrp_agent.specs.State.{AgentState}
-use Rattle.mrp_crew.specs.Planning.{all_planned, PlansAll}
+use Rattle.mrp_crew.specs.Planning.{after_planning, PlansAll}
 
 -- an agent of a plant of a network is still one once it has planned some pairs
 abbrev pub PlanningKeepsAtWork : Type 0
 PlanningKeepsAtWork =
-    (N : Table) (plant : ℕ) (A B : AgentState) (sent taken : ℕ → List Record) (planned : ℕ → Bool) (xs : List PairNo)
-    → WorksIn N plant A sent taken planned → PlansAll A B xs → WorksIn N plant B sent taken (all_planned planned xs)
+    (N : Table) (plant : ℕ) (s : State) (A B : AgentState) (xs : List PairNo)
+    → WorksIn N plant s A → PlansAll A B xs → WorksIn N plant (after_planning s xs) B

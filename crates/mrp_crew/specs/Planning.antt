@@ -4,9 +4,9 @@ use Rattle.mrp_rows.specs.declared.numbers.PairNo.{PairNo}
 use Rattle.mrp_rows.specs.Table.{Table}
 use Rattle.mrp_loops.specs.Sized.{IsSized}
 use Rattle.mrp_record.specs.declared.record.Record.{Record}
-use Rattle.mrp_events.specs.State.{changed}
+use Rattle.mrp_events.specs.State.{State, changed}
 use Rattle.mrp_agent.specs.Progress.{left_of}
-use Rattle.mrp_agent.specs.Laws.{WorksIn}
+use Rattle.mrp_agent.specs.InNetwork.{WorksIn}
 use Rattle.mrp_agent.specs.Shows.{ShowsHistory}
 use Rattle.mrp_agent.specs.State.{AgentState}
 
@@ -15,15 +15,17 @@ pub record IsPlannable (A : AgentState) : Type 0 where
   pub network : Table
   pub sized : IsSized network
   pub plant : ℕ
-  pub sent : ℕ → List Record
-  pub taken : ℕ → List Record
-  pub planned : ℕ → Bool
-  pub works : WorksIn network plant A sent taken planned
+  pub state : State
+  pub works : WorksIn network plant state A
 
 -- the planned pairs, and these with them
 abbrev pub all_planned : (ℕ → Bool) → List PairNo → ℕ → Bool
 all_planned planned [] = planned
 all_planned planned (x ∷ xs) = all_planned (changed planned x.0 true) xs
+
+-- the state once these pairs are planned
+abbrev pub after_planning : State → List PairNo → State
+after_planning s xs = record s { planned = all_planned s.planned xs }
 
 -- none of these is planned
 abbrev pub AreUnplanned : (ℕ → Bool) → List PairNo → Type 0

@@ -4,12 +4,13 @@ use Rattle.std.proofs.lemmas.List.{get_or_read, map-set}
 use Rattle.std.proofs.Math.Seq.{map-set_same}
 use Rattle.mrp_rows.specs.Table.{Table}
 use Rattle.mrp_net.specs.Lanes.{lane_at}
+use Rattle.mrp_view.specs.Seen.{IsView}
 use Rattle.mrp_view.specs.View.{comes_to}
 use Rattle.mrp_record.specs.declared.record.Record.{Record}
 use Rattle.mrp_record.specs.Form.{IsInForm}
 use Rattle.mrp_record.specs.Text.{IsBeginning}
 use Rattle.mrp_events.specs.Loads.{loads}
-use Rattle.mrp_events.specs.State.{changed}
+use Rattle.mrp_events.specs.State.{after_take, changed}
 use Rattle.mrp_events.proofs.Keeping.{changed_by}
 use Rattle.mrp_events.specs.Stamps.{IsExplained, Passage}
 use Rattle.mrp_events.proofs.Passing.{taken_is_explained}
@@ -18,7 +19,7 @@ use Rattle.mrp_agent.specs.Shows.{ShowsHistory, BooksShow, form_of}
 use Rattle.mrp_agent.specs.State.{AgentState, incoming_at, incoming_place}
 use Rattle.mrp_agent.proofs.Formed.{legal_in_form}
 use Rattle.mrp_agent.proofs.Placed.{in_placed}
-use Rattle.mrp_run.specs.Plant.{AtWork, IsAtWork, Kept, lanes_to, passage, passages, state_of}
+use Rattle.mrp_run.specs.Plant.{AtWork, IsAtWork, Kept, lanes_to, passage, passages}
 use Rattle.mrp_run.proofs.Held.{is_longer, lane_there, lanes_rise, list_is, list_was, one_more, put_back}
 use Rattle.mrp_run.proofs.Keeping.{nothing_done}
 use Rattle.mrp_run.proofs.Placed.{in_there}
@@ -31,8 +32,8 @@ pub comes_in : (A : AgentState) (s t : List End) → IsAtWork A s t → (k l : �
 comes_in A s t (N, p, w) k l x within at lane =
     let is : (get_or t k x).name.lane ≡ l = ap (λ (z : End). z.name.lane) (sym at) ∙ sym lane in
     subst (λ (n : ℕ). incoming_place A.view n < length A.view.incoming) is
-    (in_placed A.view N p (get_or t k x).name.lane w.works.view (in_there N p (get_or t k x).name.lane
-    (lane_there N (lanes_to N p) w.taken t w.takes_are k x within))).within
+    (in_placed A.view N p (get_or t k x).name.lane w.works.shown.view (in_there N p (get_or t k x).name.lane
+    (lane_there N (lanes_to N p) w.state.taken t w.takes_are k x within))).within
 
 -- the end x is looked at for its lane, the end y is taken from, and it is e then
 module _ (A : AgentState) (s t : List End) (k l : ℕ) (x y e : End) (r : Record) (within : k < length t) (at_x : x ≡ get_or t k x) (at_y : y ≡ get_or t k y)
@@ -52,13 +53,14 @@ module _ (A : AgentState) (s t : List End) (k l : ℕ) (x y e : End) (r : Record
 
   own : (N : Table) (p : ℕ) (w : AtWork N p A s t) → Contains (lanes_to N p) e.name.lane
   own N p w =
-      subst (λ (n : ℕ). Contains (lanes_to N p) n) (sym (ap (λ (n : Name). n.lane) name)) (lane_there N (lanes_to N p) w.taken t w.takes_are k x within)
+      subst (λ (n : ℕ). Contains (lanes_to N p) n) (sym (ap (λ (n : Name). n.lane) name)) (lane_there N (lanes_to N p) w.state.taken t w.takes_are k x within)
 
   -- what was taken with the record is a legal beginning in the network
-  legal_there : (N : Table) (p : ℕ) (w : AtWork N p A s t) → IsBeginning (loads N (lane_at N e.name.lane)) (w.taken e.name.lane ++ r ∷ [])
+  legal_there : (N : Table) (p : ℕ) (w : AtWork N p A s t) → IsBeginning (loads N (lane_at N e.name.lane)) (w.state.taken e.name.lane ++ r ∷ [])
   legal_there N p w =
       let network : e.name.network ≡ N = ap (λ (n : Name). n.network) name ∙ w.takes_are.network k x within in
-      let is : e.list ≡ w.taken e.name.lane ++ r ∷ [] = list_is N (lanes_to N p) (lanes_rise N (comes_to N p)) w.taken t w.takes_are k x e r within name list in
+      let is : e.list ≡ w.state.taken e.name.lane ++ r ∷ [] =
+      list_is N (lanes_to N p) (lanes_rise N (comes_to N p)) w.state.taken t w.takes_are k x e r within name list in
       subst (λ (z : List Record). IsBeginning (loads N (lane_at N e.name.lane)) z) is
       (subst (λ (M : Table). IsBeginning (loads M (lane_at M e.name.lane)) e.list) network legal)
 
@@ -66,21 +68,22 @@ module _ (A : AgentState) (s t : List End) (k l : ℕ) (x y e : End) (r : Record
   pub not_refused : IsAtWork A s t → ((taken : ℕ → List Record) → BooksShow A taken
       → IsInForm (form_of A.view (incoming_at A.view (incoming_place A.view l))) (taken l ++ r ∷ []) → ⊥) → ⊥
   not_refused (N, p, w) refused =
-      let there : IsInForm (form_of A.view (incoming_at A.view (incoming_place A.view e.name.lane))) (w.taken e.name.lane ++ r ∷ []) =
-      legal_in_form N w.sized p A.view w.works.view e.name.lane (in_there N p e.name.lane (own N p w)) (w.taken e.name.lane ++ r ∷ []) (legal_there N p w) in
-      refused w.taken w.works.shows.books
-      (subst (λ (n : ℕ). IsInForm (form_of A.view (incoming_at A.view (incoming_place A.view n))) (w.taken n ++ r ∷ [])) of_lane there)
+      let there : IsInForm (form_of A.view (incoming_at A.view (incoming_place A.view e.name.lane))) (w.state.taken e.name.lane ++ r ∷ []) =
+      legal_in_form N w.sized p A.view w.works.shown.view e.name.lane (in_there N p e.name.lane (own N p w)) (w.state.taken e.name.lane ++ r ∷ [])
+      (legal_there N p w) in
+      refused w.state.taken w.works.shown.history.books
+      (subst (λ (n : ℕ). IsInForm (form_of A.view (incoming_at A.view (incoming_place A.view n))) (w.state.taken n ++ r ∷ [])) of_lane there)
 
   -- its history goes on with the record, which has some stamp
   explained : (N : Table) (p : ℕ) (w : AtWork N p A s t) → IsStampedOnce (get_or t k x).stamps e.stamps
-      → IsExplained N p (state_of w.sent (changed w.taken e.name.lane (w.taken e.name.lane ++ r ∷ [])) w.planned) (passages s) (passages (set t k e))
+      → IsExplained N p (after_take w.state e.name.lane r) (passages s) (passages (set t k e))
   explained N p w (stamp, stamps) =
       let rises = lanes_rise N (comes_to N p) in
-      let more = is_longer N (lanes_to N p) rises w.taken t w.takes_are k x e r within name list stamp stamps in
-      let was = list_was N (lanes_to N p) rises w.taken t w.takes_are k x e r within name list in
-      subst (λ (z : List Passage). IsExplained N p (state_of w.sent (changed w.taken e.name.lane (w.taken e.name.lane ++ r ∷ [])) w.planned) (passages s) z)
+      let more = is_longer N (lanes_to N p) rises w.state.taken t w.takes_are k x e r within name list stamp stamps in
+      let was = list_was N (lanes_to N p) rises w.state.taken t w.takes_are k x e r within name list in
+      subst (λ (z : List Passage). IsExplained N p (after_take w.state e.name.lane r) (passages s) z)
       (sym (map-set passage t k e))
-      (taken_is_explained N p (state_of w.sent w.taken w.planned) (passages s) (passages t) w.explained k (passage x) (passage e) r stamp more was)
+      (taken_is_explained N p w.state (passages s) (passages t) w.explained k (passage x) (passage e) r stamp more was)
 
   pub booked_kept : IsStampedOnce y.stamps e.stamps → (B : AgentState) → B.view ≡ A.view
       → ((sent taken : ℕ → List Record) (planned : ℕ → Bool) → ShowsHistory A sent taken planned
@@ -92,20 +95,21 @@ module _ (A : AgentState) (s t : List End) (k l : ℕ) (x y e : End) (r : Record
     takes = map-set_same (λ (z : End). z.name) t k e x name;
     works = λ N p w. record {
       sized = w.sized;
-      sent = w.sent;
-      taken = changed w.taken e.name.lane (w.taken e.name.lane ++ r ∷ []);
-      planned = w.planned;
+      state = after_take w.state e.name.lane r;
       works = record {
-        view = view ∙ w.works.view;
+        shown = record {
+          view = view ∙ w.works.shown.view;
+          enough = subst IsView (sym view) w.works.shown.enough;
+          history = subst (λ (n : ℕ). ShowsHistory B w.state.sent (changed w.state.taken n (w.state.taken n ++ r ∷ [])) w.state.planned) (sym of_lane)
+              (booked w.state.sent w.state.taken w.state.planned w.works.shown.history);
+        };
         legal = λ n there receiver.
-            changed_by (λ (z : List Record). IsBeginning (loads N (lane_at N n)) z) w.taken e.name.lane (w.taken e.name.lane ++ r ∷ []) n
-            (λ here. subst (λ (j : ℕ). IsBeginning (loads N (lane_at N j)) (w.taken e.name.lane ++ r ∷ [])) (sym here) (legal_there N p w))
+            changed_by (λ (z : List Record). IsBeginning (loads N (lane_at N n)) z) w.state.taken e.name.lane (w.state.taken e.name.lane ++ r ∷ []) n
+            (λ here. subst (λ (j : ℕ). IsBeginning (loads N (lane_at N j)) (w.state.taken e.name.lane ++ r ∷ [])) (sym here) (legal_there N p w))
             (w.works.legal n there receiver);
-        shows = subst (λ (n : ℕ). ShowsHistory B w.sent (changed w.taken n (w.taken n ++ r ∷ [])) w.planned) (sym of_lane)
-            (booked w.sent w.taken w.planned w.works.shows);
       };
       sends_are = w.sends_are;
-      takes_are = one_more N (lanes_to N p) (lanes_rise N (comes_to N p)) w.taken t w.takes_are k x e r within name list;
+      takes_are = one_more N (lanes_to N p) (lanes_rise N (comes_to N p)) w.state.taken t w.takes_are k x e r within name list;
       explained = explained N p w (subst (λ (z : End). IsStampedOnce z.stamps e.stamps) same stamped);
     };
   }

@@ -7,6 +7,7 @@ use Rattle.mrp_rows.specs.Table.{Table}
 use Rattle.mrp_rows.proofs.Grouping.{range-suc}
 use Rattle.mrp_net.specs.Lanes.{lanes, lane_at}
 use Rattle.mrp_net.proofs.Routing.{map-map}
+use Rattle.mrp_view.specs.Seen.{IsView}
 use Rattle.mrp_view.specs.View.{comes_to, goes_from, lane_numbers}
 use Rattle.mrp_loops.specs.Sized.{IsSized}
 use Rattle.mrp_record.proofs.Beginnings.{empty_is_a_beginning}
@@ -14,6 +15,7 @@ use Rattle.mrp_events.specs.Loads.{loads}
 use Rattle.mrp_events.specs.State.{opening_state}
 use Rattle.mrp_events.proofs.Passing.{IsUnused, opening_is_explained}
 use Rattle.mrp_lane.specs.Ends.{End, Name}
+use Rattle.mrp_agent.proofs.Viewing.{views_can_be_planned}
 use Rattle.mrp_run.specs.declared.plant.Plant.{Plant}
 use Rattle.mrp_run.specs.Ends.{AreNames, is_from, is_to, IsEmpty, IsDealt, IsIdle, HasMailboxRoom, HaveMailboxRoom, HaveFirst, IsReadyPlant, AreReady}
 use Rattle.mrp_run.specs.Plant.{AreEnds, names, passage, passages}
@@ -61,13 +63,10 @@ is_ready N ns p P sized all idle = record {
   dealt = idle.dealt;
   works = record {
     sized = sized;
-    sent = opening_state.sent;
-    taken = opening_state.taken;
-    planned = opening_state.planned;
+    state = opening_state;
     works = record {
-      view = idle.view;
+      shown = record { view = idle.view; enough = subst IsView (sym idle.view) (views_can_be_planned N sized p).0; history = idle.opens };
       legal = λ l within receiver. empty_is_a_beginning (loads N (lane_at N l));
-      shows = idle.opens;
     };
     sends_are = tested_are_ends N (goes_from N p) ns P.sends.items all idle.dealt.sends_are idle.sent;
     takes_are = tested_are_ends N (comes_to N p) ns P.takes.items all idle.dealt.takes_are idle.taken;

@@ -17,7 +17,7 @@ use Rattle.mrp_run.proofs.Held.{lane_there}
 use Rattle.mrp_run.proofs.Placed.{in_there, out_there}
 
 done_there : (N : Table) (p : ℕ) (A : AgentState) (s t : List End) → (w : AtWork N p A s t) → is_done A ≡ true
-    → ((v : AtWork N p A s t) → HasDone A.view v.sent v.taken v.planned) → AgentIsDone N p A s t
+    → ((v : AtWork N p A s t) → HasDone A.view v.state.sent v.state.taken v.state.planned) → AgentIsDone N p A s t
 done_there N p A s t w done each =
     let all = each w in
     record {
@@ -25,25 +25,25 @@ done_there N p A s t w done each =
       sent = λ k d within.
           let l : ℕ = (get_or s k d).name.lane in
           let there : Contains A.view.outgoing (outgoing_lane N l) =
-          subst (λ (V : PlantRows). Contains V.outgoing (outgoing_lane N l)) (sym w.works.view)
-          (out_there N p l (lane_there N (lanes_from N p) w.sent s w.sends_are k d within)) in
+          subst (λ (V : PlantRows). Contains V.outgoing (outgoing_lane N l)) (sym w.works.shown.view)
+          (out_there N p l (lane_there N (lanes_from N p) w.state.sent s w.sends_are k d within)) in
           subst (λ (z : List Record). is_closed (contents z) ≡ true) (sym (w.sends_are.lists k d within)) (all.outgoing (outgoing_lane N l) there);
       taken = λ k d within.
           let l : ℕ = (get_or t k d).name.lane in
           let there : Contains A.view.incoming (incoming_lane N l) =
-          subst (λ (V : PlantRows). Contains V.incoming (incoming_lane N l)) (sym w.works.view)
-          (in_there N p l (lane_there N (lanes_to N p) w.taken t w.takes_are k d within)) in
+          subst (λ (V : PlantRows). Contains V.incoming (incoming_lane N l)) (sym w.works.shown.view)
+          (in_there N p l (lane_there N (lanes_to N p) w.state.taken t w.takes_are k d within)) in
           subst (λ (z : List Record). is_closed (contents z) ≡ true) (sym (w.takes_are.lists k d within)) (all.incoming (incoming_lane N l) there);
       planned = λ v x pair.
           let there : Contains A.view.pairs (plant_pair N x) =
-          subst (λ (V : PlantRows). Contains V.pairs (plant_pair N x)) (sym w.works.view)
+          subst (λ (V : PlantRows). Contains V.pairs (plant_pair N x)) (sym w.works.shown.view)
           (Contains-from_in (plant_pairs N p) (plant_pair N x) (sees_pair N p x pair)) in
           (each v).pairs (plant_pair N x) there;
       plans = λ x pair.
           let there : Contains A.view.pairs (plant_pair N x) =
-          subst (λ (V : PlantRows). Contains V.pairs (plant_pair N x)) (sym w.works.view)
+          subst (λ (V : PlantRows). Contains V.pairs (plant_pair N x)) (sym w.works.shown.view)
           (Contains-from_in (plant_pairs N p) (plant_pair N x) (sees_pair N p x pair)) in
-          planned_pairs_have_the_plan N w.sized.table w.sized.loop_free p A w.sent w.taken w.planned w.works x pair (all.pairs (plant_pair N x) there);
+          planned_pairs_have_the_plan N w.sized.table w.sized.loop_free p w.state A w.works x pair (all.pairs (plant_pair N x) there);
     }
 
 -- what was kept and is done has finished
@@ -52,4 +52,4 @@ pub has_finished : (A : AgentState) (s t : List End) (B : AgentState) (s2 t2 : L
     → HasFinished A s t B s2 t2
 has_finished A s t B s2 t2 kept b holds is all N p work =
     let w : AtWork N p B s2 t2 = kept.works N p work in
-    done_there N p B s2 t2 w (sym is ∙ holds) (λ v. (all v.sent v.taken v.planned v.works.shows).0 holds)
+    done_there N p B s2 t2 w (sym is ∙ holds) (λ v. (all v.state.sent v.state.taken v.state.planned v.works.shown.history).0 holds)

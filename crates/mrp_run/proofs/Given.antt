@@ -21,7 +21,7 @@ use Rattle.mrp_record.specs.declared.record.Record.{Record}
 use Rattle.mrp_record.specs.Entries.{Entry, LineOf, EndOf, ResetOf, Closing, content, is_of}
 use Rattle.mrp_record.specs.Text.{Load}
 use Rattle.mrp_events.specs.Loads.{load_of, loads}
-use Rattle.mrp_events.specs.State.{IsDecided}
+use Rattle.mrp_events.specs.State.{State, IsDecided}
 use Rattle.mrp_events.specs.History.{PlannedAreReady}
 use Rattle.mrp_record.specs.Cursor as cursor
 use Rattle.mrp_record.specs.Cursor.{Goods, OutFigures}
@@ -30,12 +30,11 @@ use Rattle.mrp_events.specs.Goods.{IsSendable}
 use Rattle.mrp_events.specs.LocalLaws.{HasGoods, IsPairAt}
 use Rattle.mrp_events.proofs.LocalPlanned.{own}
 use Rattle.mrp_events.proofs.Seeing.{ready_over_network}
-use Rattle.mrp_agent.specs.Laws.{WorksIn}
+use Rattle.mrp_agent.specs.InNetwork.{WorksIn}
 use Rattle.mrp_agent.specs.Sending.{ContinuesSent, goods_at}
 use Rattle.mrp_agent.specs.State.{AgentState, outgoing_at, out_at, plans_of, no_outgoing}
 use Rattle.mrp_agent.proofs.Left.{lanes_are_seen}
 use Rattle.mrp_agent.proofs.Network.{agrees_at, has_goods, works}
-use Rattle.mrp_run.specs.Plant.{state_of}
 
 -- ---- what is given
 
@@ -79,32 +78,30 @@ module _ (N : Table) (table : IsTable N) (planned : ℕ → Bool) (l : ℕ) (goo
   given_may_be_decided e may item of kind = item_is_decided item (queued_of goods o item.0 e of may) kind
 
 -- what an agent gives to send on a lane is of an item that may be sent
-pub given_is_decided : (N : Table) → IsSized N → (plant : ℕ) (A : AgentState) (sent taken : ℕ → List Record) (planned : ℕ → Bool)
-    → WorksIn N plant A sent taken planned
-    → (k : ℕ) → k < length A.view.outgoing → (r : Record) → ContinuesSent A sent taken k r
-    → IsDecided N planned (lane_at N (outgoing_at A.view k).number.0) (content r)
-given_is_decided N sized plant A sent taken planned w k within r continues =
+pub given_is_decided : (N : Table) → IsSized N → (plant : ℕ) (s : State) (A : AgentState) → WorksIn N plant s A
+    → (k : ℕ) → k < length A.view.outgoing → (r : Record) → ContinuesSent A s.sent s.taken k r
+    → IsDecided N s.planned (lane_at N (outgoing_at A.view k).number.0) (content r)
+given_is_decided N sized plant s A w k within r continues =
     let lane : OutgoingLane = outgoing_at A.view k in
     let l : ℕ = lane.number.0 in
     let S : PlantRows → Type 0 = λ V. All (λ z. z ≡ outgoing_lane N z.number.0) V.outgoing in
-    let seen : S A.view = subst S (sym w.view) (lanes_are_seen N plant) in
+    let seen : S A.view = subst S (sym w.shown.view) (lanes_are_seen N plant) in
     let is : lane ≡ outgoing_lane N l = seen k no_outgoing within in
-    let has : HasGoods N planned (outgoing_lane N l) (goods_at A taken k) =
-    subst (λ (z : OutgoingLane). HasGoods N planned z (goods_at A taken k)) is (has_goods N sized plant A sent taken planned w k within) in
-    let queued : (place : ℕ) → Contains (out_at A k).queue place → IsSendable planned (outgoing_lane N l) place =
-    subst (λ (z : OutgoingLane). (place : ℕ) → Contains (out_at A k).queue place → IsSendable planned z place) is
-    (λ place there. ((w.shows.outs k within).queued place).0 there) in
-    given_may_be_decided N sized.table planned l (goods_at A taken k) (out_at A k) has queued (content r)
-    (continues (loads N (lane_at N l)) (agrees_at N sized plant A sent taken planned w k within)).1
+    let has : HasGoods N s.planned (outgoing_lane N l) (goods_at A s.taken k) =
+    subst (λ (z : OutgoingLane). HasGoods N s.planned z (goods_at A s.taken k)) is (has_goods N sized plant s A w k within) in
+    let queued : (place : ℕ) → Contains (out_at A k).queue place → IsSendable s.planned (outgoing_lane N l) place =
+    subst (λ (z : OutgoingLane). (place : ℕ) → Contains (out_at A k).queue place → IsSendable s.planned z place) is
+    (λ place there. ((w.shown.history.outs k within).queued place).0 there) in
+    given_may_be_decided N sized.table s.planned l (goods_at A s.taken k) (out_at A k) has queued (content r)
+    (continues (loads N (lane_at N l)) (agrees_at N sized plant s A w k within)).1
 
 -- ---- what is planned
 
 -- each pair that the agent has planned is ready, by its own plans
-pub planned_is_ready : (N : Table) → IsSized N → (plant : ℕ) (A : AgentState) (sent taken : ℕ → List Record) (planned : ℕ → Bool)
-    → WorksIn N plant A sent taken planned
-    → PlannedAreReady N plant (state_of sent taken planned)
-planned_is_ready N sized plant A sent taken planned w x pair at done =
-    let local = works N plant A sent taken planned w in
+pub planned_is_ready : (N : Table) → IsSized N → (plant : ℕ) (s : State) (A : AgentState) → WorksIn N plant s A
+    → PlannedAreReady N plant s
+planned_is_ready N sized plant s A w x pair at done =
+    let local = works N plant s A w in
     let here : IsPairAt N plant x = record { pair = pair; at_plant = at } in
-    ready_over_network N sized.table plant planned taken x here
-    (own N sized.table sized.loop_free plant taken local.legal planned (plans_of A) local.local x here done).ready
+    ready_over_network N sized.table plant s.planned s.taken x here
+    (own N sized.table sized.loop_free plant s.taken local.legal s.planned (plans_of A) local.local x here done).ready

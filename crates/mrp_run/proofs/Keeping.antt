@@ -1,17 +1,18 @@
 -- What work keeps: nothing done keeps it, one step after another keeps it, and so does planning.
 use Rattle.std.proofs.Common.{◌≡◌, ℕ, Bool, true, List, [], ◌∷◌, refl, ◌∙◌}
 use Rattle.mrp_rows.specs.declared.numbers.PairNo.{PairNo}
-use Rattle.mrp_events.specs.State.{changed}
+use Rattle.mrp_events.specs.State.{State, changed}
 use Rattle.mrp_events.proofs.Keeping.{changed_by}
 use Rattle.mrp_events.proofs.Passing.{planned_is_explained}
 use Rattle.mrp_lane.specs.Ends.{End}
-use Rattle.mrp_agent.specs.Laws.{WorksIn}
+use Rattle.mrp_agent.specs.InNetwork.{WorksIn}
 use Rattle.mrp_agent.specs.State.{AgentState}
-use Rattle.mrp_crew.specs.Planning.{IsPlannable, PlansAll, all_planned}
+use Rattle.mrp_crew.specs.Planning.{IsPlannable, PlansAll, after_planning, all_planned}
+use Rattle.mrp_crew.proofs.PlanningLaws.{planning_keeps_at_work}
 use Rattle.mrp_run.specs.declared.moving.Lanes.{Lanes}
 use Rattle.mrp_run.specs.declared.moving.Lanes.TheVariants.{Incoming, Outgoing}
 use Rattle.mrp_run.specs.declared.plant.Plant.{Plant}
-use Rattle.mrp_run.specs.Plant.{IsAtWork, Kept, passages, state_of}
+use Rattle.mrp_run.specs.Plant.{IsAtWork, Kept, passages}
 use Rattle.mrp_run.specs.Steps.{KeepsPlant, lane_count}
 use Rattle.mrp_run.specs.Steps as steps
 use Rattle.mrp_run.proofs.Given.{planned_is_ready}
@@ -52,9 +53,7 @@ can_plan A s t (N, p, w) = record {
   network = N;
   sized = w.sized;
   plant = p;
-  sent = w.sent;
-  taken = w.taken;
-  planned = w.planned;
+  state = w.state;
   works = w.works;
 }
 
@@ -64,27 +63,22 @@ stays_planned planned [] y done = done
 stays_planned planned (x ∷ xs) y done =
     stays_planned (changed planned x.0 true) xs y (changed_by (λ (b : Bool). b ≡ true) planned x.0 true y (λ _. refl) done)
 
-pub planned_kept : (A : AgentState) (s t : List End) (B : AgentState) (xs : List PairNo) → PlansAll A B xs → Kept A s t B s t
-planned_kept A s t B xs plans = record {
+pub planned_kept : (A : AgentState) (sends takes : List End) (B : AgentState) (xs : List PairNo) → PlansAll A B xs → Kept A sends takes B sends takes
+planned_kept A sends takes B xs plans = record {
   view = plans.view;
   sends = refl;
   takes = refl;
   works = λ N p w.
-      let now : WorksIn N p B w.sent w.taken (all_planned w.planned xs) = record {
-        view = plans.view ∙ w.works.view;
-        legal = w.works.legal;
-        shows = plans.shows w.sent w.taken w.planned w.works.shows;
-      } in
+      let t : State = after_planning w.state xs in
+      let now : WorksIn N p t B = planning_keeps_at_work N p w.state A B xs w.works plans in
       record {
         sized = w.sized;
-        sent = w.sent;
-        taken = w.taken;
-        planned = all_planned w.planned xs;
+        state = t;
         works = now;
         sends_are = w.sends_are;
         takes_are = w.takes_are;
-        explained = planned_is_explained N p (state_of w.sent w.taken w.planned) (passages s) (passages t) (all_planned w.planned xs) w.explained
-            (λ x pair own done. stays_planned w.planned xs x done)
-            (planned_is_ready N w.sized p B w.sent w.taken (all_planned w.planned xs) now);
+        explained = planned_is_explained N p w.state (passages sends) (passages takes) t.planned w.explained
+            (λ x pair own done. stays_planned w.state.planned xs x done)
+            (planned_is_ready N w.sized p t B now);
       };
 }

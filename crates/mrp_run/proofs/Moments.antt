@@ -18,10 +18,10 @@ use Rattle.mrp_events.proofs.Owners.{sender_is_there, receiver_is_there, owner_i
 use Rattle.mrp_events.specs.LocalLaws.{IsPairAt}
 use Rattle.mrp_events.proofs.Seeing.{sees_pair}
 use Rattle.mrp_lane.specs.Ends.{End}
-use Rattle.mrp_agent.specs.Laws.{WorksIn}
+use Rattle.mrp_agent.specs.InNetwork.{WorksIn}
 use Rattle.mrp_agent.specs.State.{AgentState}
 use Rattle.mrp_run.specs.Moments.{IsInOrder, IsShown, MomentsAreReached}
-use Rattle.mrp_run.specs.Plant.{AreEnds, AtWork, IsClosed, AgentIsDone as HasFinishedAt, lanes_from, lanes_to, passage, passages, state_of}
+use Rattle.mrp_run.specs.Plant.{AreEnds, AtWork, IsClosed, AgentIsDone as HasFinishedAt, lanes_from, lanes_to, passage, passages}
 use Rattle.mrp_run.proofs.Held.{lane_there}
 
 -- ---- the lanes of ends
@@ -50,19 +50,19 @@ module _ (N : Table) (sized : IsSized N) (agents : ℕ → AgentState) (sends ta
     explained : IsExplained N p s (passages (sends p)) (passages (takes p))
     sends_are : AreEnds N (lanes_from N p) s.sent (sends p)
     takes_are : AreEnds N (lanes_to N p) s.taken (takes p)
-    shows : WorksIn N p (agents p) s.sent s.taken s.planned
+    works_there : WorksIn N p s (agents p)
     all_planned : HasFinishedAt N p (agents p) (sends p) (takes p) → (x : ℕ) → IsPairAt N p x → s.planned x ≡ true
 
   abbrev chosen : (p : ℕ) → (s : State) × (p < length N.plants → Stands p s)
   chosen p = elim (cases_lt p (length N.plants)) [
     | inl within ↦
         let w = works p within in (
-          state_of w.sent w.taken w.planned,
+          w.state,
           (λ _. record {
             explained = w.explained;
             sends_are = w.sends_are;
             takes_are = w.takes_are;
-            shows = w.works;
+            works_there = w.works;
             all_planned = λ finished. finished.planned w;
           }),
         )
@@ -111,9 +111,9 @@ module _ (N : Table) (sized : IsSized N) (agents : ℕ → AgentState) (sends ta
     planned = λ p within x pair.
         let at = stands p within in
         let seen : Contains (agents p).view.pairs (plant_pair N x) =
-        subst (λ (V : PlantRows). Contains V.pairs (plant_pair N x)) (sym at.shows.view)
+        subst (λ (V : PlantRows). Contains V.pairs (plant_pair N x)) (sym at.works_there.shown.view)
         (Contains-from_in (plant_pairs N p) (plant_pair N x) (sees_pair N p x pair)) in
-        merged.planned x pair.pair ∙ ap (λ (q : ℕ). (states q).planned x) pair.at_plant ∙ at.shows.shows.planned_are (plant_pair N x) seen;
+        merged.planned x pair.pair ∙ ap (λ (q : ℕ). (states q).planned x) pair.at_plant ∙ at.works_there.shown.history.planned_are (plant_pair N x) seen;
   }
 
   -- ---- within a capacity

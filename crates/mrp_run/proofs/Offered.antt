@@ -4,12 +4,13 @@ use Rattle.std.proofs.lemmas.List.{get_or_read, map-set}
 use Rattle.std.proofs.Math.Seq.{map-set_same}
 use Rattle.mrp_rows.specs.Table.{Table}
 use Rattle.mrp_net.specs.Lanes.{lane_at}
+use Rattle.mrp_view.specs.Seen.{IsView}
 use Rattle.mrp_view.specs.View.{goes_from}
 use Rattle.mrp_record.specs.declared.record.Record.{Record}
 use Rattle.mrp_record.specs.Entries.{content}
 use Rattle.mrp_record.specs.Text.{IsBeginning}
 use Rattle.mrp_events.specs.Loads.{loads}
-use Rattle.mrp_events.specs.State.{IsDecided, changed}
+use Rattle.mrp_events.specs.State.{IsDecided, after_send, changed}
 use Rattle.mrp_events.specs.Stamps.{IsExplained, Passage}
 use Rattle.mrp_events.proofs.Passing.{sent_is_explained}
 use Rattle.mrp_lane.specs.Ends.{End, Name, IsNextRecord}
@@ -19,7 +20,7 @@ use Rattle.mrp_agent.specs.Shows.{ShowsHistory}
 use Rattle.mrp_agent.specs.State.{AgentState, outgoing_at, outgoing_place}
 use Rattle.mrp_agent.proofs.Network.{sent_is_legal, sent_is_within_64}
 use Rattle.mrp_agent.proofs.Placed.{IsPlaced, out_placed}
-use Rattle.mrp_run.specs.Plant.{AtWork, IsAtWork, Kept, clock_at, lanes_from, passage, passages, state_of}
+use Rattle.mrp_run.specs.Plant.{AtWork, IsAtWork, Kept, clock_at, lanes_from, passage, passages}
 use Rattle.mrp_run.proofs.Given.{given_is_decided}
 use Rattle.mrp_run.proofs.Held.{is_longer, lane_there, lanes_rise, list_was, one_more, put_back}
 use Rattle.mrp_run.proofs.Keeping.{nothing_done}
@@ -29,8 +30,8 @@ use Rattle.mrp_run.proofs.Placed.{out_there}
 placed : (A : AgentState) (s t : List End) (N : Table) (p : ℕ) (w : AtWork N p A s t) (k : ℕ) (d : End) → k < length s
     → IsPlaced A.view (get_or s k d).name.lane
 placed A s t N p w k d within =
-    out_placed A.view N p (get_or s k d).name.lane w.works.view (out_there N p (get_or s k d).name.lane
-    (lane_there N (lanes_from N p) w.sent s w.sends_are k d within))
+    out_placed A.view N p (get_or s k d).name.lane w.works.shown.view (out_there N p (get_or s k d).name.lane
+    (lane_there N (lanes_from N p) w.state.sent s w.sends_are k d within))
 
 pub goes_out : (A : AgentState) (s t : List End) → IsAtWork A s t → (k l : ℕ) (x : End) → k < length s → x ≡ get_or s k x → l ≡ x.name.lane
     → outgoing_place A.view l < length A.view.outgoing
@@ -55,12 +56,12 @@ module _ (A : AgentState) (s t : List End) (k l : ℕ) (x y : End) (r : Record) 
       let j : ℕ = outgoing_place A.view n in
       let place = placed A s t N p w k x within in
       let here : GivenIsLegal A j r = subst (λ (z : ℕ). GivenIsLegal A (outgoing_place A.view z) r) (sym of_lane) given in
-      let bounded : IsWithin64 A w.taken j = sent_is_within_64 N w.sized p A w.sent w.taken w.planned w.works j place.within in
-      let continues : ContinuesSent A w.sent w.taken j r = here w.sent w.taken w.planned w.works.shows bounded in
-      let begins : IsBeginning (loads N (lane_at N (outgoing_at A.view j).number.0)) (w.sent (outgoing_at A.view j).number.0 ++ r ∷ []) =
-      sent_is_legal N w.sized p A w.sent w.taken w.planned w.works j place.within r continues in
-      let on_lane : IsBeginning (loads N (lane_at N n)) (w.sent n ++ r ∷ []) =
-      subst (λ (z : ℕ). IsBeginning (loads N (lane_at N z)) (w.sent z ++ r ∷ [])) place.number begins in
+      let bounded : IsWithin64 A w.state.taken j = sent_is_within_64 N w.sized p w.state A w.works j place.within in
+      let continues : ContinuesSent A w.state.sent w.state.taken j r = here w.state.sent w.state.taken w.state.planned w.works.shown.history bounded in
+      let begins : IsBeginning (loads N (lane_at N (outgoing_at A.view j).number.0)) (w.state.sent (outgoing_at A.view j).number.0 ++ r ∷ []) =
+      sent_is_legal N w.sized p w.state A w.works j place.within r continues in
+      let on_lane : IsBeginning (loads N (lane_at N n)) (w.state.sent n ++ r ∷ []) =
+      subst (λ (z : ℕ). IsBeginning (loads N (lane_at N z)) (w.state.sent z ++ r ∷ [])) place.number begins in
       let next : IsNextRecord e r =
       subst (λ (M : Table). IsBeginning (loads M (lane_at M n)) (e.list ++ r ∷ [])) (sym (w.sends_are.network k x within))
       (subst (λ (z : List Record). IsBeginning (loads N (lane_at N n)) (z ++ r ∷ [])) (sym (w.sends_are.lists k x within)) on_lane) in
@@ -68,29 +69,29 @@ module _ (A : AgentState) (s t : List End) (k l : ℕ) (x y : End) (r : Record) 
 
   -- it is of an item that may be sent
   decided : (N : Table) (p : ℕ) (w : AtWork N p A s t) → GivenIsLegal A (outgoing_place A.view l) r
-      → IsDecided N w.planned (lane_at N (get_or s k x).name.lane) (content r)
+      → IsDecided N w.state.planned (lane_at N (get_or s k x).name.lane) (content r)
   decided N p w given =
       let n : ℕ = (get_or s k x).name.lane in
       let j : ℕ = outgoing_place A.view n in
       let place = placed A s t N p w k x within in
       let here : GivenIsLegal A j r = subst (λ (z : ℕ). GivenIsLegal A (outgoing_place A.view z) r) (sym of_lane) given in
-      let bounded : IsWithin64 A w.taken j = sent_is_within_64 N w.sized p A w.sent w.taken w.planned w.works j place.within in
-      subst (λ (z : ℕ). IsDecided N w.planned (lane_at N z) (content r)) place.number
-      (given_is_decided N w.sized p A w.sent w.taken w.planned w.works j place.within r (here w.sent w.taken w.planned w.works.shows bounded))
+      let bounded : IsWithin64 A w.state.taken j = sent_is_within_64 N w.sized p w.state A w.works j place.within in
+      subst (λ (z : ℕ). IsDecided N w.state.planned (lane_at N z) (content r)) place.number
+      (given_is_decided N w.sized p w.state A w.works j place.within r (here w.state.sent w.state.taken w.state.planned w.works.shown.history bounded))
 
   -- its history goes on with the record, sent at the plant's clock
   explained : (N : Table) (p : ℕ) (w : AtWork N p A s t) (e : End) → e.name ≡ (get_or s k x).name → e.list ≡ (get_or s k x).list ++ r ∷ []
       → e.stamps ≡ (get_or s k x).stamps ++ clock_at s t ∷ [] → GivenIsLegal A (outgoing_place A.view l) r
-      → IsExplained N p (state_of (changed w.sent e.name.lane (w.sent e.name.lane ++ r ∷ [])) w.taken w.planned) (passages (set s k e)) (passages t)
+      → IsExplained N p (after_send w.state e.name.lane r) (passages (set s k e)) (passages t)
   explained N p w e name list stamps given =
       let rises = lanes_rise N (goes_from N p) in
-      let more = is_longer N (lanes_from N p) rises w.sent s w.sends_are k x e r within name list (clock_at s t) stamps in
-      let was = list_was N (lanes_from N p) rises w.sent s w.sends_are k x e r within name list in
-      let may : IsDecided N w.planned (lane_at N e.name.lane) (content r) =
-      subst (λ (z : Name). IsDecided N w.planned (lane_at N z.lane) (content r)) (sym name) (decided N p w given) in
-      subst (λ (z : List Passage). IsExplained N p (state_of (changed w.sent e.name.lane (w.sent e.name.lane ++ r ∷ [])) w.taken w.planned) z (passages t))
+      let more = is_longer N (lanes_from N p) rises w.state.sent s w.sends_are k x e r within name list (clock_at s t) stamps in
+      let was = list_was N (lanes_from N p) rises w.state.sent s w.sends_are k x e r within name list in
+      let may : IsDecided N w.state.planned (lane_at N e.name.lane) (content r) =
+      subst (λ (z : Name). IsDecided N w.state.planned (lane_at N z.lane) (content r)) (sym name) (decided N p w given) in
+      subst (λ (z : List Passage). IsExplained N p (after_send w.state e.name.lane r) z (passages t))
       (sym (map-set passage s k e))
-      (sent_is_explained N p (state_of w.sent w.taken w.planned) (passages s) (passages t) w.explained k (passage x) (passage e) r more was may)
+      (sent_is_explained N p w.state (passages s) (passages t) w.explained k (passage x) (passage e) r more was may)
 
   -- once it is sent the plant is at work with it
   pub sent_kept : (e : End) → e.name ≡ y.name → e.list ≡ y.list ++ r ∷ [] → e.stamps ≡ y.stamps ++ clock_at s t ∷ []
@@ -108,23 +109,24 @@ module _ (A : AgentState) (s t : List End) (k l : ℕ) (x y : End) (r : Record) 
         takes = refl;
         works = λ N p w.
             let place = placed A s t N p w k x within in
-            let bounded : IsWithin64 A w.taken (outgoing_place A.view n) =
-            sent_is_within_64 N w.sized p A w.sent w.taken w.planned w.works (outgoing_place A.view n) place.within in
-            let shows : ShowsHistory B (changed w.sent n (w.sent n ++ r ∷ [])) w.taken w.planned =
-            subst (λ (z : ℕ). ShowsHistory B (changed w.sent z (w.sent z ++ r ∷ [])) w.taken w.planned) place.number
-            (here w.sent w.taken w.planned w.works.shows bounded) in
+            let bounded : IsWithin64 A w.state.taken (outgoing_place A.view n) =
+            sent_is_within_64 N w.sized p w.state A w.works (outgoing_place A.view n) place.within in
+            let shows : ShowsHistory B (changed w.state.sent n (w.state.sent n ++ r ∷ [])) w.state.taken w.state.planned =
+            subst (λ (z : ℕ). ShowsHistory B (changed w.state.sent z (w.state.sent z ++ r ∷ [])) w.state.taken w.state.planned) place.number
+            (here w.state.sent w.state.taken w.state.planned w.works.shown.history bounded) in
             record {
               sized = w.sized;
-              sent = changed w.sent e.name.lane (w.sent e.name.lane ++ r ∷ []);
-              taken = w.taken;
-              planned = w.planned;
+              state = after_send w.state e.name.lane r;
               works = record {
-                view = view ∙ w.works.view;
+                shown = record {
+                  view = view ∙ w.works.shown.view;
+                  enough = subst IsView (sym view) w.works.shown.enough;
+                  history = subst (λ (z : ℕ). ShowsHistory B (changed w.state.sent z (w.state.sent z ++ r ∷ [])) w.state.taken w.state.planned)
+                      (sym (ap (λ (n : Name). n.lane) name)) shows;
+                };
                 legal = w.works.legal;
-                shows = subst (λ (z : ℕ). ShowsHistory B (changed w.sent z (w.sent z ++ r ∷ [])) w.taken w.planned)
-                    (sym (ap (λ (n : Name). n.lane) name)) shows;
               };
-              sends_are = one_more N (lanes_from N p) (lanes_rise N (goes_from N p)) w.sent s w.sends_are k x e r within name list;
+              sends_are = one_more N (lanes_from N p) (lanes_rise N (goes_from N p)) w.state.sent s w.sends_are k x e r within name list;
               takes_are = w.takes_are;
               explained = explained N p w e name list stamps given;
             };

@@ -1,5 +1,5 @@
 -- A plant at work in a network: its agent, and the ends of its lanes.
-use Rattle.std.specs.Prelude.{◌≡◌, ℕ, Bool, true, List, map, filter, All}
+use Rattle.std.specs.Prelude.{◌≡◌, ℕ, true, List, map, filter, All}
 use Rattle.mrp_rows.specs.Table.{Table}
 use Rattle.mrp_view.specs.View.{comes_to, goes_from, lane_numbers}
 use Rattle.mrp_loops.specs.Sized.{IsSized}
@@ -10,7 +10,7 @@ use Rattle.mrp_events.specs.State.{State}
 use Rattle.mrp_events.specs.Stamps.{Passage, IsExplained, clock_of}
 use Rattle.mrp_events.specs.LocalLaws.{IsPairAt}
 use Rattle.mrp_lane.specs.Ends.{End, Name}
-use Rattle.mrp_agent.specs.Laws.{WorksIn}
+use Rattle.mrp_agent.specs.InNetwork.{WorksIn}
 use Rattle.mrp_agent.specs.Shows.{is_done}
 use Rattle.mrp_agent.specs.State.{AgentState, plans_of}
 
@@ -40,21 +40,15 @@ passages ends = map passage ends
 abbrev pub clock_at : List End → List End → ℕ
 clock_at sends takes = clock_of (passages sends) (passages takes)
 
--- what has been sent, taken and planned, as a state of the events
-abbrev pub state_of : (ℕ → List Record) → (ℕ → List Record) → (ℕ → Bool) → State
-state_of sent taken planned = record { sent = sent; taken = taken; planned = planned }
-
--- a plant of a sized network: by some history its agent works in the network, and what was sent and taken by
--- that history went through the ends of its lanes; by its clock it has come to this state in logical time
+-- a plant of a sized network: its agent works there in some state, and what is sent and taken in that state went
+-- through the ends of its lanes; by its clock it has come to the state in logical time
 pub record AtWork (N : Table) (p : ℕ) (A : AgentState) (sends takes : List End) : Type 0 where
   pub sized : IsSized N
-  pub sent : ℕ → List Record
-  pub taken : ℕ → List Record
-  pub planned : ℕ → Bool
-  pub works : WorksIn N p A sent taken planned
-  pub sends_are : AreEnds N (lanes_from N p) sent sends
-  pub takes_are : AreEnds N (lanes_to N p) taken takes
-  pub explained : IsExplained N p (state_of sent taken planned) (passages sends) (passages takes)
+  pub state : State
+  pub works : WorksIn N p state A
+  pub sends_are : AreEnds N (lanes_from N p) state.sent sends
+  pub takes_are : AreEnds N (lanes_to N p) state.taken takes
+  pub explained : IsExplained N p state (passages sends) (passages takes)
 
 -- it is at work as some plant of some network
 abbrev pub IsAtWork : AgentState → List End → List End → Type 0
@@ -66,13 +60,13 @@ IsAtWork A sends takes = (N : Table) × (p : ℕ) × AtWork N p A sends takes
 abbrev pub IsClosed : End → Type 0
 IsClosed e = is_closed (contents e.list) ≡ true
 
--- the agent is done, all its lanes are closed, each of its pairs is planned, by whatever history it is at work, and has
+-- the agent is done, all its lanes are closed, each of its pairs is planned, in whatever state it is at work, and has
 -- the plan of the network
 pub record AgentIsDone (N : Table) (p : ℕ) (A : AgentState) (sends takes : List End) : Type 0 where
   pub done : is_done A ≡ true
   pub sent : All IsClosed sends
   pub taken : All IsClosed takes
-  pub planned : (w : AtWork N p A sends takes) (x : ℕ) → IsPairAt N p x → w.planned x ≡ true
+  pub planned : (w : AtWork N p A sends takes) (x : ℕ) → IsPairAt N p x → w.state.planned x ≡ true
   pub plans : (x : ℕ) → IsPairAt N p x → plans_of A x ≡ plan_at N x
 
 -- ---- what work keeps

@@ -2,7 +2,6 @@
 
 ghost use Rattle.std.specs.Prelude.{◌≡◌, IfOk};
 ghost use Rattle.csv.specs.Records.{fields_of};
-ghost use Rattle.mrp_tables.specs.Grammar.{field, is_free};
 ghost use Rattle.mrp_stream.specs.Grammar.{spelled_close, spelled_end, record_is_empty_from, item_field};
 ghost use Rattle.mrp_stream.specs.Grammar.{spelled_line, number_field, spelled_reset, record_row_kind, spelled_record};
 
@@ -13,23 +12,10 @@ use csv::StringRecord;
 use mrp_net::ItemNo;
 use mrp_record::Record;
 use mrp_rows::number;
+use mrp_tables::{field, is_free};
 
 /// How many fields a row has.
 const FIELDS: usize = 6;
-
-/// A field of a row, counted from 0; one that isn't there is empty.
-fn field(row: &StringRecord, i: usize) -> &str
-    ensures { result.now ≡ field (fields_of row.now) i }
-{
-    row.get(i).unwrap_or("")
-}
-
-/// Whether a field is among the used ones, or empty.
-fn is_free(row: &StringRecord, used: usize, i: usize) -> bool
-    ensures { result ≡ is_free (fields_of row.now) used i }
-{
-    i < used || field(row, i).is_empty()
-}
 
 /// Whether the fields from `used` on are empty; two and more are used.
 fn is_empty_from(row: &StringRecord, used: usize) -> bool

@@ -9,6 +9,7 @@
 mod amounts;
 mod draft;
 mod fault;
+mod fields;
 mod kind;
 mod lanes;
 mod laws;
@@ -21,6 +22,7 @@ mod spelling;
 mod steps;
 
 pub use fault::{TableFault, TableFaultKind};
+pub use fields::{field, is_free};
 pub use kind::Kind;
 pub use laws::{
     a_run_has_one_calendar, a_table_is_read_from_its_own_rows_alone, faults_rise,

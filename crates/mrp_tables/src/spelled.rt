@@ -5,13 +5,14 @@ ghost use Rattle.mrp_qty.specs.declared.quantity.TheConstants.{MOST};
 ghost use Rattle.mrp_qty.specs.declared.horizon.TheConstants.{LONGEST};
 ghost use Rattle.mrp_qty.specs.declared.limits.TheConstants.{MOST_IN_ROW, MOST_PER};
 ghost use Rattle.csv.specs.Records.{fields_of};
-ghost use Rattle.mrp_tables.specs.Grammar.{amount_terms, bill_terms, cum_terms, field, is_empty_from, is_free};
+ghost use Rattle.mrp_tables.specs.Grammar.{amount_terms, bill_terms, cum_terms, is_empty_from};
 ghost use Rattle.mrp_tables.specs.Grammar.{kind_of, lane_terms, pair_terms, plant_terms, reset_terms, row_kind};
 ghost use Rattle.mrp_tables.specs.Grammar.{run_terms, seen, ship_terms, TellsSeen};
 ghost use Rattle.mrp_tables.specs.Spelled.{amount_view, bill_view, lane_view, pair_view, run_view, IsSpelledPair};
 ghost use Rattle.mrp_rows.specs.Table.{IsName};
 ghost use Rattle.mrp_tables.specs.Drafts.{TellsRun};
 
+use crate::fields::{field, is_free};
 use crate::kind::used;
 use crate::spelling::{name, ranged};
 use crate::{Kind, TableFaultKind};
@@ -24,13 +25,6 @@ use std::alloc::Global;
 
 /// How many fields a row has.
 const FIELDS: usize = 8;
-
-/// A field of a row, counted from 0; one that isn't there is empty.
-fn field(row: &StringRecord, i: usize) -> &str
-    ensures { result.now ≡ field (fields_of row.now) i }
-{
-    row.get(i).unwrap_or("")
-}
 
 /// The kind that a first field names.
 fn kind_of(word: &str) -> Option<Kind>
@@ -57,13 +51,6 @@ fn kind_of(word: &str) -> Option<Kind>
     } else {
         None
     }
-}
-
-/// Whether a field is among the used ones, or empty.
-fn is_free(row: &StringRecord, used: usize, i: usize) -> bool
-    ensures { result ≡ is_free (fields_of row.now) used i }
-{
-    i < used || field(row, i).is_empty()
 }
 
 /// Whether the fields from `used` on are empty.

@@ -29,7 +29,7 @@ plan_given A m p at done k within =
     let place : pair_place A.view x ≡ k = place_is_only (λ (z : PlantPair). z.number.0 == x) A.view.pairs k no_plant_pair
     (at.shown.enough.numbers_once x) within (eq-eqb x x refl) in
     let is : plans_of A x ≡ rows_at (plan_of N) x =
-    planned_pairs_have_the_plan N at.sized.table at.sized.loop_free p A m.state.sent m.state.taken m.state.planned (works_in A m p at) x mine (done x mine) in
+    planned_pairs_have_the_plan N at.sized.table at.sized.loop_free p m.state A (works_in A m p at) x mine (done x mine) in
     sym (ap (λ (n : ℕ). get_or A.plans n no_plan) place) ∙ is
 
 pub gives : (A : AgentState) (m : Moment) (p : ℕ) → IsAt ShowsAgent m p A → HasPlannedAll m p → length A.plans ≡ length A.view.pairs

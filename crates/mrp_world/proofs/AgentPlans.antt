@@ -48,7 +48,7 @@ module _ (A : AgentState) (numbers : List PairNo) (exact : AreReady A numbers) w
 
     draft_at : Contains numbers x → IsWithin (pair_owned A.view x).params (drafted_incoming A x) (drafted_gross A x)
     draft_at listed =
-        drafts_are_within m.network at.sized p A m.state.sent m.state.taken m.state.planned (works_in A m p at) x.0 own (listed_can_be listed).ready
+        drafts_are_within m.network at.sized p m.state A (works_in A m p at) x.0 own (listed_can_be listed).ready
 
   pub draft_within : (x : PairNo) → Has ShowsAgent A x.0 → Contains numbers x → IsWithin (pair_owned A.view x).params (drafted_incoming A x) (drafted_gross A x)
   draft_within x (m, p, at, own) listed = draft_at m p x at own listed

@@ -54,7 +54,7 @@ none_planned A x None there = λ m p at own. planned_is A m p x at own ∙ unpla
 plan_is : (A : AgentState) (x : PairNo) (plan : PlanRows) → plan ≡ plans_of A x.0
     → (m : Moment) (p : ℕ) → IsAt ShowsAgent m p A → IsOwn m.network p x.0 → m.state.planned x.0 ≡ true → plan ≡ rows_at (plan_of m.network) x.0
 plan_is A x plan is m p at own done =
-    is ∙ planned_pairs_have_the_plan m.network at.sized.table at.sized.loop_free p A m.state.sent m.state.taken m.state.planned (works_in A m p at) x.0 own done
+    is ∙ planned_pairs_have_the_plan m.network at.sized.table at.sized.loop_free p m.state A (works_in A m p at) x.0 own done
 
 pub given_plan : {X : Type 0} (now : X → PlanRows) (A : AgentState) (x : PairNo) (o : Option X) → IsGiven A x o
     → IfSome o (λ plan. now plan ≡ plans_of A x.0)

@@ -4,18 +4,16 @@ use Rattle.mrp_view.specs.Seen.{IsView}
 use Rattle.mrp_view.specs.View.{PlantRows}
 use Rattle.mrp_events.proofs.Ordering.{lanes_keep_order}
 use Rattle.mrp_agent.specs.Kept.{HasSmallOpenings}
-use Rattle.mrp_agent.specs.Laws.{WorksIn}
 use Rattle.mrp_agent.specs.State.{AgentState}
 use Rattle.mrp_agent.proofs.Viewing.{views_can_be_planned}
-use Rattle.mrp_agent.specs.InNetwork.{ShowsAgent}
+use Rattle.mrp_agent.specs.InNetwork.{ShowsAgent, WorksIn}
 use Rattle.mrp_world.specs.Moments.{Moment, IsAt, IsSeen}
 
 -- what came to it on each lane is a legal beginning
-pub works_in : (A : AgentState) (m : Moment) (p : ℕ) → IsAt ShowsAgent m p A → WorksIn m.network p A m.state.sent m.state.taken m.state.planned
+pub works_in : (A : AgentState) (m : Moment) (p : ℕ) → IsAt ShowsAgent m p A → WorksIn m.network p m.state A
 works_in A m p at = record {
-  view = at.shown.view;
+  shown = at.shown;
   legal = λ l within receiver. (lanes_keep_order m.network m.capacity m.state at.reached l within).taken;
-  shows = at.shown.history;
 }
 
 -- ---- the agent of what a plant sees
