@@ -42,7 +42,7 @@ have_ended N plants through = record {
         dealt = at.dealt;
         sent = at.finished.sent;
         taken = at.finished.taken;
-        plans = record { view = at.works.works.view; plans = at.finished.plans };
+        plans = record { view = at.works.works.shown.view; plans = at.finished.plans };
       };
 }
 
