@@ -21,7 +21,7 @@ use Rattle.mrp_record.specs.declared.record.Record.{Record}
 use Rattle.mrp_record.specs.Entries.{Entry, LineOf, EndOf, ResetOf, Closing, content}
 use Rattle.mrp_record.specs.Text.{IsBeginning}
 use Rattle.mrp_events.specs.Loads.{loads}
-use Rattle.mrp_events.specs.State.{IsDecided, after_send, changed}
+use Rattle.mrp_events.specs.State.{State, IsDecided, after_send, changed}
 use Rattle.mrp_record.specs.CursorLaws.{IsQueued, MaySend}
 use Rattle.mrp_events.specs.Goods.{goods_by, IsSendable}
 use Rattle.mrp_agent.specs.Sending.{ContinuesSent, goods_at}
