@@ -1,6 +1,16 @@
-//! Worked cases of calls that no command makes: which plan fits, records as text, booked and written again, and
-//! the text functions at their edges: readers and writers that fail, memory that is refused, gates that are shut.
+//! Tables that were worked by hand, computed in the prover by the definitions that the theorem cites.
+//!
+//! The tests are of calls that no command makes: which plan fits, records as text, booked and written again, and the
+//! text functions at their edges: readers and writers that fail, memory that is refused, gates that are shut.
 #![tactic(auto)]
+
+mod worked;
+
+pub use worked::{
+    bicycle_is_planned, bicycle_is_written, firm_of_two_is_planned, firm_of_two_is_written,
+    pumps_are_advised, pumps_are_counted, pumps_are_ordered, pumps_are_planned,
+    pumps_are_scheduled, pumps_are_written,
+};
 
 #[cfg(test)]
 mod tests;

@@ -5,7 +5,5 @@ pub mod TextFacts
 pub mod RowFacts
 pub mod GateFacts
 pub mod TableFacts
-pub mod WorkedFacts
-pub mod PumpsFacts
 pub mod OneReport
 pub mod FigureFacts

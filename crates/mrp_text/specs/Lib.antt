@@ -6,10 +6,7 @@ pub mod FigureLaws
 pub mod Gates
 pub mod Laws
 pub mod Lines
-pub mod Pumps
-pub mod PumpsReports
 pub mod Refusals
 pub mod Reports
 pub mod Runs
 pub mod Text
-pub mod Worked

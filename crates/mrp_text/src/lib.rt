@@ -28,7 +28,6 @@ mod lines;
 mod network;
 mod run;
 mod text;
-mod worked;
 mod writing;
 
 pub use answers::{answer, exit_status};
@@ -45,9 +44,4 @@ pub use mrp_run::{Gate, NoGate, Settings};
 pub use text::{
     advice_text, check_text, cums_text, drive_text, headed_check_text, headed_cums_text,
     headed_peg_text, orders_text, peg_text, pegs_text, plan_text, schedule_text,
-};
-pub use worked::{
-    bicycle_is_planned, bicycle_is_written, firm_of_two_is_planned, firm_of_two_is_written,
-    pumps_are_advised, pumps_are_counted, pumps_are_ordered, pumps_are_planned,
-    pumps_are_scheduled, pumps_are_written,
 };

@@ -10,7 +10,7 @@ use Rattle.mrp_report.specs.Orders.{planned_order_row, order_text, orders_text, 
 use Rattle.mrp_actions.specs.ScheduleRows.{item_text, lane_schedule_text, lanes_text, schedule_line_row, schedule_text}
 use Rattle.mrp_actions.specs.AdviceRows.{advice_row, advice_text, messages_text, pair_advice_text}
 use Rattle.mrp_world.specs.Figures.{last_figures}
-use Rattle.mrp_text.specs.PumpsReports.{PumpsAreAdvised, PumpsAreCounted, PumpsAreOrdered, PumpsAreScheduled}
+use Rattle.mrp_cases.specs.PumpsReports.{PumpsAreAdvised, PumpsAreCounted, PumpsAreOrdered, PumpsAreScheduled}
 
 pub pumps_are_ordered : PumpsAreOrdered
 unfolding digits date_at greatest_need balance_before order_at one period_date row planned_order_row pair_orders_text orders_text order_text

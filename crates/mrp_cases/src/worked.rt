@@ -1,9 +1,9 @@
 //! Tables that were worked by hand, computed by the definitions alone. Each law is the contract of a function that
 //! does nothing.
 
-ghost use Rattle.mrp_text.specs.Pumps.{PumpsArePlanned, PumpsAreWritten};
-ghost use Rattle.mrp_text.specs.PumpsReports.{PumpsAreAdvised, PumpsAreCounted, PumpsAreOrdered, PumpsAreScheduled};
-ghost use Rattle.mrp_text.specs.Worked.{BicycleIsPlanned, BicycleIsWritten, FirmOfTwoIsPlanned, FirmOfTwoIsWritten};
+ghost use Rattle.mrp_cases.specs.Pumps.{PumpsArePlanned, PumpsAreWritten};
+ghost use Rattle.mrp_cases.specs.PumpsReports.{PumpsAreAdvised, PumpsAreCounted, PumpsAreOrdered, PumpsAreScheduled};
+ghost use Rattle.mrp_cases.specs.Worked.{BicycleIsPlanned, BicycleIsWritten, FirmOfTwoIsPlanned, FirmOfTwoIsWritten};
 
 /// The rows that are written of the bicycle, field by field.
 pub fn bicycle_is_written()

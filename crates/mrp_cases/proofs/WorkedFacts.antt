@@ -6,8 +6,8 @@ use Rattle.mrp_lot.specs.One.{balance_before, greatest_need, one, order_at}
 use Rattle.mrp_sheet.specs.Dates.{period_date}
 use Rattle.mrp_sheet.specs.Rows.{row}
 use Rattle.mrp_report.specs.Report.{late_text, pair_text, plan_text}
-use Rattle.mrp_text.specs.Pumps.{PumpsArePlanned, PumpsAreWritten}
-use Rattle.mrp_text.specs.Worked.{BicycleIsPlanned, BicycleIsWritten, FirmOfTwoIsPlanned, FirmOfTwoIsWritten}
+use Rattle.mrp_cases.specs.Pumps.{PumpsArePlanned, PumpsAreWritten}
+use Rattle.mrp_cases.specs.Worked.{BicycleIsPlanned, BicycleIsWritten, FirmOfTwoIsPlanned, FirmOfTwoIsWritten}
 
 pub bicycle_is_written : BicycleIsWritten
 unfolding digits date_at

@@ -7,7 +7,7 @@ use Rattle.mrp_report.specs.Orders.{order_text}
 use Rattle.mrp_actions.specs.ScheduleRows.{schedule_text}
 use Rattle.mrp_actions.specs.AdviceRows.{advice_text}
 use Rattle.mrp_world.specs.Figures.{last_figures}
-use Rattle.mrp_text.specs.Pumps.{pumps}
+use Rattle.mrp_cases.specs.Pumps.{pumps}
 
 -- the planned orders, and which of them are late
 abbrev pub PumpsAreOrdered : Type 0

@@ -1,0 +1,2 @@
+mod WorkedFacts
+mod PumpsFacts
