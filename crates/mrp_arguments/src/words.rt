@@ -308,7 +308,8 @@ fn plan_command<'a>(alloc: Global) -> Result<Command<'a>, AllocError>
 fn workers_option<'a>(alloc: Global) -> Arg<'a>
     ensures { IsRuled rule.workers result }
 {
-    let help = "Workers of each plant, 1 to 64";
+    let help =
+        "Workers of each plant, 1 to 64; more than one took longer on every table that was measured";
     number_option(alloc, "workers", "W", MOST_WORKERS, "1", help)
 }
 
