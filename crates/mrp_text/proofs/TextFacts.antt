@@ -8,7 +8,7 @@ use Rattle.mrp_sheet.specs.declared.fault.ReportFault.TheVariants as report
 use Rattle.mrp_sheet.proofs.Fronts.{front-after, front-longer, some-longer}
 use Rattle.mrp_text.specs.declared.fault.TextFault.{TextFault}
 use Rattle.mrp_text.specs.declared.fault.TextFault.TheVariants as fault
-use Rattle.mrp_text.specs.Fault.{IsOfReport}
+use Rattle.mrp_text.specs.Fault.{IsLate, IsOfReport}
 use Rattle.mrp_text.specs.Text.{IsTableOf, Writes}
 use Rattle.mrp_text.specs.Refusals.{Question, Refuses, RefusesTable}
 
@@ -31,6 +31,13 @@ pub refuses-of : {U : Type 0} (known : Option (List ℕ)) (asked : Question) (N 
     → IfErr r (RefusesTable asked N) → IfErr r (Refuses known asked)
 refuses-of known asked N (Ok u) is said = tt
 refuses-of known asked N (Err f) is said = refused-of known asked N f is said
+
+-- a fault that is met once the input is tested is one of the machine, of which nothing is said
+pub late-refuses : {U : Type 0} (asked : Question) (N : Table) (r : Result U TextFault) → IfErr r IsLate → IfErr r (RefusesTable asked N)
+late-refuses asked N (Ok u) late = tt
+late-refuses asked N (Err fault.WriteFault) late = tt
+late-refuses asked N (Err fault.Memory) late = tt
+late-refuses asked N (Err _) late = absurd late
 
 -- bytes stay as they are
 keeps-all : (a : Option (List ℕ)) → Keeps a a

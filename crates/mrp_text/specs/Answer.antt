@@ -1,8 +1,9 @@
 -- What is answered to a choice of words.
-use Rattle.std.specs.Prelude.{◌≢◌, ℕ, true, false, List, Result, Ok, Err}
+use Rattle.std.specs.Prelude.{◌≢◌, ◌≤◌, ℕ, true, false, List, Result, Ok, Err}
 use Rattle.mrp_rows.specs.Table.{Table}
 use Rattle.mrp_choice.specs.declared.choice.Choice.{Choice}
 use Rattle.mrp_choice.specs.declared.choice.Choice.TheVariants.{Plan, Check, Peg, Cums, Orders, Schedule, Pegs, Advice}
+use Rattle.mrp_choice.specs.declared.choice.TheConstants.{MOST_CAPACITY}
 use Rattle.mrp_text.specs.declared.fault.TextFault.{TextFault}
 use Rattle.mrp_text.specs.declared.fault.TextFault.TheVariants.{GateShut, WriteFault}
 use Rattle.mrp_text.specs.Fault.{IsBeforeWriting, status_of}
@@ -11,6 +12,11 @@ use Rattle.mrp_text.specs.Text.{IsPlanReport}
 use Rattle.mrp_text.specs.Reports.{IsCodeReport, IsPegReport, IsCumReport, IsOrderReport, IsHeaded}
 use Rattle.mrp_text.specs.Refusals.{Question, AskWhole, AskByThreads, AskPair, AskPlants}
 use Rattle.mrp_text.specs.Reports.{IsScheduleReport, IsPegsReport, IsAdviceReport, name_of}
+
+-- a plan that is chosen has mailboxes for one record at least, and for so many at most
+abbrev pub HasCapacity : Choice → Type 0
+HasCapacity (Plan workers capacity single) = (1 ≤ capacity) × (capacity ≤ MOST_CAPACITY)
+HasCapacity _ = Unit {0}
 
 -- the report that a choice asks for
 abbrev pub IsAnswer : Choice → Table → List ℕ → Type 0

@@ -8,10 +8,7 @@ ghost use Rattle.mrp_text.specs.Refusals.{Refuses};
 ghost use Rattle.mrp_text.specs.Reports.{WritesRows, IsPlanRows};
 
 use crate::fault::{TextFault, status};
-use crate::text::{
-    advice_text, drive_text, headed_check_text, headed_cums_text, headed_peg_text, orders_text,
-    pegs_text, plan_text, schedule_text,
-};
+use crate::text::{plan_text, report_text};
 use mrp_choice::Choice;
 use mrp_run::{NoGate, Settings};
 use std::alloc::Global;
@@ -43,34 +40,16 @@ pub fn answer<T: Threads + Wait + Sync, R: Read + Drop, W: Write>(
 {
     match choice {
         Choice::Plan {
-            capacity,
-            single: true,
-            ..
-        } => drive_text(alloc, reader, writer, capacity),
-        Choice::Plan {
             workers,
             capacity,
-            ..
+            single: false,
         } => {
             let Some(settings) = Settings::new(workers, capacity) else {
                 unreachable!()
             };
             plan_text(rt, alloc, reader, writer, settings, &NoGate)
         }
-        Choice::Check { heading } => headed_check_text(alloc, reader, writer, heading),
-        Choice::Peg {
-            plant,
-            item,
-            period,
-            heading,
-        } => headed_peg_text(alloc, reader, writer, plant, item, period, heading),
-        Choice::Cums { heading } => headed_cums_text(alloc, reader, writer, heading),
-        Choice::Orders { until, heading } => orders_text(alloc, reader, writer, until, heading),
-        Choice::Schedule { from, to, heading } => {
-            schedule_text(alloc, reader, writer, from, to, heading)
-        }
-        Choice::Pegs { heading } => pegs_text(alloc, reader, writer, heading),
-        Choice::Advice { heading } => advice_text(alloc, reader, writer, heading),
+        _ => report_text(alloc, reader, writer, choice),
     }
 }
 

@@ -9,6 +9,7 @@
 
 ghost use Rattle.std.specs.Prelude.{◌≡◌, ◌≢◌, ◌≤◌, IfErr};
 ghost use Rattle.mrp_qty.specs.declared.limits.TheConstants.{MOST_TURNS};
+ghost use Rattle.mrp_text.specs.Answer.{HasCapacity, IsAnswer, IsBeforeReport, question_of};
 ghost use Rattle.mrp_text.specs.Fault.{IsBeforeWriting};
 ghost use Rattle.mrp_text.specs.Text.{Writes, OfTable, IsPlanReport};
 ghost use Rattle.mrp_text.specs.Reports.{WritesRows, IsPlanRows, IsCodeReport};
@@ -21,11 +22,8 @@ ghost use Rattle.mrp_choice.specs.declared.choice.TheConstants.{MOST_CAPACITY};
 
 use crate::fault::TextFault;
 use crate::network::network_of;
-use crate::writing::{
-    write_advice, write_all_pegs, write_codes, write_cums, write_orders, write_pegs, write_plan,
-    write_run, write_schedule,
-};
-use mrp_choice::{Heading, MOST_CAPACITY};
+use crate::writing::{write_report, write_run};
+use mrp_choice::{Choice, Heading, MOST_CAPACITY};
 use mrp_run::{Gate, Settings};
 use std::alloc::Global;
 use std::io::{Read, Write};
@@ -102,10 +100,12 @@ pub fn drive_text<R: Read + Drop, W: Write>(
     ensures refusal { IfErr result (Refuses (R.remaining reader) AskWhole) }
     ensures untouched { IfErr result (λ fault. IsBeforeWriting fault → writer.new ≡ writer.old) }
 {
-    let network = network_of(alloc, reader)?;
-    let written = write_plan(alloc, &network, writer, capacity);
-    drop(network);
-    written
+    let choice = Choice::Plan {
+        workers: 1,
+        capacity,
+        single: true,
+    };
+    report_text(alloc, reader, writer, choice)
 }
 
 /// Reads a table and writes the low-level code of each pair.
@@ -143,10 +143,7 @@ pub fn headed_check_text<R: Read + Drop, W: Write>(
     ensures refusal { IfErr result (Refuses (R.remaining reader) AskWhole) }
     ensures untouched { IfErr result (λ fault. fault ≢ TextFault.WriteFault → writer.new ≡ writer.old) }
 {
-    let network = network_of(alloc, reader)?;
-    let written = write_codes(alloc, &network, writer, heading);
-    drop(network);
-    written
+    report_text(alloc, reader, writer, Choice::Check { heading })
 }
 
 /// Reads a table and writes what the gross requirement of a pair in a period consists of: a row for
@@ -193,10 +190,13 @@ pub fn headed_peg_text<R: Read + Drop, W: Write>(
     ensures refusal { IfErr result (Refuses (R.remaining reader) (AskPair plant.now item.now period)) }
     ensures untouched { IfErr result (λ fault. fault ≢ TextFault.WriteFault → writer.new ≡ writer.old) }
 {
-    let network = network_of(alloc, reader)?;
-    let written = write_pegs(alloc, &network, writer, plant, item, period, heading);
-    drop(network);
-    written
+    let choice = Choice::Peg {
+        plant,
+        item,
+        period,
+        heading,
+    };
+    report_text(alloc, reader, writer, choice)
 }
 
 /// Reads a table and writes the cumulative figures of the lanes between its plants, once all plants have
@@ -235,10 +235,7 @@ pub fn headed_cums_text<R: Read + Drop, W: Write>(
     ensures refusal { IfErr result (Refuses (R.remaining reader) AskWhole) }
     ensures untouched { IfErr result (λ fault. fault ≢ TextFault.WriteFault → writer.new ≡ writer.old) }
 {
-    let network = network_of(alloc, reader)?;
-    let written = write_cums(alloc, &network, writer, heading);
-    drop(network);
-    written
+    report_text(alloc, reader, writer, Choice::Cums { heading })
 }
 
 /// Reads a table and writes its planned orders: a row for each that is released in period `until` or
@@ -263,10 +260,7 @@ pub fn orders_text<R: Read + Drop, W: Write>(
     ensures refusal { IfErr result (Refuses (R.remaining reader) AskWhole) }
     ensures untouched { IfErr result (λ fault. fault ≢ TextFault.WriteFault → writer.new ≡ writer.old) }
 {
-    let network = network_of(alloc, reader)?;
-    let written = write_orders(alloc, &network, writer, until, heading);
-    drop(network);
-    written
+    report_text(alloc, reader, writer, Choice::Orders { until, heading })
 }
 
 /// Reads a table and writes the delivery schedules between its plants: for each item that a customer plant
@@ -295,10 +289,12 @@ pub fn schedule_text<R: Read + Drop, W: Write>(
     ensures refusal { IfErr result (Refuses (R.remaining reader) (AskPlants (name_of from.entry) (name_of to.entry))) }
     ensures untouched { IfErr result (λ fault. fault ≢ TextFault.WriteFault → writer.new ≡ writer.old) }
 {
-    let network = network_of(alloc, reader)?;
-    let written = write_schedule(alloc, &network, writer, from, to, heading);
-    drop(network);
-    written
+    report_text(
+        alloc,
+        reader,
+        writer,
+        Choice::Schedule { from, to, heading },
+    )
 }
 
 /// Reads a table and writes the pegging of its whole plan: what each gross requirement of each pair and
@@ -320,10 +316,7 @@ pub fn pegs_text<R: Read + Drop, W: Write>(
     ensures refusal { IfErr result (Refuses (R.remaining reader) AskWhole) }
     ensures untouched { IfErr result (λ fault. fault ≢ TextFault.WriteFault → writer.new ≡ writer.old) }
 {
-    let network = network_of(alloc, reader)?;
-    let written = write_all_pegs(alloc, &network, writer, heading);
-    drop(network);
-    written
+    report_text(alloc, reader, writer, Choice::Pegs { heading })
 }
 
 /// Reads a table and writes which of its open orders, receipts and shipments, to expedite, to defer and to
@@ -345,8 +338,27 @@ pub fn advice_text<R: Read + Drop, W: Write>(
     ensures refusal { IfErr result (Refuses (R.remaining reader) AskWhole) }
     ensures untouched { IfErr result (λ fault. fault ≢ TextFault.WriteFault → writer.new ≡ writer.old) }
 {
+    report_text(alloc, reader, writer, Choice::Advice { heading })
+}
+
+/// Reads a table and writes the report that was chosen. A plan is made on one thread, whatever the choice says of
+/// threads.
+pub(crate) fn report_text<R: Read + Drop, W: Write>(
+    alloc: Global,
+    reader: R,
+    writer: &mut W,
+    choice: Choice<'_>,
+) -> Result<(), TextFault>
+    requires capacity { HasCapacity choice }
+    ensures text { Writes (W.contents writer.old) (W.contents writer.new) result
+        (λ text. OfTable (R.remaining reader) (λ N. IsAnswer choice.entry N text)) }
+    ensures rows { WritesRows W.contents writer.old writer.new result
+        (λ rows. OfTable (R.remaining reader) (λ N. IsPlanRows N rows)) }
+    ensures refusal { IfErr result (Refuses (R.remaining reader) (question_of choice.entry)) }
+    ensures untouched { IfErr result (λ fault. IsBeforeReport choice.entry fault → writer.new ≡ writer.old) }
+{
     let network = network_of(alloc, reader)?;
-    let written = write_advice(alloc, &network, writer, heading);
+    let written = write_report(alloc, &network, writer, choice);
     drop(network);
     written
 }

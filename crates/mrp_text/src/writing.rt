@@ -1,5 +1,5 @@
-//! What a text function writes of a network: the plan, the codes, the pegs, the figures of the lanes, the
-//! planned orders, the delivery schedules, and the messages for open orders.
+//! What is written of a network: the report that was chosen, and the plan that is made by threads. A network without a
+//! loop and within the bound has each of the reports; the others are refused before anything is written.
 
 ghost use Rattle.std.specs.Prelude.{◌≡◌, ◌≢◌, ◌≤◌, ◌<◌, IfErr, IfOk, length};
 ghost use Rattle.mrp_loops.specs.Sized.{IsSized};
@@ -7,6 +7,7 @@ ghost use Rattle.mrp_rows.specs.Table.{IsPair, horizon};
 ghost use Rattle.mrp_net.specs.PlanLaws.{Fits};
 ghost use Rattle.mrp_loops.specs.Codes.{AreCodes};
 ghost use Rattle.mrp_qty.specs.declared.limits.TheConstants.{MOST_TURNS};
+ghost use Rattle.mrp_text.specs.Answer.{HasCapacity, IsAnswer, IsBeforeReport, question_of};
 ghost use Rattle.mrp_text.specs.Fault.{IsBeforeWriting, IsLate};
 ghost use Rattle.mrp_text.specs.Text.{Writes, IsPlanReport};
 ghost use Rattle.mrp_text.specs.Reports.{WritesRows, IsPlanRows, IsCodeReport};
@@ -23,7 +24,7 @@ use crate::firm::{driven_figures, driven_plan};
 use crate::network::{levels_of, sized_of};
 use crate::run::{report_run, run_plan};
 use mrp_actions::{advice_rows, schedule_rows};
-use mrp_choice::{Heading, MOST_CAPACITY};
+use mrp_choice::{Choice, Heading, MOST_CAPACITY};
 use mrp_loops::{Levels, SizedNet};
 use mrp_net::{Network, PairNo, PlantNo};
 use mrp_plan::{Plan, peg, plan_all};
@@ -33,25 +34,6 @@ use std::alloc::Global;
 use std::io::Write;
 use std::sync::Wait;
 use std::thread::Threads;
-
-/// Writes the plan rows and the late rows of a network.
-pub(crate) fn write_plan<W: Write>(
-    alloc: Global,
-    network: &Network,
-    writer: &mut W,
-    capacity: u64,
-) -> Result<(), TextFault>
-    requires capacity { (1 ≤ capacity) × (capacity ≤ MOST_CAPACITY) }
-    ensures text { Writes (W.contents writer.old) (W.contents writer.new) result (IsPlanReport network.now) }
-    ensures rows { WritesRows W.contents writer.old writer.new result (IsPlanRows network.now) }
-    ensures refusal { IfErr result (RefusesTable AskWhole network.now) }
-    ensures untouched { IfErr result (λ fault. IsBeforeWriting fault → writer.new ≡ writer.old) }
-{
-    let levels = levels_of(alloc, network)?;
-    let net = sized_of(alloc, network, &levels)?;
-    let plan = driven_plan(alloc, &net, capacity)?;
-    report_plan(alloc, &net, &plan, writer)
-}
 
 /// Writes the plan rows and the late rows of a network that is run by threads.
 pub(crate) fn write_run<T: Threads + Wait + Sync, W: Write, G: Gate>(
@@ -75,6 +57,77 @@ pub(crate) fn write_run<T: Threads + Wait + Sync, W: Write, G: Gate>(
     report_run(rt, alloc, &net, &plan, writer)
 }
 
+/// Writes the report of a network that was chosen. A plan is made on one thread, whatever the choice says of threads.
+pub(crate) fn write_report<W: Write>(
+    alloc: Global,
+    network: &Network,
+    writer: &mut W,
+    choice: Choice<'_>,
+) -> Result<(), TextFault>
+    requires capacity { HasCapacity choice }
+    ensures text { Writes (W.contents writer.old) (W.contents writer.new) result (IsAnswer choice.entry network.now) }
+    ensures rows { WritesRows W.contents writer.old writer.new result (IsPlanRows network.now) }
+    ensures refusal { IfErr result (RefusesTable (question_of choice.entry) network.now) }
+    ensures untouched { IfErr result (λ fault. IsBeforeReport choice.entry fault → writer.new ≡ writer.old) }
+{
+    let levels = levels_of(alloc, network)?;
+    let sized = sized_of(alloc, network, &levels)?;
+    report(alloc, &sized, &levels, writer, choice)
+}
+
+/// Writes the report of a sized network that was chosen.
+fn report<W: Write>(
+    alloc: Global,
+    net: &SizedNet<'_>,
+    levels: &Levels,
+    writer: &mut W,
+    choice: Choice<'_>,
+) -> Result<(), TextFault>
+    requires capacity { HasCapacity choice }
+    requires plannable { IsSized net.now.network }
+    requires codes { AreCodes net.now.network levels.now }
+    ensures text { Writes (W.contents writer.old) (W.contents writer.new) result
+        (IsAnswer choice.entry net.now.network) }
+    ensures rows { WritesRows W.contents writer.old writer.new result (IsPlanRows net.now.network) }
+    ensures refusal { IfErr result (RefusesTable (question_of choice.entry) net.now.network) }
+    ensures untouched { IfErr result (λ fault. IsBeforeReport choice.entry fault → writer.new ≡ writer.old) }
+{
+    match choice {
+        Choice::Plan { capacity, .. } => report_driven(alloc, net, writer, capacity),
+        Choice::Check { heading } => report_codes(alloc, net.network(), levels, writer, heading),
+        Choice::Peg {
+            plant,
+            item,
+            period,
+            heading,
+        } => report_pegs(alloc, net, writer, plant, item, period, heading),
+        Choice::Cums { heading } => report_cums(alloc, net, writer, heading),
+        Choice::Orders { until, heading } => report_orders(alloc, net, writer, until, heading),
+        Choice::Schedule { from, to, heading } => {
+            report_schedule(alloc, net, writer, from, to, heading)
+        }
+        Choice::Pegs { heading } => report_all_pegs(alloc, net, writer, heading),
+        Choice::Advice { heading } => report_advice(alloc, net, writer, heading),
+    }
+}
+
+/// Writes the plan rows and the late rows of the plan that the plants of a network come to on one thread.
+fn report_driven<W: Write>(
+    alloc: Global,
+    net: &SizedNet<'_>,
+    writer: &mut W,
+    capacity: u64,
+) -> Result<(), TextFault>
+    requires capacity { (1 ≤ capacity) × (capacity ≤ MOST_CAPACITY) }
+    requires plannable { IsSized net.now.network }
+    ensures text { Writes (W.contents writer.old) (W.contents writer.new) result (IsPlanReport net.now.network) }
+    ensures rows { WritesRows W.contents writer.old writer.new result (IsPlanRows net.now.network) }
+    ensures fault { IfErr result IsLate }
+{
+    let plan = driven_plan(alloc, net, capacity)?;
+    report_plan(alloc, net, &plan, writer)
+}
+
 /// Writes the plan rows and the late rows of a plan.
 fn report_plan<W: Write>(
     alloc: Global,
@@ -91,23 +144,6 @@ fn report_plan<W: Write>(
     plan_rows(alloc, net, plan, writer)?;
     late_rows(alloc, net, plan, writer)?;
     Ok(())
-}
-
-/// Writes the code rows of a network.
-pub(crate) fn write_codes<W: Write>(
-    alloc: Global,
-    network: &Network,
-    writer: &mut W,
-    heading: Heading,
-) -> Result<(), TextFault>
-    ensures text { Writes (W.contents writer.old) (W.contents writer.new) result
-        (IsHeaded heading code_names (IsCodeReport network.now)) }
-    ensures refusal { IfErr result (RefusesTable AskWhole network.now) }
-    ensures untouched { IfErr result (λ fault. fault ≢ TextFault.WriteFault → writer.new ≡ writer.old) }
-{
-    let levels = levels_of(alloc, network)?;
-    let _net = sized_of(alloc, network, &levels)?;
-    report_codes(alloc, network, &levels, writer, heading)
 }
 
 /// Writes the code rows of a network that can be planned.
@@ -129,34 +165,34 @@ fn report_codes<W: Write>(
     Ok(())
 }
 
-/// Writes the peg rows of a pair in a period.
-pub(crate) fn write_pegs<W: Write>(
+/// Writes the peg rows of the pair of these names in a period.
+fn report_pegs<W: Write>(
     alloc: Global,
-    network: &Network,
+    net: &SizedNet<'_>,
     writer: &mut W,
     plant: &str,
     item: &str,
     period: u64,
     heading: Heading,
 ) -> Result<(), TextFault>
+    requires plannable { IsSized net.now.network }
     ensures text { Writes (W.contents writer.old) (W.contents writer.new) result
-        (IsHeaded heading peg_names (IsPegReport plant.now item.now period network.now)) }
-    ensures refusal { IfErr result (RefusesTable (AskPair plant.now item.now period) network.now) }
+        (IsHeaded heading peg_names (IsPegReport plant.now item.now period net.now.network)) }
+    ensures refusal { IfErr result (RefusesTable (AskPair plant.now item.now period) net.now.network) }
     ensures untouched { IfErr result (λ fault. fault ≢ TextFault.WriteFault → writer.new ≡ writer.old) }
 {
-    let levels = levels_of(alloc, network)?;
-    let net = sized_of(alloc, network, &levels)?;
+    let network = net.network();
     let Some(x) = network.find(plant, item) else {
         return Err(TextFault::NoPair);
     };
     if period >= network.horizon().get() {
         return Err(TextFault::NoPeriod);
     }
-    report_pegs(alloc, &net, writer, x, period as usize, heading)
+    report_pegs_at(alloc, net, writer, x, period as usize, heading)
 }
 
-/// Writes the peg rows of a pair of a sized network in a period below its horizon.
-fn report_pegs<W: Write>(
+/// Writes the peg rows of a pair in a period below the horizon.
+fn report_pegs_at<W: Write>(
     alloc: Global,
     net: &SizedNet<'_>,
     writer: &mut W,
@@ -178,24 +214,7 @@ fn report_pegs<W: Write>(
     Ok(())
 }
 
-/// Writes the lane rows of a network.
-pub(crate) fn write_cums<W: Write>(
-    alloc: Global,
-    network: &Network,
-    writer: &mut W,
-    heading: Heading,
-) -> Result<(), TextFault>
-    ensures text { Writes (W.contents writer.old) (W.contents writer.new) result
-        (IsHeaded heading lane_names (IsCumReport network.now)) }
-    ensures refusal { IfErr result (RefusesTable AskWhole network.now) }
-    ensures untouched { IfErr result (λ fault. fault ≢ TextFault.WriteFault → writer.new ≡ writer.old) }
-{
-    let levels = levels_of(alloc, network)?;
-    let net = sized_of(alloc, network, &levels)?;
-    report_cums(alloc, &net, writer, heading)
-}
-
-/// Writes the lane rows of a sized network.
+/// Writes the lane rows.
 fn report_cums<W: Write>(
     alloc: Global,
     net: &SizedNet<'_>,
@@ -213,25 +232,7 @@ fn report_cums<W: Write>(
     Ok(())
 }
 
-/// Writes the order rows of a network.
-pub(crate) fn write_orders<W: Write>(
-    alloc: Global,
-    network: &Network,
-    writer: &mut W,
-    until: Option<u64>,
-    heading: Heading,
-) -> Result<(), TextFault>
-    ensures text { Writes (W.contents writer.old) (W.contents writer.new) result
-        (IsOrderReport until heading network.now) }
-    ensures refusal { IfErr result (RefusesTable AskWhole network.now) }
-    ensures untouched { IfErr result (λ fault. fault ≢ TextFault.WriteFault → writer.new ≡ writer.old) }
-{
-    let levels = levels_of(alloc, network)?;
-    let net = sized_of(alloc, network, &levels)?;
-    report_orders(alloc, &net, writer, until, heading)
-}
-
-/// Writes the order rows of a sized network.
+/// Writes the order rows.
 fn report_orders<W: Write>(
     alloc: Global,
     net: &SizedNet<'_>,
@@ -250,26 +251,25 @@ fn report_orders<W: Write>(
     Ok(())
 }
 
-/// Writes the schedule rows of a network, of the lanes from one supplier and to one customer where these are
-/// named.
-pub(crate) fn write_schedule<W: Write>(
+/// Writes the schedule rows of the lanes from one supplier and to one customer where these are named.
+fn report_schedule<W: Write>(
     alloc: Global,
-    network: &Network,
+    net: &SizedNet<'_>,
     writer: &mut W,
     from: Option<&str>,
     to: Option<&str>,
     heading: Heading,
 ) -> Result<(), TextFault>
+    requires plannable { IsSized net.now.network }
     ensures text { Writes (W.contents writer.old) (W.contents writer.new) result
-        (IsScheduleReport (name_of from.entry) (name_of to.entry) heading network.now) }
-    ensures refusal { IfErr result (RefusesTable (AskPlants (name_of from.entry) (name_of to.entry)) network.now) }
+        (IsScheduleReport (name_of from.entry) (name_of to.entry) heading net.now.network) }
+    ensures refusal { IfErr result (RefusesTable (AskPlants (name_of from.entry) (name_of to.entry)) net.now.network) }
     ensures untouched { IfErr result (λ fault. fault ≢ TextFault.WriteFault → writer.new ≡ writer.old) }
 {
-    let levels = levels_of(alloc, network)?;
-    let net = sized_of(alloc, network, &levels)?;
+    let network = net.network();
     let supplier = plant_named(network, from)?;
     let customer = plant_named(network, to)?;
-    report_schedule(alloc, &net, writer, supplier, customer, heading)
+    report_schedules(alloc, net, writer, supplier, customer, heading)
 }
 
 /// The plant of a name, where one is given.
@@ -286,8 +286,8 @@ fn plant_named(network: &Network, name: Option<&str>) -> Result<Option<PlantNo>,
     }
 }
 
-/// Writes the schedule rows of a sized network.
-fn report_schedule<W: Write>(
+/// Writes the schedule rows of the lanes from one supplier and to one customer where these are chosen.
+fn report_schedules<W: Write>(
     alloc: Global,
     net: &SizedNet<'_>,
     writer: &mut W,
@@ -306,24 +306,7 @@ fn report_schedule<W: Write>(
     Ok(())
 }
 
-/// Writes the pegs rows of a network.
-pub(crate) fn write_all_pegs<W: Write>(
-    alloc: Global,
-    network: &Network,
-    writer: &mut W,
-    heading: Heading,
-) -> Result<(), TextFault>
-    ensures text { Writes (W.contents writer.old) (W.contents writer.new) result
-        (IsHeaded heading pegs_names (IsPegsReport network.now)) }
-    ensures refusal { IfErr result (RefusesTable AskWhole network.now) }
-    ensures untouched { IfErr result (λ fault. fault ≢ TextFault.WriteFault → writer.new ≡ writer.old) }
-{
-    let levels = levels_of(alloc, network)?;
-    let net = sized_of(alloc, network, &levels)?;
-    report_all_pegs(alloc, &net, writer, heading)
-}
-
-/// Writes the pegs rows of a sized network.
+/// Writes the pegs rows of the whole plan.
 fn report_all_pegs<W: Write>(
     alloc: Global,
     net: &SizedNet<'_>,
@@ -341,23 +324,7 @@ fn report_all_pegs<W: Write>(
     Ok(())
 }
 
-/// Writes the advice rows of a network.
-pub(crate) fn write_advice<W: Write>(
-    alloc: Global,
-    network: &Network,
-    writer: &mut W,
-    heading: Heading,
-) -> Result<(), TextFault>
-    ensures text { Writes (W.contents writer.old) (W.contents writer.new) result (IsAdviceReport heading network.now) }
-    ensures refusal { IfErr result (RefusesTable AskWhole network.now) }
-    ensures untouched { IfErr result (λ fault. fault ≢ TextFault.WriteFault → writer.new ≡ writer.old) }
-{
-    let levels = levels_of(alloc, network)?;
-    let net = sized_of(alloc, network, &levels)?;
-    report_advice(alloc, &net, writer, heading)
-}
-
-/// Writes the advice rows of a sized network.
+/// Writes the advice rows.
 fn report_advice<W: Write>(
     alloc: Global,
     net: &SizedNet<'_>,

@@ -1,13 +1,4 @@
-use Rattle.mrp_text.specs.Refusals.{AskWhole}
-use Rattle.mrp_text.specs.Reports.{IsAdviceReport}
-use Rattle.mrp_text.proofs.TextFacts.{refuses-of, writes-of}
 use Rattle.mrp_text.proofs.text.advice_text.Goals as goal
 
 pub returns-clause-text : goal.returns-clause-text
-returns-clause-text g c =
-    writes-of _ _ c.write_advice-written.result (IsAdviceReport c.args.heading c.in_ok-network.network) _
-    (λ text is. (c.in_ok-network.network, c.in_ok-network.ensures.rows, is)) c.write_advice-written.ensures.text
-
-pub returns-clause-refusal : goal.returns-clause-refusal
-returns-clause-refusal g c =
-    refuses-of _ AskWhole c.in_ok-network.network c.write_advice-written.result c.in_ok-network.ensures.rows c.write_advice-written.ensures.refusal
+returns-clause-text g c = c.report_text.ensures.text

@@ -1,18 +1,22 @@
-use Rattle.std.proofs.Common.{Err, ap, refl}
-use Rattle.std.proofs.lemmas.Result.{err_from_is_err_and}
-use Rattle.mrp_actions.specs.ScheduleRows.{schedule_text}
-use Rattle.mrp_text.specs.Reports.{AreSchedules}
-use Rattle.mrp_text.proofs.TextFacts.{report-fails}
+use Rattle.std.proofs.Common.{subst}
+use Rattle.mrp_rows.specs.Table.{Table}
+use Rattle.mrp_text.specs.Reports.{AreSchedules, IsChosenPlant, IsScheduleReport, name_of}
+use Rattle.mrp_text.proofs.TextFacts.{writes-of}
 use Rattle.mrp_text.proofs.writing.report_schedule.Goals as goal
 
-pub returns-in_err-schedule_rows-clause-text : goal.returns-in_err-schedule_rows-clause-text
-returns-in_err-schedule_rows-clause-text g c =
-    let p = err_from_is_err_and c.from_residual-in_err-schedule_rows.result c.from_residual-in_err-schedule_rows.ensures.1 in
-    let N = c.args.net.now.network in
-    rw p.1
-    (report-fails _ _ (schedule_text c.args.heading c.args.supplier c.args.customer N) c.in_err-schedule_rows.field-0.0 p.0
-    (AreSchedules c.args.supplier c.args.customer c.args.heading N) (c.requires, refl) c.in_err-schedule_rows.ensures.text
-    (λ same. ap g.W.Write.contents (c.in_err-schedule_rows.ensures.untouched (ap Err same))) p.2)
-
+-- the plants that were found have these names
 pub returns-clause-text : goal.returns-clause-text
-returns-clause-text g c = (_, (c.requires, refl), c.in_ok-schedule_rows.ensures.text)
+returns-clause-text g c =
+    let N = c.args.net.now.network in
+    let f = c.in_ok-supplier.supplier in
+    let t = c.in_ok-customer.customer in
+    writes-of _ _ c.report_schedules.result (AreSchedules f t c.args.heading N)
+    (IsScheduleReport (name_of c.args.from) (name_of c.args.to) c.args.heading N)
+    (λ text is. (
+      f,
+      t,
+      subst (λ (M : Table). IsChosenPlant M (name_of c.args.from) f) c.network-network.ensures.value c.in_ok-supplier.ensures.plant,
+      subst (λ (M : Table). IsChosenPlant M (name_of c.args.to) t) c.network-network.ensures.value c.in_ok-customer.ensures.plant,
+      is,
+    ))
+    c.report_schedules.ensures.text
