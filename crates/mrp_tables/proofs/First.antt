@@ -113,7 +113,7 @@ unfolding amount_terms
 amount_refusal row periods = two_two amount_with (is_name (field row 1)) (is_name (field row 2)) (field row 1) (field row 2)
     (number_within (field row 3) 0 (periods - 1)) (number_within (field row 4) 1 MOST_IN_ROW)
 
-amount_names : (row : List (List ℕ)) (periods : ℕ) (t : AmountTerms) → amount_terms row periods ≡ Ok t → (t.plant ≡ field row 1) × (t.item ≡ field row 2)
+pub amount_names : (row : List (List ℕ)) (periods : ℕ) (t : AmountTerms) → amount_terms row periods ≡ Ok t → (t.plant ≡ field row 1) × (t.item ≡ field row 2)
 unfolding amount_terms
 amount_names row periods t e =
     let is = two_two_ok amount_with (is_name (field row 1)) (is_name (field row 2)) (field row 1) (field row 2) (number_within (field row 3) 0 (periods - 1))

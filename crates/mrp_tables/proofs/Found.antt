@@ -12,14 +12,14 @@ use Rattle.std.proofs.lemmas.List.Quantifiers.{position-Some}
 use Rattle.std.proofs.lemmas.Map.Keys.{apart_from_distinct}
 use Rattle.std.proofs.lemmas.Option.{get_or_from_slice_get}
 use Rattle.std.proofs.lemmas.Slice.Eq.{bytes_eq-Decides}
-use Rattle.mrp_tables.specs.Keys.{FindsNames, ArePairKeys, key_of, pair_key}
-use Rattle.mrp_rows.specs.Names.{pair_named, pair_of_item}
+use Rattle.mrp_tables.specs.Keys.{FindsNames, key_of, Knows, pair_key}
+use Rattle.mrp_rows.specs.Names.{pair_named, pair_of_item, plant_no}
 use Rattle.mrp_rows.specs.Table.{IsName, IsPairRow, IsRead, Table}
 use Rattle.mrp_tables.specs.contracts.name_key.NameKeyPartialEq.TheImpl.{eq-value as same_name}
 use Rattle.mrp_tables.specs.contracts.name_key.PairKeyPartialEq.TheImpl.{eq-value as same_pair}
 use Rattle.mrp_tables.specs.declared.name_key.NameKey.{NameKey}
-use Rattle.mrp_rows.specs.declared.numbers.PlantNo.{PlantNo}
 use Rattle.mrp_tables.specs.declared.name_key.PairKey.{PairKey}
+use Rattle.mrp_tables.specs.declared.names.KnownNames.{KnownNames}
 use Rattle.mrp_rows.specs.declared.rows.PairRow.{PairRow}
 use Rattle.mrp_rows.proofs.Keys.{All-from_position, any_of_keys, map_within, no_position, position_is, position_of_keys, same_test}
 use Rattle.mrp_rows.proofs.Naming.{distinct_name}
@@ -62,7 +62,7 @@ no_name name names long named =
 
 -- ---- pairs
 
--- an item by its name
+-- a name by its place
 same_item : (name : List ℕ) (items : List (List ℕ)) (i j : ℕ) → IsDistinct bytes_eq items → position (bytes_eq name) items ≡ Some i → j < length items
     → bytes_eq name (get_or items j []) ≡ (j == i)
 same_item name items i j apart at lt = by (ltb j i) refl (ltb i j) refl
@@ -89,64 +89,93 @@ same_item name items i j apart at lt = by (ltb j i) refl (ltb i j) refl
         let same : j ≡ i = equal j i e f in
         ap (λ (k : ℕ). bytes_eq name (get_or items k [])) same ∙ there.1 ∙ sym (eq-eqb j i same)
 
--- whether a row is of a plant and an item, by their key
-module _ (plant : PlantNo) (name : List ℕ) (items : List (List ℕ)) (bytes : All IsByte name) (named : All IsName items) where
-  by_name : (p : PairRow) → p.item.0 < length items → same_name.it (key_of name) (key_of (get_or items p.item.0 [])) ≡ bytes_eq name (get_or items p.item.0 [])
-  by_name p lt = key_test name (get_or items p.item.0 []) bytes (name_bytes (get_or items p.item.0 []) (named p.item.0 [] lt))
+-- a key at a place is tested as the name there is
+by_name : (name : List ℕ) (names : List (List ℕ)) (j : ℕ) → All IsByte name → All IsName names → j < length names
+    → same_name.it (key_of name) (key_of (get_or names j [])) ≡ bytes_eq name (get_or names j [])
+by_name name names j bytes named lt = key_test name (get_or names j []) bytes (name_bytes (get_or names j []) (named j [] lt))
 
-  pair_test : (i : ℕ) (p : PairRow) → IsDistinct bytes_eq items → position (bytes_eq name) items ≡ Some i → p.item.0 < length items
-      → same_pair.it (record { plant = plant; item = key_of name }) (pair_key items p) ≡ ((p.plant.0 == plant.0) && (p.item.0 == i))
-  pair_test i p apart at lt =
-      ap (λ (b : Bool). (plant.0 == p.plant.0) && b) (by_name p lt ∙ same_item name items i p.item.0 apart at lt)
-      ∙ ap (λ (b : Bool). b && (p.item.0 == i)) (same_test plant.0 p.plant.0)
+-- so that of a name that stands at a place, and that of one that stands at none
+at_place : (name : List ℕ) (names : List (List ℕ)) (i j : ℕ) → All IsByte name → All IsName names → IsDistinct bytes_eq names
+    → position (bytes_eq name) names ≡ Some i → j < length names
+    → same_name.it (key_of name) (key_of (get_or names j [])) ≡ (j == i)
+at_place name names i j bytes named apart at lt = by_name name names j bytes named lt ∙ same_item name names i j apart at lt
 
-  no_pair_test : (p : PairRow) → position (bytes_eq name) items ≡ None → p.item.0 < length items
-      → same_pair.it (record { plant = plant; item = key_of name }) (pair_key items p) ≡ false
-  no_pair_test p none lt =
-      ap (λ (b : Bool). (plant.0 == p.plant.0) && b) (by_name p lt ∙ All-from_position (bytes_eq name) items none p.item.0 [] lt) ∙ never (plant.0 == p.plant.0)
+at_none : (name : List ℕ) (names : List (List ℕ)) (j : ℕ) → All IsByte name → All IsName names → position (bytes_eq name) names ≡ None → j < length names
+    → same_name.it (key_of name) (key_of (get_or names j [])) ≡ false
+at_none name names j bytes named none lt = by_name name names j bytes named lt ∙ All-from_position (bytes_eq name) names none j [] lt
+
+never : (b : Bool) → (b && false) ≡ false
+never true = refl
+never false = refl
+
+-- the key of two names
+abbrev pub named_key : List ℕ → List ℕ → PairKey
+named_key plant item = record { plant = key_of plant; item = key_of item }
+
+-- the pair of the names of a plant and an item
+module _ (N : Table) (plant item : List ℕ) (k : KnownNames) (of_plant : All IsByte plant) (of_item : All IsByte item) (read : IsRead N) (knows : Knows N k) where
+  abbrev test : PairKey → Bool
+  test = same_pair.it (named_key plant item)
+
+  abbrev key_in : PairRow → PairKey
+  key_in = pair_key N.plants N.items
+
+  -- whether a row is of the plant and the item at these places
+  is_at : (a i : ℕ) → position (bytes_eq plant) N.plants ≡ Some a → position (bytes_eq item) N.items ≡ Some i
+      → All (λ p. test (key_in p) ≡ ((p.plant.0 == a) && (p.item.0 == i))) N.pairs
+  is_at a i here there = All-weaker (IsPairRow N) (λ p. test (key_in p) ≡ ((p.plant.0 == a) && (p.item.0 == i)))
+      (λ p row.
+      ap (λ (b : Bool). b && same_name.it (key_of item) (key_of (get_or N.items p.item.0 [])))
+      (at_place plant N.plants a p.plant.0 of_plant knows.plants.named knows.plants.apart here row.plant)
+      ∙ ap (λ (b : Bool). (p.plant.0 == a) && b) (at_place item N.items i p.item.0 of_item knows.items.named knows.items.apart there row.item))
+      N.pairs read.pairs
+
+  no_plant_at : position (bytes_eq plant) N.plants ≡ None → All (λ p. test (key_in p) ≡ false) N.pairs
+  no_plant_at none = All-weaker (IsPairRow N) (λ p. test (key_in p) ≡ false)
+      (λ p row.
+      ap (λ (b : Bool). b && same_name.it (key_of item) (key_of (get_or N.items p.item.0 [])))
+      (at_none plant N.plants p.plant.0 of_plant knows.plants.named none row.plant))
+      N.pairs read.pairs
+
+  no_item_at : position (bytes_eq item) N.items ≡ None → All (λ p. test (key_in p) ≡ false) N.pairs
+  no_item_at none = All-weaker (IsPairRow N) (λ p. test (key_in p) ≡ false)
+      (λ p row.
+      ap (λ (b : Bool). same_name.it (key_of plant) (key_of (get_or N.plants p.plant.0 [])) && b)
+      (at_none item N.items p.item.0 of_item knows.items.named none row.item)
+      ∙ never (same_name.it (key_of plant) (key_of (get_or N.plants p.plant.0 []))))
+      N.pairs read.pairs
+
+  nowhere : All (λ p. test (key_in p) ≡ false) N.pairs → position test k.pairs.keys ≡ None
+  nowhere apart = no_position test k.pairs.keys
+      (ap (list_any test) knows.pairs ∙ any_of_keys key_in test (λ p. false) N.pairs apart ∙ list_any_none (λ p. false) N.pairs (λ j d lt. refl))
+
+  pub place_of_pair : position test k.pairs.keys ≡ pair_named N (plant_no N plant) item
+  place_of_pair = by (position (bytes_eq plant) N.plants) refl (position (bytes_eq item) N.items) refl
     where
-      never : (b : Bool) → (b && false) ≡ false
-      never true = refl
-      never false = refl
+      by : (o : Option ℕ) → position (bytes_eq plant) N.plants ≡ o → (q : Option ℕ) → position (bytes_eq item) N.items ≡ q
+          → position test k.pairs.keys ≡ pair_named N (plant_no N plant) item
+      by None none q there =
+          nowhere (no_plant_at none) ∙ sym (ap (λ (o : Option ℕ). pair_named N o item) none)
+      by (Some a) here None none =
+          nowhere (no_item_at none)
+          ∙ sym (ap (λ (o : Option ℕ). pair_named N o item) here ∙ ap (pair_of_item N a) none)
+      by (Some a) here (Some i) there =
+          ap (position test) knows.pairs ∙ position_of_keys key_in test (λ p. (p.plant.0 == a) && (p.item.0 == i)) N.pairs (is_at a i here there)
+          ∙ sym (ap (λ (o : Option ℕ). pair_named N o item) here ∙ ap (pair_of_item N a) there)
 
--- the pair of a plant and the item of a name
-pub place_of_pair : (N : Table) (plant : PlantNo) (name : List ℕ) (keys : List PairKey) → All IsByte name → IsRead N → ArePairKeys N.items N.pairs keys
-    → position (same_pair.it (record { plant = plant; item = key_of name })) keys ≡ pair_named N (Some plant.0) name
-place_of_pair N plant name keys bytes read finds = by (position (bytes_eq name) N.items) refl
-  where
-    by : (o : Option ℕ) → position (bytes_eq name) N.items ≡ o → position (same_pair.it (record { plant = plant; item = key_of name })) keys
-        ≡ pair_of_item N plant.0 (position (bytes_eq name) N.items)
-    by None none =
-        let apart = All-weaker (IsPairRow N) (λ p. same_pair.it (record { plant = plant; item = key_of name }) (pair_key N.items p) ≡ false)
-        (λ p row. no_pair_test plant name N.items bytes read.items p none row.item) N.pairs read.pairs in
-        no_position (same_pair.it (record { plant = plant; item = key_of name })) keys
-        (ap (list_any (same_pair.it (record { plant = plant; item = key_of name }))) finds.in_order
-        ∙ any_of_keys (pair_key N.items) (same_pair.it (record { plant = plant; item = key_of name })) (λ p. false) N.pairs apart
-        ∙ list_any_none (λ p. false) N.pairs (λ k d lt. refl))
-        ∙ ap (pair_of_item N plant.0) (sym none)
-    by (Some i) at =
-        let same = All-weaker (IsPairRow N) (λ p. same_pair.it (record { plant = plant; item = key_of name }) (pair_key N.items p)
-        ≡ ((p.plant.0 == plant.0) && (p.item.0 == i)))
-        (λ p row. pair_test plant name N.items bytes read.items i p finds.apart at row.item) N.pairs read.pairs in
-        ap (position (same_pair.it (record { plant = plant; item = key_of name }))) finds.in_order
-        ∙ position_of_keys (pair_key N.items) (same_pair.it (record { plant = plant; item = key_of name })) (λ p. (p.plant.0 == plant.0)
-        && (p.item.0 == i)) N.pairs same
-        ∙ ap (pair_of_item N plant.0) (sym at)
+  -- whether there is a row of a pair
+  pub any_of_pair : (a i : ℕ) → position (bytes_eq plant) N.plants ≡ Some a → position (bytes_eq item) N.items ≡ Some i
+      → list_any test k.pairs.keys ≡ list_any (λ p. (p.plant.0 == a) && (p.item.0 == i)) N.pairs
+  any_of_pair a i here there =
+      ap (list_any test) knows.pairs ∙ any_of_keys key_in test (λ p. (p.plant.0 == a) && (p.item.0 == i)) N.pairs (is_at a i here there)
 
--- whether there is a row of a pair
-pub any_of_pair : (N : Table) (plant : PlantNo) (name : List ℕ) (i : ℕ) (keys : List PairKey) → All IsByte name → IsRead N → ArePairKeys N.items N.pairs keys
-    → position (bytes_eq name) N.items ≡ Some i
-    → list_any (same_pair.it (record { plant = plant; item = key_of name })) keys ≡ list_any (λ p. (p.plant.0 == plant.0) && (p.item.0 == i)) N.pairs
-any_of_pair N plant name i keys bytes read finds at =
-    let same = All-weaker (IsPairRow N) (λ p. same_pair.it (record { plant = plant; item = key_of name }) (pair_key N.items p)
-    ≡ ((p.plant.0 == plant.0) && (p.item.0 == i)))
-    (λ p row. pair_test plant name N.items bytes read.items i p finds.apart at row.item) N.pairs read.pairs in
-    ap (list_any (same_pair.it (record { plant = plant; item = key_of name }))) finds.in_order
-    ∙ any_of_keys (pair_key N.items) (same_pair.it (record { plant = plant; item = key_of name })) (λ p. (p.plant.0 == plant.0) && (p.item.0 == i)) N.pairs same
+-- texts that are no plant's or no item's name, since they are too long
+pub no_long_plant : (N : Table) (k : KnownNames) (plant item : List ℕ) → 20 < length plant → Knows N k → pair_named N (plant_no N plant) item ≡ None
+no_long_plant N k plant item long knows = ap (λ (o : Option ℕ). pair_named N o item) (no_name plant N.plants long knows.plants.named)
 
--- a text that is no item's name, and an item that isn't there
-pub no_named_pair : (N : Table) (plant : ℕ) (name : List ℕ) → 20 < length name → IsRead N → pair_named N (Some plant) name ≡ None
-no_named_pair N plant name long read = ap (pair_of_item N plant) (no_name name N.items long read.items)
+pub no_long_item : (N : Table) (k : KnownNames) (plant : Option ℕ) (item : List ℕ) → 20 < length item → Knows N k → pair_named N plant item ≡ None
+no_long_item N k None item long knows = refl
+no_long_item N k (Some p) item long knows = ap (pair_of_item N p) (no_name item N.items long knows.items.named)
 
 -- ---- one more
 
@@ -158,31 +187,34 @@ names_with names keys name finds named fresh = record {
   in_order = ap (λ (ks : List NameKey). ks ++ key_of name ∷ []) finds.in_order ∙ sym (map-append key_of names (name ∷ []));
 }
 
-pub pairs_with_item : (N : Table) (keys : List PairKey) (name : List ℕ) → ArePairKeys N.items N.pairs keys → IsRead N → list_any (bytes_eq name) N.items ≡ false
-    → ArePairKeys (N.items ++ name ∷ []) N.pairs keys
-pairs_with_item N keys name finds read fresh =
-    let items = N.items in
-    let more : List (List ℕ) = items ++ name ∷ [] in
-    let same = All-weaker (IsPairRow N) (λ p. pair_key items p ≡ pair_key more p)
-    (λ p row. let e : get_or items p.item.0 [] ≡ get_or more p.item.0 [] = sym (get_or_append_left items (name ∷ []) [] p.item.0 row.item) in
-    λ i. record { plant = p.plant; item = key_of (e i) }) N.pairs read.pairs in
-    record {
-      apart = distinct_name items name finds.apart fresh;
-      in_order = finds.in_order ∙ map_within (pair_key items) (pair_key more) N.pairs same;
-    }
+-- the keys of the pairs stay as they are where names come behind the others
+pub pairs_with_plant : (N : Table) (keys : List PairKey) (name : List ℕ) → keys ≡ map (pair_key N.plants N.items) N.pairs → IsRead N
+    → keys ≡ map (pair_key (N.plants ++ name ∷ []) N.items) N.pairs
+pairs_with_plant N keys name is read =
+    let more : List (List ℕ) = N.plants ++ name ∷ [] in
+    is ∙ map_within (pair_key N.plants N.items) (pair_key more N.items) N.pairs
+    (All-weaker (IsPairRow N) (λ p. pair_key N.plants N.items p ≡ pair_key more N.items p)
+    (λ p row. let e : get_or N.plants p.plant.0 [] ≡ get_or more p.plant.0 [] = sym (get_or_append_left N.plants (name ∷ []) [] p.plant.0 row.plant) in
+    λ i. record { plant = key_of (e i); item = key_of (get_or N.items p.item.0 []) }) N.pairs read.pairs)
 
-pub pairs_with : (items : List (List ℕ)) (pairs : List PairRow) (keys : List PairKey) (row : PairRow) (name : List ℕ) → ArePairKeys items pairs keys
-    → slice_get items row.item.0 ≡ Some name
-    → ArePairKeys items (pairs ++ row ∷ []) (keys ++ (record { plant = row.plant; item = key_of name }) ∷ [])
-pairs_with items pairs keys row name finds at =
-    let key : PairKey = record { plant = row.plant; item = key_of name } in
-    let e = get_or_from_slice_get items row.item.0 name [] at in
-    let last : key ≡ pair_key items row = λ i. record { plant = row.plant; item = key_of (sym e i) } in
-    record {
-      apart = finds.apart;
-      in_order = ap (λ (ks : List PairKey). ks ++ key ∷ []) finds.in_order ∙ ap (λ (k : PairKey). map (pair_key items) pairs ++ k ∷ []) last
-          ∙ sym (map-append (pair_key items) pairs (row ∷ []));
-    }
+pub pairs_with_item : (N : Table) (keys : List PairKey) (name : List ℕ) → keys ≡ map (pair_key N.plants N.items) N.pairs → IsRead N
+    → keys ≡ map (pair_key N.plants (N.items ++ name ∷ [])) N.pairs
+pairs_with_item N keys name is read =
+    let more : List (List ℕ) = N.items ++ name ∷ [] in
+    is ∙ map_within (pair_key N.plants N.items) (pair_key N.plants more) N.pairs
+    (All-weaker (IsPairRow N) (λ p. pair_key N.plants N.items p ≡ pair_key N.plants more p)
+    (λ p row. let e : get_or N.items p.item.0 [] ≡ get_or more p.item.0 [] = sym (get_or_append_left N.items (name ∷ []) [] p.item.0 row.item) in
+    λ i. record { plant = key_of (get_or N.plants p.plant.0 []); item = key_of (e i) }) N.pairs read.pairs)
+
+pub pairs_with : (plants items : List (List ℕ)) (pairs : List PairRow) (keys : List PairKey) (row : PairRow) (plant item : List ℕ)
+    → keys ≡ map (pair_key plants items) pairs → slice_get plants row.plant.0 ≡ Some plant → slice_get items row.item.0 ≡ Some item
+    → keys ++ named_key plant item ∷ [] ≡ map (pair_key plants items) (pairs ++ row ∷ [])
+pairs_with plants items pairs keys row plant item is here there =
+    let d = get_or_from_slice_get plants row.plant.0 plant [] here in
+    let e = get_or_from_slice_get items row.item.0 item [] there in
+    let last : named_key plant item ≡ pair_key plants items row = λ i. record { plant = key_of (sym d i); item = key_of (sym e i) } in
+    ap (λ (ks : List PairKey). ks ++ named_key plant item ∷ []) is ∙ ap (λ (k : PairKey). map (pair_key plants items) pairs ++ k ∷ []) last
+    ∙ sym (map-append (pair_key plants items) pairs (row ∷ []))
 
 -- ---- the name at a place
 

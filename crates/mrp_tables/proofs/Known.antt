@@ -1,5 +1,5 @@
 -- What is found with one more plant, item or pair.
-use Rattle.std.proofs.Common.{◌≡◌, ◌<◌, ◌∙◌, ℕ, ltb, Bool, not, true, false, true≢false, if◌then◌else◌, unwrap_or, List, [], ◌∷◌, ◌++◌, length, position}
+use Rattle.std.proofs.Common.{◌≡◌, ◌<◌, ◌∙◌, ℕ, ltb, Bool, not, true, false, true≢false, if◌then◌else◌, unwrap_or, List, [], ◌∷◌, ◌++◌, length, map, position}
 use Rattle.std.proofs.Common.{slice_get, Option, Some, refl, ap, sym, subst, arith}
 use Rattle.std.specs.List.{IsDistinct, list_any, position_or_len}
 use Rattle.std.specs.Str.{bytes_eq}
@@ -9,24 +9,25 @@ use Rattle.mrp_rows.specs.Growing.{add_item, with_item, with_pair, with_plant}
 use Rattle.mrp_rows.specs.Table.{IsName, IsRead, Table}
 use Rattle.mrp_rows.specs.declared.rows.PairRow.{PairRow}
 use Rattle.mrp_rows.proofs.Keys.{any-from_no_position}
-use Rattle.mrp_tables.specs.Keys.{FindsAll, FindsNames, ArePairKeys, key_of, Knows}
+use Rattle.mrp_tables.specs.Keys.{FindsAll, FindsNames, key_of, Knows, pair_key}
 use Rattle.mrp_tables.specs.contracts.name_key.NameKeyPartialEq.TheImpl.{eq-value as same_name}
 use Rattle.mrp_tables.specs.declared.name_key.NameKey.{NameKey}
 use Rattle.mrp_tables.specs.declared.name_key.PairKey.{PairKey}
 use Rattle.mrp_tables.specs.declared.names.KnownNames.{KnownNames}
-use Rattle.mrp_tables.proofs.Found.{any_of_name, names_with, pairs_with, pairs_with_item, place_of_name}
+use Rattle.mrp_tables.proofs.Found.{any_of_name, named_key, names_with, pairs_with, pairs_with_item, pairs_with_plant, place_of_name}
 use Rattle.mrp_tables.proofs.NewPair.{new_place}
 use Rattle.mrp_tables.proofs.Words.{name_bytes}
 
 -- ---- one more
 
-pub plant_more : (N M : Table) (k l : KnownNames) (name : List ℕ) → Knows N k → IsName name → list_any (bytes_eq name) N.plants ≡ false → M ≡ with_plant N name
+pub plant_more : (N M : Table) (k l : KnownNames) (name : List ℕ) → IsRead N → Knows N k → IsName name → list_any (bytes_eq name) N.plants ≡ false
+    → M ≡ with_plant N name
     → l.plants.keys ≡ k.plants.keys ++ key_of name ∷ [] → l.items.keys ≡ k.items.keys → l.pairs.keys ≡ k.pairs.keys → Knows M l
-plant_more N M k l name knows named fresh made plants items pairs =
+plant_more N M k l name read knows named fresh made plants items pairs =
     let more : Knows (with_plant N name) l = record {
       plants = subst (FindsNames (N.plants ++ name ∷ [])) (sym plants) (names_with N.plants k.plants.keys name knows.plants named fresh);
       items = subst (FindsNames N.items) (sym items) knows.items;
-      pairs = subst (ArePairKeys N.items N.pairs) (sym pairs) knows.pairs;
+      pairs = pairs ∙ pairs_with_plant N k.pairs.keys name knows.pairs read;
     } in
     subst (λ (T : Table). Knows T l) (sym made) more
 
@@ -38,7 +39,7 @@ item_more N M k l name read knows named fresh made plants items pairs =
     let more : FindsAll N.plants (N.items ++ name ∷ []) N.pairs l = record {
       plants = subst (FindsNames N.plants) (sym plants) knows.plants;
       items = subst (FindsNames (N.items ++ name ∷ [])) (sym items) (names_with N.items k.items.keys name knows.items named fresh);
-      pairs = subst (ArePairKeys (N.items ++ name ∷ []) N.pairs) (sym pairs) (pairs_with_item N k.pairs.keys name knows.pairs read fresh);
+      pairs = pairs ∙ pairs_with_item N k.pairs.keys name knows.pairs read;
     } in
     subst (λ (T : Table). Knows T l) (sym made) (subst (λ (is : List (List ℕ)). FindsAll N.plants is N.pairs l) (sym grown) more)
 
@@ -47,17 +48,18 @@ pub item_same : (N : Table) (k l : KnownNames) → Knows N k → l.plants.keys �
 item_same N k l knows plants items pairs = record {
   plants = subst (FindsNames N.plants) (sym plants) knows.plants;
   items = subst (FindsNames N.items) (sym items) knows.items;
-  pairs = subst (ArePairKeys N.items N.pairs) (sym pairs) knows.pairs;
+  pairs = pairs ∙ knows.pairs;
 }
 
-pub pair_more : (N M : Table) (k l : KnownNames) (row : PairRow) (name : List ℕ) → Knows N k → slice_get N.items row.item.0 ≡ Some name → M ≡ with_pair N row
-    → l.plants.keys ≡ k.plants.keys → l.items.keys ≡ k.items.keys → l.pairs.keys ≡ k.pairs.keys ++ (record { plant = row.plant; item = key_of name }) ∷ []
+pub pair_more : (N M : Table) (k l : KnownNames) (row : PairRow) (plant item : List ℕ) → Knows N k → slice_get N.plants row.plant.0 ≡ Some plant
+    → slice_get N.items row.item.0 ≡ Some item → M ≡ with_pair N row
+    → l.plants.keys ≡ k.plants.keys → l.items.keys ≡ k.items.keys → l.pairs.keys ≡ k.pairs.keys ++ named_key plant item ∷ []
     → Knows M l
-pair_more N M k l row name knows at made plants items pairs =
+pair_more N M k l row plant item knows here there made plants items pairs =
     let more : Knows (with_pair N row) l = record {
       plants = subst (FindsNames N.plants) (sym plants) knows.plants;
       items = subst (FindsNames N.items) (sym items) knows.items;
-      pairs = subst (ArePairKeys N.items (N.pairs ++ row ∷ [])) (sym pairs) (pairs_with N.items N.pairs k.pairs.keys row name knows.pairs at);
+      pairs = pairs ∙ pairs_with N.plants N.items N.pairs k.pairs.keys row plant item knows.pairs here there;
     } in
     subst (λ (T : Table). Knows T l) (sym made) more
 
@@ -126,6 +128,5 @@ pub no_names : (keys : List NameKey) → length keys ≡ 0 → FindsNames [] key
 unfolding IsDistinct
 no_names keys none = record { named = λ k d lt. absurd (omega (arith, lt)); apart = tt; in_order = nothing keys none }
 
-pub no_pairs : (keys : List PairKey) → length keys ≡ 0 → ArePairKeys [] [] keys
-unfolding IsDistinct
-no_pairs keys none = record { apart = tt; in_order = nothing keys none }
+pub no_pairs : (keys : List PairKey) → length keys ≡ 0 → keys ≡ map (pair_key [] []) []
+no_pairs keys none = nothing keys none

@@ -28,6 +28,7 @@ pub mod WrittenPair
 pub mod WrittenRows
 pub mod WrittenTable
 pub mod Adding
+pub mod AmountFacts
 pub mod Arrivals
 pub mod Finding
 pub mod Found

@@ -28,9 +28,12 @@ mixed_with word other = ((word * 11400714819323198485) % 18446744073709551616 + 
 abbrev pub mixed : NameKey → ℕ
 mixed k = mixed_with (mixed_with k.third k.second) k.first
 
--- the key of a pair: its plant, and the key of its item's name
-abbrev pub pair_key : List (List ℕ) → PairRow → PairKey
-pair_key items p = record { plant = p.plant; item = key_of (slice_index_or items p.item.0 []) }
+-- the key of a pair: those of its plant's and its item's name
+abbrev pub pair_key : List (List ℕ) → List (List ℕ) → PairRow → PairKey
+pair_key plants items p = record {
+  plant = key_of (slice_index_or plants p.plant.0 []);
+  item = key_of (slice_index_or items p.item.0 []);
+}
 
 -- names, each once, and their keys in their order
 pub record FindsNames (names : List (List ℕ)) (keys : List NameKey) : Type 0 where
@@ -38,16 +41,11 @@ pub record FindsNames (names : List (List ℕ)) (keys : List NameKey) : Type 0 w
   pub apart : IsDistinct bytes_eq names
   pub in_order : keys ≡ map key_of names
 
--- each item's name stands once, and the keys are those of the pairs in their order
-pub record ArePairKeys (items : List (List ℕ)) (pairs : List PairRow) (keys : List PairKey) : Type 0 where
-  pub apart : IsDistinct bytes_eq items
-  pub in_order : keys ≡ map (pair_key items) pairs
-
 -- the plants, the items and the pairs of these rows are found
 pub record FindsAll (plant_names item_names : List (List ℕ)) (rows : List PairRow) (k : KnownNames) : Type 0 where
   pub plants : FindsNames plant_names k.plants.keys
   pub items : FindsNames item_names k.items.keys
-  pub pairs : ArePairKeys item_names rows k.pairs.keys
+  pub pairs : k.pairs.keys ≡ map (pair_key plant_names item_names) rows
 
 -- the plants, the items and the pairs of the table are found
 abbrev pub Knows : Table → KnownNames → Type 0

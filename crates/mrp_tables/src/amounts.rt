@@ -2,34 +2,35 @@
 
 use crate::TableFaultKind;
 use crate::draft::{BillKey, Draft};
-use crate::spelled::{SpelledBill, spelled_amount, spelled_bill};
+use crate::fields::field;
+use crate::spelled::{SpelledBill, spelled_amount, spelled_bill, spelled_numbers};
 use csv::StringRecord;
 use mrp_qty::Qty;
-use mrp_rows::{
-    BillRow, DemandRow, MOST_BILLS, MOST_OF_A_KIND, PairNo, PlantNo, ReceiptRow, Supply,
-};
+use mrp_rows::{BillRow, DemandRow, MOST_BILLS, MOST_OF_A_KIND, PairNo, ReceiptRow, Supply};
+
+/// What a demand or a receipt row says of a pair that is there.
+#[derive(Clone, Copy)]
+struct KnownAmount {
+    pair: PairNo,
+    period: usize,
+    quantity: u64,
+}
 
 impl Draft {
-    ghost use Rattle.std.specs.Prelude.{◌≡◌, ◌+◌, ◌≤◌, ◌<◌, length, option_map, Some, false, OnOk, IfOk, IfSome};
+    ghost use Rattle.std.specs.Prelude.{◌≡◌, ◌+◌, ◌≤◌, ◌<◌, is_some, length, option_map, Some, None, Err, false, OnOk};
+    ghost use Rattle.std.specs.Prelude.{IfOk};
     ghost use Rattle.csv.specs.Records.{fields_of};
-    ghost use Rattle.mrp_qty.specs.declared.limits.TheConstants.{MOST_BILLS, MOST_OF_A_KIND, MOST_PER};
+    ghost use Rattle.mrp_qty.specs.declared.limits.TheConstants.{MOST_BILLS, MOST_IN_ROW, MOST_OF_A_KIND};
+    ghost use Rattle.mrp_qty.specs.declared.limits.TheConstants.{MOST_PER};
     ghost use Rattle.mrp_tables.specs.Grammar.{bill_fits, bill_of, bill_row, demand_of, demand_row, has_bill};
-    ghost use Rattle.mrp_tables.specs.Grammar.{is_made, known_pair, receipt_of, receipt_row, seen, TellsMade};
-    ghost use Rattle.mrp_rows.specs.Names.{plant_no};
+    ghost use Rattle.mrp_tables.specs.Grammar.{field, is_made, receipt_of, receipt_row, seen, TellsMade};
+    ghost use Rattle.mrp_tables.specs.Amounts.{known_amount};
+    ghost use Rattle.mrp_rows.specs.Names.{pair_named, plant_no};
     ghost use Rattle.mrp_tables.specs.Spelled.{bill_view};
     ghost use Rattle.mrp_rows.specs.Table.{IsBillRow, IsDemandRow, IsReceiptRow};
     ghost use Rattle.mrp_tables.specs.Keys.{Knows};
     ghost use Rattle.mrp_tables.specs.Lists.{IsDraft, AddsRow};
-    ghost use Rattle.mrp_rows.specs.Table.{IsRead};
-
-    /// The plant of that name, which is often that of the last row.
-    fn plant_named(&self, name: &str) -> Option<PlantNo>
-        requires knows { Knows self.now.lists self.now.known }
-        ensures exact { option_map (λ p. p.0) result ≡ plant_no self.now.lists name.now }
-        ensures within { IfSome result (λ plant. plant.0 < length self.now.lists.plants) }
-    {
-        self.find_plant_near(name, self.near)
-    }
+    ghost use Rattle.mrp_rows.specs.Table.{IsRead, horizon};
 
     /// Adds a bill row.
     pub(crate) fn add_bill(&mut self, row: &StringRecord) -> Result<(), TableFaultKind>
@@ -38,7 +39,6 @@ impl Draft {
         ensures adds { OnOk result (AddsRow self.old self.new) }
     {
         let bill = self.bill_of(row)?;
-        self.near = self.lists.pairs()[bill.parent.0].plant.0;
         let key = BillKey {
             parent: bill.parent,
             component: bill.component,
@@ -72,13 +72,12 @@ impl Draft {
         ensures fresh { IfOk result (λ b. has_bill self.now.lists (Some b.parent.0) (Some b.component.0) ≡ false) }
         ensures room { OnOk result (length self.now.lists.bills < MOST_BILLS) }
     {
-        let plant = self.plant_named(spelled.plant);
-        let parent = self.find_named_pair(plant, spelled.parent);
-        let component = self.find_named_pair(plant, spelled.component);
+        let parent = self.find_pair(spelled.plant, spelled.parent);
+        let component = self.find_pair(spelled.plant, spelled.component);
         if self.has_bill(parent, component) {
             return Err(TableFaultKind::Repeated);
         }
-        if plant.is_none() {
+        if !self.has_plant_of(parent, spelled.plant, spelled.parent) {
             return Err(TableFaultKind::UnknownPlant);
         }
         let parent = parent.ok_or(TableFaultKind::UnknownPair)?;
@@ -118,18 +117,55 @@ impl Draft {
         }
     }
 
-    /// The plant and the pair of a demand or a receipt row.
-    #[tactic(auto, unfolding(crate::specs::Grammar::known_pair))]
-    fn known_pair(&self, plant: &str, item: &str) -> Result<(PlantNo, PairNo), TableFaultKind>
+    /// Whether there is a plant of that name, where a pair of it was looked for.
+    fn has_plant_of(&self, found: Option<PairNo>, plant: &str, item: &str) -> bool
+        requires knows { Knows self.now.lists self.now.known }
+        requires found { option_map (λ x. x.0) found
+            ≡ pair_named self.now.lists (plant_no self.now.lists plant.now) item.now }
+        ensures { result ≡ is_some (plant_no self.now.lists plant.now) }
+    {
+        found.is_some() || self.has_plant(plant)
+    }
+
+    /// The pair, the period and the quantity of a demand or a receipt row. The names of a pair that is there are tested
+    /// no more.
+    fn known_amount(&self, row: &StringRecord) -> Result<KnownAmount, TableFaultKind>
         requires rows { IsRead self.now.lists }
         requires knows { Knows self.now.lists self.now.known }
-        ensures exact { result ≡ known_pair self.now.lists plant.now item.now }
-        ensures pair { IfOk result (λ found. found.1.0 < length self.now.lists.pairs) }
+        ensures exact { seen (λ a. (a.pair, a.period, a.quantity)) result
+            ≡ known_amount self.now.lists (fields_of row.now) }
+        ensures pair { IfOk result (λ a. a.pair.0 < length self.now.lists.pairs) }
+        ensures ranges { IfOk result (λ a. (a.period < horizon self.now.lists) × (1 ≤ a.quantity)
+            × (a.quantity ≤ MOST_IN_ROW)) }
     {
-        let plant = self.plant_named(plant).ok_or(TableFaultKind::UnknownPlant)?;
-        let pair = self.find_named_pair(Some(plant), item);
-        let pair = pair.ok_or(TableFaultKind::UnknownPair)?;
-        Ok((plant, pair))
+        let Some(pair) = self.find_pair(field(row, 1), field(row, 2)) else {
+            return Err(self.amount_fault(row));
+        };
+        let (period, quantity) = spelled_numbers(row, self.lists.calendar().horizon())?;
+        Ok(KnownAmount {
+            pair,
+            period,
+            quantity,
+        })
+    }
+
+    /// The fault of a demand or a receipt row whose names are of no pair.
+    fn amount_fault(&self, row: &StringRecord) -> TableFaultKind
+        requires knows { Knows self.now.lists self.now.known }
+        requires unknown { pair_named self.now.lists (plant_no self.now.lists (field (fields_of row.now) 1))
+            (field (fields_of row.now) 2) ≡ None }
+        ensures { known_amount self.now.lists (fields_of row.now) ≡ Err result }
+    {
+        match spelled_amount(row, self.lists.calendar().horizon()) {
+            Ok(spelled) => {
+                if self.has_plant(spelled.plant) {
+                    TableFaultKind::UnknownPair
+                } else {
+                    TableFaultKind::UnknownPlant
+                }
+            }
+            Err(fault) => fault,
+        }
     }
 
     /// Adds a demand row.
@@ -138,31 +174,27 @@ impl Draft {
         ensures exact { TellsMade result (demand_row self.old.lists (fields_of row.now)) self.new.lists }
         ensures adds { OnOk result (AddsRow self.old self.new) }
     {
-        let (demand, plant) = self.demand_of(row)?;
-        self.near = plant.0;
+        let demand = self.demand_of(row)?;
         self.lists.add_demand(demand)?;
         Ok(())
     }
 
-    /// What a demand row says, with the plant that it names.
-    #[tactic(auto, unfolding(crate::specs::Grammar::demand_of))]
-    fn demand_of(&self, row: &StringRecord) -> Result<(DemandRow, PlantNo), TableFaultKind>
+    /// What a demand row says.
+    fn demand_of(&self, row: &StringRecord) -> Result<DemandRow, TableFaultKind>
         requires draft { IsDraft self.now }
-        ensures exact { seen (λ found. found.0) result ≡ demand_of self.now.lists (fields_of row.now) }
-        ensures row { IfOk result (λ found. IsDemandRow self.now.lists found.0) }
+        ensures exact { result ≡ demand_of self.now.lists (fields_of row.now) }
+        ensures row { IfOk result (IsDemandRow self.now.lists) }
         ensures room { OnOk result (length self.now.lists.demands < MOST_OF_A_KIND) }
     {
-        let spelled = spelled_amount(row, self.lists.calendar().horizon())?;
-        let (plant, pair) = self.known_pair(spelled.plant, spelled.item)?;
+        let amount = self.known_amount(row)?;
         if self.lists.demands().len() >= MOST_OF_A_KIND {
             return Err(TableFaultKind::TooMany);
         }
-        let demand = DemandRow {
-            pair,
-            period: spelled.period,
-            quantity: Qty::of(spelled.quantity),
-        };
-        Ok((demand, plant))
+        Ok(DemandRow {
+            pair: amount.pair,
+            period: amount.period,
+            quantity: Qty::of(amount.quantity),
+        })
     }
 
     /// Adds a receipt row.
@@ -171,30 +203,26 @@ impl Draft {
         ensures exact { TellsMade result (receipt_row self.old.lists (fields_of row.now)) self.new.lists }
         ensures adds { OnOk result (AddsRow self.old self.new) }
     {
-        let (receipt, plant) = self.receipt_of(row)?;
-        self.near = plant.0;
+        let receipt = self.receipt_of(row)?;
         self.lists.add_receipt(receipt)?;
         Ok(())
     }
 
-    /// What a receipt row says, with the plant that it names.
-    #[tactic(auto, unfolding(crate::specs::Grammar::receipt_of))]
-    fn receipt_of(&self, row: &StringRecord) -> Result<(ReceiptRow, PlantNo), TableFaultKind>
+    /// What a receipt row says.
+    fn receipt_of(&self, row: &StringRecord) -> Result<ReceiptRow, TableFaultKind>
         requires draft { IsDraft self.now }
-        ensures exact { seen (λ found. found.0) result ≡ receipt_of self.now.lists (fields_of row.now) }
-        ensures row { IfOk result (λ found. IsReceiptRow self.now.lists found.0) }
+        ensures exact { result ≡ receipt_of self.now.lists (fields_of row.now) }
+        ensures row { IfOk result (IsReceiptRow self.now.lists) }
         ensures room { OnOk result (length self.now.lists.receipts < MOST_OF_A_KIND) }
     {
-        let spelled = spelled_amount(row, self.lists.calendar().horizon())?;
-        let (plant, pair) = self.known_pair(spelled.plant, spelled.item)?;
+        let amount = self.known_amount(row)?;
         if self.lists.receipts().len() >= MOST_OF_A_KIND {
             return Err(TableFaultKind::TooMany);
         }
-        let receipt = ReceiptRow {
-            pair,
-            period: spelled.period,
-            quantity: Qty::of(spelled.quantity),
-        };
-        Ok((receipt, plant))
+        Ok(ReceiptRow {
+            pair: amount.pair,
+            period: amount.period,
+            quantity: Qty::of(amount.quantity),
+        })
     }
 }

@@ -63,9 +63,6 @@ pub(crate) struct Draft {
     /// The kind of the last row, and how many rows there are.
     pub(crate) last: Kind,
     pub(crate) rows: u64,
-    /// The plants of the last row, which the next row often names again.
-    pub(crate) near: usize,
-    pub(crate) near_from: usize,
 }
 
 impl Draft {
@@ -97,8 +94,6 @@ impl Draft {
             reset_keys: IndexSet::new(alloc),
             last: Kind::Run,
             rows: 1,
-            near: 0,
-            near_from: 0,
         })
     }
 

@@ -71,9 +71,9 @@ impl Draft {
         ensures place { result.place ≡ source_named self.now.lists (option_map (λ p. p.0) result.from)
             (option_map (λ x. x.0) result.pair) }
     {
-        let from = self.find_plant_near(names.from, self.near_from);
-        let to = self.find_plant_near(names.to, self.near);
-        let pair = self.find_named_pair(to, names.item);
+        let from = self.find_plant(names.from);
+        let to = self.find_plant(names.to);
+        let pair = self.find_pair(names.to, names.item);
         NamedLane {
             from,
             to,
@@ -102,7 +102,6 @@ impl Draft {
     {
         let (ship, place) = self.ship_of(row)?;
         let period = ship.period;
-        self.near_from = ship.from.0;
         self.lists.add_ship(ship)?;
         self.lanes[place].ship(period);
         Ok(())

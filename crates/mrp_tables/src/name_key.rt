@@ -3,7 +3,6 @@
 ghost use Rattle.std.specs.Prelude.{◌≡◌, ◌≤◌, length, nat_le, if◌then◌else◌, Some, None};
 ghost use Rattle.mrp_tables.specs.Keys.{key_of, mixed, mixed_with, word_of};
 
-use mrp_rows::PlantNo;
 use std::hash::{Hash, Hasher};
 
 /// The most bytes of a name.
@@ -99,10 +98,10 @@ fn word_of(bytes: &[u8]) -> u64
     word
 }
 
-/// A pair by its plant and the name of its item.
+/// A pair by the names of its plant and its item.
 #[derive(Clone, Copy, PartialEq, Eq)]
 pub(crate) struct PairKey {
-    pub(crate) plant: PlantNo,
+    pub(crate) plant: NameKey,
     pub(crate) item: NameKey,
 }
 
@@ -112,11 +111,11 @@ impl Hash for PairKey {
     ghost use Rattle.std.specs.Cmp.Rules.{hashing};
     ghost use Rattle.std.proofs.Common.{rules};
 
-    ghost hash_input = { λ k. fed.u64 (mixed_with (mixed k.item) k.plant.0) };
+    ghost hash_input = { λ k. fed.u64 (mixed_with (mixed k.item) (mixed k.plant)) };
 
     ghost respects_eq = { Prim.search (hashing, rules) };
 
     fn hash<H: Hasher>(&self, state: &mut H) {
-        state.write_u64(mixed_with(self.item.mixed(), self.plant.0 as u64));
+        state.write_u64(mixed_with(self.item.mixed(), self.plant.mixed()));
     }
 }

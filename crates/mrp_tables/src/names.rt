@@ -8,11 +8,11 @@ use crate::TableFaultKind;
 use crate::draft::Draft;
 use crate::name_key::{NameKey, PairKey};
 use indexmap::IndexSet;
-use mrp_rows::{ItemNo, PairNo, PairRow, PlantNo, RowLists, is_same_text};
+use mrp_rows::{ItemNo, PairNo, PairRow, PlantNo, RowLists};
 use std::alloc::Global;
 
-/// The plants, the items and the pairs of the rows so far by their keys, in their order. A pair is found by its plant
-/// and the name of its item in one look-up, as each demand row needs it.
+/// The plants, the items and the pairs of the rows so far by their keys, in their order. A pair is found by the names
+/// of its plant and its item in one look-up, as each demand row needs it.
 #[derive(Drop)]
 pub(crate) struct KnownNames {
     plants: IndexSet<NameKey>,
@@ -50,6 +50,7 @@ impl KnownNames {
         alloc: Global,
         name: &str,
     ) -> Result<(), TableFaultKind>
+        requires rows { IsRead lists.old }
         requires knows { Knows lists.old self.old }
         requires named { IsName name.now }
         requires fresh { has_plant lists.old name.now ≡ false }
@@ -118,7 +119,9 @@ impl KnownNames {
         let Some(item) = NameKey::of(lists.item_name(row.item)) else {
             unreachable!();
         };
-        let plant = row.plant;
+        let Some(plant) = NameKey::of(lists.plant_name(row.plant)) else {
+            unreachable!();
+        };
         if !self.pairs.insert(PairKey { plant, item })? {
             unreachable!();
         }
@@ -128,7 +131,7 @@ impl KnownNames {
 }
 
 impl Draft {
-    ghost use Rattle.std.specs.Prelude.{◌≡◌, ◌<◌, is_some, length, option_map, IfSome, IsTrue, Some};
+    ghost use Rattle.std.specs.Prelude.{◌≡◌, ◌<◌, is_some, length, option_map, IfSome};
     ghost use Rattle.mrp_rows.specs.Names.{has_plant, pair_named, plant_no};
     ghost use Rattle.mrp_rows.specs.Table.{IsRead};
     ghost use Rattle.mrp_tables.specs.Keys.{Knows};
@@ -150,40 +153,15 @@ impl Draft {
         place_of(&self.known.plants, name).map(PlantNo)
     }
 
-    /// The plant of that name, which is looked for at the place `near` first.
-    pub(crate) fn find_plant_near(&self, name: &str, near: usize) -> Option<PlantNo>
-        requires knows { Knows self.now.lists self.now.known }
-        ensures place { option_map (λ p. p.0) result ≡ plant_no self.now.lists name.now }
-        ensures within { IfSome result (λ p. p.0 < length self.now.lists.plants) }
-    {
-        if self.is_plant_at(name, near) {
-            Some(PlantNo(near))
-        } else {
-            self.find_plant(name)
-        }
-    }
-
-    /// Whether the plant at a place has that name.
-    fn is_plant_at(&self, name: &str, place: usize) -> bool
-        requires knows { Knows self.now.lists self.now.known }
-        ensures place { IsTrue result → plant_no self.now.lists name.now ≡ Some place }
-        ensures within { IsTrue result → place < length self.now.lists.plants }
-    {
-        if place >= self.lists.plants() {
-            return false;
-        }
-        is_same_text(self.lists.plant_name(PlantNo(place)), name)
-    }
-
-    /// The pair of a plant and of the item of that name.
-    pub(crate) fn find_named_pair(&self, plant: Option<PlantNo>, item: &str) -> Option<PairNo>
+    /// The pair of these names, if there is one.
+    pub(crate) fn find_pair(&self, plant: &str, item: &str) -> Option<PairNo>
         requires rows { IsRead self.now.lists }
         requires knows { Knows self.now.lists self.now.known }
         ensures exact { option_map (λ x. x.0) result
-            ≡ pair_named self.now.lists (option_map (λ p. p.0) plant) item.now }
+            ≡ pair_named self.now.lists (plant_no self.now.lists plant.now) item.now }
         ensures within { IfSome result (λ pair. pair.0 < length self.now.lists.pairs) }
     {
-        let plant = plant?;
+        let plant = NameKey::of(plant)?;
         let item = NameKey::of(item)?;
         match self.known.pairs.get_index_of(&PairKey { plant, item }) {
             Some(place) => Some(PairNo(place)),
@@ -197,8 +175,7 @@ impl Draft {
         requires knows { Knows self.now.lists self.now.known }
         ensures exact { result ≡ is_some (pair_named self.now.lists (plant_no self.now.lists plant.now) item.now) }
     {
-        let plant = self.find_plant(plant);
-        self.find_named_pair(plant, item).is_some()
+        self.find_pair(plant, item).is_some()
     }
 }
 

@@ -8,6 +8,7 @@ ghost use Rattle.csv.specs.Records.{fields_of};
 ghost use Rattle.mrp_tables.specs.Grammar.{amount_terms, bill_terms, cum_terms, is_empty_from};
 ghost use Rattle.mrp_tables.specs.Grammar.{kind_of, lane_terms, pair_terms, plant_terms, reset_terms, row_kind};
 ghost use Rattle.mrp_tables.specs.Grammar.{run_terms, seen, ship_terms, TellsSeen};
+ghost use Rattle.mrp_tables.specs.Amounts.{amount_numbers};
 ghost use Rattle.mrp_tables.specs.Spelled.{amount_view, bill_view, lane_view, pair_view, run_view, IsSpelledPair};
 ghost use Rattle.mrp_rows.specs.Table.{IsName};
 ghost use Rattle.mrp_tables.specs.Drafts.{TellsRun};
@@ -202,8 +203,22 @@ pub(crate) struct SpelledAmount<'r> {
     pub(crate) quantity: u64,
 }
 
+/// The period and the quantity of a demand or a receipt row.
+#[tactic(auto, unfolding(crate::specs::Amounts::amount_numbers))]
+pub(crate) fn spelled_numbers(
+    row: &StringRecord,
+    horizon: Horizon,
+) -> Result<(usize, u64), TableFaultKind>
+    ensures exact { result ≡ amount_numbers (fields_of row.now) horizon }
+    ensures ranges { IfOk result (λ a. (a.0 < horizon) × (1 ≤ a.1) × (a.1 ≤ MOST_IN_ROW)) }
+{
+    let period = ranged(field(row, 3), 0, horizon.get() - 1)? as usize;
+    let quantity = ranged(field(row, 4), 1, MOST_IN_ROW)?;
+    Ok((period, quantity))
+}
+
 /// What a demand or a receipt row spells.
-#[tactic(auto, unfolding(crate::specs::Grammar::amount_terms))]
+#[tactic(auto, unfolding(crate::specs::Grammar::amount_terms, crate::specs::Amounts::amount_numbers))]
 pub(crate) fn spelled_amount(
     row: &StringRecord,
     horizon: Horizon,
@@ -213,8 +228,7 @@ pub(crate) fn spelled_amount(
 {
     let plant = name(field(row, 1))?;
     let item = name(field(row, 2))?;
-    let period = ranged(field(row, 3), 0, horizon.get() - 1)? as usize;
-    let quantity = ranged(field(row, 4), 1, MOST_IN_ROW)?;
+    let (period, quantity) = spelled_numbers(row, horizon)?;
     Ok(SpelledAmount {
         plant,
         item,

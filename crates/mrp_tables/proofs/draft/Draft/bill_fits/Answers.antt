@@ -6,9 +6,9 @@ pub returns-then-has_bill-clause-exact : goal.returns-then-has_bill-clause-exact
 unfolding bill_fits
 returns-then-has_bill-clause-exact c = search rules
 
-pub returns-then-is_none-clause-exact : goal.returns-then-is_none-clause-exact
+pub returns-then-not-has_plant_of-clause-exact : goal.returns-then-not-has_plant_of-clause-exact
 unfolding bill_fits
-returns-then-is_none-clause-exact c = search rules
+returns-then-not-has_plant_of-clause-exact c = search rules
 
 pub returns-in_err-parent-clause-exact : goal.returns-in_err-parent-clause-exact
 unfolding bill_fits

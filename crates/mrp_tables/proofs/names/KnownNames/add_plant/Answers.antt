@@ -32,5 +32,5 @@ returns-clause-knows c =
       items = c.args.self.now.items;
       pairs =
           c.args.self.now.pairs;
-    }) name c.requires.knows c.requires.named c.requires.fresh
+    }) name c.requires.rows c.requires.knows c.requires.named c.requires.fresh
     c.in_ok-add_plant.ensures.table grown refl refl

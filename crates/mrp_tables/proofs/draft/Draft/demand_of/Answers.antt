@@ -1,0 +1,34 @@
+use Rattle.std.proofs.Common.{◌<◌, ◌≤◌, List, length, nat_lt, subst}
+use Rattle.csv.specs.Records.{fields_of}
+use Rattle.mrp_qty.specs.declared.limits.TheConstants.{MOST_OF_A_KIND}
+use Rattle.mrp_rows.specs.declared.rows.DemandRow.{DemandRow}
+use Rattle.mrp_tables.specs.Grammar.{demand_made, demand_of}
+use Rattle.mrp_tables.proofs.AmountFacts.{has_none, has_some, row_made, row_refused, row_too_many}
+use Rattle.mrp_tables.proofs.KeepingSteps.{handed_on}
+use Rattle.mrp_tables.proofs.draft.Draft.demand_of.Goals as goal
+
+pub returns-in_err-amount-clause-exact : goal.returns-in_err-amount-clause-exact
+unfolding demand_of
+returns-in_err-amount-clause-exact c =
+    let N = c.args.self.now.lists in
+    rw (handed_on c.from_residual.result _ c.from_residual.ensures.1)
+    (row_refused N (fields_of c.args.row.now) (nat_lt (length N.demands) MOST_OF_A_KIND) demand_made _ c.in_err-amount.ensures.exact)
+
+pub returns-then-demands-ge-MOST_OF_A_KIND-clause-exact : goal.returns-then-demands-ge-MOST_OF_A_KIND-clause-exact
+unfolding demand_of
+returns-then-demands-ge-MOST_OF_A_KIND-clause-exact c =
+    let N = c.args.self.now.lists in
+    let many = subst (λ (xs : List DemandRow). MOST_OF_A_KIND ≤ length xs) c.demands.ensures.value c.if-demands-ge-MOST_OF_A_KIND.true in
+    row_too_many N (fields_of c.args.row.now) (nat_lt (length N.demands) MOST_OF_A_KIND) demand_made
+    (c.in_ok-amount.amount.pair, c.in_ok-amount.amount.period, c.in_ok-amount.amount.quantity) c.in_ok-amount.ensures.exact
+    (has_none (length N.demands) MOST_OF_A_KIND many)
+
+pub returns-clause-exact : goal.returns-clause-exact
+unfolding demand_of
+returns-clause-exact c =
+    let N = c.args.self.now.lists in
+    let room = subst (λ (xs : List DemandRow). length xs < MOST_OF_A_KIND) c.demands.ensures.value c.if-demands-ge-MOST_OF_A_KIND.false in
+    rw c.of.ensures
+    (row_made N (fields_of c.args.row.now) (nat_lt (length N.demands) MOST_OF_A_KIND) demand_made
+    (c.in_ok-amount.amount.pair, c.in_ok-amount.amount.period, c.in_ok-amount.amount.quantity) c.in_ok-amount.ensures.exact
+    (has_some (length N.demands) MOST_OF_A_KIND room))
