@@ -1,7 +1,7 @@
 //! What the planner may be asked to do: the eight commands with their values.
 //!
-//! A program of one's own makes a [`Choice`] and hands it to the text functions; `mrp_arguments` reads one from the
-//! words of a command line. It is a crate of its own since the command line, the library of texts and the reports
+//! A program of one's own makes a [`Choice`] and hands it to `answer` of `mrp_text`; `mrp_arguments` reads one from
+//! the words of a command line. It is a crate of its own since the command line, the library of texts and the reports
 //! all speak of it, and neither of the first two stands on the other.
 #![tactic(auto)]
 

@@ -1,6 +1,6 @@
 -- What is found by the key of a name is what is found by the name.
 use Rattle.std.proofs.Common.{◌≡◌, ◌<◌, ◌≤◌, ℕ, ltb, nat_le, slice_get, Bool, true, false, ◌==◌, ◌&&◌, eq-eqb, get_or, List, [], ◌∷◌, ◌++◌, length, map}
-use Rattle.std.proofs.Common.{position, Option, None, Some, refl, ap, sym, ◌∙◌, subst, arith}
+use Rattle.std.proofs.Common.{position, Option, None, Some, is_some, refl, ap, sym, ◌∙◌, subst, arith}
 use Rattle.std.specs.Cmp.Lexicographic.{nat_list_eq_equiv}
 use Rattle.std.specs.List.{All, IsDistinct, list_any}
 use Rattle.std.specs.Str.{bytes_eq}
@@ -113,7 +113,8 @@ abbrev pub named_key : List ℕ → List ℕ → PairKey
 named_key plant item = record { plant = key_of plant; item = key_of item }
 
 -- the pair of the names of a plant and an item
-module _ (N : Table) (plant item : List ℕ) (k : KnownNames) (of_plant : All IsByte plant) (of_item : All IsByte item) (read : IsRead N) (knows : Knows N k) where
+module _ (N : Table) (plant item : List ℕ) (k : KnownNames) (of_plant : All IsByte plant) (of_item : All IsByte item) (read : IsRead N)
+    (knows : Knows N k) where
   abbrev test : PairKey → Bool
   test = same_pair.it (named_key plant item)
 
@@ -168,6 +169,11 @@ module _ (N : Table) (plant item : List ℕ) (k : KnownNames) (of_plant : All Is
       → list_any test k.pairs.keys ≡ list_any (λ p. (p.plant.0 == a) && (p.item.0 == i)) N.pairs
   any_of_pair a i here there =
       ap (list_any test) knows.pairs ∙ any_of_keys key_in test (λ p. (p.plant.0 == a) && (p.item.0 == i)) N.pairs (is_at a i here there)
+
+-- a pair that was found is of a plant
+pub plant_of_pair : (N : Table) (plant : Option ℕ) (item : List ℕ) (x : ℕ) → Some x ≡ pair_named N plant item → is_some plant ≡ true
+plant_of_pair N None item x found = absurd (cc)
+plant_of_pair N (Some p) item x found = refl
 
 -- texts that are no plant's or no item's name, since they are too long
 pub no_long_plant : (N : Table) (k : KnownNames) (plant item : List ℕ) → 20 < length plant → Knows N k → pair_named N (plant_no N plant) item ≡ None

@@ -8,7 +8,7 @@ use csv::StringRecord;
 use mrp_qty::Qty;
 use mrp_rows::{BillRow, DemandRow, MOST_BILLS, MOST_OF_A_KIND, PairNo, ReceiptRow, Supply};
 
-/// What a demand or a receipt row says of a pair that is there.
+/// What a demand or a receipt row says of a pair that is there: a period, counted from 0, and so many pieces.
 #[derive(Clone, Copy)]
 struct KnownAmount {
     pair: PairNo,
@@ -17,8 +17,8 @@ struct KnownAmount {
 }
 
 impl Draft {
-    ghost use Rattle.std.specs.Prelude.{◌≡◌, ◌+◌, ◌≤◌, ◌<◌, is_some, length, option_map, Some, None, Err, false, OnOk};
-    ghost use Rattle.std.specs.Prelude.{IfOk};
+    ghost use Rattle.std.specs.Prelude.{◌≡◌, ◌≤◌, ◌<◌, is_some, length, option_map, Some, None, Err, false, true, OnOk};
+    ghost use Rattle.std.specs.Prelude.{IfOk, OnSome};
     ghost use Rattle.csv.specs.Records.{fields_of};
     ghost use Rattle.mrp_qty.specs.declared.limits.TheConstants.{MOST_BILLS, MOST_IN_ROW, MOST_OF_A_KIND};
     ghost use Rattle.mrp_qty.specs.declared.limits.TheConstants.{MOST_PER};
@@ -77,7 +77,7 @@ impl Draft {
         if self.has_bill(parent, component) {
             return Err(TableFaultKind::Repeated);
         }
-        if !self.has_plant_of(parent, spelled.plant, spelled.parent) {
+        if !self.has_plant_of(parent, spelled.plant) {
             return Err(TableFaultKind::UnknownPlant);
         }
         let parent = parent.ok_or(TableFaultKind::UnknownPair)?;
@@ -117,18 +117,17 @@ impl Draft {
         }
     }
 
-    /// Whether there is a plant of that name, where a pair of it was looked for.
-    fn has_plant_of(&self, found: Option<PairNo>, plant: &str, item: &str) -> bool
+    /// Whether there is a plant of that name. It isn't looked for where a pair of it was found.
+    fn has_plant_of(&self, found: Option<PairNo>, plant: &str) -> bool
         requires knows { Knows self.now.lists self.now.known }
-        requires found { option_map (λ x. x.0) found
-            ≡ pair_named self.now.lists (plant_no self.now.lists plant.now) item.now }
+        requires found { OnSome found (is_some (plant_no self.now.lists plant.now) ≡ true) }
         ensures { result ≡ is_some (plant_no self.now.lists plant.now) }
     {
         found.is_some() || self.has_plant(plant)
     }
 
-    /// The pair, the period and the quantity of a demand or a receipt row. The names of a pair that is there are tested
-    /// no more.
+    /// The pair, the period and the quantity of a demand or a receipt row. Names that find a pair aren't tested for
+    /// being names.
     fn known_amount(&self, row: &StringRecord) -> Result<KnownAmount, TableFaultKind>
         requires rows { IsRead self.now.lists }
         requires knows { Knows self.now.lists self.now.known }
@@ -149,7 +148,8 @@ impl Draft {
         })
     }
 
-    /// The fault of a demand or a receipt row whose names are of no pair.
+    /// The fault of a demand or a receipt row whose names are of no pair: of its names, its numbers, or that there is
+    /// no such plant or pair.
     fn amount_fault(&self, row: &StringRecord) -> TableFaultKind
         requires knows { Knows self.now.lists self.now.known }
         requires unknown { pair_named self.now.lists (plant_no self.now.lists (field (fields_of row.now) 1))

@@ -1,4 +1,4 @@
-//! Names and pairs as numbers.
+//! The keys by which names and pairs are found.
 
 ghost use Rattle.std.specs.Prelude.{◌≡◌, ◌≤◌, length, nat_le, if◌then◌else◌, Some, None};
 ghost use Rattle.mrp_tables.specs.Keys.{key_of, mixed, mixed_with, word_of};
@@ -11,10 +11,10 @@ const LONGEST: usize = 20;
 /// The bytes that one word holds.
 const IN_WORD: usize = 7;
 
-/// An odd number without a pattern, by which words are mixed: 2^64 by the golden ratio.
+/// An odd number without a pattern, by which words are mixed: 2^64 divided by the golden ratio.
 const MIXER: u64 = 0x9e37_79b9_7f4a_7c15;
 
-/// A name as three words: two names, of at most 20 bytes, are equal where their keys are.
+/// A name as three words: two names, of at most 20 bytes, are equal exactly where their keys are.
 #[derive(Clone, Copy, PartialEq, Eq)]
 pub(crate) struct NameKey {
     first: u64,
@@ -38,7 +38,7 @@ impl Hash for NameKey {
 }
 
 impl NameKey {
-    /// The three words as one, which is the first of a text of at most seven bytes.
+    /// The three words as one number; of a text of at most seven bytes it is the first word.
     fn mixed(&self) -> u64
         ensures { result ≡ mixed self.now }
     {
@@ -63,7 +63,7 @@ impl NameKey {
         }
     }
 
-    /// The key of up to three words.
+    /// The key of at most 20 bytes.
     fn of_words(bytes: &[u8]) -> NameKey
         requires few { length bytes.now ≤ 20 }
         ensures { result ≡ key_of bytes.now }
@@ -98,7 +98,7 @@ fn word_of(bytes: &[u8]) -> u64
     word
 }
 
-/// A pair by the names of its plant and its item.
+/// A pair by the names of its plant and its item. Two pairs may have one hash; the words tell them apart.
 #[derive(Clone, Copy, PartialEq, Eq)]
 pub(crate) struct PairKey {
     pub(crate) plant: NameKey,

@@ -12,7 +12,7 @@ use mrp_rows::{ItemNo, PairNo, PairRow, PlantNo, RowLists};
 use std::alloc::Global;
 
 /// The plants, the items and the pairs of the rows so far by their keys, in their order. A pair is found by the names
-/// of its plant and its item in one look-up, as each demand row needs it.
+/// of its plant and its item in one look-up, since nearly each row looks for one.
 #[derive(Drop)]
 pub(crate) struct KnownNames {
     plants: IndexSet<NameKey>,
@@ -70,7 +70,7 @@ impl KnownNames {
         Ok(())
     }
 
-    /// The item of that name, which is new where no pair row has named it.
+    /// The number of the item of that name, which is added where no pair row has named it.
     pub(crate) fn item_no(
         &mut self,
         lists: &mut RowLists,
@@ -131,7 +131,7 @@ impl KnownNames {
 }
 
 impl Draft {
-    ghost use Rattle.std.specs.Prelude.{◌≡◌, ◌<◌, is_some, length, option_map, IfSome};
+    ghost use Rattle.std.specs.Prelude.{◌≡◌, ◌<◌, is_some, length, option_map, true, IfSome, OnSome};
     ghost use Rattle.mrp_rows.specs.Names.{has_plant, pair_named, plant_no};
     ghost use Rattle.mrp_rows.specs.Table.{IsRead};
     ghost use Rattle.mrp_tables.specs.Keys.{Knows};
@@ -160,6 +160,7 @@ impl Draft {
         ensures exact { option_map (λ x. x.0) result
             ≡ pair_named self.now.lists (plant_no self.now.lists plant.now) item.now }
         ensures within { IfSome result (λ pair. pair.0 < length self.now.lists.pairs) }
+        ensures plant { OnSome result (is_some (plant_no self.now.lists plant.now) ≡ true) }
     {
         let plant = NameKey::of(plant)?;
         let item = NameKey::of(item)?;

@@ -1,4 +1,4 @@
-//! What the fields of a row spell, before its names are looked up.
+//! What the fields of a row spell.
 
 ghost use Rattle.std.specs.Prelude.{◌≡◌, ◌≤◌, ◌<◌, IfOk};
 ghost use Rattle.mrp_qty.specs.declared.quantity.TheConstants.{MOST};
@@ -194,7 +194,7 @@ pub(crate) fn spelled_bill(row: &StringRecord) -> Result<SpelledBill<'_>, TableF
     })
 }
 
-/// A demand or a receipt row.
+/// A demand or a receipt row that names no pair.
 #[derive(Clone, Copy)]
 pub(crate) struct SpelledAmount<'r> {
     pub(crate) plant: &'r str,
@@ -203,7 +203,7 @@ pub(crate) struct SpelledAmount<'r> {
     pub(crate) quantity: u64,
 }
 
-/// The period and the quantity of a demand or a receipt row.
+/// The period, counted from 0, and the pieces of a demand or a receipt row.
 #[tactic(auto, unfolding(crate::specs::Amounts::amount_numbers))]
 pub(crate) fn spelled_numbers(
     row: &StringRecord,

@@ -13,10 +13,12 @@ use Rattle.mrp_text.specs.Reports.{IsCodeReport, IsPegReport, IsCumReport, IsOrd
 use Rattle.mrp_text.specs.Refusals.{Question, AskWhole, AskByThreads, AskPair, AskPlants}
 use Rattle.mrp_text.specs.Reports.{IsScheduleReport, IsPegsReport, IsAdviceReport, name_of}
 
--- a plan that is chosen has mailboxes for one record at least, and for so many at most
-abbrev pub HasCapacity : Choice → Type 0
-HasCapacity (Plan workers capacity single) = (1 ≤ capacity) × (capacity ≤ MOST_CAPACITY)
-HasCapacity _ = Unit {0}
+-- what one thread is asked for: of plans those that one thread is to make, with mailboxes for one record at least and
+-- for so many at most
+abbrev pub IsAlone : Choice → Type 0
+IsAlone (Plan workers capacity true) = (1 ≤ capacity) × (capacity ≤ MOST_CAPACITY)
+IsAlone (Plan workers capacity false) = ⊥
+IsAlone _ = Unit {0}
 
 -- the report that a choice asks for
 abbrev pub IsAnswer : Choice → Table → List ℕ → Type 0

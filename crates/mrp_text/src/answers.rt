@@ -20,8 +20,8 @@ use std::thread::Threads;
 ///
 /// # Errors
 ///
-/// As [`TextFault`] says. Nothing is written after a fault of the input; of every report but the plan nothing
-/// after every fault but [`TextFault::WriteFault`]. A plan that isn't asked for on a single thread may wait.
+/// As [`TextFault`] says. Nothing is written after a fault of the input; of a report that isn't a plan nothing after
+/// any fault but [`TextFault::WriteFault`]. A plan by threads may wait.
 pub fn answer<T: Threads + Wait + Sync, R: Read + Drop, W: Write>(
     rt: &T,
     alloc: Global,

@@ -4,12 +4,12 @@
 //! `refusal` what each fault says of the input, `untouched` after which faults nothing is written. The last clause
 //! of a run by threads, `gate`, is for those who give a gate of their own.
 //!
-//! The network is let go by `drop` and not at the end of a scope: what lets go each of its lists is then
-//! proved once, and not in each of these functions.
+//! `plan_text` and `report_text` alone hold a network. They let it go by `drop` and not at the end of a scope: what
+//! lets go each of its lists is then proved once.
 
 ghost use Rattle.std.specs.Prelude.{◌≡◌, ◌≢◌, ◌≤◌, IfErr};
 ghost use Rattle.mrp_qty.specs.declared.limits.TheConstants.{MOST_TURNS};
-ghost use Rattle.mrp_text.specs.Answer.{HasCapacity, IsAnswer, IsBeforeReport, question_of};
+ghost use Rattle.mrp_text.specs.Answer.{IsAlone, IsAnswer, IsBeforeReport, question_of};
 ghost use Rattle.mrp_text.specs.Fault.{IsBeforeWriting};
 ghost use Rattle.mrp_text.specs.Text.{Writes, OfTable, IsPlanReport};
 ghost use Rattle.mrp_text.specs.Reports.{WritesRows, IsPlanRows, IsCodeReport};
@@ -30,8 +30,8 @@ use std::io::{Read, Write};
 use std::sync::Wait;
 use std::thread::Threads;
 
-/// Reads a table and writes its plan, which every plant plans in a thread of its own with so many
-/// workers: a row for each pair and period, then a row for each late order.
+/// Reads a table and writes its plan: a row for each pair and period, then a row for each late order. Each plant plans
+/// in a thread of its own, with the workers and the mailboxes of `settings`.
 ///
 /// The text is that of [`drive_text`], for every number of workers and every capacity. Threads, workers, and that
 /// `gate` is asked before each turn of a plant and the work of each worker, are by construction; no clause says so.
@@ -67,7 +67,8 @@ pub fn plan_text<T: Threads + Wait + Sync, R: Read + Drop, W: Write, G: Gate>(
     written
 }
 
-/// Reads a table and writes its plan: a row for each pair and period, then a row for each late order.
+/// Reads a table and writes its plan, made on one thread: a row for each pair and period, then a row for each late
+/// order.
 ///
 /// `capacity` is how many records the mailbox between two plants may hold, 1 to [`MOST_CAPACITY`]; it has room for
 /// eight at most. The text is the same for each.
@@ -146,7 +147,7 @@ pub fn headed_check_text<R: Read + Drop, W: Write>(
     report_text(alloc, reader, writer, Choice::Check { heading })
 }
 
-/// Reads a table and writes what the gross requirement of a pair in a period consists of: a row for
+/// Reads a table and writes what the gross requirement of a pair in a period, counted from 0, consists of: a row for
 /// its demand rows, and a row for each demander's release.
 ///
 /// # Errors
@@ -241,8 +242,7 @@ pub fn headed_cums_text<R: Read + Drop, W: Write>(
 /// Reads a table and writes its planned orders: a row for each that is released in period `until` or
 /// before it, without it for each, with the names of the columns above them where `heading` says so.
 ///
-/// The network is planned as a whole, as for pegs: orders follow from the plan alone, which is one, and no
-/// lane is looked at.
+/// The network is planned as a whole, as for pegs: orders follow from the one plan, and no lane is looked at.
 ///
 /// # Errors
 ///
@@ -341,15 +341,14 @@ pub fn advice_text<R: Read + Drop, W: Write>(
     report_text(alloc, reader, writer, Choice::Advice { heading })
 }
 
-/// Reads a table and writes the report that was chosen. A plan is made on one thread, whatever the choice says of
-/// threads.
+/// Reads a table and writes the report that one thread was asked for: what each text function but `plan_text` does.
 pub(crate) fn report_text<R: Read + Drop, W: Write>(
     alloc: Global,
     reader: R,
     writer: &mut W,
     choice: Choice<'_>,
 ) -> Result<(), TextFault>
-    requires capacity { HasCapacity choice }
+    requires alone { IsAlone choice }
     ensures text { Writes (W.contents writer.old) (W.contents writer.new) result
         (λ text. OfTable (R.remaining reader) (λ N. IsAnswer choice.entry N text)) }
     ensures rows { WritesRows W.contents writer.old writer.new result

@@ -1,13 +1,13 @@
-//! What is written of a network: the report that was chosen, and the plan that is made by threads. A network without a
-//! loop and within the bound has each of the reports; the others are refused before anything is written.
+//! What is written of a network: the report that was chosen, and the plan that is made by threads. A network with a
+//! loop or past the bound, and names and periods that it lacks, are refused before anything is written.
 
-ghost use Rattle.std.specs.Prelude.{◌≡◌, ◌≢◌, ◌≤◌, ◌<◌, IfErr, IfOk, length};
+ghost use Rattle.std.specs.Prelude.{◌≡◌, ◌≢◌, ◌≤◌, ◌<◌, IfErr, IfOk};
 ghost use Rattle.mrp_loops.specs.Sized.{IsSized};
 ghost use Rattle.mrp_rows.specs.Table.{IsPair, horizon};
 ghost use Rattle.mrp_net.specs.PlanLaws.{Fits};
 ghost use Rattle.mrp_loops.specs.Codes.{AreCodes};
 ghost use Rattle.mrp_qty.specs.declared.limits.TheConstants.{MOST_TURNS};
-ghost use Rattle.mrp_text.specs.Answer.{HasCapacity, IsAnswer, IsBeforeReport, question_of};
+ghost use Rattle.mrp_text.specs.Answer.{IsAlone, IsAnswer, IsBeforeReport, question_of};
 ghost use Rattle.mrp_text.specs.Fault.{IsBeforeWriting, IsLate};
 ghost use Rattle.mrp_text.specs.Text.{Writes, IsPlanReport};
 ghost use Rattle.mrp_text.specs.Reports.{WritesRows, IsPlanRows, IsCodeReport};
@@ -15,7 +15,7 @@ ghost use Rattle.mrp_report.specs.Headings.{code_names, lane_names, peg_names, p
 ghost use Rattle.mrp_text.specs.Reports.{IsPegReport, IsCumReport, IsPegs, IsOrderReport, IsHeaded};
 ghost use Rattle.mrp_text.specs.Reports.{AreSchedules, IsAdviceReport, IsChosenPlant, IsPegsReport, IsScheduleReport};
 ghost use Rattle.mrp_text.specs.Reports.{name_of};
-ghost use Rattle.mrp_text.specs.Refusals.{IsNoPlant, RefusesTable, AskWhole, AskByThreads, AskPair, AskPlants};
+ghost use Rattle.mrp_text.specs.Refusals.{IsNoPlant, RefusesTable, AskByThreads, AskPair, AskPlants};
 ghost use Rattle.mrp_text.specs.Gates.{GateExplains};
 ghost use Rattle.mrp_choice.specs.declared.choice.TheConstants.{MOST_CAPACITY};
 
@@ -57,14 +57,14 @@ pub(crate) fn write_run<T: Threads + Wait + Sync, W: Write, G: Gate>(
     report_run(rt, alloc, &net, &plan, writer)
 }
 
-/// Writes the report of a network that was chosen. A plan is made on one thread, whatever the choice says of threads.
+/// Writes the report of a network that one thread was asked for.
 pub(crate) fn write_report<W: Write>(
     alloc: Global,
     network: &Network,
     writer: &mut W,
     choice: Choice<'_>,
 ) -> Result<(), TextFault>
-    requires capacity { HasCapacity choice }
+    requires alone { IsAlone choice }
     ensures text { Writes (W.contents writer.old) (W.contents writer.new) result (IsAnswer choice.entry network.now) }
     ensures rows { WritesRows W.contents writer.old writer.new result (IsPlanRows network.now) }
     ensures refusal { IfErr result (RefusesTable (question_of choice.entry) network.now) }
@@ -75,7 +75,7 @@ pub(crate) fn write_report<W: Write>(
     report(alloc, &sized, &levels, writer, choice)
 }
 
-/// Writes the report of a sized network that was chosen.
+/// Writes the report of a sized network that one thread was asked for.
 fn report<W: Write>(
     alloc: Global,
     net: &SizedNet<'_>,
@@ -83,7 +83,7 @@ fn report<W: Write>(
     writer: &mut W,
     choice: Choice<'_>,
 ) -> Result<(), TextFault>
-    requires capacity { HasCapacity choice }
+    requires alone { IsAlone choice }
     requires plannable { IsSized net.now.network }
     requires codes { AreCodes net.now.network levels.now }
     ensures text { Writes (W.contents writer.old) (W.contents writer.new) result
@@ -165,7 +165,7 @@ fn report_codes<W: Write>(
     Ok(())
 }
 
-/// Writes the peg rows of the pair of these names in a period.
+/// Writes the peg rows of the pair of these names in a period, if there are such a pair and such a period.
 fn report_pegs<W: Write>(
     alloc: Global,
     net: &SizedNet<'_>,
@@ -214,7 +214,7 @@ fn report_pegs_at<W: Write>(
     Ok(())
 }
 
-/// Writes the lane rows.
+/// Writes the lane rows: the cumulative figures after the last event.
 fn report_cums<W: Write>(
     alloc: Global,
     net: &SizedNet<'_>,
@@ -232,7 +232,7 @@ fn report_cums<W: Write>(
     Ok(())
 }
 
-/// Writes the order rows.
+/// Writes the order rows of those orders that are released in period `until` or before it, without it of all.
 fn report_orders<W: Write>(
     alloc: Global,
     net: &SizedNet<'_>,
@@ -272,7 +272,7 @@ fn report_schedule<W: Write>(
     report_schedules(alloc, net, writer, supplier, customer, heading)
 }
 
-/// The plant of a name, where one is given.
+/// The plant of that name, and none where no name is given.
 fn plant_named(network: &Network, name: Option<&str>) -> Result<Option<PlantNo>, TextFault>
     ensures plant { IfOk result (IsChosenPlant network.now (name_of name.entry)) }
     ensures unknown { IfErr result (λ fault. (fault ≡ TextFault.NoPlant) × IsNoPlant network.now (name_of name.entry)) }
@@ -324,7 +324,7 @@ fn report_all_pegs<W: Write>(
     Ok(())
 }
 
-/// Writes the advice rows.
+/// Writes the advice rows of all open orders.
 fn report_advice<W: Write>(
     alloc: Global,
     net: &SizedNet<'_>,

@@ -1,14 +1,23 @@
-use Rattle.std.proofs.Common.{subst}
+use Rattle.std.proofs.Common.{ℕ, ◌≤◌, Bool, true, false, subst}
 use Rattle.mrp_rows.specs.Table.{Table}
 use Rattle.mrp_report.specs.Headings.{code_names}
-use Rattle.mrp_text.specs.Refusals.{AskWhole}
+use Rattle.mrp_choice.specs.declared.choice.Choice.TheVariants.{Plan}
+use Rattle.mrp_choice.specs.declared.choice.TheConstants.{MOST_CAPACITY}
+use Rattle.mrp_text.specs.Answer.{IsAlone}
 use Rattle.mrp_text.specs.Reports.{IsCodeReport, IsHeaded}
 use Rattle.mrp_text.specs.Text.{Writes}
 use Rattle.mrp_text.proofs.RowFacts.{rows-kept}
 use Rattle.mrp_text.proofs.TextFacts.{late-refuses}
 use Rattle.mrp_text.proofs.writing.report.Goals as goal
 
--- the plan
+-- the plan, which is one that one thread makes
+
+room : (workers capacity : ℕ) (single : Bool) → IsAlone (Plan workers capacity single) → (1 ≤ capacity) × (capacity ≤ MOST_CAPACITY)
+room workers capacity true alone = alone
+room workers capacity false alone = absurd alone
+
+pub report_driven-requires-clause-capacity : goal.report_driven-requires-clause-capacity
+report_driven-requires-clause-capacity g c = room c.in-Plan.workers c.in-Plan.capacity c.in-Plan.single (rw (c.in-Plan.is) at c.requires.alone)
 
 pub returns-in-Plan-clause-text : goal.returns-in-Plan-clause-text
 returns-in-Plan-clause-text g c = rw (c.in-Plan.is) c.report_driven.ensures.text

@@ -4,7 +4,7 @@ use Rattle.mrp_rows.specs.declared.numbers.PairNo.{PairNo}
 use Rattle.mrp_tables.specs.contracts.name_key.PairKeyPartialEq.TheImpl.{eq-value as same_pair}
 use Rattle.mrp_tables.specs.Keys.{key_of}
 use Rattle.mrp_tables.specs.declared.name_key.NameKey.{NameKey}
-use Rattle.mrp_tables.proofs.Found.{no_long_item, no_long_plant, place_of_pair}
+use Rattle.mrp_tables.proofs.Found.{no_long_item, no_long_plant, place_of_pair, plant_of_pair}
 use Rattle.mrp_tables.proofs.Words.{all_bytes, has_no_key, key_is}
 use Rattle.mrp_tables.proofs.draft.Draft.find_pair.Goals as goal
 use Rattle.mrp_tables.proofs.draft.Draft.find_pair.Goals.{After-get_index_of}
@@ -32,7 +32,8 @@ found c =
     let k = c.args.self.now.known in
     ap (λ (key : NameKey). position (same_pair.it (record { plant = key; item = c.in_ok-item.item })) k.pairs.keys) (key_is plant c.in_ok-plant.plant
     c.in_ok-plant.ensures)
-    ∙ ap (λ (key : NameKey). position (same_pair.it (record { plant = key_of plant; item = key })) k.pairs.keys) (key_is item c.in_ok-item.item c.in_ok-item.ensures)
+    ∙ ap (λ (key : NameKey). position (same_pair.it (record { plant = key_of plant; item = key })) k.pairs.keys)
+    (key_is item c.in_ok-item.item c.in_ok-item.ensures)
     ∙ place_of_pair c.args.self.now.lists plant item k (all_bytes plant c.type_inv.plant) (all_bytes item c.type_inv.item) c.requires.rows c.requires.knows
 
 pub returns-in-Some-clause-exact : goal.returns-in-Some-clause-exact
@@ -40,3 +41,8 @@ returns-in-Some-clause-exact c = c.in-Some.ensures.index ∙ found (goal.at.retu
 
 pub returns-in-None-clause-exact : goal.returns-in-None-clause-exact
 returns-in-None-clause-exact c = c.in-None.ensures.index ∙ found (goal.at.returns-in-None-clause-exact c).After-get_index_of
+
+pub returns-in-Some-clause-plant : goal.returns-in-Some-clause-plant
+returns-in-Some-clause-plant c =
+    let N = c.args.self.now.lists in
+    plant_of_pair N (plant_no N c.args.plant.now) c.args.item.now c.in-Some.place (returns-in-Some-clause-exact c)

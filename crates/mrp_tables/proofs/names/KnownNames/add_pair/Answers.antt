@@ -10,7 +10,8 @@ use Rattle.mrp_tables.proofs.names.KnownNames.add_pair.Goals as goal
 use Rattle.mrp_tables.proofs.names.KnownNames.add_pair.Goals.{After-insert}
 
 -- the key is that of the names of the plant and the item
-key : (c : After-insert) → ◌≡◌ {A = PairKey} (record { plant = c.in-Some-of.plant; item = c.in-Some.item }) (named_key c.plant_name.result.now c.item_name.result.now)
+key : (c : After-insert) → ◌≡◌ {A = PairKey} (record { plant = c.in-Some-of.plant; item = c.in-Some.item })
+    (named_key c.plant_name.result.now c.item_name.result.now)
 key c =
     let plant = key_is c.plant_name.result.now c.in-Some-of.plant c.in-Some-of.ensures in
     let item = key_is c.item_name.result.now c.in-Some.item c.in-Some.ensures in
@@ -30,7 +31,8 @@ new_key c =
     let called : IsName plant = named_at N.plants row.plant.0 plant c.requires.row.plant c.requires.knows.plants.named c.plant_name.ensures.value in
     let named : IsName item = named_at N.items row.item.0 item c.requires.row.item c.requires.knows.items.named c.item_name.ensures.value in
     ap (λ (k : PairKey). list_any (same_pair.it k) keys) (key c)
-    ∙ any_of_pair N plant item c.args.self.now (name_bytes plant called) (name_bytes item named) c.requires.rows c.requires.knows row.plant.0 row.item.0 here there
+    ∙ any_of_pair N plant item c.args.self.now (name_bytes plant called) (name_bytes item named) c.requires.rows c.requires.knows
+    row.plant.0 row.item.0 here there
     ∙ c.requires.fresh
 
 pub unreachable-requires-then-not-branch : goal.unreachable-requires-then-not-branch
