@@ -68,6 +68,7 @@ pub(crate) struct Draft {
 impl Draft {
     ghost use Rattle.std.specs.Prelude.{◌≡◌, ◌+◌, ◌<◌, OnOk, IfOk};
     ghost use Rattle.csv.specs.Records.{AllText, fields_of};
+    ghost use Rattle.mrp_qty.specs.declared.limits.TheConstants.{MAX_TURNS};
     ghost use Rattle.mrp_tables.specs.Grammar.{TellsMade};
     ghost use Rattle.mrp_tables.specs.Lists.{IsDraft, AddsRow};
     ghost use Rattle.mrp_tables.specs.Reading.{row_of_kind};
@@ -100,7 +101,7 @@ impl Draft {
     /// Adds one more row.
     pub(crate) fn add(&mut self, alloc: Global, row: &StringRecord) -> Result<(), TableFaultKind>
         requires draft { IsDraft self.old }
-        requires room { self.old.rows < 5000000 }
+        requires room { self.old.rows < MAX_TURNS }
         requires text { AllText (fields_of row.now) }
         ensures exact { TellsAdded self.old self.new result (fields_of row.now) }
         ensures draft { OnOk result (IsDraft self.new) }

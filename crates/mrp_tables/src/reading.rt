@@ -192,7 +192,7 @@ fn read_next<R: Read>(
     requires gives { GivesAll rows.old }
     requires draft { IsDraft draft.old }
     requires kept { IsDraftKept draft.old }
-    requires room { draft.old.rows < 5000000 }
+    requires room { draft.old.rows < MAX_TURNS }
     ensures gives { OnOk result (GivesAll rows.new) }
     ensures exact { TellsNext (rows_left R.remaining rows.old) (rows_left R.remaining rows.new) number
         (draft_state draft.old) (draft_state draft.new) result }
