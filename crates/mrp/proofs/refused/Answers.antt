@@ -15,7 +15,7 @@ pub returns-in-Asked-clause-status : goal.returns-in-Asked-clause-status
 returns-in-Asked-clause-status g c =
     rw (c.in-Asked.is)
     (elim c.match-said.branch [
-      in-Ok w ↦ rw (w.in-Ok.is) (rw (w.printed-is) at c.after_help.ensures.status)
+      | in-Ok w ↦ rw (w.in-Ok.is) (rw (w.printed-is) at c.after_help.ensures.status)
       | in-Err w ↦ rw (w.in-Err.is) (rw (w.printed-is) at c.after_help.ensures.status)
     ])
 
@@ -23,7 +23,7 @@ pub returns-in-Asked-clause-printed : goal.returns-in-Asked-clause-printed
 returns-in-Asked-clause-printed g c =
     rw (c.in-Asked.is)
     (elim c.match-said.branch [
-      in-Ok w ↦ rw (w.in-Ok.is) (c.after_help.ensures.same ∙ w.printed-is)
+      | in-Ok w ↦ rw (w.in-Ok.is) (c.after_help.ensures.same ∙ w.printed-is)
       | in-Err w ↦ rw (w.in-Err.is) (c.after_help.ensures.same ∙ w.printed-is)
     ])
 
@@ -31,6 +31,6 @@ pub returns-in-Asked-clause-line : goal.returns-in-Asked-clause-line
 returns-in-Asked-clause-line g c =
     rw (c.in-Asked.is)
     (elim c.match-said.branch [
-      in-Ok w ↦ rw (w.in-Ok.is) (rw (w.printed-is) at c.after_help.ensures.line)
+      | in-Ok w ↦ rw (w.in-Ok.is) (rw (w.printed-is) at c.after_help.ensures.line)
       | in-Err w ↦ rw (w.in-Err.is) (rw (w.printed-is) at c.after_help.ensures.line)
     ])
