@@ -194,7 +194,8 @@ pub(crate) fn spelled_bill(row: &StringRecord) -> Result<SpelledBill<'_>, TableF
     })
 }
 
-/// A demand or a receipt row that names no pair.
+/// What a demand or a receipt row spells, for the fault of a row that names no pair: code reads its plant alone, its
+/// contract the rest.
 #[derive(Clone, Copy)]
 pub(crate) struct SpelledAmount<'r> {
     pub(crate) plant: &'r str,

@@ -13,8 +13,8 @@ use Rattle.mrp_text.specs.Reports.{IsCodeReport, IsPegReport, IsCumReport, IsOrd
 use Rattle.mrp_text.specs.Refusals.{Question, AskWhole, AskByThreads, AskPair, AskPlants}
 use Rattle.mrp_text.specs.Reports.{IsScheduleReport, IsPegsReport, IsAdviceReport, name_of}
 
--- what one thread is asked for: of plans those that one thread is to make, with mailboxes for one record at least and
--- for so many at most
+-- what one thread can be asked for: every report but a plan by threads; a plan with mailboxes for 1 to MOST_CAPACITY
+-- records
 abbrev pub IsAlone : Choice → Type 0
 IsAlone (Plan workers capacity true) = (1 ≤ capacity) × (capacity ≤ MOST_CAPACITY)
 IsAlone (Plan workers capacity false) = ⊥
