@@ -1,36 +1,16 @@
 -- What a fault of a run says of its gate, and that a gate that is always open is never answered as shut.
-use Rattle.std.proofs.Common.{◌≡◌, ℕ, ◌≤◌, arith, Bool, true, false, length, List, Option, Result, Ok, Err, IfErr, IsErrAnd, OnOk, ⊎_elim, subst, sym, refl}
+use Rattle.std.proofs.Common.{◌≡◌, ℕ, Bool, true, false, length, List, Option, Result, Ok, Err, IfErr, IsErrAnd, ⊎_elim, subst, sym, refl}
 use Rattle.std.proofs.lemmas.Bool.{false≢true}
 use Rattle.mrp_rows.specs.Table.{Table}
-use Rattle.mrp_run.specs.declared.fault.RunFault.{RunFault}
-use Rattle.mrp_run.specs.declared.fault.RunFault.TheVariants as run
 use Rattle.mrp_run.specs.Faults.{AllTurned, WasShut, WasSpent}
-use Rattle.mrp_run.specs.Worst.{IsFaultIn}
 use Rattle.mrp_text.specs.declared.fault.TextFault.{TextFault}
 use Rattle.mrp_text.specs.declared.fault.TextFault.TheVariants as fault
 use Rattle.mrp_choice.specs.declared.choice.Choice.TheVariants.{Plan}
 use Rattle.mrp_text.specs.Answer.{IsNoShutGate, question_of}
 use Rattle.mrp_text.specs.Fault.{IsLate}
 use Rattle.mrp_text.specs.Gates.{GateExplains, IsGateFault}
-use Rattle.mrp_text.specs.Runs.{IsInNetwork, IsOfRun, IsRunFault}
-use Rattle.mrp_text.specs.Refusals.{IsThreaded, AskWhole, AskByThreads, Question, Refuses, RefusesTable}
+use Rattle.mrp_text.specs.Refusals.{AskByThreads}
 use Rattle.mrp_text.specs.Text.{IsTableOf, OfTable}
-
-pub in_network : (Shut Spent : ℕ → Type 0) (N : Table) (f : RunFault) → IsFaultIn Shut Spent N f → IsInNetwork N f
-in_network Shut Spent N run.Memory is = tt
-in_network Shut Spent N run.ThreadRefused is = tt
-in_network Shut Spent N (run.GateShut plant) is = is.0
-in_network Shut Spent N run.Stopped is = tt
-
--- the fault that a run's fault is
-pub run_fault : (Shut Spent : ℕ → Type 0) (N : Table) (f : RunFault) (said : TextFault) → IsFaultIn Shut Spent N f → IsOfRun N f said → IsRunFault N said
-run_fault Shut Spent N run.Memory said is of = subst (IsRunFault N) (sym of) tt
-run_fault Shut Spent N run.ThreadRefused said is of = subst (IsRunFault N) (sym of) tt
-run_fault Shut Spent N (run.GateShut plant) (fault.GateShut name) is of = (plant.0, of)
-run_fault Shut Spent N (run.GateShut plant) _ is of = absurd of
-run_fault Shut Spent N run.Stopped said is of =
-    let some : 1 ≤ length N.plants = omega (arith, is.1) in
-    subst (IsRunFault N) (sym of) some
 
 -- ---- what the gate explains
 
@@ -38,34 +18,16 @@ run_fault Shut Spent N run.Stopped said is of =
 abbrev InTable : Table → (Table → Type 0) → Type 0
 InTable N says = says N
 
-gate_fault : (Shut Spent : ℕ → Type 0) (N : Table) (f : RunFault) (said : TextFault) → IsFaultIn Shut Spent N f → IsOfRun N f said
-    → IsGateFault Shut Spent (InTable N) said
-gate_fault Shut Spent N run.Memory said is of = subst (IsGateFault Shut Spent (InTable N)) (sym of) tt
-gate_fault Shut Spent N run.ThreadRefused said is of = subst (IsGateFault Shut Spent (InTable N)) (sym of) tt
-gate_fault Shut Spent N (run.GateShut plant) (fault.GateShut name) is of = (plant.0, of, is.1)
-gate_fault Shut Spent N (run.GateShut plant) _ is of = absurd of
-gate_fault Shut Spent N run.Stopped said is of = subst (IsGateFault Shut Spent (InTable N)) (sym of) is
-
 late_fault : (Shut Spent : ℕ → Type 0) (N : Table) (f : TextFault) → IsLate f → IsGateFault Shut Spent (InTable N) f
 late_fault Shut Spent N (fault.GateShut name) late = absurd late
 late_fault Shut Spent N fault.Stopped late = absurd late
 late_fault Shut Spent N _ late = tt
-
-refused_fault : (Shut Spent : ℕ → Type 0) (N : Table) (f : TextFault) → RefusesTable AskWhole N f → IsGateFault Shut Spent (InTable N) f
-refused_fault Shut Spent N (fault.GateShut name) said = absurd said.1
-refused_fault Shut Spent N fault.Stopped said = absurd said.1
-refused_fault Shut Spent N _ said = tt
 
 text_fault : (Shut Spent : ℕ → Type 0) (known : Option (List ℕ)) (N : Table) (f : TextFault) → IsTableOf known N → IsGateFault Shut Spent (InTable N) f
     → IsGateFault Shut Spent (OfTable known) f
 text_fault Shut Spent known N (fault.GateShut name) is said = (N, is, said)
 text_fault Shut Spent known N fault.Stopped is said = (N, is, said)
 text_fault Shut Spent known N _ is said = tt
-
-text_refused : (Shut Spent : ℕ → Type 0) (known : Option (List ℕ)) (f : TextFault) → Refuses known AskWhole f → IsGateFault Shut Spent (OfTable known) f
-text_refused Shut Spent known (fault.GateShut name) said = absurd said.2.1
-text_refused Shut Spent known fault.Stopped said = absurd said.2.1
-text_refused Shut Spent known _ said = tt
 
 module _ (Open Shut Worker : ℕ → ℕ → Type 0) (workers turns : ℕ) where
   abbrev Was : ℕ → Type 0
@@ -74,30 +36,11 @@ module _ (Open Shut Worker : ℕ → ℕ → Type 0) (workers turns : ℕ) where
   abbrev Spent : ℕ → Type 0
   Spent = WasSpent Open turns
 
-  -- a run that came to a plan
-  pub gate_ok : {U : Type 0} (N : Table) (u : U) → AllTurned Open turns (length N.plants)
-      → GateExplains {U = U} Open Shut Worker workers turns (InTable N) (Ok u)
-  gate_ok N u turned = record { turned = turned; shut = tt }
-
-  -- one that met a fault
-  pub gate_err : {U : Type 0} (N : Table) (f : RunFault) (said : TextFault) → IsFaultIn Was Spent N f → IsOfRun N f said
-      → GateExplains {U = U} Open Shut Worker workers turns (InTable N) (Err said)
-  gate_err N f said is of = record { turned = tt; shut = gate_fault Was Spent N f said is of }
-
-  -- one whose plan was written, or not whole
+  -- a run whose plan was written, or not whole
   pub gate_late : {U : Type 0} (N : Table) (r : Result U TextFault) → AllTurned Open turns (length N.plants) → IfErr r IsLate
       → GateExplains Open Shut Worker workers turns (InTable N) r
   gate_late N (Ok u) turned late = record { turned = turned; shut = tt }
   gate_late N (Err f) turned late = record { turned = tt; shut = late_fault Was Spent N f late }
-
-  -- one that was refused before
-  pub gate_refused : {U : Type 0} (N : Table) (f : TextFault) → RefusesTable AskWhole N f
-      → GateExplains {U = U} Open Shut Worker workers turns (InTable N) (Err f)
-  gate_refused N f said = record { turned = tt; shut = refused_fault Was Spent N f said }
-
-  pub gate_unread : {U : Type 0} (known : Option (List ℕ)) (f : TextFault) → Refuses known AskWhole f
-      → GateExplains {U = U} Open Shut Worker workers turns (OfTable known) (Err f)
-  gate_unread known f said = record { turned = tt; shut = text_refused Was Spent known f said }
 
   -- a fault that is handed on
   pub gate_fails : {U : Type 0} (N M : Table) (r : Result U TextFault) (f : TextFault) → N ≡ M → IsErrAnd r (λ x. x ≡ f) → IsGateFault Was Spent (InTable N) f
@@ -135,14 +78,3 @@ open_gate Open crew turns known (Err f) gate = open_fault Open crew turns (WasSp
 pub asks_threads : (workers capacity : ℕ) (single : Bool) → single ≡ false → question_of (Plan workers capacity single) ≡ AskByThreads
 asks_threads workers capacity true e = absurd (false≢true (sym e))
 asks_threads workers capacity false e = refl
-
--- ---- a refusal that is no shut gate
-
-no_gate : (known : Option (List ℕ)) (asked : Question) (f : TextFault) → ¬ IsThreaded asked → Refuses known asked f → IsNoShutGate f
-no_gate known asked (fault.GateShut name) never said = never said.2.1
-no_gate known asked _ never said = tt
-
-pub never_gate : {U : Type 0} (known : Option (List ℕ)) (asked : Question) (r : Result U TextFault) → ¬ IsThreaded asked → IfErr r (Refuses known asked)
-    → IfErr r IsNoShutGate
-never_gate known asked (Ok u) never said = tt
-never_gate known asked (Err f) never said = no_gate known asked f never said
