@@ -114,20 +114,8 @@ fn advice_text(
 {
     // Room to begin with, which grows where there are more messages than pairs.
     let mut rows = room_for(alloc, report.network.pairs(), LONGEST_ROW)?;
-    put_advice_names(&mut rows, heading)?;
-    put_all_messages(&mut rows, report)?;
-    text_of(rows)
-}
-
-/// Adds the names of the columns, where they are asked for.
-fn put_advice_names(rows: &mut Writer<Vec<u8>>, heading: Heading) -> Result<(), ReportFault>
-    requires { IsBetweenRows rows.old }
-    ensures names { OnOk result (written rows.new ≡ written rows.old ++ header_row heading advice_names) }
-    ensures between { OnOk result (IsBetweenRows rows.new) }
-    ensures fault { IfErr result (λ fault. fault ≡ ReportFault.Memory) }
-{
     put_names(
-        rows,
+        &mut rows,
         heading,
         &[
             b"row",
@@ -142,7 +130,9 @@ fn put_advice_names(rows: &mut Writer<Vec<u8>>, heading: Heading) -> Result<(), 
             b"needed",
             b"needed_date",
         ],
-    )
+    )?;
+    put_all_messages(&mut rows, report)?;
+    text_of(rows)
 }
 
 /// Adds the rows of all pairs.

@@ -109,20 +109,8 @@ fn schedule_text(
 {
     // Room to begin with, which grows where there are more rows than lanes.
     let mut rows = room_for(alloc, report.net.network().lanes(), LONGEST_ROW)?;
-    put_schedule_names(&mut rows, heading)?;
-    put_lanes(&mut rows, alloc, report)?;
-    text_of(rows)
-}
-
-/// Adds the names of the columns, where they are asked for.
-fn put_schedule_names(rows: &mut Writer<Vec<u8>>, heading: Heading) -> Result<(), ReportFault>
-    requires { IsBetweenRows rows.old }
-    ensures names { OnOk result (written rows.new ≡ written rows.old ++ header_row heading schedule_names) }
-    ensures between { OnOk result (IsBetweenRows rows.new) }
-    ensures fault { IfErr result (λ fault. fault ≡ ReportFault.Memory) }
-{
     put_names(
-        rows,
+        &mut rows,
         heading,
         &[
             b"row",
@@ -135,7 +123,9 @@ fn put_schedule_names(rows: &mut Writer<Vec<u8>>, heading: Heading) -> Result<()
             b"quantity",
             b"cumulative",
         ],
-    )
+    )?;
+    put_lanes(&mut rows, alloc, report)?;
+    text_of(rows)
 }
 
 /// Adds the rows of all lanes whose schedules are asked for.

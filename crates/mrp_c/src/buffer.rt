@@ -1,15 +1,34 @@
 //! A text in the buffer of a caller, with the status of the call.
 
 ghost use Rattle.std.specs.Prelude.{◌≡◌};
-ghost use Rattle.mrp_c.specs.Answers.{Tells, TellsFault, TellsOrMemory, name_line};
+ghost use Rattle.mrp_c.specs.Answers.{Answers, Tells, TellsFault, TellsOrMemory, name_line};
 ghost use Rattle.mrp_c.specs.Buffer.{HandsOver};
+ghost use Rattle.mrp_text.specs.Answer.{IsAlone, IsAnswer, question_of};
 
-use mrp_text::{REFUSED, TextFault, status, write_fault};
+use mrp_choice::Choice;
+use mrp_text::{REFUSED, TextFault, report_text, status, write_fault};
 use std::alloc::Global;
+
+/// Writes the report that one thread is asked for, and hands it over, or the line of its fault. Answers with the status.
+pub(crate) fn answer(
+    alloc: Global,
+    table: &[u8],
+    choice: Choice<'_>,
+    buffer: &mut [u8],
+    size: &mut usize,
+) -> u32
+    requires { IsAlone choice }
+    ensures { Answers table.now (question_of choice.entry) (IsAnswer choice.entry) result
+        buffer.old buffer.new size.new }
+{
+    let mut report = Vec::new(alloc);
+    let done = report_text(alloc, table, &mut report, choice);
+    tell(alloc, done, report, buffer, size)
+}
 
 /// Hands over the report where the work was done, and else the line of its fault. Answers with the status. A report in
 /// memory lacks nothing but that, so a write that failed is told as want of it.
-pub(crate) fn tell(
+fn tell(
     alloc: Global,
     done: Result<(), TextFault>,
     report: Vec<u8>,

@@ -24,9 +24,9 @@ ghost use Rattle.mrp_text.specs.Refusals.{AskWhole};
 ghost use Rattle.mrp_text.specs.Reports.{IsCodeReport, IsCumReport, IsHeaded, IsOrderReport};
 ghost use Rattle.mrp_text.specs.Text.{IsPlanReport};
 
-use crate::buffer::{refuse_name, tell};
-use crate::options::{heading, limit, schedule_of};
-use mrp_text::{drive_text, headed_check_text, headed_cums_text, orders_text};
+use crate::buffer::{answer, refuse_name};
+use crate::options::{given, heading, limit};
+use mrp_choice::Choice;
 use std::alloc::Global;
 use std::str::from_utf8;
 
@@ -41,9 +41,12 @@ use std::str::from_utf8;
 pub extern "C" fn mrp_plan(alloc: Global, table: &[u8], buffer: &mut [u8], size: &mut usize) -> u32
     ensures { Answers table.now AskWhole IsPlanReport result buffer.old buffer.new size.new }
 {
-    let mut report = Vec::new(alloc);
-    let done = drive_text(alloc, table, &mut report, 64);
-    tell(alloc, done, report, buffer, size)
+    let choice = Choice::Plan {
+        workers: 1,
+        capacity: 64,
+        single: true,
+    };
+    answer(alloc, table, choice, buffer, size)
 }
 
 /// Writes the planned orders of a table: where `limited` is true those alone that are released in period `until` or
@@ -68,11 +71,9 @@ pub extern "C" fn mrp_orders(
     ensures { Answers table.now AskWhole (IsOrderReport (limit_of limited until) (heading_of header))
         result buffer.old buffer.new size.new }
 {
-    let mut report = Vec::new(alloc);
     let until = limit(limited, until);
     let heading = heading(header);
-    let done = orders_text(alloc, table, &mut report, until, heading);
-    tell(alloc, done, report, buffer, size)
+    answer(alloc, table, Choice::Orders { until, heading }, buffer, size)
 }
 
 /// Writes the delivery schedules of a table: those of the supplier plant `from` alone and to the customer plant `to`
@@ -104,10 +105,10 @@ pub extern "C" fn mrp_schedule(
     let Ok(customer) = from_utf8(to) else {
         return refuse_name(buffer, size);
     };
+    let from = given(supplier);
+    let to = given(customer);
     let heading = heading(header);
-    let mut report = Vec::new(alloc);
-    let done = schedule_of(alloc, table, supplier, customer, heading, &mut report);
-    tell(alloc, done, report, buffer, size)
+    answer(alloc, table, Choice::Schedule { from, to, heading }, buffer, size)
 }
 
 /// Writes the low-level code of each pair of a table.
@@ -128,10 +129,8 @@ pub extern "C" fn mrp_check(
     ensures { Answers table.now AskWhole (λ N. IsHeaded (heading_of header) code_names (IsCodeReport N))
         result buffer.old buffer.new size.new }
 {
-    let mut report = Vec::new(alloc);
     let heading = heading(header);
-    let done = headed_check_text(alloc, table, &mut report, heading);
-    tell(alloc, done, report, buffer, size)
+    answer(alloc, table, Choice::Check { heading }, buffer, size)
 }
 
 /// Writes the cumulative figures of the lanes between the plants of a table, once all plants have planned.
@@ -152,8 +151,6 @@ pub extern "C" fn mrp_cums(
     ensures { Answers table.now AskWhole (λ N. IsHeaded (heading_of header) lane_names (IsCumReport N))
         result buffer.old buffer.new size.new }
 {
-    let mut report = Vec::new(alloc);
     let heading = heading(header);
-    let done = headed_cums_text(alloc, table, &mut report, heading);
-    tell(alloc, done, report, buffer, size)
+    answer(alloc, table, Choice::Cums { heading }, buffer, size)
 }

@@ -62,22 +62,8 @@ fn lane_text(
     ensures fault { IfErr result (λ fault. fault ≡ ReportFault.Memory) }
 {
     let mut rows = room_for(alloc, figures.len(), LONGEST_ROW)?;
-    put_lane_names(&mut rows, heading)?;
-    'figures: for figure in figures {
-        put_figure(&mut rows, network, *figure)?;
-    }
-    text_of(rows)
-}
-
-/// Adds the names of the columns, where they are asked for.
-fn put_lane_names(rows: &mut Writer<Vec<u8>>, heading: Heading) -> Result<(), ReportFault>
-    requires { IsBetweenRows rows.old }
-    ensures names { OnOk result (written rows.new ≡ written rows.old ++ header_row heading lane_names) }
-    ensures between { OnOk result (IsBetweenRows rows.new) }
-    ensures fault { IfErr result (λ fault. fault ≡ ReportFault.Memory) }
-{
     put_names(
-        rows,
+        &mut rows,
         heading,
         &[
             b"row",
@@ -90,7 +76,11 @@ fn put_lane_names(rows: &mut Writer<Vec<u8>>, heading: Heading) -> Result<(), Re
             b"received",
             b"transit",
         ],
-    )
+    )?;
+    'figures: for figure in figures {
+        put_figure(&mut rows, network, *figure)?;
+    }
+    text_of(rows)
 }
 
 /// What a row calls the kind of a lane.

@@ -102,20 +102,8 @@ fn order_text(
 {
     // Room to begin with, which grows where there are more orders than pairs.
     let mut rows = room_for(alloc, report.network.pairs(), LONGEST_ROW)?;
-    put_order_names(&mut rows, heading)?;
-    put_all_orders(&mut rows, alloc, report)?;
-    text_of(rows)
-}
-
-/// Adds the names of the columns, where they are asked for.
-fn put_order_names(rows: &mut Writer<Vec<u8>>, heading: Heading) -> Result<(), ReportFault>
-    requires { IsBetweenRows rows.old }
-    ensures names { OnOk result (written rows.new ≡ written rows.old ++ header_row heading order_names) }
-    ensures between { OnOk result (IsBetweenRows rows.new) }
-    ensures fault { IfErr result (λ fault. fault ≡ ReportFault.Memory) }
-{
     put_names(
-        rows,
+        &mut rows,
         heading,
         &[
             b"row",
@@ -129,7 +117,9 @@ fn put_order_names(rows: &mut Writer<Vec<u8>>, heading: Heading) -> Result<(), R
             b"due_date",
             b"late",
         ],
-    )
+    )?;
+    put_all_orders(&mut rows, alloc, report)?;
+    text_of(rows)
 }
 
 /// Adds the rows of all pairs.

@@ -61,22 +61,8 @@ fn peg_text(
     ensures fault { IfErr result (λ fault. fault ≡ ReportFault.Memory) }
 {
     let mut rows = room_for(alloc, terms.len(), LONGEST_ROW)?;
-    put_peg_names(&mut rows, heading)?;
-    'terms: for term in terms {
-        put_term(&mut rows, network, *term)?;
-    }
-    text_of(rows)
-}
-
-/// Adds the names of the columns, where they are asked for.
-fn put_peg_names(rows: &mut Writer<Vec<u8>>, heading: Heading) -> Result<(), ReportFault>
-    requires { IsBetweenRows rows.old }
-    ensures names { OnOk result (written rows.new ≡ written rows.old ++ header_row heading peg_names) }
-    ensures between { OnOk result (IsBetweenRows rows.new) }
-    ensures fault { IfErr result (λ fault. fault ≡ ReportFault.Memory) }
-{
     put_names(
-        rows,
+        &mut rows,
         heading,
         &[
             b"row",
@@ -87,7 +73,11 @@ fn put_peg_names(rows: &mut Writer<Vec<u8>>, heading: Heading) -> Result<(), Rep
             b"per",
             b"quantity",
         ],
-    )
+    )?;
+    'terms: for term in terms {
+        put_term(&mut rows, network, *term)?;
+    }
+    text_of(rows)
 }
 
 /// What a row calls the source of a term.

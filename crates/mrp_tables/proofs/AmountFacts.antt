@@ -1,4 +1,4 @@
--- What a demand or a receipt row says of a pair, and the faults of one that names none.
+-- What a demand or a receipt row says of a pair.
 use Rattle.std.proofs.Common.{◌≡◌, ◌<◌, ℕ, ◌-◌, Bool, true, false, List, [], get_or, Option, None, Some, is_some, position, Result, Ok, Err, ok_or}
 use Rattle.std.proofs.Common.{refl, ap, sym, subst, ◌∙◌, ◌≤◌, nat_lt, arith, true≢false}
 use Rattle.std.specs.List.{All}
@@ -6,24 +6,22 @@ use Rattle.std.specs.Str.{bytes_eq}
 use Rattle.std.proofs.lemmas.Bool.Decides.{nat_tests}
 use Rattle.std.proofs.lemmas.List.Quantifiers.{position-Some}
 use Rattle.std.proofs.lemmas.Slice.Eq.{bytes_eq-Decides}
-use Rattle.mrp_qty.specs.declared.limits.TheConstants.{MOST_IN_ROW}
 use Rattle.mrp_rows.specs.declared.numbers.PairNo.{PairNo}
 use Rattle.mrp_rows.specs.declared.numbers.PlantNo.{PlantNo}
-use Rattle.mrp_rows.specs.Names.{has_plant, pair_named, pair_of_item, plant_no}
+use Rattle.mrp_rows.specs.Names.{pair_named, pair_of_item, plant_no}
 use Rattle.mrp_rows.specs.Table.{horizon, IsName, Table}
-use Rattle.mrp_rows.proofs.Keys.{is_some-position}
-use Rattle.mrp_tables.specs.Amounts.{amount_numbers, known_amount}
-use Rattle.mrp_tables.specs.Grammar.{◌>>=◌, amount_row, amount_terms, AmountTerms, check, field, known_pair, name_field, ranged}
+use Rattle.mrp_tables.specs.Amounts.{known_amount}
+use Rattle.mrp_tables.specs.Grammar.{◌>>=◌, amount_row, amount_terms, AmountTerms, check, known_pair}
 use Rattle.mrp_tables.specs.Keys.{Knows}
 use Rattle.mrp_tables.specs.declared.fault.TableFaultKind.{TableFaultKind}
 use Rattle.mrp_tables.specs.declared.fault.TableFaultKind.TheVariants as fault
 use Rattle.mrp_tables.specs.declared.names.KnownNames.{KnownNames}
-use Rattle.mrp_tables.proofs.First.{amount_names}
+use Rattle.mrp_tables.proofs.KeepingSteps.{same_Ok}
 
 -- ---- a pair that is there
 
 -- what stands among names is one
-name_at : (name : List ℕ) (names : List (List ℕ)) (i : ℕ) → All IsName names → position (bytes_eq name) names ≡ Some i → IsName name
+pub name_at : (name : List ℕ) (names : List (List ℕ)) (i : ℕ) → All IsName names → position (bytes_eq name) names ≡ Some i → IsName name
 name_at name names i named at =
     let there = position-Some (bytes_eq name) names i [] at in
     subst IsName (sym ((bytes_eq-Decides name (get_or names i [])).0 there.1)) (named i [] there.0)
@@ -54,66 +52,12 @@ pair_names N k plant item x knows found = by (plant_no N plant) refl found
       of_item = of_item p (position (bytes_eq item) N.items) refl e;
     }
 
--- what its row says are its numbers
-abbrev terms_of : (plant item : List ℕ) → Result ℕ TableFaultKind → Result ℕ TableFaultKind → Result AmountTerms TableFaultKind
-terms_of plant item a b = do
-  period ← a
-  quantity ← b
-  Ok (record { plant = plant; item = item; period = period; quantity = quantity })
+-- ---- what a row says of a pair
 
-abbrev numbers_of : Result ℕ TableFaultKind → Result ℕ TableFaultKind → Result (ℕ × ℕ) TableFaultKind
-numbers_of a b = do
-  period ← a
-  quantity ← b
-  Ok (period, quantity)
-
-abbrev known_of : Table → Result AmountTerms TableFaultKind → Result (PairNo × ℕ × ℕ) TableFaultKind
-known_of N terms = do
-  t ← terms
-  found ← known_pair N t.plant t.item
-  Ok (found.1, t.period, t.quantity)
-
-abbrev with_numbers : ℕ → Result (ℕ × ℕ) TableFaultKind → Result (PairNo × ℕ × ℕ) TableFaultKind
-with_numbers x numbers = do
-  q ← numbers
-  Ok (record { 0 = x }, q.0, q.1)
-
-same_numbers : (N : Table) (plant item : List ℕ) (a b : Result ℕ TableFaultKind) (x : ℕ) → AreOfPair N plant item x
-    → known_of N (terms_of plant item a b) ≡ with_numbers x (numbers_of a b)
+-- its names are of no plant
+no_plant : (N : Table) (plant item : List ℕ) → is_some (plant_no N plant) ≡ false → known_pair N plant item ≡ Err fault.UnknownPlant
 unfolding known_pair
-same_numbers N plant item (Err e) b x of = refl
-same_numbers N plant item (Ok m) (Err e) x of = refl
-same_numbers N plant item (Ok m) (Ok n) x of = rw (of.at, of.pair) refl
-
-named_terms : (plant item : List ℕ) (a b : Result ℕ TableFaultKind) → IsName plant → IsName item
-    → (name_field plant >>= λ p. name_field item >>= λ i. terms_of p i a b) ≡ terms_of plant item a b
-named_terms plant item a b p i = rw (p, i) refl
-
-pub known_numbers : (N : Table) (row : List (List ℕ)) (x : ℕ) → AreOfPair N (field row 1) (field row 2) x
-    → known_amount N row ≡ with_numbers x (amount_numbers row (horizon N))
-unfolding known_amount amount_terms amount_numbers
-known_numbers N row x of =
-    let a = ranged (field row 3) 0 (horizon N - 1) in
-    let b = ranged (field row 4) 1 MOST_IN_ROW in
-    ap (known_of N) (named_terms (field row 1) (field row 2) a b of.of_plant of.of_item) ∙ same_numbers N (field row 1) (field row 2) a b x of
-
--- ---- names of no pair
-
-no_pair : (N : Table) (plant item : List ℕ) → pair_named N (plant_no N plant) item ≡ None → has_plant N plant ≡ true
-    → known_pair N plant item ≡ Err fault.UnknownPair
-unfolding known_pair
-no_pair N plant item none there = by (plant_no N plant) none (is_some-position (bytes_eq plant) N.plants ∙ there)
-  where
-    by : (o : Option ℕ) → pair_named N o item ≡ None → is_some o ≡ true
-        → ◌≡◌ {A = Result (PlantNo × PairNo) TableFaultKind}
-        (ok_or o fault.UnknownPlant >>= λ p. ok_or (pair_named N (Some p) item) fault.UnknownPair >>= λ x. Ok (record { 0 = p }, record { 0 = x }))
-        (Err fault.UnknownPair)
-    by None none some = absurd (true≢false (sym some))
-    by (Some p) none some = rw none refl
-
-no_plant : (N : Table) (plant item : List ℕ) → has_plant N plant ≡ false → known_pair N plant item ≡ Err fault.UnknownPlant
-unfolding known_pair
-no_plant N plant item lacks = by (plant_no N plant) (is_some-position (bytes_eq plant) N.plants ∙ lacks)
+no_plant N plant item lacks = by (plant_no N plant) lacks
   where
     by : (o : Option ℕ) → is_some o ≡ false
         → ◌≡◌ {A = Result (PlantNo × PairNo) TableFaultKind}
@@ -122,22 +66,54 @@ no_plant N plant item lacks = by (plant_no N plant) (is_some-position (bytes_eq 
     by None some = refl
     by (Some p) some = absurd (true≢false some)
 
+-- of a plant, but of no pair
+no_pair : (N : Table) (plant item : List ℕ) → pair_named N (plant_no N plant) item ≡ None → is_some (plant_no N plant) ≡ true
+    → known_pair N plant item ≡ Err fault.UnknownPair
+unfolding known_pair
+no_pair N plant item none there = by (plant_no N plant) none there
+  where
+    by : (o : Option ℕ) → pair_named N o item ≡ None → is_some o ≡ true
+        → ◌≡◌ {A = Result (PlantNo × PairNo) TableFaultKind}
+        (ok_or o fault.UnknownPlant >>= λ p. ok_or (pair_named N (Some p) item) fault.UnknownPair >>= λ x. Ok (record { 0 = p }, record { 0 = x }))
+        (Err fault.UnknownPair)
+    by None none some = absurd (true≢false (sym some))
+    by (Some p) none some = rw none refl
+
+-- of a pair
+pair_there : (N : Table) (k : KnownNames) (plant item : List ℕ) (x : ℕ) → Knows N k → pair_named N (plant_no N plant) item ≡ Some x
+    → (p : PlantNo) × (known_pair N plant item ≡ Ok (p, record { 0 = x }))
+unfolding known_pair
+pair_there N k plant item x knows found =
+    let of = pair_names N k plant item x knows found in
+    (record { 0 = of.place }, rw (of.at, of.pair) refl)
+
 pub misspelled : (N : Table) (row : List (List ℕ)) (e : TableFaultKind) → amount_terms row (horizon N) ≡ Err e → known_amount N row ≡ Err e
 unfolding known_amount
 misspelled N row e is = rw is refl
 
-pub unknown_pair : (N : Table) (row : List (List ℕ)) (t : AmountTerms) → amount_terms row (horizon N) ≡ Ok t
-    → pair_named N (plant_no N (field row 1)) (field row 2) ≡ None → has_plant N t.plant ≡ true → known_amount N row ≡ Err fault.UnknownPair
-unfolding known_amount
-unknown_pair N row t is none there =
-    let names = amount_names row (horizon N) t is in
-    let lacks : pair_named N (plant_no N t.plant) t.item ≡ None = rw (names.0, names.1) none in
-    rw is (rw (no_pair N t.plant t.item lacks there) refl)
-
-pub unknown_plant : (N : Table) (row : List (List ℕ)) (t : AmountTerms) → amount_terms row (horizon N) ≡ Ok t → has_plant N t.plant ≡ false
+pub unknown_plant : (N : Table) (row : List (List ℕ)) (t : AmountTerms) → amount_terms row (horizon N) ≡ Ok t → is_some (plant_no N t.plant) ≡ false
     → known_amount N row ≡ Err fault.UnknownPlant
 unfolding known_amount
 unknown_plant N row t is lacks = rw is (rw (no_plant N t.plant t.item lacks) refl)
+
+pub unknown_pair : (N : Table) (row : List (List ℕ)) (t : AmountTerms) → amount_terms row (horizon N) ≡ Ok t
+    → pair_named N (plant_no N t.plant) t.item ≡ None → is_some (plant_no N t.plant) ≡ true → known_amount N row ≡ Err fault.UnknownPair
+unfolding known_amount
+unknown_pair N row t is none there = rw is (rw (no_pair N t.plant t.item none there) refl)
+
+pub known_there : (N : Table) (k : KnownNames) (row : List (List ℕ)) (t : AmountTerms) (x : ℕ) → Knows N k → amount_terms row (horizon N) ≡ Ok t
+    → pair_named N (plant_no N t.plant) t.item ≡ Some x → known_amount N row ≡ Ok (record { 0 = x }, t.period, t.quantity)
+unfolding known_amount
+known_there N k row t x knows is found = rw is (rw (pair_there N k t.plant t.item x knows found).1 refl)
+
+-- what was looked for, and is there or not
+pub lacking : {A E : Type 0} (o : Option A) (e f : E) → ◌≡◌ {A = Result A E} (Err e) (ok_or o f) → (o ≡ None) × (e ≡ f)
+lacking None e f is = (refl, cc)
+lacking (Some x) e f is = absurd (cc)
+
+pub having : {A E : Type 0} (o : Option A) (x : A) (f : E) → ◌≡◌ {A = Result A E} (Ok x) (ok_or o f) → o ≡ Some x
+having None x f is = absurd (cc)
+having (Some y) x f is = ap Some (sym (same_Ok x y is))
 
 -- ---- a row made of them
 
@@ -162,18 +138,6 @@ amount_made {A} N row has_room made = by (amount_terms row (horizon N))
     by (Ok t) = found t (known_pair N t.plant t.item)
 
 -- ---- so where it is found, where it is not, and where there is no room
-
-pub known_there : (N : Table) (row : List (List ℕ)) (x : ℕ) (q : ℕ × ℕ) → AreOfPair N (field row 1) (field row 2) x
-    → ◌≡◌ {A = Result (ℕ × ℕ) TableFaultKind} (Ok q) (amount_numbers row (horizon N))
-    → ◌≡◌ {A = Result (PairNo × ℕ × ℕ) TableFaultKind} (Ok (record { 0 = x }, q.0, q.1)) (known_amount N row)
-known_there N row x q of is =
-    sym (known_numbers N row x of ∙ ap (with_numbers x) (sym is))
-
-pub known_wrong : (N : Table) (row : List (List ℕ)) (x : ℕ) (e : TableFaultKind) → AreOfPair N (field row 1) (field row 2) x
-    → ◌≡◌ {A = Result (ℕ × ℕ) TableFaultKind} (Err e) (amount_numbers row (horizon N))
-    → ◌≡◌ {A = Result (PairNo × ℕ × ℕ) TableFaultKind} (Err e) (known_amount N row)
-known_wrong N row x e of is =
-    sym (known_numbers N row x of ∙ ap (with_numbers x) (sym is))
 
 module _ {A : Type 0} (N : Table) (row : List (List ℕ)) (has_room : Bool) (made : PairNo → ℕ → ℕ → A) where
   then : Result (PairNo × ℕ × ℕ) TableFaultKind → Result A TableFaultKind

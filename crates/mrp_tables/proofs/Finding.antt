@@ -1,5 +1,5 @@
 -- What the reading finds of the names of a row on a lane is what the grammar says of them.
-use Rattle.std.proofs.Common.{◌≡◌, ℕ, ◌<◌, ◌≤◌, ◌==◌, ◌&&◌, nat_lt, Bool, not, List, length, Option, Some, None, IfSome, option_map, arith, Ok, Err, true}
+use Rattle.std.proofs.Common.{◌≡◌, ℕ, ◌<◌, ◌≤◌, ◌==◌, ◌&&◌, nat_lt, Bool, not, List, length, Option, Some, None, IfSome, option_map, is_some, arith, subst, Ok, Err, true}
 use Rattle.std.proofs.Common.{false, refl, sym, ap, ◌∙◌}
 use Rattle.std.proofs.lemmas.Bool.Decides.{nat_tests}
 use Rattle.mrp_rows.specs.declared.numbers.PairNo.{PairNo}
@@ -20,28 +20,34 @@ use Rattle.mrp_rows.proofs.Keys.{any-from_no_position, any-from_position}
 abbrev pub lane_ends : KnownLane → PlantNo × PairNo
 lane_ends l = (l.from, l.pair)
 
-known_by : (N : Table) (t : LaneTerms) (from to : Option PlantNo) (pair : Option PairNo) (place : Option ℕ)
-    → Finds N t (record { from = from; to = to; pair = pair; place = place })
-    → seen lane_ends (known_found (record { from = from; to = to; pair = pair; place = place })) ≡ known_lane N t
+known_by : (N : Table) (t : LaneTerms) (from : Option PlantNo) (to : Option ℕ) (pair : Option PairNo) (place : Option ℕ) → plant_no N t.to ≡ to
+    → Finds N t (record { from = from; has_to = is_some to; pair = pair; place = place })
+    → seen lane_ends (known_found (record { from = from; has_to = is_some to; pair = pair; place = place })) ≡ known_lane N t
 unfolding known_lane known_found
-known_by N t None to pair place f = rw (← f.from) refl
-known_by N t (Some p) None pair place f = rw (← f.from, ← f.to) refl
-known_by N t (Some p) (Some q) None place f =
-    let none : pair_named N (Some q.0) t.item ≡ None = ap (λ (o : Option ℕ). pair_named N o t.item) f.to ∙ sym f.pair in
-    rw (← f.from, ← f.to, none) refl
-known_by N t (Some p) (Some q) (Some x) None f =
-    let some : pair_named N (Some q.0) t.item ≡ Some x.0 = ap (λ (o : Option ℕ). pair_named N o t.item) f.to ∙ sym f.pair in
+known_by N t None to pair place is f = rw (← f.from) refl
+known_by N t (Some p) None pair place is f = rw (← f.from, is) refl
+known_by N t (Some p) (Some q) None place is f =
+    let none : pair_named N (Some q) t.item ≡ None = ap (λ (o : Option ℕ). pair_named N o t.item) (sym is) ∙ sym f.pair in
+    rw (← f.from, is, none) refl
+known_by N t (Some p) (Some q) (Some x) None is f =
+    let some : pair_named N (Some q) t.item ≡ Some x.0 = ap (λ (o : Option ℕ). pair_named N o t.item) (sym is) ∙ sym f.pair in
     let at_none : source_at N p.0 x.0 ≡ None = sym (rw (← f.from, ← f.pair) at f.place) in
     let other : is_taken_from N x.0 p.0 ≡ false = any-from_no_position (λ s. (s.plant.0 == p.0) && (s.pair.0 == x.0)) N.sources at_none in
-    rw (← f.from, ← f.to, some, other) refl
-known_by N t (Some p) (Some q) (Some x) (Some k) f =
-    let some : pair_named N (Some q.0) t.item ≡ Some x.0 = ap (λ (o : Option ℕ). pair_named N o t.item) f.to ∙ sym f.pair in
+    rw (← f.from, is, some, other) refl
+known_by N t (Some p) (Some q) (Some x) (Some k) is f =
+    let some : pair_named N (Some q) t.item ≡ Some x.0 = ap (λ (o : Option ℕ). pair_named N o t.item) (sym is) ∙ sym f.pair in
     let at_some : source_at N p.0 x.0 ≡ Some k = sym (rw (← f.from, ← f.pair) at f.place) in
     let taken : is_taken_from N x.0 p.0 ≡ true = any-from_position (λ s. (s.plant.0 == p.0) && (s.pair.0 == x.0)) N.sources k at_some in
-    rw (← f.from, ← f.to, some, taken) refl
+    rw (← f.from, is, some, taken) refl
+
+lane_by : (from : Option PlantNo) (pair : Option PairNo) (place : Option ℕ) (has_to : Bool) → NamedLane
+lane_by from pair place has_to = record { from = from; has_to = has_to; pair = pair; place = place }
 
 pub known_as : (N : Table) (t : LaneTerms) (l : NamedLane) → Finds N t l → seen lane_ends (known_found l) ≡ known_lane N t
-known_as N t l f = known_by N t l.from l.to l.pair l.place f
+unfolding lane_by
+known_as N t l f =
+    let P : Bool → Type 0 = λ b. Finds N t (lane_by l.from l.pair l.place b) → seen lane_ends (known_found (lane_by l.from l.pair l.place b)) ≡ known_lane N t in
+    subst P (sym f.to) (known_by N t l.from (plant_no N t.to) l.pair l.place refl) f
 
 -- a lane that isn't there, and one that is
 pub known_err : (N : Table) (t : LaneTerms) (l : NamedLane) (e : TableFaultKind) → Finds N t l → Err e ≡ known_found l → known_lane N t ≡ Err e

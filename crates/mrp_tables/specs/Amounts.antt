@@ -1,17 +1,9 @@
 -- What a demand or a receipt row says of a pair.
-use Rattle.std.specs.Prelude.{ℕ, ◌-◌, List, Result, Ok}
-use Rattle.mrp_qty.specs.declared.limits.TheConstants.{MOST_IN_ROW}
+use Rattle.std.specs.Prelude.{ℕ, List, Result, Ok}
 use Rattle.mrp_rows.specs.declared.numbers.PairNo.{PairNo}
 use Rattle.mrp_rows.specs.Table.{Table, horizon}
 use Rattle.mrp_tables.specs.declared.fault.TableFaultKind.{TableFaultKind}
-use Rattle.mrp_tables.specs.Grammar.{◌>>=◌, amount_terms, field, known_pair, ranged}
-
--- its period and its quantity
-unfoldable pub amount_numbers : List (List ℕ) → ℕ → Result (ℕ × ℕ) TableFaultKind
-amount_numbers row periods = do
-  period ← ranged (field row 3) 0 (periods - 1)
-  quantity ← ranged (field row 4) 1 MOST_IN_ROW
-  Ok (period, quantity)
+use Rattle.mrp_tables.specs.Grammar.{◌>>=◌, amount_terms, known_pair}
 
 -- the pair that it names, its period and its quantity, or its first fault
 unfoldable pub known_amount : Table → List (List ℕ) → Result (PairNo × ℕ × ℕ) TableFaultKind

@@ -122,7 +122,7 @@ source_named N (Some from) (Some x) = source_at N from x
 -- what the reading finds of the names of a row on a lane
 pub record Finds (N : Table) (t : LaneTerms) (l : NamedLane) : Type 0 where
   pub from : option_map (λ p. p.0) l.from ≡ plant_no N t.from
-  pub to : option_map (λ p. p.0) l.to ≡ plant_no N t.to
+  pub to : l.has_to ≡ is_some (plant_no N t.to)
   pub pair : option_map (λ x. x.0) l.pair ≡ pair_named N (plant_no N t.to) t.item
   pub place : l.place ≡ source_named N (plant_no N t.from) (pair_named N (plant_no N t.to) t.item)
 
@@ -130,7 +130,7 @@ pub record Finds (N : Table) (t : LaneTerms) (l : NamedLane) : Type 0 where
 unfoldable pub known_found : NamedLane → Result KnownLane TableFaultKind
 known_found l = do
   from ← ok_or l.from fault.UnknownPlant
-  _ ← check (is_some l.to) fault.UnknownPlant
+  _ ← check l.has_to fault.UnknownPlant
   x ← ok_or l.pair fault.UnknownPair
   place ← ok_or l.place fault.NotSourced
   Ok (record { from = from; pair = x; place = place })

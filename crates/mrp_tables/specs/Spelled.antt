@@ -1,16 +1,13 @@
 -- What a row spells, before its names are looked up.
-use Rattle.std.specs.Prelude.{◌≤◌}
+use Rattle.std.specs.Prelude.{ℕ, ◌≤◌, List}
 use Rattle.mrp_lot.specs.Lot.{IsRule}
 use Rattle.mrp_lot.specs.declared.rule.TheConstants.{LONGEST_LEAD}
 use Rattle.mrp_qty.specs.declared.limits.TheConstants.{MOST_IN_ROW}
 use Rattle.mrp_rows.specs.Spelled.{HasSources, supply_view}
 use Rattle.mrp_tables.specs.declared.spelled.SpelledPair.{SpelledPair}
-use Rattle.mrp_tables.specs.declared.spelled.SpelledBill.{SpelledBill}
-use Rattle.mrp_tables.specs.declared.spelled.SpelledAmount.{SpelledAmount}
-use Rattle.mrp_tables.specs.declared.spelled.SpelledLane.{SpelledLane}
 use Rattle.mrp_tables.specs.declared.spelled.SpelledRun.{SpelledRun}
 use Rattle.mrp_rows.specs.Table.{IsName}
-use Rattle.mrp_tables.specs.Grammar.{AmountTerms, BillTerms, LaneTerms, PairTerms, RunTerms}
+use Rattle.mrp_tables.specs.Grammar.{field, AmountTerms, BillTerms, LaneTerms, PairTerms, RunTerms}
 
 -- a pair row whose item is a name, and whose numbers are in their ranges
 pub record IsSpelledPair (p : SpelledPair) : Type 0 where
@@ -25,15 +22,6 @@ pub record IsSpelledPair (p : SpelledPair) : Type 0 where
 abbrev pub run_view : SpelledRun → RunTerms
 run_view r = record { first = r.first.now; days = r.days; periods = r.periods }
 
-abbrev pub bill_view : SpelledBill → BillTerms
-bill_view b = record { plant = b.plant.now; parent = b.parent.now; component = b.component.now; per = b.per }
-
-abbrev pub amount_view : SpelledAmount → AmountTerms
-amount_view a = record { plant = a.plant.now; item = a.item.now; period = a.period; quantity = a.quantity }
-
-abbrev pub lane_view : SpelledLane → LaneTerms
-lane_view l = record { from = l.from.now; to = l.to.now; item = l.item.now }
-
 abbrev pub pair_view : SpelledPair → PairTerms
 pair_view p = record {
   plant = p.plant.now;
@@ -44,3 +32,22 @@ pair_view p = record {
   on_hand = p.on_hand;
   safety = p.safety;
 }
+
+-- ---- the names that a row begins with, behind its kind
+
+abbrev pub HasTwoNames : List (List ℕ) → Type 0
+HasTwoNames row = IsName (field row 1) × IsName (field row 2)
+
+abbrev pub HasThreeNames : List (List ℕ) → Type 0
+HasThreeNames row = IsName (field row 1) × IsName (field row 2) × IsName (field row 3)
+
+-- ---- what a row says by its names and its numbers
+
+abbrev pub bill_fields : List (List ℕ) → ℕ → BillTerms
+bill_fields row per = record { plant = field row 1; parent = field row 2; component = field row 3; per = per }
+
+abbrev pub amount_fields : List (List ℕ) → ℕ → ℕ → AmountTerms
+amount_fields row period quantity = record { plant = field row 1; item = field row 2; period = period; quantity = quantity }
+
+abbrev pub lane_fields : List (List ℕ) → LaneTerms
+lane_fields row = record { from = field row 1; to = field row 2; item = field row 3 }

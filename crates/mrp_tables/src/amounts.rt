@@ -1,9 +1,10 @@
-//! Bill, demand and receipt rows, tested against the rows before them.
+//! Bill, demand and receipt rows, tested against the rows before them. Names that find a pair aren't tested for being
+//! names.
 
 use crate::TableFaultKind;
 use crate::draft::{BillKey, Draft};
 use crate::fields::field;
-use crate::spelled::{SpelledBill, spelled_amount, spelled_bill, spelled_numbers};
+use crate::spelled::{spelled_amount, spelled_bill};
 use csv::StringRecord;
 use mrp_qty::Qty;
 use mrp_rows::{BillRow, DemandRow, MOST_BILLS, MOST_OF_A_KIND, PairNo, ReceiptRow, Supply};
@@ -17,8 +18,8 @@ struct KnownAmount {
 }
 
 impl Draft {
-    ghost use Rattle.std.specs.Prelude.{◌≡◌, ◌≤◌, ◌<◌, is_some, length, option_map, Some, None, Err, false, true, OnOk};
-    ghost use Rattle.std.specs.Prelude.{IfOk, OnSome};
+    ghost use Rattle.std.specs.Prelude.{◌≡◌, ◌≤◌, ◌<◌, is_some, length, option_map, Some, false, true, OnOk};
+    ghost use Rattle.std.specs.Prelude.{IfOk, IfSome, OnSome};
     ghost use Rattle.csv.specs.Records.{fields_of};
     ghost use Rattle.mrp_qty.specs.declared.limits.TheConstants.{MOST_BILLS, MOST_IN_ROW, MOST_OF_A_KIND};
     ghost use Rattle.mrp_qty.specs.declared.limits.TheConstants.{MOST_PER};
@@ -26,7 +27,7 @@ impl Draft {
     ghost use Rattle.mrp_tables.specs.Grammar.{field, is_made, receipt_of, receipt_row, seen, TellsMade};
     ghost use Rattle.mrp_tables.specs.Amounts.{known_amount};
     ghost use Rattle.mrp_rows.specs.Names.{pair_named, plant_no};
-    ghost use Rattle.mrp_tables.specs.Spelled.{bill_view};
+    ghost use Rattle.mrp_tables.specs.Spelled.{bill_fields};
     ghost use Rattle.mrp_rows.specs.Table.{IsBillRow, IsDemandRow, IsReceiptRow};
     ghost use Rattle.mrp_tables.specs.Keys.{Knows};
     ghost use Rattle.mrp_tables.specs.Lists.{IsDraft, AddsRow};
@@ -58,26 +59,42 @@ impl Draft {
         ensures fresh { IfOk result (λ b. has_bill self.now.lists (Some b.parent.0) (Some b.component.0) ≡ false) }
         ensures room { OnOk result (length self.now.lists.bills < MOST_BILLS) }
     {
-        let spelled = spelled_bill(row)?;
-        self.bill_fits(&spelled)
+        let parent = self.find_pair(field(row, 1), field(row, 2));
+        let component = self.find_pair(field(row, 1), field(row, 3));
+        let per = spelled_bill(row, parent.is_some() && component.is_some())?;
+        self.bill_fits(row, parent, component, per)
     }
 
-    /// The bill row of what was spelled, where it fits the rows before it.
+    /// The bill row of these pairs, if they are there, where it fits the rows before it.
     #[tactic(auto, unfolding(crate::specs::Grammar::bill_fits))]
-    fn bill_fits(&self, spelled: &SpelledBill<'_>) -> Result<BillRow, TableFaultKind>
+    fn bill_fits(
+        &self,
+        row: &StringRecord,
+        parent: Option<PairNo>,
+        component: Option<PairNo>,
+        per: u64,
+    ) -> Result<BillRow, TableFaultKind>
         requires draft { IsDraft self.now }
-        requires per { (1 ≤ spelled.now.per) × (spelled.now.per ≤ MOST_PER) }
-        ensures exact { result ≡ bill_fits self.now.lists (bill_view spelled.now) }
+        requires parent { option_map (λ x. x.0) parent
+            ≡ pair_named self.now.lists (plant_no self.now.lists (field (fields_of row.now) 1))
+            (field (fields_of row.now) 2) }
+        requires component { option_map (λ x. x.0) component
+            ≡ pair_named self.now.lists (plant_no self.now.lists (field (fields_of row.now) 1))
+            (field (fields_of row.now) 3) }
+        requires within { IfSome parent (λ x. x.0 < length self.now.lists.pairs) }
+        requires inside { IfSome component (λ x. x.0 < length self.now.lists.pairs) }
+        requires plant { OnSome parent
+            (is_some (plant_no self.now.lists (field (fields_of row.now) 1)) ≡ true) }
+        requires per { (1 ≤ per) × (per ≤ MOST_PER) }
+        ensures exact { result ≡ bill_fits self.now.lists (bill_fields (fields_of row.now) per) }
         ensures row { IfOk result (IsBillRow self.now.lists) }
         ensures fresh { IfOk result (λ b. has_bill self.now.lists (Some b.parent.0) (Some b.component.0) ≡ false) }
         ensures room { OnOk result (length self.now.lists.bills < MOST_BILLS) }
     {
-        let parent = self.find_pair(spelled.plant, spelled.parent);
-        let component = self.find_pair(spelled.plant, spelled.component);
         if self.has_bill(parent, component) {
             return Err(TableFaultKind::Repeated);
         }
-        if !self.has_plant_of(parent, spelled.plant) {
+        if !self.has_plant_of(parent, field(row, 1)) {
             return Err(TableFaultKind::UnknownPlant);
         }
         let parent = parent.ok_or(TableFaultKind::UnknownPair)?;
@@ -91,7 +108,7 @@ impl Draft {
         Ok(BillRow {
             parent,
             component,
-            per: spelled.per,
+            per,
         })
     }
 
@@ -117,17 +134,7 @@ impl Draft {
         }
     }
 
-    /// Whether there is a plant of that name. It isn't looked for where a pair of it was found.
-    fn has_plant_of(&self, found: Option<PairNo>, plant: &str) -> bool
-        requires knows { Knows self.now.lists self.now.known }
-        requires found { OnSome found (is_some (plant_no self.now.lists plant.now) ≡ true) }
-        ensures { result ≡ is_some (plant_no self.now.lists plant.now) }
-    {
-        found.is_some() || self.has_plant(plant)
-    }
-
-    /// The pair, the period and the quantity of a demand or a receipt row. Names that find a pair aren't tested for
-    /// being names.
+    /// The pair, the period and the quantity of a demand or a receipt row.
     fn known_amount(&self, row: &StringRecord) -> Result<KnownAmount, TableFaultKind>
         requires rows { IsRead self.now.lists }
         requires knows { Knows self.now.lists self.now.known }
@@ -137,35 +144,18 @@ impl Draft {
         ensures ranges { IfOk result (λ a. (a.period < horizon self.now.lists) × (1 ≤ a.quantity)
             × (a.quantity ≤ MOST_IN_ROW)) }
     {
-        let Some(pair) = self.find_pair(field(row, 1), field(row, 2)) else {
-            return Err(self.amount_fault(row));
-        };
-        let (period, quantity) = spelled_numbers(row, self.lists.calendar().horizon())?;
+        let found = self.find_pair(field(row, 1), field(row, 2));
+        let horizon = self.lists.calendar().horizon();
+        let (period, quantity) = spelled_amount(row, horizon, found.is_some())?;
+        if !self.has_plant_of(found, field(row, 1)) {
+            return Err(TableFaultKind::UnknownPlant);
+        }
+        let pair = found.ok_or(TableFaultKind::UnknownPair)?;
         Ok(KnownAmount {
             pair,
             period,
             quantity,
         })
-    }
-
-    /// The fault of a demand or a receipt row whose names are of no pair: of its names, its numbers, or that there is
-    /// no such plant or pair.
-    fn amount_fault(&self, row: &StringRecord) -> TableFaultKind
-        requires knows { Knows self.now.lists self.now.known }
-        requires unknown { pair_named self.now.lists (plant_no self.now.lists (field (fields_of row.now) 1))
-            (field (fields_of row.now) 2) ≡ None }
-        ensures { known_amount self.now.lists (fields_of row.now) ≡ Err result }
-    {
-        match spelled_amount(row, self.lists.calendar().horizon()) {
-            Ok(spelled) => {
-                if self.has_plant(spelled.plant) {
-                    TableFaultKind::UnknownPair
-                } else {
-                    TableFaultKind::UnknownPlant
-                }
-            }
-            Err(fault) => fault,
-        }
     }
 
     /// Adds a demand row.

@@ -1,10 +1,12 @@
-//! Shipment, cumulative and reset rows, tested against the rows before them.
+//! Shipment, cumulative and reset rows, tested against the rows before them. Names that find a plant and a pair aren't
+//! tested for being names.
 
 ghost use Rattle.std.specs.Prelude.{◌≡◌, IfOk};
 
 use crate::TableFaultKind;
 use crate::draft::{Draft, LaneKey};
-use crate::spelled::{SpelledLane, spelled_cum, spelled_reset, spelled_ship};
+use crate::fields::field;
+use crate::spelled::{spelled_cum, spelled_reset, spelled_ship};
 use csv::StringRecord;
 use mrp_qty::Qty;
 use mrp_rows::{CumRow, MOST_OF_A_KIND, PairNo, PlantNo, ResetRow, ShipRow};
@@ -13,7 +15,8 @@ use mrp_rows::{CumRow, MOST_OF_A_KIND, PairNo, PlantNo, ResetRow, ShipRow};
 #[derive(Clone, Copy)]
 pub(crate) struct NamedLane {
     pub(crate) from: Option<PlantNo>,
-    pub(crate) to: Option<PlantNo>,
+    /// Whether there is a plant of the receiver's name.
+    pub(crate) has_to: bool,
     pub(crate) pair: Option<PairNo>,
     /// The place of the source, where the pair is taken from the plant.
     pub(crate) place: Option<usize>,
@@ -28,8 +31,15 @@ pub(crate) struct KnownLane {
 }
 
 impl NamedLane {
-    ghost use Rattle.std.specs.Prelude.{◌≡◌, Some, IfOk};
+    ghost use Rattle.std.specs.Prelude.{◌≡◌, ◌&&◌, is_some, Some, IfOk};
     ghost use Rattle.mrp_tables.specs.Lists.{known_found};
+
+    /// Whether the plant that ships and the pair that receives are there, and so their names are names.
+    fn is_named(self) -> bool
+        ensures { result ≡ (is_some self.from && is_some self.pair) }
+    {
+        self.from.is_some() && self.pair.is_some()
+    }
 
     /// The lane, where all of it is there.
     #[tactic(auto, unfolding(crate::specs::Lists::known_found))]
@@ -40,7 +50,7 @@ impl NamedLane {
         ensures place { IfOk result (λ lane. self.place ≡ Some lane.place) }
     {
         let from = self.from.ok_or(TableFaultKind::UnknownPlant)?;
-        if self.to.is_none() {
+        if !self.has_to {
             return Err(TableFaultKind::UnknownPlant);
         }
         let pair = self.pair.ok_or(TableFaultKind::UnknownPair)?;
@@ -54,29 +64,29 @@ impl Draft {
     ghost use Rattle.std.specs.Prelude.{option_map};
     ghost use Rattle.mrp_qty.specs.declared.limits.TheConstants.{MOST_OF_A_KIND};
     ghost use Rattle.mrp_rows.specs.Table.{IsCumRow, IsResetRow, IsShipRow};
-    ghost use Rattle.std.specs.Prelude.{false, not, IsSome, Some};
+    ghost use Rattle.std.specs.Prelude.{◌&&◌, false, is_some, not, true, IsSome, Some};
     ghost use Rattle.csv.specs.Records.{fields_of};
     ghost use Rattle.mrp_rows.specs.Table.{arrivals, rises_from};
     ghost use Rattle.mrp_tables.specs.Grammar.{cum_between, cum_of, cum_row, reset_between, reset_in_row};
     ghost use Rattle.mrp_tables.specs.Grammar.{reset_row, seen, ship_of, ship_row, TellsMade};
-    ghost use Rattle.mrp_tables.specs.Spelled.{lane_view};
+    ghost use Rattle.mrp_tables.specs.Spelled.{lane_fields, HasThreeNames};
     ghost use Rattle.mrp_tables.specs.Lists.{AddsRow, Finds, IsDraft, IsNamedLane, source_at, source_named};
     ghost use Rattle.mrp_rows.specs.Table.{IsRead};
 
     /// What the names of a row on a lane stand for.
-    fn lane_named(&self, names: &SpelledLane<'_>) -> NamedLane
+    fn lane_named(&self, row: &StringRecord) -> NamedLane
         requires draft { IsDraft self.now }
-        ensures exact { Finds self.now.lists (lane_view names.now) result }
+        ensures exact { Finds self.now.lists (lane_fields (fields_of row.now)) result }
         ensures named { IsNamedLane self.now result }
         ensures place { result.place ≡ source_named self.now.lists (option_map (λ p. p.0) result.from)
             (option_map (λ x. x.0) result.pair) }
+        ensures names { (is_some result.from && is_some result.pair) ≡ true → HasThreeNames (fields_of row.now) }
     {
-        let from = self.find_plant(names.from);
-        let to = self.find_plant(names.to);
-        let pair = self.find_pair(names.to, names.item);
+        let from = self.find_plant(field(row, 1));
+        let pair = self.find_pair(field(row, 2), field(row, 3));
         NamedLane {
             from,
-            to,
+            has_to: self.has_plant_of(pair, field(row, 2)),
             pair,
             place: self.source_place(from, pair),
         }
@@ -116,8 +126,10 @@ impl Draft {
         ensures place { IfOk result (λ s. source_at self.now.lists s.0.from.0 s.0.pair.0 ≡ Some s.1) }
         ensures room { OnOk result (length self.now.lists.ships < MOST_OF_A_KIND) }
     {
-        let (names, period, quantity) = spelled_ship(row, self.lists.calendar().horizon())?;
-        let lane = self.lane_named(&names).known()?;
+        let named = self.lane_named(row);
+        let horizon = self.lists.calendar().horizon();
+        let (period, quantity) = spelled_ship(row, horizon, named.is_named())?;
+        let lane = named.known()?;
         if self.lists.ships().len() >= MOST_OF_A_KIND {
             return Err(TableFaultKind::TooMany);
         }
@@ -157,8 +169,8 @@ impl Draft {
         ensures fresh { IfOk result (λ c. cum_between self.now.lists (Some c.from.0) (Some c.pair.0) ≡ false) }
         ensures room { OnOk result (length self.now.lists.cums < MOST_OF_A_KIND) }
     {
-        let (names, figure) = spelled_cum(row)?;
-        let named = self.lane_named(&names);
+        let named = self.lane_named(row);
+        let figure = spelled_cum(row, named.is_named())?;
         if self.has_cum(named) {
             return Err(TableFaultKind::Repeated);
         }
@@ -212,8 +224,9 @@ impl Draft {
         ensures fresh { IfOk result (λ r. reset_between self.now.lists (Some r.from.0) (Some r.pair.0) ≡ false) }
         ensures source { IfOk result (λ r. IsSome (source_at self.now.lists r.from.0 r.pair.0)) }
     {
-        let (names, period) = spelled_reset(row, self.lists.calendar().horizon())?;
-        let named = self.lane_named(&names);
+        let named = self.lane_named(row);
+        let horizon = self.lists.calendar().horizon();
+        let period = spelled_reset(row, horizon, named.is_named())?;
         if self.has_reset(named) {
             return Err(TableFaultKind::Repeated);
         }

@@ -133,7 +133,7 @@ impl KnownNames {
 impl Draft {
     ghost use Rattle.std.specs.Prelude.{◌≡◌, ◌<◌, is_some, length, option_map, true, IfSome, OnSome};
     ghost use Rattle.mrp_rows.specs.Names.{has_plant, pair_named, plant_no};
-    ghost use Rattle.mrp_rows.specs.Table.{IsRead};
+    ghost use Rattle.mrp_rows.specs.Table.{IsName, IsRead};
     ghost use Rattle.mrp_tables.specs.Keys.{Knows};
 
     /// Whether there is a plant of that name.
@@ -149,8 +149,18 @@ impl Draft {
         requires knows { Knows self.now.lists self.now.known }
         ensures place { option_map (λ p. p.0) result ≡ plant_no self.now.lists name.now }
         ensures within { IfSome result (λ p. p.0 < length self.now.lists.plants) }
+        ensures named { OnSome result (IsName name.now) }
     {
         place_of(&self.known.plants, name).map(PlantNo)
+    }
+
+    /// Whether there is a plant of that name. It isn't looked for where a pair of it was found.
+    pub(crate) fn has_plant_of(&self, found: Option<PairNo>, plant: &str) -> bool
+        requires knows { Knows self.now.lists self.now.known }
+        requires found { OnSome found (is_some (plant_no self.now.lists plant.now) ≡ true) }
+        ensures { result ≡ is_some (plant_no self.now.lists plant.now) }
+    {
+        found.is_some() || self.has_plant(plant)
     }
 
     /// The pair of these names, if there is one.
@@ -161,6 +171,7 @@ impl Draft {
             ≡ pair_named self.now.lists (plant_no self.now.lists plant.now) item.now }
         ensures within { IfSome result (λ pair. pair.0 < length self.now.lists.pairs) }
         ensures plant { OnSome result (is_some (plant_no self.now.lists plant.now) ≡ true) }
+        ensures named { OnSome result (IsName plant.now × IsName item.now) }
     {
         let plant = NameKey::of(plant)?;
         let item = NameKey::of(item)?;

@@ -1,15 +1,15 @@
 //! What the fields of a row spell.
 
-ghost use Rattle.std.specs.Prelude.{◌≡◌, ◌≤◌, ◌<◌, IfOk};
+ghost use Rattle.std.specs.Prelude.{◌≡◌, ◌≤◌, ◌<◌, true, IfOk};
 ghost use Rattle.mrp_qty.specs.declared.quantity.TheConstants.{MOST};
 ghost use Rattle.mrp_qty.specs.declared.horizon.TheConstants.{LONGEST};
 ghost use Rattle.mrp_qty.specs.declared.limits.TheConstants.{MOST_IN_ROW, MOST_PER};
 ghost use Rattle.csv.specs.Records.{fields_of};
-ghost use Rattle.mrp_tables.specs.Grammar.{amount_terms, bill_terms, cum_terms, is_empty_from};
-ghost use Rattle.mrp_tables.specs.Grammar.{kind_of, lane_terms, pair_terms, plant_terms, reset_terms, row_kind};
-ghost use Rattle.mrp_tables.specs.Grammar.{run_terms, seen, ship_terms, TellsSeen};
-ghost use Rattle.mrp_tables.specs.Amounts.{amount_numbers};
-ghost use Rattle.mrp_tables.specs.Spelled.{amount_view, bill_view, lane_view, pair_view, run_view, IsSpelledPair};
+ghost use Rattle.mrp_tables.specs.Grammar.{amount_terms, bill_terms, cum_terms, field, is_empty_from};
+ghost use Rattle.mrp_tables.specs.Grammar.{kind_of, lane_terms, name_field, pair_terms, plant_terms, reset_terms};
+ghost use Rattle.mrp_tables.specs.Grammar.{row_kind, run_terms, seen, ship_terms, TellsSeen};
+ghost use Rattle.mrp_tables.specs.Spelled.{amount_fields, bill_fields, lane_fields, pair_view, run_view};
+ghost use Rattle.mrp_tables.specs.Spelled.{HasThreeNames, HasTwoNames, IsSpelledPair};
 ghost use Rattle.mrp_rows.specs.Table.{IsName};
 ghost use Rattle.mrp_tables.specs.Drafts.{TellsRun};
 
@@ -21,7 +21,9 @@ use csv::StringRecord;
 use mrp_cal::Calendar;
 use mrp_lot::{LONGEST_LEAD, Rule};
 use mrp_qty::{Horizon, LONGEST, MOST};
-use mrp_rows::{MOST_IN_ROW, MOST_PER, SpelledSupply, is_same_text, number, rule, supply};
+use mrp_rows::{
+    MOST_IN_ROW, MOST_PER, SpelledSupply, is_name, is_same_text, number, rule, supply,
+};
 use std::alloc::Global;
 
 /// How many fields a row has.
@@ -167,132 +169,108 @@ pub(crate) fn spelled_pair(
     })
 }
 
-/// A bill row.
-#[derive(Clone, Copy)]
-pub(crate) struct SpelledBill<'r> {
-    pub(crate) plant: &'r str,
-    pub(crate) parent: &'r str,
-    pub(crate) component: &'r str,
-    pub(crate) per: u64,
-}
-
-/// What a bill row spells.
-#[tactic(auto, unfolding(crate::specs::Grammar::bill_terms))]
-pub(crate) fn spelled_bill(row: &StringRecord) -> Result<SpelledBill<'_>, TableFaultKind>
-    ensures exact { seen bill_view result ≡ bill_terms (fields_of row.now) }
-    ensures per { IfOk result (λ b. (1 ≤ b.per) × (b.per ≤ MOST_PER)) }
+/// Tests that a field is a name, unless it is known to be one.
+fn test_name(row: &StringRecord, i: usize, is_known: bool) -> Result<(), TableFaultKind>
+    requires { is_known ≡ true → IsName (field (fields_of row.now) i) }
+    ensures { seen (λ _. field (fields_of row.now) i) result ≡ name_field (field (fields_of row.now) i) }
 {
-    let plant = name(field(row, 1))?;
-    let parent = name(field(row, 2))?;
-    let component = name(field(row, 3))?;
+    if is_known || is_name(field(row, i)) {
+        Ok(())
+    } else {
+        Err(TableFaultKind::BadName)
+    }
+}
+
+/// The pieces of a component that go into one of its parent, by a bill row. Its names aren't tested where they are
+/// known.
+#[tactic(auto, unfolding(crate::specs::Grammar::bill_terms))]
+pub(crate) fn spelled_bill(row: &StringRecord, are_known: bool) -> Result<u64, TableFaultKind>
+    requires known { are_known ≡ true → HasThreeNames (fields_of row.now) }
+    ensures exact { seen (bill_fields (fields_of row.now)) result ≡ bill_terms (fields_of row.now) }
+    ensures per { IfOk result (λ per. (1 ≤ per) × (per ≤ MOST_PER)) }
+{
+    test_name(row, 1, are_known)?;
+    test_name(row, 2, are_known)?;
+    test_name(row, 3, are_known)?;
     let per = ranged(field(row, 4), 1, MOST_PER)?;
-    Ok(SpelledBill {
-        plant,
-        parent,
-        component,
-        per,
-    })
+    Ok(per)
 }
 
-/// What a demand or a receipt row spells, for the fault of a row that names no pair: code reads its plant alone, its
-/// contract the rest.
-#[derive(Clone, Copy)]
-pub(crate) struct SpelledAmount<'r> {
-    pub(crate) plant: &'r str,
-    pub(crate) item: &'r str,
-    pub(crate) period: usize,
-    pub(crate) quantity: u64,
-}
-
-/// The period, counted from 0, and the pieces of a demand or a receipt row.
-#[tactic(auto, unfolding(crate::specs::Amounts::amount_numbers))]
-pub(crate) fn spelled_numbers(
+/// The period, counted from 0, and the pieces of a demand or a receipt row. Its names aren't tested where they are
+/// known.
+#[tactic(auto, unfolding(crate::specs::Grammar::amount_terms))]
+pub(crate) fn spelled_amount(
     row: &StringRecord,
     horizon: Horizon,
+    are_known: bool,
 ) -> Result<(usize, u64), TableFaultKind>
-    ensures exact { result ≡ amount_numbers (fields_of row.now) horizon }
+    requires known { are_known ≡ true → HasTwoNames (fields_of row.now) }
+    ensures exact { seen (λ a. amount_fields (fields_of row.now) a.0 a.1) result
+        ≡ amount_terms (fields_of row.now) horizon }
     ensures ranges { IfOk result (λ a. (a.0 < horizon) × (1 ≤ a.1) × (a.1 ≤ MOST_IN_ROW)) }
 {
+    test_name(row, 1, are_known)?;
+    test_name(row, 2, are_known)?;
     let period = ranged(field(row, 3), 0, horizon.get() - 1)? as usize;
     let quantity = ranged(field(row, 4), 1, MOST_IN_ROW)?;
     Ok((period, quantity))
 }
 
-/// What a demand or a receipt row spells.
-#[tactic(auto, unfolding(crate::specs::Grammar::amount_terms, crate::specs::Amounts::amount_numbers))]
-pub(crate) fn spelled_amount(
-    row: &StringRecord,
-    horizon: Horizon,
-) -> Result<SpelledAmount<'_>, TableFaultKind>
-    ensures exact { seen amount_view result ≡ amount_terms (fields_of row.now) horizon }
-    ensures ranges { IfOk result (λ a. (a.period < horizon) × (1 ≤ a.quantity) × (a.quantity ≤ MOST_IN_ROW)) }
-{
-    let plant = name(field(row, 1))?;
-    let item = name(field(row, 2))?;
-    let (period, quantity) = spelled_numbers(row, horizon)?;
-    Ok(SpelledAmount {
-        plant,
-        item,
-        period,
-        quantity,
-    })
-}
-
-/// The names of a row on what one plant ships to another.
-#[derive(Clone, Copy)]
-pub(crate) struct SpelledLane<'r> {
-    pub(crate) from: &'r str,
-    pub(crate) to: &'r str,
-    pub(crate) item: &'r str,
-}
-
-/// The names of a ship, cum or reset row.
+/// Tests the names of a ship, cum or reset row, unless they are known.
 #[tactic(auto, unfolding(crate::specs::Grammar::lane_terms))]
-fn spelled_lane(row: &StringRecord) -> Result<SpelledLane<'_>, TableFaultKind>
-    ensures exact { seen lane_view result ≡ lane_terms (fields_of row.now) }
+fn test_lane_names(row: &StringRecord, are_known: bool) -> Result<(), TableFaultKind>
+    requires known { are_known ≡ true → HasThreeNames (fields_of row.now) }
+    ensures exact { seen (λ _. lane_fields (fields_of row.now)) result ≡ lane_terms (fields_of row.now) }
 {
-    let from = name(field(row, 1))?;
-    let to = name(field(row, 2))?;
-    let item = name(field(row, 3))?;
-    Ok(SpelledLane { from, to, item })
+    test_name(row, 1, are_known)?;
+    test_name(row, 2, are_known)?;
+    test_name(row, 3, are_known)
 }
 
-/// What a ship row spells: its names, its period of arrival and its quantity.
+/// The period of arrival and the pieces of a ship row. Its names aren't tested where they are known.
 #[tactic(auto, unfolding(crate::specs::Grammar::ship_terms))]
 pub(crate) fn spelled_ship(
     row: &StringRecord,
     horizon: Horizon,
-) -> Result<(SpelledLane<'_>, usize, u64), TableFaultKind>
-    ensures exact { seen (λ s. (lane_view s.0, s.1, s.2)) result ≡ ship_terms (fields_of row.now) horizon }
-    ensures ranges { IfOk result (λ s. (s.1 < horizon) × (1 ≤ s.2) × (s.2 ≤ MOST_IN_ROW)) }
+    are_known: bool,
+) -> Result<(usize, u64), TableFaultKind>
+    requires known { are_known ≡ true → HasThreeNames (fields_of row.now) }
+    ensures exact { seen (λ s. (lane_fields (fields_of row.now), s.0, s.1)) result
+        ≡ ship_terms (fields_of row.now) horizon }
+    ensures ranges { IfOk result (λ s. (s.0 < horizon) × (1 ≤ s.1) × (s.1 ≤ MOST_IN_ROW)) }
 {
-    let lane = spelled_lane(row)?;
+    test_lane_names(row, are_known)?;
     let period = ranged(field(row, 4), 0, horizon.get() - 1)? as usize;
     let quantity = ranged(field(row, 5), 1, MOST_IN_ROW)?;
-    Ok((lane, period, quantity))
+    Ok((period, quantity))
 }
 
-/// What a cum row spells: its names and its figure.
+/// The figure of a cum row. Its names aren't tested where they are known.
 #[tactic(auto, unfolding(crate::specs::Grammar::cum_terms))]
-pub(crate) fn spelled_cum(row: &StringRecord) -> Result<(SpelledLane<'_>, u64), TableFaultKind>
-    ensures exact { seen (λ c. (lane_view c.0, c.1)) result ≡ cum_terms (fields_of row.now) }
-    ensures figure { IfOk result (λ c. c.1 ≤ MOST) }
+pub(crate) fn spelled_cum(row: &StringRecord, are_known: bool) -> Result<u64, TableFaultKind>
+    requires known { are_known ≡ true → HasThreeNames (fields_of row.now) }
+    ensures exact { seen (λ figure. (lane_fields (fields_of row.now), figure)) result
+        ≡ cum_terms (fields_of row.now) }
+    ensures figure { IfOk result (λ figure. figure ≤ MOST) }
 {
-    let lane = spelled_lane(row)?;
+    test_lane_names(row, are_known)?;
     let figure = ranged(field(row, 4), 0, MOST)?;
-    Ok((lane, figure))
+    Ok(figure)
 }
 
-/// What a reset row spells: its names and its period.
+/// The period of a reset row. Its names aren't tested where they are known.
 #[tactic(auto, unfolding(crate::specs::Grammar::reset_terms))]
 pub(crate) fn spelled_reset(
     row: &StringRecord,
     horizon: Horizon,
-) -> Result<(SpelledLane<'_>, usize), TableFaultKind>
-    ensures exact { seen (λ r. (lane_view r.0, r.1)) result ≡ reset_terms (fields_of row.now) horizon }
-    ensures period { IfOk result (λ r. r.1 < horizon) }
+    are_known: bool,
+) -> Result<usize, TableFaultKind>
+    requires known { are_known ≡ true → HasThreeNames (fields_of row.now) }
+    ensures exact { seen (λ period. (lane_fields (fields_of row.now), period)) result
+        ≡ reset_terms (fields_of row.now) horizon }
+    ensures period { IfOk result (λ period. period < horizon) }
 {
-    let lane = spelled_lane(row)?;
+    test_lane_names(row, are_known)?;
     let period = ranged(field(row, 4), 0, horizon.get() - 1)? as usize;
-    Ok((lane, period))
+    Ok(period)
 }

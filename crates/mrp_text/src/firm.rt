@@ -1,14 +1,11 @@
 //! The plants of a network with the mailboxes between them, driven until all have planned.
 
-ghost use Rattle.std.specs.Prelude.{◌≡◌, ◌≤◌, All, IfOk, IfErr};
+ghost use Rattle.std.specs.Prelude.{◌≡◌, ◌≤◌, IfOk, IfErr};
 ghost use Rattle.mrp_loops.specs.Sized.{IsSized};
 ghost use Rattle.mrp_net.specs.PlanLaws.{Fits};
-ghost use Rattle.mrp_report.specs.Lanes.{IsFigure};
-ghost use Rattle.mrp_world.specs.Figures.{last_figures};
 ghost use Rattle.mrp_choice.specs.declared.choice.TheConstants.{MOST_CAPACITY};
 
 use crate::fault::TextFault;
-use mrp_book::LaneFigure;
 use mrp_choice::MOST_CAPACITY;
 use mrp_loops::SizedNet;
 use mrp_plan::Plan;
@@ -16,8 +13,8 @@ use mrp_world::Firm;
 use std::alloc::Global;
 
 /// The most records that a mailbox has room for where one thread drives the firm. It has no use for more: the plan
-/// and the figures are those of every capacity, and a receiver takes a record before its sender sends the next (by
-/// construction; no clause says so).
+/// is that of every capacity, and a receiver takes a record before its sender sends the next (by construction; no
+/// clause says so).
 const DRIVEN_CAPACITY: u64 = 8;
 
 /// The plan that the plants of a network come to, whose mailboxes may hold so many records.
@@ -34,18 +31,4 @@ pub(crate) fn driven_plan(
     let firm = Firm::driven(alloc, net, capacity.min(DRIVEN_CAPACITY))?;
     let plan = firm.into_plan(alloc, net)?;
     Ok(plan)
-}
-
-/// The cumulative figures of the lanes of a network after the last event.
-pub(crate) fn driven_figures(
-    alloc: Global,
-    net: &SizedNet<'_>,
-) -> Result<Vec<LaneFigure>, TextFault>
-    ensures figures { IfOk result (λ figures. figures.items ≡ last_figures net.now.network) }
-    ensures lanes { IfOk result (λ figures. All (IsFigure net.now.network) figures.items) }
-    ensures fault { IfErr result (λ fault. fault ≡ TextFault.Memory) }
-{
-    let firm = Firm::driven(alloc, net, DRIVEN_CAPACITY)?;
-    let figures = firm.figures(alloc)?;
-    Ok(figures)
 }

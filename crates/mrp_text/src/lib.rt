@@ -8,7 +8,7 @@
 //! requirement consists of, and [`pegs_text`] so of the whole plan, [`cums_text`] the cumulative figures of the lanes
 //! between plants, [`orders_text`] the planned orders, [`schedule_text`] the delivery schedules between plants,
 //! and [`advice_text`] which open orders to move; [`answer`] writes the report that a `Choice` of `mrp_choice` asks
-//! for. A [`Heading`] says whether the names of the columns stand above the rows; for codes, terms and figures
+//! for, and [`report_text`] so on one thread. A [`Heading`] says whether the names of the columns stand above the rows; for codes, terms and figures
 //! [`headed_check_text`], [`headed_peg_text`] and [`headed_cums_text`] take one.
 //! Where a text was not written whole, a [`TextFault`] says why: [`write_fault`] writes the line that
 //! reports it, and [`status`] and [`exit_status`] are the statuses with which a program ends. [`ended`]
@@ -43,5 +43,5 @@ pub use mrp_report::ReportFault;
 pub use mrp_run::{Gate, NoGate, Settings};
 pub use text::{
     advice_text, check_text, cums_text, drive_text, headed_check_text, headed_cums_text,
-    headed_peg_text, orders_text, peg_text, pegs_text, plan_text, schedule_text,
+    headed_peg_text, orders_text, peg_text, pegs_text, plan_text, report_text, schedule_text,
 };

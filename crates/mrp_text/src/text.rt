@@ -341,8 +341,15 @@ pub fn advice_text<R: Read + Drop, W: Write>(
     report_text(alloc, reader, writer, Choice::Advice { heading })
 }
 
-/// Reads a table and writes the report that one thread was asked for: what each text function but `plan_text` does.
-pub(crate) fn report_text<R: Read + Drop, W: Write>(
+/// Reads a table and writes the report that one thread is asked for: what each text function but [`plan_text`] does.
+///
+/// A plan is asked for with `single` alone, and with mailboxes for 1 to [`MOST_CAPACITY`] records.
+///
+/// # Errors
+///
+/// As [`TextFault`] says. Of a plan as those of [`drive_text`]; of every other report a front of the text is written
+/// after [`TextFault::WriteFault`], and nothing after every other fault.
+pub fn report_text<R: Read + Drop, W: Write>(
     alloc: Global,
     reader: R,
     writer: &mut W,

@@ -20,7 +20,7 @@ ghost use Rattle.mrp_text.specs.Gates.{GateExplains};
 ghost use Rattle.mrp_choice.specs.declared.choice.TheConstants.{MOST_CAPACITY};
 
 use crate::fault::TextFault;
-use crate::firm::{driven_figures, driven_plan};
+use crate::firm::driven_plan;
 use crate::network::{levels_of, sized_of};
 use crate::run::{report_run, run_plan};
 use mrp_actions::{advice_rows, schedule_rows};
@@ -30,6 +30,7 @@ use mrp_net::{Network, PairNo, PlantNo};
 use mrp_plan::{Plan, peg, plan_all};
 use mrp_report::{code_rows, lane_rows, late_rows, order_rows, peg_rows, pegs_rows, plan_rows};
 use mrp_run::{Gate, Settings};
+use mrp_world::settled_figures;
 use std::alloc::Global;
 use std::io::Write;
 use std::sync::Wait;
@@ -214,7 +215,7 @@ fn report_pegs_at<W: Write>(
     Ok(())
 }
 
-/// Writes the lane rows: the cumulative figures after the last event.
+/// Writes the lane rows: the cumulative figures once all is shipped and received.
 fn report_cums<W: Write>(
     alloc: Global,
     net: &SizedNet<'_>,
@@ -227,7 +228,8 @@ fn report_cums<W: Write>(
     ensures fault { IfErr result IsLate }
     ensures untouched { IfErr result (λ fault. fault ≢ TextFault.WriteFault → writer.new ≡ writer.old) }
 {
-    let figures = driven_figures(alloc, net)?;
+    let plan = plan_all(alloc, net)?;
+    let figures = settled_figures(alloc, net, &plan)?;
     lane_rows(alloc, net.network(), figures.as_slice(), heading, writer)?;
     Ok(())
 }

@@ -22,6 +22,7 @@ use Rattle.mrp_net.specs.Sources.{source_on}
 use Rattle.mrp_net.proofs.Behind.{items_have_sources}
 use Rattle.mrp_net.proofs.Members.{In, In-from_contains, All-in}
 use Rattle.mrp_net.proofs.Sharing.{sum_map}
+use Rattle.mrp_record.specs.Entries.{Delivery}
 use Rattle.mrp_record.specs.Text.{Load}
 use Rattle.mrp_record.specs.Lengths.{block_length, length_of_text}
 use Rattle.mrp_events.specs.Loads.{by_period, called_in, delivery_in, has_pieces, load_of, loads}
@@ -84,19 +85,20 @@ text_is_short N table l within =
 
 -- ---- calls
 
--- the periods in which a source is called for something by a row of releases
-abbrev pub calls_by : SourceRow → List ℕ → ℕ
-calls_by s release = length (by_period (λ t. share_of s.low s.high (slice_index release t)) (length release))
+-- what a source is called for by a row of releases
+abbrev pub called_of : SourceRow → List ℕ → List Delivery
+called_of s release = by_period (λ t. share_of s.low s.high (slice_index release t)) (length release)
 
-pub called_by : (N : Table) (s : SourceRow) (table : List PlanRows) (rows : PlanRows) (release : List ℕ) → Fits N table → table ≡ plan_of N → IsPair N s.pair.0
-    → rows ≡ rows_at table s.pair.0 → release ≡ rows.release → AreRows rows → calls_by s release ≡ length (by_period (called_in N s) (horizon N))
-called_by N s table rows release fits is pair of_pair of_rows are =
+-- which are those by the plan
+pub called_is : (N : Table) (s : SourceRow) (table : List PlanRows) (rows : PlanRows) (release : List ℕ) → Fits N table → table ≡ plan_of N → IsPair N s.pair.0
+    → rows ≡ rows_at table s.pair.0 → release ≡ rows.release → AreRows rows → called_of s release ≡ by_period (called_in N s) (horizon N)
+called_is N s table rows release fits is pair of_pair of_rows are =
     let size : length release ≡ horizon N =
     ap length of_rows ∙ are.release_len ∙ ap (λ (r : PlanRows). length r.gross) of_pair ∙ periods_of N table s.pair.0 fits pair in
     let same : release ≡ (rows_at (plan_of N) s.pair.0).release =
     of_rows ∙ ap (λ (r : PlanRows). r.release) of_pair ∙ ap (λ (t : List PlanRows). (rows_at t s.pair.0).release) is in
-    subst (λ (n : ℕ). calls_by s release ≡ length (by_period (called_in N s) n)) size
-    (ap (λ (row : List ℕ). length (by_period (λ t. share_of s.low s.high (slice_index row t)) (length release))) same)
+    subst (λ (n : ℕ). called_of s release ≡ by_period (called_in N s) n) size
+    (ap (λ (row : List ℕ). by_period (λ t. share_of s.low s.high (slice_index row t)) (length release)) same)
 
 -- ---- blocks
 

@@ -32,7 +32,7 @@ use Rattle.mrp_world.specs.Figures.{last_figures, FinishedFiguresAreLast}
 -- ---- lists
 
 -- what holds of each element holds of all
-all_by : {X : Type 0} (P : X → Type 0) (xs : List X) → ((x : X) → In xs x → P x) → All P xs
+pub all_by : {X : Type 0} (P : X → Type 0) (xs : List X) → ((x : X) → In xs x → P x) → All P xs
 all_by P [] each k d h = absurd (omega arith)
 all_by P (x ∷ xs) each zero d h = each x (inl refl)
 all_by P (x ∷ xs) each (suc k) d h = all_by P xs (λ y there. each y (inr there)) k d (omega arith)

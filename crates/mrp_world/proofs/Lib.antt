@@ -7,6 +7,7 @@ pub mod Lasting
 pub mod Looks
 pub mod Makes
 pub mod Pieces
+pub mod Settling
 pub mod Steps
 pub mod Worlds
 pub mod MailboxPieces

@@ -11,7 +11,8 @@
 //!
 //! The firm over events: all plants of a network with the mailboxes between them, one event at a time.
 //! Whatever list of events a world is given, it takes exactly those that are enabled, each as a step of the
-//! run that it shows ([`World`]); [`laws`] says what follows for every run.
+//! run that it shows ([`World`]); [`laws`] says what follows for every run. The cumulative figures of each finished
+//! run are those of the plan ([`settled_figures`]).
 #![tactic(auto)]
 
 mod acting;
@@ -25,6 +26,7 @@ mod looking;
 mod mailbox;
 mod making;
 mod plant;
+mod settled;
 mod world;
 
 pub use mailbox::Mailbox;
@@ -35,4 +37,5 @@ pub use mrp_net::{ItemNo, LaneNo, PairNo};
 pub use mrp_qty::MOST_ROOM;
 pub use mrp_record::Record;
 pub use plant::Plant;
+pub use settled::settled_figures;
 pub use world::{Firm, World};

@@ -6,4 +6,4 @@ pub returns-clause-text : goal.returns-clause-text
 unfolding schedule_text
 returns-clause-text c =
     headed_rows c.text_of.result _ _ _ _ _ c.text_of.ensures.text
-    c.in_ok-put_lanes.ensures.rows c.in_ok-put_schedule_names.ensures.names c.in_ok-rows.ensures.empty
+    c.in_ok-put_lanes.ensures.rows c.in_ok-put_names.ensures.names c.in_ok-rows.ensures.empty

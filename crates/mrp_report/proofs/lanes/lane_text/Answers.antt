@@ -9,4 +9,4 @@ unfolding lane_text
 returns-clause-text c =
     let at_end : take c.figures.figure-index c.args.figures.now ≡ c.args.figures.now = take_all _ _ (omega arith) in
     headed_rows c.text_of.result _ _ _ _ _ c.text_of.ensures.text
-    (rw at_end at c.figures.invariant.so_far) c.in_ok-put_lane_names.ensures.names c.in_ok-rows.ensures.empty
+    (rw at_end at c.figures.invariant.so_far) c.in_ok-put_names.ensures.names c.in_ok-rows.ensures.empty

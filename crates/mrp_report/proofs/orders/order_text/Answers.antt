@@ -5,5 +5,5 @@ use Rattle.mrp_report.proofs.orders.order_text.Goals as goal
 pub returns-clause-text : goal.returns-clause-text
 unfolding order_text
 returns-clause-text c =
-    headed_rows c.text_of.result _ _ _ _ _ c.text_of.ensures.text c.in_ok-put_all_orders.ensures.rows c.in_ok-put_order_names.ensures.names
+    headed_rows c.text_of.result _ _ _ _ _ c.text_of.ensures.text c.in_ok-put_all_orders.ensures.rows c.in_ok-put_names.ensures.names
     c.in_ok-rows.ensures.empty

@@ -9,4 +9,4 @@ unfolding peg_text
 returns-clause-text c =
     let at_end : take c.terms.term-index c.args.terms.now ≡ c.args.terms.now = take_all _ _ (omega arith) in
     headed_rows c.text_of.result _ _ _ _ _ c.text_of.ensures.text
-    (rw at_end at c.terms.invariant.so_far) c.in_ok-put_peg_names.ensures.names c.in_ok-rows.ensures.empty
+    (rw at_end at c.terms.invariant.so_far) c.in_ok-put_names.ensures.names c.in_ok-rows.ensures.empty

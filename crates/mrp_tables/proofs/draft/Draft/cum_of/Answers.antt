@@ -4,7 +4,7 @@ use Rattle.mrp_rows.specs.Table.{IsPair}
 use Rattle.mrp_rows.specs.declared.numbers.PairNo.{PairNo}
 use Rattle.mrp_rows.specs.declared.numbers.PlantNo.{PlantNo}
 use Rattle.mrp_rows.specs.declared.rows.CumRow.{CumRow}
-use Rattle.mrp_tables.specs.Spelled.{lane_view}
+use Rattle.mrp_tables.specs.Spelled.{lane_fields}
 use Rattle.mrp_qty.specs.declared.limits.TheConstants.{MOST_OF_A_KIND}
 use Rattle.mrp_tables.proofs.Finding.{cum_full, cum_known, cum_unknown, of_found}
 use Rattle.mrp_tables.proofs.KeepingSteps.{handed_on}
@@ -14,25 +14,25 @@ pub returns-in_err-lane-clause-exact : goal.returns-in_err-lane-clause-exact
 returns-in_err-lane-clause-exact c =
     rw (handed_on c.from_residual-in_err-lane.result _ c.from_residual-in_err-lane.ensures.1)
     (cum_unknown c.args.self.now.lists (fields_of c.args.row.now)
-    (lane_view c.in_ok-names.names, c.in_ok-names.figure) c.lane_named-named.result _ c.in_ok-names.ensures.exact c.lane_named-named.ensures.exact
+    (lane_fields (fields_of c.args.row.now), c.in_ok-figure.figure) c.lane_named-named.result _ c.in_ok-figure.ensures.exact c.lane_named-named.ensures.exact
     c.if-has_cum.ensures.exact
     c.in_err-lane.ensures.exact)
 
 pub returns-then-cums-ge-MOST_OF_A_KIND-clause-exact : goal.returns-then-cums-ge-MOST_OF_A_KIND-clause-exact
 returns-then-cums-ge-MOST_OF_A_KIND-clause-exact c =
     let many : MOST_OF_A_KIND ≤ length c.args.self.now.lists.cums = omega (arith, ap length c.cums.ensures.value, c.if-cums-ge-MOST_OF_A_KIND.true) in
-    cum_full c.args.self.now.lists (fields_of c.args.row.now) (lane_view c.in_ok-names.names, c.in_ok-names.figure) c.lane_named-named.result _
-    c.in_ok-names.ensures.exact c.lane_named-named.ensures.exact c.if-has_cum.ensures.exact
+    cum_full c.args.self.now.lists (fields_of c.args.row.now) (lane_fields (fields_of c.args.row.now), c.in_ok-figure.figure) c.lane_named-named.result _
+    c.in_ok-figure.ensures.exact c.lane_named-named.ensures.exact c.if-has_cum.ensures.exact
     c.in_ok-lane.ensures.exact many
 
-pub returns-in_err-names-clause-row : goal.returns-in_err-names-clause-row
-returns-in_err-names-clause-row c = rw (handed_on c.from_residual.result _ c.from_residual.ensures.1) tt
+pub returns-in_err-figure-clause-row : goal.returns-in_err-figure-clause-row
+returns-in_err-figure-clause-row c = rw (handed_on c.from_residual.result _ c.from_residual.ensures.1) tt
 
-pub returns-in_err-names-clause-fresh : goal.returns-in_err-names-clause-fresh
-returns-in_err-names-clause-fresh c = rw (handed_on c.from_residual.result _ c.from_residual.ensures.1) tt
+pub returns-in_err-figure-clause-fresh : goal.returns-in_err-figure-clause-fresh
+returns-in_err-figure-clause-fresh c = rw (handed_on c.from_residual.result _ c.from_residual.ensures.1) tt
 
-pub returns-in_err-names-clause-room : goal.returns-in_err-names-clause-room
-returns-in_err-names-clause-room c = rw (handed_on c.from_residual.result _ c.from_residual.ensures.1) tt
+pub returns-in_err-figure-clause-room : goal.returns-in_err-figure-clause-room
+returns-in_err-figure-clause-room c = rw (handed_on c.from_residual.result _ c.from_residual.ensures.1) tt
 
 pub returns-then-has_cum-clause-row : goal.returns-then-has_cum-clause-row
 returns-then-has_cum-clause-row c = tt
@@ -65,8 +65,8 @@ pub returns-clause-exact : goal.returns-clause-exact
 returns-clause-exact c =
     let room = subst (λ (xs : List CumRow). length xs < MOST_OF_A_KIND) c.cums.ensures.value c.if-cums-ge-MOST_OF_A_KIND.false in
     rw c.of.ensures
-    (cum_known c.args.self.now.lists (fields_of c.args.row.now) (lane_view c.in_ok-names.names, c.in_ok-names.figure) c.lane_named-named.result
-    c.in_ok-lane.lane c.in_ok-names.ensures.exact c.lane_named-named.ensures.exact c.if-has_cum.ensures.exact
+    (cum_known c.args.self.now.lists (fields_of c.args.row.now) (lane_fields (fields_of c.args.row.now), c.in_ok-figure.figure) c.lane_named-named.result
+    c.in_ok-lane.lane c.in_ok-figure.ensures.exact c.lane_named-named.ensures.exact c.if-has_cum.ensures.exact
     c.in_ok-lane.ensures.exact room)
 
 pub returns-clause-row : goal.returns-clause-row
@@ -75,7 +75,7 @@ returns-clause-row c =
     record {
       from = of_found _ c.in_ok-lane.lane.from (λ (p : PlantNo). p.0 < length N.plants) c.lane_named-named.ensures.named.from c.in_ok-lane.ensures.from;
       pair = of_found _ c.in_ok-lane.lane.pair (λ (x : PairNo). IsPair N x.0) c.lane_named-named.ensures.named.pair c.in_ok-lane.ensures.pair;
-      figure = rw c.of.ensures c.in_ok-names.ensures.figure;
+      figure = rw c.of.ensures c.in_ok-figure.ensures.figure;
     }
 
 pub returns-clause-room : goal.returns-clause-room

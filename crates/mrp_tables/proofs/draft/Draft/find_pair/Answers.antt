@@ -4,6 +4,7 @@ use Rattle.mrp_rows.specs.declared.numbers.PairNo.{PairNo}
 use Rattle.mrp_tables.specs.contracts.name_key.PairKeyPartialEq.TheImpl.{eq-value as same_pair}
 use Rattle.mrp_tables.specs.Keys.{key_of}
 use Rattle.mrp_tables.specs.declared.name_key.NameKey.{NameKey}
+use Rattle.mrp_tables.proofs.AmountFacts.{pair_names}
 use Rattle.mrp_tables.proofs.Found.{no_long_item, no_long_plant, place_of_pair, plant_of_pair}
 use Rattle.mrp_tables.proofs.Words.{all_bytes, has_no_key, key_is}
 use Rattle.mrp_tables.proofs.draft.Draft.find_pair.Goals as goal
@@ -46,3 +47,9 @@ pub returns-in-Some-clause-plant : goal.returns-in-Some-clause-plant
 returns-in-Some-clause-plant c =
     let N = c.args.self.now.lists in
     plant_of_pair N (plant_no N c.args.plant.now) c.args.item.now c.in-Some.place (returns-in-Some-clause-exact c)
+
+pub returns-in-Some-clause-named : goal.returns-in-Some-clause-named
+returns-in-Some-clause-named c =
+    let names = pair_names c.args.self.now.lists c.args.self.now.known c.args.plant.now c.args.item.now c.in-Some.place c.requires.knows
+    (sym (c.in-Some.ensures.index ∙ found (goal.at.returns-in-Some-clause-named c).After-get_index_of)) in
+    (names.of_plant, names.of_item)
