@@ -93,8 +93,9 @@ fn await_table(rt: &HostRuntime) {
     }
 }
 
-/// So much room is taken at once before a table is read, and given back: 32 MiB less a page.
-const KEPT: usize = (32 << 20) - 4096;
+/// So much room is taken at once before a table is read, and given back: 32 MiB less two pages, the most that the C
+/// library takes for a sign.
+const KEPT: usize = (32 << 20) - 8192;
 
 /// Has the C library keep what is given back while a table is read, for the plans that come next: it gives less back to
 /// the system once a block of this size was given back. No page of it is touched, and a refusal is no fault.

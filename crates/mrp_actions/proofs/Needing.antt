@@ -29,9 +29,6 @@ range-le f i n less =
     let same : i + (n - i) ≡ n = omega arith in
     omega (arith, numbers-le f i (n - i), ap (λ (k : ℕ). sum_by f (range_with_len 0 k)) same)
 
-pub gross_to-le : (gross : List ℕ) (u t : ℕ) → u ≤ t → gross_to gross u ≤ gross_to gross t
-gross_to-le gross u t by = front-le (λ (n : ℕ). n) gross (u + 1) (t + 1) (omega arith)
-
 -- one order more
 pub had_more : (pair : PairRow) (orders : List OpenOrder) (i : ℕ) → i < length orders
     → had_before pair orders (i + 1) ≡ had_before pair orders i + (open_order_at orders i).quantity

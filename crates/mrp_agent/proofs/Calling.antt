@@ -24,13 +24,6 @@ found_later amount period n none =
 step : (release : List ℕ) (period : ℕ) → period < length release → length release - period ≡ suc (length release - (period + 1))
 step release period within = omega arith
 
-pub call_here : (release : List ℕ) (call : Call) (period quantity : ℕ) → period < length release → quantity ≡ called_by release call period → 0 < quantity
-    → next_called release call period ≡ Some (record { period = period; quantity = quantity; after = period + 1 })
-call_here release call period quantity within is some =
-    ap (found_in (called_by release call) period) (step release period within)
-    ∙ found_here (called_by release call) period (length release - (period + 1)) (omega (arith, is, some))
-    ∙ ap (λ (q : ℕ). Some (record { period = period; quantity = q; after = period + 1 })) (sym is)
-
 pub call_later : (release : List ℕ) (call : Call) (period : ℕ) → period < length release → called_by release call period ≡ 0
     → next_called release call period ≡ next_called release call (period + 1)
 call_later release call period within none =

@@ -227,28 +227,4 @@ open_blocks_are_awaited waits joins planned blocks counts k y is known =
 
 -- ---- what pairs wait for at first
 
--- one row more is counted
-pub AreCounted-more : {X : Type 0} (key : X → ℕ) (old now : List ℕ) (rows : List X) (i : ℕ) (r : X) (v : ℕ) → i < length rows → r ≡ get_or rows i r
-    → AreCounted key old now (take i rows) → key r < length old → v ≡ get_or now (key r) 0 + 1 → AreCounted key old (set now (key r) v) (take (i + 1) rows)
-AreCounted-more {X} key old now rows i r v lt is was known new = record {
-  size = length-set now (key r) v ∙ was.size;
-  counted = λ y h.
-      let here : key (get_or rows i r) ≡ key r = ap key (sym is) in
-      elim (cases_eq y (key r)) as (λ _. get_or (set now (key r) v) y 0 ≡ get_or old y 0 + count_by (λ (x : X). eqb (key x) y) (take (i + 1) rows)) [
-        | inl e ↦
-            let more = count_by_more_yes (λ (x : X). eqb (key x) y) rows i r lt (eq-eqb (key (get_or rows i r)) y (here ∙ sym e)) in
-            let at : get_or (set now (key r) v) y 0 ≡ v = ap (λ (z : ℕ). get_or (set now (key r) v) z 0) e
-            ∙ get_or-set_same now (key r) v 0 (omega (arith, was.size)) in
-            let had : get_or now y 0 ≡ get_or now (key r) 0 = ap (λ (z : ℕ). get_or now z 0) e in
-            omega (arith, more, at, had, new, was.counted y h)
-        | inr ne ↦
-            let more = count_by_more_no (λ (x : X). eqb (key x) y) rows i r lt (ne_eqb (key (get_or rows i r)) y (λ q. ne (sym q ∙ here))) in
-            omega (arith, more, get_or-set_other now (key r) y v 0 ne, was.counted y h)
-      ];
 }
-
--- no number is greater than at first by more than the rows so far
-pub AreCounted-le : {X : Type 0} (key : X → ℕ) (old now : List ℕ) (rows : List X) (i y : ℕ) → i ≤ length rows → AreCounted key old now (take i rows)
-    → y < length old → get_or now y 0 ≤ get_or old y 0 + i
-AreCounted-le {X} key old now rows i y le was known =
-    omega (arith, was.counted y known, count_by-le-length (λ (x : X). eqb (key x) y) (take i rows), length-take-le i rows le)

@@ -19,6 +19,3 @@ fields_sync = struct_sync (shape inside.the_type)
 
 pub agent_send : IsSend Agent.the_row
 agent_send = view_send inside.the_row _ _ _ _ (recorded_send inside.the_field.row _ _ inside.the_type.to_one fields_send)
-
-pub agent_sync : IsSync Agent.the_row
-agent_sync = view_sync inside.the_row _ _ _ _ (recorded_sync inside.the_field.row _ _ inside.the_type.to_one fields_sync)

@@ -205,13 +205,6 @@ lowered_waiting inside value gone left y was now kept shown known some read_was 
 
 -- ---- the components, one after another
 
-pub Lowers-none : (old : Progress) → Lowers old old []
-Lowers-none old = record {
-  numbers = refl;
-  planned = refl;
-  fewer = record { size = refl; fewer = λ y h. omega arith };
-  listed = λ h. h;
-  others = λ y h. h;
 }
 
 -- a component waits at least as often as it stands in what is left

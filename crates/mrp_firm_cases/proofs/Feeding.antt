@@ -43,14 +43,6 @@ use Rattle.mrp_firm_cases.specs.Feeding.{amounts_from, lines_from, item_goods, l
 
 -- ---- lines
 
-pub shipment_there : (ships : List Shipment) (mark : ℕ) (d : Shipment) → mark < length ships
-    → map delivery_of (drop mark ships) ≡ delivery_of (get_or ships mark d) ∷ map delivery_of (drop (suc mark) ships)
-shipment_there ships mark d within = ap (λ (z : List Shipment). map delivery_of z)
-    (drop_there ships mark (get_or ships mark d) (slice_get-get_or ships mark d within))
-
-pub no_shipment : (ships : List Shipment) (mark : ℕ) → length ships ≤ mark → map delivery_of (drop mark ships) ≡ []
-no_shipment ships mark past = ap (λ (z : List Shipment). map delivery_of z) (drop_all mark ships past)
-
 abbrev amounts : (ℕ → ℕ) → ℕ → ℕ → List Delivery
 amounts amount mark n = filter has_pieces (map (delivery_in amount) (range_with_len mark n))
 
@@ -73,9 +65,6 @@ pub amount_none : (amount : ℕ → ℕ) (periods mark : ℕ) → mark < periods
 amount_none amount periods mark within none =
     let more : periods - mark ≡ suc (periods - (mark + 1)) = omega (arith, within) in
     ap (amounts amount mark) more ∙ amount_skipped amount (periods - (mark + 1)) mark none
-
-pub amounts_over : (amount : ℕ → ℕ) (periods mark : ℕ) → periods ≤ mark → amounts_from amount periods mark ≡ []
-amounts_over amount periods mark past = let none : periods - mark ≡ 0 = omega (arith, past) in ap (amounts amount mark) none
 
 -- ---- what is called for
 

@@ -100,34 +100,10 @@ pub one_more_each : (left left' : List Record) (left_at : List ℕ) (r : Record)
     → length (left_at ++ stamp ∷ []) ≡ length left'
 one_more_each left left' left_at r stamp more as_many = omega (arith, ap length more, length-append left (r ∷ []), length-append left_at (stamp ∷ []))
 
--- nothing is in the mailbox any more
-pub took_all : (v now : LaneView) (left : List Record) (left_at : List ℕ) → now ≡ took v left left_at → now.sent ≡ now.taken → v.sent ≡ v.taken ++ left
-took_all v now left left_at so_far all = sym (ap (λ (w : LaneView). w.sent) so_far) ∙ all ∙ ap (λ (w : LaneView). w.taken) so_far
-
 -- nor is any stamp left
 none_waits : (now : LaneView) → IsWholePass now [] → now.sent_at ≡ now.taken_at
 none_waits now whole =
     whole.stamps.whole ∙ ap (λ (z : List ℕ). now.taken_at ++ z) (nil_from_length whole.stamps.waits_at whole.stamps.as_many) ∙ append-nil now.taken_at
-
-took_all_at : (v now : LaneView) (left : List Record) (left_at : List ℕ) → now ≡ took v left left_at → IsWholePass now [] → v.sent_at ≡ v.taken_at ++ left_at
-took_all_at v now left left_at so_far whole =
-    sym (ap (λ (w : LaneView). w.sent_at) so_far) ∙ none_waits now whole ∙ ap (λ (w : LaneView). w.taken_at) so_far
-
-pub took_stamps : (v now : LaneView) (left : List Record) (left_at : List ℕ) → now ≡ took v left left_at → length left_at ≡ length left → IsWholePass now []
-    → AreStamped v.sent_at v.taken_at (length left)
-took_stamps v now left left_at so_far as_many whole =
-    record { waits_at = left_at; whole = took_all_at v now left left_at so_far whole; as_many = as_many }
-
-pub took_as_many : (v now : LaneView) (left : List Record) (left_at : List ℕ) → now ≡ took v left left_at → IsWholePass now []
-    → length v.sent_at ≡ length v.sent
-took_as_many v now left left_at so_far whole =
-    sym (ap (λ (w : LaneView). length w.sent_at) so_far) ∙ whole.as_many ∙ ap (λ (w : LaneView). length w.sent) so_far
-
-pub took_is_all : (v now : LaneView) (left : List Record) (left_at : List ℕ) → now ≡ took v left left_at → now.sent ≡ now.taken → IsWholePass now []
-    → now ≡ taken_all v
-took_is_all v now left left_at so_far all whole =
-    so_far ∙ ap (λ (z : List Record). record v { taken = z; taken_at = v.taken_at ++ left_at }) (sym (took_all v now left left_at so_far all))
-    ∙ ap (λ (z : List ℕ). record v { taken = v.sent; taken_at = z }) (sym (took_all_at v now left left_at so_far whole))
 
 -- ---- what the joined pass's counts come to
 

@@ -152,9 +152,6 @@ pub cap_exact : (cap most supply need s n t : ℕ) → most < cap → s ≡ min 
     → (n ≡ need) × (supply + n ≤ most)
 cap_exact cap most supply need s n t small es en et low = (omega arith, omega arith)
 
-pub cap_above : (cap most supply need s n t : ℕ) → most < cap → s ≡ min supply cap → n ≡ min need cap → t ≡ min (s + n) cap → most < t → most < supply + need
-cap_above cap most supply need s n t small es en et high = omega arith
-
 -- the first pair above the bound in the order of the codes
 pub need_too_large : (N : Table) (codes : List ℕ) (order : List PairNo) (x : PairNo) → IsInCodeOrder codes (map (λ z. z.0) order)
     → IsPlanningOrder N (map (λ z. z.0) order)

@@ -220,13 +220,6 @@ none_in (z ∷ zs) x below =
     let l = All-head (λ (w : PairNo). w.0 < x) z zs below in
     or_from (z.0 == x) (is_in zs x) (ne_eqb z.0 x (λ e. omega arith)) (none_in zs x (All-tail (λ (w : PairNo). w.0 < x) z zs below))
 
-pub begun_none : (N : Table) → IsBegun N 0 [] []
-begun_none N = record {
-  size = refl;
-  counts = λ k l. absurd (omega arith);
-  queued = λ k l. absurd (omega arith);
-  pairs = All-nil (λ (z : PairNo). z.0 < 0);
-  once = λ j k d jk kl e. omega arith;
 }
 
 module _ (N : Table) (x n : ℕ) (queue : List PairNo) (left : List ℕ) (begun : IsBegun N x queue left) (is : n ≡ length (demanders N x)) where

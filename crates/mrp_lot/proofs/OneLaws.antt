@@ -214,11 +214,6 @@ greatest_need-more pair incoming gross before t n =
     ≡ max (greatest_need pair incoming gross before t n) (need_over pair incoming gross before t m))
     (sym (add-one n)) (greatest_need-suc pair incoming gross before t n)
 
-pub balance_before-more : (pair : PairParams) (incoming gross : List ℕ) (t : ℕ)
-    → balance_before pair incoming gross (t + 1) ≡ available_after pair incoming gross (balance_before pair incoming gross t) t
-balance_before-more pair incoming gross t =
-    ap (λ (m : ℕ). balance_before pair incoming gross m) (add-one t) ∙ balance_before-suc pair incoming gross t
-
 -- the rows of the plan, by period and as a whole
 pub one-order : (pair : PairParams) (incoming gross : List ℕ) → (one pair incoming gross).order
     ≡ map (order_at pair incoming gross) (range_with_len 0 (length gross))

@@ -57,18 +57,6 @@ map-range_from-same f g a (suc n) same =
 pub map-range-same : {X : Type 0} (f g : ℕ → X) (n : ℕ) → ((k : ℕ) → k < n → f k ≡ g k) → map f (range_with_len 0 n) ≡ map g (range_with_len 0 n)
 map-range-same f g n same = map-range_from-same f g 0 n (λ k low high. same k (omega arith))
 
-filter_map-range_from-same : {X : Type 0} (f g : ℕ → Option X) (a n : ℕ) → ((k : ℕ) → a ≤ k → k < a + n → f k ≡ g k)
-    → filter_map f (range_with_len a n) ≡ filter_map g (range_with_len a n)
-filter_map-range_from-same f g a zero same = refl
-filter_map-range_from-same f g a (suc n) same =
-    let rest = filter_map-range_from-same f g (a + 1) n (λ k low high. same k (omega arith) (omega arith)) in
-    let here = same a (omega arith) (omega arith) in
-    cc
-
-pub filter_map-range-same : {X : Type 0} (f g : ℕ → Option X) (n : ℕ) → ((k : ℕ) → k < n → f k ≡ g k)
-    → filter_map f (range_with_len 0 n) ≡ filter_map g (range_with_len 0 n)
-filter_map-range-same f g n same = filter_map-range_from-same f g 0 n (λ k low high. same k (omega arith))
-
 -- a value that counts at one place counts once
 pub placed_past : (v p n : ℕ) → n ≤ p → sum_by (λ u. if p == u then v else 0) (range_with_len 0 n) ≡ 0
 placed_past v p zero past = refl

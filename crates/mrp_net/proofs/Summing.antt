@@ -86,13 +86,6 @@ row_in_periods : (N : Table) (amount : ℕ → ℕ → ℕ) (amounts : List ℕ)
 row_in_periods N amount amounts x are h =
     row_at amounts (x * horizon N) (horizon N) (amount x) (omega (arith, are.size, mul-le-mul_left (horizon N) h)) (λ t g. are.each x t h g)
 
--- the amounts of a pair end within those of all
-pub row_ends : (N M : Table) (sums : Table → ℕ → ℕ → ℕ) (amounts : List ℕ) (x : ℕ) → N ≡ M → ArePeriods N (sums N) amounts → IsPair M x
-    → (x + 1) * horizon M ≤ length amounts
-row_ends N M sums amounts x is are pair =
-    let there : ArePeriods M (sums M) amounts = subst (λ (z : Table). ArePeriods z (sums z) amounts) is are in
-    omega (arith, there.size, mul-le-mul_left (horizon M) pair)
-
 pub row_read : (N M : Table) (sums : Table → ℕ → ℕ → ℕ) (amounts read : List ℕ) (x from to : ℕ) → N ≡ M → ArePeriods N (sums N) amounts → from ≡ x * horizon M
     → to ≡ (x + 1) * horizon M → IsPair M x
     → read ≡ amounts → take (to - from) (drop from read) ≡ row_of M (sums M x)

@@ -138,10 +138,6 @@ pub have_next : (N : Table) (given : List (Vec PairPlan Global)) (pairs done : �
     → HaveGiven N given (length N.pairs - (done + 1))
 have_next N given pairs done all within have = subst (λ (z : ℕ). HaveGiven N given z) (omega (arith, all, within)) have
 
-pub have_here : (N : Table) (given : List (Vec PairPlan Global)) (pairs done : ℕ) → pairs ≡ length N.pairs → done < pairs
-    → HaveGiven N given (length N.pairs - done) → HaveGiven N given (pairs - 1 - done + 1)
-have_here N given pairs done all within have = subst (λ (z : ℕ). HaveGiven N given z) (omega (arith, all, within)) have
-
 pub none_or_some : {X : Type 0} (o : Option X) (x : X) → o ≡ Some x → o ≡ None → ⊥
 none_or_some o x some none = absurd (cc)
 

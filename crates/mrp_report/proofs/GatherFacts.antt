@@ -19,14 +19,6 @@ use Rattle.mrp_report.proofs.PieceFacts.{range-split}
 pub gathers-none : (a : Option (List ℕ)) (waits : List ℕ) → Gathers a a waits waits []
 gathers-none a waits = record { sent = []; written = appends-none a; kept = append-nil waits }
 
--- what was added waits
-pub gathers-here : (a : Option (List ℕ)) (waits waits' text : List ℕ) → waits' ≡ waits ++ text → Gathers a a waits waits' text
-gathers-here a waits waits' text added = record { sent = []; written = appends-none a; kept = sym added }
-
--- what waited was sent
-pub gathers-sent : (a b : Option (List ℕ)) (waits : List ℕ) → Appends a b waits → Gathers a b waits [] []
-gathers-sent a b waits sent = record { sent = waits; written = sent; kept = refl }
-
 -- the same text
 pub gathers-as : (a b : Option (List ℕ)) (waits waits' text same : List ℕ) → text ≡ same → Gathers a b waits waits' text → Gathers a b waits waits' same
 gathers-as a b waits waits' text same is added = subst (λ t. Gathers a b waits waits' t) is added

@@ -173,13 +173,6 @@ pub record Next (N : Table) (x low : ℕ) (before now : List ℕ) (edge : Edge) 
   pub ends : edge.high ≤ 1000
   pub more : (after : List ℕ) → after ≡ now ++ source_part (plant_of N edge.pair.0) (edge.high - edge.low) → Written N x edge.high before after
 
-pub written_none : (N : Table) (x : ℕ) (before : List ℕ) → IsTable N → IsPair N x → (pair_at N x).supply ≡ From → Written N x 0 before before
-written_none N x before table h from = record {
-  done = [];
-  rest = sources_of_pair N x;
-  all = refl;
-  shares = shares_of N x table h from;
-  text = sym (append-nil before);
 }
 
 last_ends : (low : ℕ) → AreShares low [] → low ≡ 1000

@@ -70,11 +70,6 @@ pub still_once : {K : Type 0} (eq : K → K → Bool) → IsEquivalence eq → (
 still_once {K} eq laws keys roomy more key once fresh same grown =
     subst (IsDistinct eq) (sym (grown ∙ ap (λ (ks : List K). ks ++ key ∷ []) same)) (once_behind eq laws keys key once fresh)
 
--- no keys
-pub none_once : {K : Type 0} (eq : K → K → Bool) (keys : List K) → keys ≡ [] → IsDistinct eq keys
-unfolding IsDistinct
-none_once eq keys none = subst (IsDistinct eq) (sym none) tt
-
 -- a key that stands at a place of keys that stand once each is found there
 pub found_there : {K : Type 0} (eq : K → K → Bool) → IsEquivalence eq → (keys : List K) (key known : K) (place : ℕ) → IsDistinct eq keys → place < length keys
     → known ≡ get_or keys place known → eq key known ≡ true → position (eq key) keys ≡ Some place

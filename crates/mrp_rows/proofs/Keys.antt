@@ -34,18 +34,6 @@ found_pair (Some x) o n e h =
     let P : Option ℕ → Type 0 = λ q. (IsSome (Some x) ↔ (unwrap_or q n < n)) × (x.0 ≡ unwrap_or q n) in
     subst P e ((λ s. h, λ s. refl), refl)
 
--- whether a look-up of a place finds none
-pub lacks-found : {X : Type 0} (p : X → Bool) (xs : List X) (r : Option PairNo) → option_map (λ x. x.0) r ≡ position p xs
-    → not (is_some r) ≡ not (ltb (unwrap_or (position p xs) (length xs)) (length xs))
-lacks-found p xs r e = by (ltb (position_or_len p xs) (length xs)) r (position_or_len p xs) (length xs) refl e
-  where
-    by : (b : Bool) (r : Option PairNo) (k n : ℕ) → ltb k n ≡ b → option_map (λ x. x.0) r ≡ cond b (Some k) None
-        → not (is_some r) ≡ not (ltb (unwrap_or (cond b (Some k) None) n) n)
-    by true None k n t e = cc
-    by true (Some x) k n t e = rw t refl
-    by false None k n t e = grind (arith, nat_tests)
-    by false (Some x) k n t e = cc
-
 -- where no source lacks its pair, each has one
 pub All-from_position : {X : Type 0} (p : X → Bool) (xs : List X) → position p xs ≡ None → All (λ x. p x ≡ false) xs
 All-from_position p xs e k d lt = fails_before_first p xs k d (by (ltb (position_or_len p xs) (length xs)) refl e lt)

@@ -80,9 +80,6 @@ pub there_is_one : {X : Type 0} (o : Option X) (P : X → Type 0) → IsSomeAnd 
 there_is_one None P h e = h
 there_is_one (Some x) P h e = absurd (cc)
 
-pub the_one : {X : Type 0} (o : Option X) (P : X → Type 0) (x : X) → IsSomeAnd o P → o ≡ Some x → P x
-the_one o P x h e = subst (λ z. IsSomeAnd z P) e h
-
 -- ---- filters
 
 pub kept_last : {X : Type 0} (p : X → Bool) (x : X) → p x ≡ true → filter p (x ∷ []) ≡ x ∷ []

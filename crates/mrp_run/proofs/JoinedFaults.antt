@@ -28,11 +28,6 @@ worst_more worst fault result one before faults is = record {
       (λ f p. before_trans result worst f before.0 p) faults is.first) before.1;
 }
 
-pub worst_first : (before : Option RunFault) → IsWorstOf before (option_to_list before ++ [])
-worst_first None = refl
-worst_first (Some fault) = record {
-  met = Contains-push [] fault;
-  first = All-push (IsBefore fault) [] fault (λ k d h. absurd (omega (arith, h))) (inr (refl, omega arith));
 }
 
 -- ---- what was brought back

@@ -110,11 +110,6 @@ told_record N false before after old new e told = absurd (true≢false (sym e))
 
 -- ---- all turns
 
--- before the first row
-pub none_read : (N : Table) (all : Option (List (List (List ℕ)))) → AreRead N all all []
-none_read N None = tt
-none_read N (Some rows) = refl
-
 -- after one record more
 read_on : (N : Table) (all before after : Option (List (List (List ℕ)))) (old : List Record) (r : Record) → AreRead N all before old
     → TakesRow before after (record_fields N r) → AreRead N all after (old ++ r ∷ [])
@@ -130,9 +125,6 @@ read_on N (Some rows) (Some left) (Some rest) old r so_far takes =
 pub record IsReadSoFar (N : Table) (all left : Option (List (List (List ℕ)))) (records : List Record) : Type 0 where
   pub rows : AreRead N all left records
   pub have_rows : All (HasRow N) records
-
-pub first_so_far : (N : Table) (all : Option (List (List (List ℕ)))) (records : List Record) → records ≡ [] → IsReadSoFar N all all records
-first_so_far N all records e = subst (IsReadSoFar N all all) (sym e) (record { rows = none_read N all; have_rows = All-nil (HasRow N) })
 
 pub next_so_far : (N : Table) (all before after : Option (List (List (List ℕ)))) (old new : List Record) → IsReadSoFar N all before old
     → AddsRecord N before after old new → IsReadSoFar N all after new

@@ -32,26 +32,6 @@ abbrev pub below : ℕ → Option ℕ → Option ℕ
 below i None = None
 below i (Some place) = if nat_lt place i then Some place else None
 
-pub below_none : (o : Option ℕ) → below 0 o ≡ None
-below_none None = refl
-below_none (Some place) = rw (none place) refl
-  where
-    none : (a : ℕ) → nat_lt a 0 ≡ false
-    none a = grind (arith, nat_tests)
-
--- among all of them it is the place
-pub below_all : (names : List (List ℕ)) (name : List ℕ) (n : ℕ) → n ≡ length names → below n (position (bytes_eq name) names) ≡ position (bytes_eq name) names
-below_all names name n all = by (position (bytes_eq name) names) refl
-  where
-    lower : (a b : ℕ) → a < b → nat_lt a b ≡ true
-    lower a b lt = grind (arith, nat_tests)
-
-    by : (o : Option ℕ) → position (bytes_eq name) names ≡ o → below n o ≡ o
-    by None at = refl
-    by (Some place) at =
-        let within : place < n = omega (arith, all, (position-Some (bytes_eq name) names place [] at).0) in
-        rw (lower place n within) refl
-
 -- and with one more
 pub below_more : (names : List (List ℕ)) (x name : List ℕ) (i : ℕ) → IsDistinct bytes_eq names → slice_get names i ≡ Some x
     → below (i + 1) (position (bytes_eq name) names) ≡ cond (bytes_eq x name) (Some i) (below i (position (bytes_eq name) names))

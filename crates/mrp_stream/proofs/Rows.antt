@@ -45,10 +45,6 @@ grows_twice old word more now e = (word ++ more, e ∙ append_assoc old word mor
 pub grows_on : (old mid new more : List ℕ) → Grows old mid → new ≡ mid ++ more → Grows old new
 grows_on old mid new more (added, e) next = (added ++ more, next ∙ ap (λ t. t ++ more) e ∙ append_assoc old added more)
 
--- taken away again
-pub cut_back : (old new : List ℕ) → Grows old new → take (length old) new ≡ old
-cut_back old new (more, e) = ap (take (length old)) e ∙ take-append_seam old more
-
 pub on_err : {A E P : Type 0} (r : Result A E) → P → OnErr r P
 on_err (Ok x) p = tt
 on_err (Err e) p = p

@@ -106,9 +106,6 @@ module _ (N M : Table) (x : ℕ) (ss : List SourceTerms) (i : ℕ) (d : SourceTe
   pub sources_all : length ss ≤ i → M ≡ with_sources N x ss
   sources_all le = is ∙ ap (with_sources N x) (take_all i ss le)
 
-pub sources_none : (N : Table) (x : ℕ) (ss : List SourceTerms) → N ≡ with_sources N x (take 0 ss)
-sources_none N x ss = ap (λ (rows : List SourceRow). let T : Table = record N { sources = rows } in T) (sym (append-nil N.sources))
-
 -- ---- the pair and its item
 
 -- a pair that isn't there has a new key
@@ -161,17 +158,6 @@ fresh_pair N plant name item read lacks is = by (list_any (bytes_eq name) N.item
         (list_any_none (at_key plant (length N.items)) N.pairs (λ k d lt. misses ((get_or N.pairs k d).plant.0 == plant) (get_or N.pairs k d).item.0
         (length N.items) (read.pairs k d lt).item))
 
--- the table after a pair, its item and its sources
-pub pair_table : (N N1 N2 N3 : Table) (p : PlantNo) (t : PairTerms) (row : PairRow) (x : ℕ) (ss : List SourceTerms) → N1 ≡ with_item N t.item
-    → N2 ≡ with_pair N1 row → N3 ≡ with_sources N2 x ss
-    → x ≡ length N.pairs → ss ≡ named_sources t.supply → row ≡ pair_with N1.items p t → N3 ≡ with_pair_terms N p t
-pair_table N N1 N2 N3 p t row x ss e1 e2 e3 at same is =
-    let row_is : row ≡ pair_with (add_item N.items t.item) p t = is ∙ ap (λ (T : Table). pair_with T.items p t) e1 in
-    e3 ∙ ap (λ (T : Table). with_sources T x ss) (e2 ∙ ap (λ (T : Table). with_pair T row) e1)
-    ∙ ap (λ (r : PairRow). with_sources (with_pair (with_item N t.item) r) x ss) row_is
-    ∙ ap (λ (k : ℕ). with_sources (with_pair (with_item N t.item) (pair_with (add_item N.items t.item) p t)) k ss) at
-    ∙ ap (λ (l : List SourceTerms). with_sources (with_pair (with_item N t.item) (pair_with (add_item N.items t.item) p t)) (length N.pairs) l) same
-
 -- what is known of the sources stays when a pair and its item are added
 pub pair_fit : (N N1 N2 : Table) (name : List ℕ) (row : PairRow) (keys : List LaneKey) (states : List Lane) → N1 ≡ with_item N name → N2 ≡ with_pair N1 row
     → FitsRows N keys states → FitsRows N2 keys states
@@ -196,9 +182,3 @@ pair_new N N1 N2 name row x e1 e2 at read =
     record { sources = λ k d lt. (read.sources k d lt).pair; ships = λ k d lt. (read.ships k d lt).pair } in
     subst (λ (T : Table). IsNewPair T x) (sym (e2 ∙ ap (λ (T : Table). with_pair T row) e1))
     (subst (λ k. IsNewPair (with_pair (with_item N name) row) k) (sym at) made)
-
-pub pair_knows : (N N1 N2 : Table) (name : List ℕ) (row : PairRow) (ss ts : List SourceTerms) → N1 ≡ with_item N name → N2 ≡ with_pair N1 row → ss ≡ ts
-    → knows_sources N ts ≡ true → knows_sources N2 ss ≡ true
-pair_knows N N1 N2 name row ss ts e1 e2 same known =
-    subst (λ (T : Table). knows_sources T ss ≡ true) (sym (e2 ∙ ap (λ (T : Table). with_pair T row) e1))
-    (subst (λ (l : List SourceTerms). knows_sources N l ≡ true) (sym same) known)

@@ -159,9 +159,3 @@ has_no_key text e = by (nat_le (length text) 20) refl e
     by : (b : Bool) → nat_le (length text) 20 ≡ b → ◌≡◌ {A = Option NameKey} None (if b then Some (key_of text) else None) → 20 < length text
     by true t e = absurd (cc)
     by false t e = grind (arith, nat_tests)
-
-pub name_has_key : (text : List ℕ) → IsName text → ◌≡◌ {A = Option NameKey} None (if nat_le (length text) 20 then Some (key_of text) else None) → ⊥
-name_has_key text named e = absurd (omega (arith, has_no_key text e, within (length text) (name_short text named)))
-  where
-    within : (k : ℕ) → nat_le k 20 ≡ true → k ≤ 20
-    within k t = grind (arith, nat_tests)

@@ -8,12 +8,6 @@ use Rattle.mrp_text.specs.declared.fault.TextFault.TheVariants as fault
 use Rattle.mrp_text.specs.Fault.{IsOfReport}
 use Rattle.mrp_text.specs.Reports.{WritesRows}
 
--- where nothing was sent
-pub none-sent : {W U : Type 0} (contents : W → Option (List ℕ)) (w : W) (r : Result U TextFault) (P : List ℕ → Type 0) → WritesRows contents w w r P
-none-sent contents w (Ok u) P = tt
-none-sent contents w (Err fault.Memory) P = inl refl
-none-sent contents w (Err _) P = tt
-
 -- where the rows could not be sent
 pub rows-fail : {W : Type 0} (contents : W → Option (List ℕ)) (old new : W) (f : ReportFault) (e : TextFault) (P : List ℕ → Type 0)
     → (f ≡ report.Memory → new ≡ old) → IsOfReport f e → WritesRows {U = Unit {0}} contents old new (Err e) P

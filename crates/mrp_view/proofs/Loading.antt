@@ -25,11 +25,6 @@ loads_stay (r ∷ rows) ships more h =
     (part_stays ships more r.begin r.end (All-head (IsShipmentRange ships) r rows h).within)
     ∙ ap (λ (z : List OutgoingLoad). row_load ships r ∷ z) (loads_stay rows ships more (All-tail (IsShipmentRange ships) r rows h))
 
-pub parts_stay : (rows : List OutgoingRow) (ships more : List Shipment) → AreParts rows ships → AreParts rows (ships ++ more)
-parts_stay rows ships more h =
-    All-weaker (IsShipmentRange ships) (IsShipmentRange (ships ++ more))
-    (λ r p. record { rises = p.rises; within = omega (arith, p.within, length-append ships more) }) rows h
-
 -- one item more, whose shipments go to the end
 pub loads_push : (rows : List OutgoingRow) (ships more : List Shipment) (row : OutgoingRow) → AreParts rows ships → row.begin ≡ length ships
     → row.end ≡ length ships + length more → loads_of (rows ++ row ∷ []) (ships ++ more) ≡ loads_of rows ships ++ load row.item more ∷ []
@@ -37,9 +32,3 @@ loads_push rows ships more row h begin end =
     map-append (row_load (ships ++ more)) rows (row ∷ [])
     ∙ ap (λ (z : List OutgoingLoad). z ++ row_load (ships ++ more) row ∷ []) (loads_stay rows ships more h)
     ∙ ap (λ (z : List Shipment). loads_of rows ships ++ load row.item z ∷ []) (last_part ships more row.begin row.end begin end)
-
-pub parts_push : (rows : List OutgoingRow) (ships more : List Shipment) (row : OutgoingRow) → AreParts rows ships → row.begin ≡ length ships
-    → row.end ≡ length ships + length more → AreParts (rows ++ row ∷ []) (ships ++ more)
-parts_push rows ships more row h begin end =
-    All-push (IsShipmentRange (ships ++ more)) rows row (parts_stay rows ships more h)
-    (record { rises = omega arith; within = omega (arith, length-append ships more) })

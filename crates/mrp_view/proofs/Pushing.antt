@@ -53,27 +53,6 @@ pub at_plant_passed : {X Y : Type 0} (f : ℕ → Y) (at : ℕ → X) (plant_of 
 at_plant_passed f at plant_of plant k before after x read apart was same =
     same ∙ range_passed f (λ j. plant_of (at j) == plant) k before (ne_eqb (plant_of (at k)) plant (λ e. apart (ap plant_of read ∙ e))) was
 
--- one element more of a list
-take_more_passing : {X Y : Type 0} (f : X → Y) (p : X → Bool) (xs : List X) (i : ℕ) (d : X) (b : Bool) → i < length xs → p (get_or xs i d) ≡ b
-    → map f (filter p (take (i + 1) xs)) ≡ map f (filter p (take i xs)) ++ map f (cond b (get_or xs i d ∷ []) [])
-take_more_passing {X} {Y} f p xs i d b lt h =
-    ap (map f) (filter_more p xs i d lt)
-    ∙ map-append f (filter p (take i xs)) (cond (p (get_or xs i d)) (get_or xs i d ∷ []) [])
-    ∙ ap (λ (z : Bool). map f (filter p (take i xs)) ++ map f (cond z (get_or xs i d ∷ []) [])) h
-
-pub taken_pushed : {X Y : Type 0} (f : X → Y) (p : X → Bool) (xs : List X) (i : ℕ) (d : X) (first now : List Y) → i < length xs → p (get_or xs i d) ≡ true
-    → now ≡ first ++ map f (filter p (take i xs)) → now ++ f (get_or xs i d) ∷ [] ≡ first ++ map f (filter p (take (i + 1) xs))
-taken_pushed {X} {Y} f p xs i d first now lt passes was =
-    ap (λ (z : List Y). z ++ f (get_or xs i d) ∷ []) was
-    ∙ append_assoc first (map f (filter p (take i xs))) (f (get_or xs i d) ∷ [])
-    ∙ ap (λ (z : List Y). first ++ z) (sym (take_more_passing f p xs i d true lt passes))
-
-pub taken_passed : {X Y : Type 0} (f : X → Y) (p : X → Bool) (xs : List X) (i : ℕ) (d : X) (first now : List Y) → i < length xs → p (get_or xs i d) ≡ false
-    → now ≡ first ++ map f (filter p (take i xs)) → now ≡ first ++ map f (filter p (take (i + 1) xs))
-taken_passed {X} {Y} f p xs i d first now lt fails was =
-    was
-    ∙ ap (λ (z : List Y). first ++ z) (sym (append-nil (map f (filter p (take i xs)))) ∙ sym (take_more_passing f p xs i d false lt fails))
-
 pub flat_pushed : {X Y : Type 0} (f : X → List Y) (xs : List X) (i : ℕ) (x : X) (now next : List Y) → i < length xs → x ≡ get_or xs i x
     → now ≡ flat_map f (take i xs) → next ≡ now ++ f x → next ≡ flat_map f (take (i + 1) xs)
 flat_pushed {X} {Y} f xs i x now next lt read was new =

@@ -97,18 +97,6 @@ plant_rests shows N plants boxes p plant within is cannot x own capacity s at en
 
 -- ---- all of them rest
 
-pub beyond_send : {A : Type 0} (shows : Showing A) (N : Table) (plants : List A) (boxes : List Held) (l : ℕ) → length (lanes N) ≤ l
-    → LeadNowhere shows N plants boxes (Send (record { 0 = l }))
-beyond_send shows N plants boxes l beyond capacity s at enabled = omega (arith, enabled.1.1.lane, beyond)
-
-pub beyond_receive : {A : Type 0} (shows : Showing A) (N : Table) (plants : List A) (boxes : List Held) (l : ℕ) → length (lanes N) ≤ l
-    → LeadNowhere shows N plants boxes (Receive (record { 0 = l }))
-beyond_receive shows N plants boxes l beyond capacity s at enabled = omega (arith, enabled.1.1.lane, beyond)
-
-pub beyond_plan : {A : Type 0} (shows : Showing A) (N : Table) (plants : List A) (boxes : List Held) (x : ℕ) → length N.pairs ≤ x
-    → LeadNowhere shows N plants boxes (Plan (record { 0 = x }))
-beyond_plan shows N plants boxes x beyond capacity s at enabled = omega (arith, enabled.1.0.pair, beyond)
-
 or_less : (l from : ℕ) → (l < from) ⊎ (from ≤ l)
 or_less l from = grind arith
 
