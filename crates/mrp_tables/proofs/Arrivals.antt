@@ -13,7 +13,7 @@ use Rattle.std.proofs.lemmas.Map.Made.{length-le_from_is_member}
 use Rattle.std.proofs.lemmas.List.Quantifiers.{position-Some}
 use Rattle.std.proofs.lemmas.Map.Keys.{apart_from_distinct}
 use Rattle.std.proofs.Math.ListN.{get_or-map}
-use Rattle.mrp_tables.specs.declared.draft.Lane.{Lane}
+use Rattle.mrp_tables.specs.declared.draft.Arrivals.{Arrivals}
 use Rattle.mrp_tables.specs.declared.draft.LaneKey.{LaneKey}
 use Rattle.mrp_rows.specs.declared.numbers.PairNo.{PairNo}
 use Rattle.mrp_rows.specs.declared.numbers.PlantNo.{PlantNo}
@@ -105,8 +105,8 @@ falls_more false l n = refl
 -- what the periods say after one more
 pub state_push : (ns : List ℕ) (n : ℕ) → arrivals_state (ns ++ n ∷ []) ≡ after_ship (arrivals_state ns) n
 state_push ns n =
-    ap (λ last. let r : Lane = record { last = last; falls = not (rises_from 0 (ns ++ n ∷ [])) } in r) (last_push 0 ns n)
-    ∙ ap (λ falls. let r : Lane = record { last = n; falls = falls } in r) (ap not (rises_push 0 ns n) ∙ falls_more (rises_from 0 ns) (last_from 0 ns) n)
+    ap (λ last. let r : Arrivals = record { last = last; falls = not (rises_from 0 (ns ++ n ∷ [])) } in r) (last_push 0 ns n)
+    ∙ ap (λ falls. let r : Arrivals = record { last = n; falls = falls } in r) (ap not (rises_push 0 ns n) ∙ falls_more (rises_from 0 ns) (last_from 0 ns) n)
 
 filter_one : {X : Type 0} (p : X → Bool) (x : X) → p x ≡ true → filter p (x ∷ []) ≡ x ∷ []
 filter_one p x e = rw e refl
@@ -137,7 +137,7 @@ module _ (ships : List ShipRow) (y : ShipRow) (s : SourceRow) where
       ap (λ (rs : List ShipRow). arrivals_state (map (λ (r : ShipRow). r.period) rs)) kept
 
 -- what is known of each source after one shipment more
-pub states_ship : (ships : List ShipRow) (y : ShipRow) (keys : List LaneKey) (sources : List SourceRow) (states : List Lane) (k : ℕ) (d : SourceRow) (l : Lane)
+pub states_ship : (ships : List ShipRow) (y : ShipRow) (keys : List LaneKey) (sources : List SourceRow) (states : List Arrivals) (k : ℕ) (d : SourceRow) (l : Arrivals)
     → keys ≡ map lane_of sources → IsDistinct is_same_lane keys → states ≡ map (lane_state ships) sources
     → position (λ s. (s.plant.0 == y.from.0) && (s.pair.0 == y.pair.0)) sources ≡ Some k
     → l ≡ get_or states k l → set states k (after_ship l y.period) ≡ map (lane_state (ships ++ y ∷ [])) sources
@@ -152,12 +152,12 @@ states_ship ships y keys sources states k d l is apart each at there =
     let n3 = ap length each in
     let n4 = length-set states k v in
     let old : (i : ℕ) → i < length sources → get_or states i l ≡ f (get_or sources i d) =
-    λ i lt. ap (λ (ls : List Lane). get_or ls i l) each ∙ read-map f sources i d l lt in
+    λ i lt. ap (λ (ls : List Arrivals). get_or ls i l) each ∙ read-map f sources i d l lt in
     let new : (i : ℕ) → i < length sources → get_or (map g sources) i l ≡ g (get_or sources i d) = λ i lt. read-map g sources i d l lt in
     let kn : k < length states = omega (arith, p.0, n1, n3) in
     let here : get_or (set states k v) k l ≡ get_or (map g sources) k l =
     get_or-set_same states k v l kn
-    ∙ ap (λ (m : Lane). after_ship m y.period) (there ∙ old k p.0)
+    ∙ ap (λ (m : Arrivals). after_ship m y.period) (there ∙ old k p.0)
     ∙ sym (hit ships y (get_or sources k d) (subst (λ (m : LaneKey). is_same_lane m (key y.from y.pair) ≡ true) (sym same)
     (lane_with_itself (key y.from y.pair))))
     ∙ sym (new k p.0) in
@@ -172,13 +172,13 @@ states_ship ships y keys sources states k d l is apart each at there =
     ext_get_or l (set states k v) (map g sources) (omega (arith, n1, n2, n3, n4)) at_each
 
 -- what is known of the source of a plant and a pair
-pub state_there : (ships : List ShipRow) (f : PlantNo) (x : PairNo) (sources : List SourceRow) (states : List Lane) (k : ℕ) (l : Lane) (d : SourceRow)
+pub state_there : (ships : List ShipRow) (f : PlantNo) (x : PairNo) (sources : List SourceRow) (states : List Arrivals) (k : ℕ) (l : Arrivals) (d : SourceRow)
     → states ≡ map (lane_state ships) sources → position (λ s. (s.plant.0 == f.0) && (s.pair.0 == x.0)) sources ≡ Some k → l ≡ get_or states k l
     → l ≡ arrivals_state (arrivals_of ships f.0 x.0)
 unfolding lane_state
 state_there ships f x sources states k l d each at there =
     let p = source_there f x sources k d at in
-    there ∙ ap (λ (ls : List Lane). get_or ls k l) each ∙ read-map (lane_state ships) sources k d l p.0
+    there ∙ ap (λ (ls : List Arrivals). get_or ls k l) each ∙ read-map (lane_state ships) sources k d l p.0
     ∙ ap (λ (m : LaneKey). arrivals_state (arrivals_of ships m.from.0 m.pair.0)) p.1
 
 -- a pair that no shipment names has none
@@ -239,19 +239,19 @@ lanes_more keys (q ∷ qs) k all =
     rw (more, lanes_more keys qs k p.1) refl
 
 -- what is known of the sources with one more, of a pair that no shipment names
-pub source_fit : (N M : Table) (s : SourceRow) (keys more : List LaneKey) (states made : List Lane) → M ≡ with_source N s → more ≡ keys ++ lane_of s ∷ []
+pub source_fit : (N M : Table) (s : SourceRow) (keys more : List LaneKey) (states made : List Arrivals) → M ≡ with_source N s → more ≡ keys ++ lane_of s ∷ []
     → IsDistinct is_same_lane more → made ≡ states ++ record { last = 0; falls = false } ∷ []
     → FitsRows N keys states → All (λ r. r.pair.0 < s.pair.0) N.ships → length N.sources < 4 * length N.pairs → FitsRows M more made
 source_fit N M s keys more states made is grown apart pushed fits below room =
     let longer = length_push N.sources s in
-    let blank : Lane = record { last = 0; falls = false } in
+    let blank : Arrivals = record { last = 0; falls = false } in
     let n = length_push states blank in
     let m = ap length pushed in
     let all : FitsRows (with_source N s) more made = record {
       lane_keys = grown ∙ ap (λ (ks : List LaneKey). ks ++ lane_of s ∷ []) fits.lane_keys ∙ sym (map-append lane_of N.sources (s ∷ []));
       apart = apart;
-      each = pushed ∙ ap (λ (ls : List Lane). ls ++ blank ∷ []) fits.each
-          ∙ ap (λ (l : Lane). map (lane_state N.ships) N.sources ++ l ∷ []) (sym (new_state N.ships s below))
+      each = pushed ∙ ap (λ (ls : List Arrivals). ls ++ blank ∷ []) fits.each
+          ∙ ap (λ (l : Arrivals). map (lane_state N.ships) N.sources ++ l ∷ []) (sym (new_state N.ships s below))
           ∙ sym (map-append (lane_state N.ships) N.sources (s ∷ []));
       lanes = omega (arith, m, n, longer, fits.lanes);
       sources = omega (arith, longer, room);

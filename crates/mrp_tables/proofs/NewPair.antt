@@ -12,7 +12,7 @@ use Rattle.std.proofs.lemmas.List.Quantifiers.{position-Some}
 use Rattle.std.proofs.lemmas.List.Sums.{AllPass-from_list_all}
 use Rattle.std.proofs.lemmas.Option.{get_or_from_slice_get, slice_get-get_or}
 use Rattle.std.proofs.lemmas.Slice.Eq.{bytes_eq-Decides}
-use Rattle.mrp_tables.specs.declared.draft.Lane.{Lane}
+use Rattle.mrp_tables.specs.declared.draft.Arrivals.{Arrivals}
 use Rattle.mrp_tables.specs.declared.draft.LaneKey.{LaneKey}
 use Rattle.mrp_rows.specs.declared.numbers.PlantNo.{PlantNo}
 use Rattle.mrp_rows.specs.declared.rows.PairRow.{PairRow}
@@ -159,7 +159,7 @@ fresh_pair N plant name item read lacks is = by (list_any (bytes_eq name) N.item
         (length N.items) (read.pairs k d lt).item))
 
 -- what is known of the sources stays when a pair and its item are added
-pub pair_fit : (N N1 N2 : Table) (name : List ℕ) (row : PairRow) (keys : List LaneKey) (states : List Lane) → N1 ≡ with_item N name → N2 ≡ with_pair N1 row
+pub pair_fit : (N N1 N2 : Table) (name : List ℕ) (row : PairRow) (keys : List LaneKey) (states : List Arrivals) → N1 ≡ with_item N name → N2 ≡ with_pair N1 row
     → FitsRows N keys states → FitsRows N2 keys states
 pair_fit N N1 N2 name row keys states e1 e2 fits =
     let longer : length (N.pairs ++ row ∷ []) ≡ length N.pairs + 1 = length_push N.pairs row in

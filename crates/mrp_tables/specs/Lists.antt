@@ -18,7 +18,7 @@ use Rattle.mrp_tables.specs.Keys.{Knows}
 use Rattle.mrp_tables.specs.declared.draft.LaneKey.{LaneKey}
 use Rattle.mrp_tables.specs.declared.draft.BillKey.{BillKey}
 use Rattle.mrp_tables.specs.declared.draft.Draft.{Draft}
-use Rattle.mrp_tables.specs.declared.draft.Lane.{Lane}
+use Rattle.mrp_tables.specs.declared.draft.Arrivals.{Arrivals}
 use Rattle.mrp_tables.specs.declared.lanes.KnownLane.{KnownLane}
 use Rattle.mrp_tables.specs.declared.lanes.NamedLane.{NamedLane}
 use Rattle.mrp_tables.specs.Grammar.{◌>>=◌, check, LaneTerms}
@@ -34,15 +34,15 @@ last_from last [] = last
 last_from last (n ∷ ns) = last_from n ns
 
 -- what the periods of arrival say
-abbrev pub arrivals_state : List ℕ → Lane
+abbrev pub arrivals_state : List ℕ → Arrivals
 arrivals_state periods = record { last = last_from 0 periods; falls = not (rises_from 0 periods) }
 
 -- what the shipments say of a source
-unfoldable pub lane_state : List ShipRow → SourceRow → Lane
+unfoldable pub lane_state : List ShipRow → SourceRow → Arrivals
 lane_state ships s = arrivals_state (arrivals_of ships s.plant.0 s.pair.0)
 
 -- the same after one shipment more
-abbrev pub after_ship : Lane → ℕ → Lane
+abbrev pub after_ship : Arrivals → ℕ → Arrivals
 after_ship l period = record { last = period; falls = l.falls || nat_lt period l.last }
 
 abbrev pub is_same_lane : LaneKey → LaneKey → Bool
@@ -53,7 +53,7 @@ abbrev pub has_lane : List LaneKey → LaneKey → Bool
 has_lane keys k = list_any (is_same_lane k) keys
 
 -- what is known of the sources fits the rows read so far
-pub record FitsRows (N : Table) (keys : List LaneKey) (states : List Lane) : Type 0 where
+pub record FitsRows (N : Table) (keys : List LaneKey) (states : List Arrivals) : Type 0 where
   pub lane_keys : keys ≡ map lane_of N.sources
   pub apart : IsDistinct is_same_lane keys
   pub each : states ≡ map (lane_state N.ships) N.sources

@@ -43,11 +43,11 @@ HasThreeNames row = IsName (field row 1) × IsName (field row 2) × IsName (fiel
 
 -- ---- what a row says by its names and its numbers
 
-abbrev pub bill_fields : List (List ℕ) → ℕ → BillTerms
-bill_fields row per = record { plant = field row 1; parent = field row 2; component = field row 3; per = per }
+abbrev pub terms_of_bill : List (List ℕ) → ℕ → BillTerms
+terms_of_bill row per = record { plant = field row 1; parent = field row 2; component = field row 3; per = per }
 
-abbrev pub amount_fields : List (List ℕ) → ℕ → ℕ → AmountTerms
-amount_fields row period quantity = record { plant = field row 1; item = field row 2; period = period; quantity = quantity }
+abbrev pub terms_of_amount : List (List ℕ) → ℕ → ℕ → AmountTerms
+terms_of_amount row period quantity = record { plant = field row 1; item = field row 2; period = period; quantity = quantity }
 
-abbrev pub lane_fields : List (List ℕ) → LaneTerms
-lane_fields row = record { from = field row 1; to = field row 2; item = field row 3 }
+abbrev pub terms_of_lane : List (List ℕ) → LaneTerms
+terms_of_lane row = record { from = field row 1; to = field row 2; item = field row 3 }

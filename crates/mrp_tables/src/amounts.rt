@@ -27,7 +27,7 @@ impl Draft {
     ghost use Rattle.mrp_tables.specs.Grammar.{field, is_made, receipt_of, receipt_row, seen, TellsMade};
     ghost use Rattle.mrp_tables.specs.Amounts.{known_amount};
     ghost use Rattle.mrp_rows.specs.Names.{pair_named, plant_no};
-    ghost use Rattle.mrp_tables.specs.Spelled.{bill_fields};
+    ghost use Rattle.mrp_tables.specs.Spelled.{terms_of_bill};
     ghost use Rattle.mrp_rows.specs.Table.{IsBillRow, IsDemandRow, IsReceiptRow};
     ghost use Rattle.mrp_tables.specs.Keys.{Knows};
     ghost use Rattle.mrp_tables.specs.Lists.{IsDraft, AddsRow};
@@ -86,7 +86,7 @@ impl Draft {
         requires plant { OnSome parent
             (is_some (plant_no self.now.lists (field (fields_of row.now) 1)) ≡ true) }
         requires per { (1 ≤ per) × (per ≤ MOST_PER) }
-        ensures exact { result ≡ bill_fits self.now.lists (bill_fields (fields_of row.now) per) }
+        ensures exact { result ≡ bill_fits self.now.lists (terms_of_bill (fields_of row.now) per) }
         ensures row { IfOk result (IsBillRow self.now.lists) }
         ensures fresh { IfOk result (λ b. has_bill self.now.lists (Some b.parent.0) (Some b.component.0) ≡ false) }
         ensures room { OnOk result (length self.now.lists.bills < MOST_BILLS) }

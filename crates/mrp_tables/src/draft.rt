@@ -25,16 +25,16 @@ pub(crate) struct BillKey {
     pub(crate) component: PairNo,
 }
 
-/// What the rows so far say of one source of a pair.
+/// What the rows so far say of the shipments from one source of a pair.
 #[derive(Clone, Copy)]
-pub(crate) struct Lane {
+pub(crate) struct Arrivals {
     /// The period of arrival of its last shipment, 0 without one.
     pub(crate) last: usize,
     /// Whether a shipment arrives before the one that stands above it.
     pub(crate) falls: bool,
 }
 
-impl Lane {
+impl Arrivals {
     ghost use Rattle.mrp_tables.specs.Lists.{after_ship};
 
     /// Notes one shipment more.
@@ -54,7 +54,7 @@ pub(crate) struct Draft {
     pub(crate) known: KnownNames,
     /// The sources in the order of their rows, and what is known of each.
     pub(crate) lane_keys: IndexSet<LaneKey>,
-    pub(crate) lanes: Vec<Lane>,
+    pub(crate) lanes: Vec<Arrivals>,
     /// The bill rows, the cumulative figures and where they start anew by their keys, in the order of
     /// their rows.
     pub(crate) bill_keys: IndexSet<BillKey>,

@@ -69,14 +69,14 @@ impl Draft {
     ghost use Rattle.mrp_rows.specs.Table.{arrivals, rises_from};
     ghost use Rattle.mrp_tables.specs.Grammar.{cum_between, cum_of, cum_row, reset_between, reset_in_row};
     ghost use Rattle.mrp_tables.specs.Grammar.{reset_row, seen, ship_of, ship_row, TellsMade};
-    ghost use Rattle.mrp_tables.specs.Spelled.{lane_fields, HasThreeNames};
+    ghost use Rattle.mrp_tables.specs.Spelled.{terms_of_lane, HasThreeNames};
     ghost use Rattle.mrp_tables.specs.Lists.{AddsRow, Finds, IsDraft, IsNamedLane, source_at, source_named};
     ghost use Rattle.mrp_rows.specs.Table.{IsRead};
 
     /// What the names of a row on a lane stand for.
     fn lane_named(&self, row: &StringRecord) -> NamedLane
         requires draft { IsDraft self.now }
-        ensures exact { Finds self.now.lists (lane_fields (fields_of row.now)) result }
+        ensures exact { Finds self.now.lists (terms_of_lane (fields_of row.now)) result }
         ensures named { IsNamedLane self.now result }
         ensures place { result.place ≡ source_named self.now.lists (option_map (λ p. p.0) result.from)
             (option_map (λ x. x.0) result.pair) }

@@ -6,7 +6,7 @@ ghost use Rattle.mrp_tables.specs.Grammar.{supply_kind};
 ghost use Rattle.mrp_rows.specs.Spelled.{source_view, supply_view, AreSources, HasSources};
 
 use crate::TableFaultKind;
-use crate::draft::{Draft, Lane, LaneKey};
+use crate::draft::{Arrivals, Draft, LaneKey};
 use crate::spelled::{SpelledPair, spelled_pair, spelled_plant};
 use csv::StringRecord;
 use mrp_qty::Qty;
@@ -203,7 +203,7 @@ impl Draft {
         if !self.lane_keys.insert(LaneKey { from, pair })? {
             unreachable!();
         }
-        self.lanes.push(Lane {
+        self.lanes.push(Arrivals {
             last: 0,
             falls: false,
         })?;

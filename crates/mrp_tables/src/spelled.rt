@@ -8,7 +8,7 @@ ghost use Rattle.csv.specs.Records.{fields_of};
 ghost use Rattle.mrp_tables.specs.Grammar.{amount_terms, bill_terms, cum_terms, field, is_empty_from};
 ghost use Rattle.mrp_tables.specs.Grammar.{kind_of, lane_terms, name_field, pair_terms, plant_terms, reset_terms};
 ghost use Rattle.mrp_tables.specs.Grammar.{row_kind, run_terms, seen, ship_terms, TellsSeen};
-ghost use Rattle.mrp_tables.specs.Spelled.{amount_fields, bill_fields, lane_fields, pair_view, run_view};
+ghost use Rattle.mrp_tables.specs.Spelled.{terms_of_amount, terms_of_bill, terms_of_lane, pair_view, run_view};
 ghost use Rattle.mrp_tables.specs.Spelled.{HasThreeNames, HasTwoNames, IsSpelledPair};
 ghost use Rattle.mrp_rows.specs.Table.{IsName};
 ghost use Rattle.mrp_tables.specs.Drafts.{TellsRun};
@@ -186,7 +186,7 @@ fn test_name(row: &StringRecord, i: usize, is_known: bool) -> Result<(), TableFa
 #[tactic(auto, unfolding(crate::specs::Grammar::bill_terms))]
 pub(crate) fn spelled_bill(row: &StringRecord, are_known: bool) -> Result<u64, TableFaultKind>
     requires known { are_known ≡ true → HasThreeNames (fields_of row.now) }
-    ensures exact { seen (bill_fields (fields_of row.now)) result ≡ bill_terms (fields_of row.now) }
+    ensures exact { seen (terms_of_bill (fields_of row.now)) result ≡ bill_terms (fields_of row.now) }
     ensures per { IfOk result (λ per. (1 ≤ per) × (per ≤ MOST_PER)) }
 {
     test_name(row, 1, are_known)?;
@@ -205,7 +205,7 @@ pub(crate) fn spelled_amount(
     are_known: bool,
 ) -> Result<(usize, u64), TableFaultKind>
     requires known { are_known ≡ true → HasTwoNames (fields_of row.now) }
-    ensures exact { seen (λ a. amount_fields (fields_of row.now) a.0 a.1) result
+    ensures exact { seen (λ a. terms_of_amount (fields_of row.now) a.0 a.1) result
         ≡ amount_terms (fields_of row.now) horizon }
     ensures ranges { IfOk result (λ a. (a.0 < horizon) × (1 ≤ a.1) × (a.1 ≤ MOST_IN_ROW)) }
 {
@@ -220,7 +220,7 @@ pub(crate) fn spelled_amount(
 #[tactic(auto, unfolding(crate::specs::Grammar::lane_terms))]
 fn test_lane_names(row: &StringRecord, are_known: bool) -> Result<(), TableFaultKind>
     requires known { are_known ≡ true → HasThreeNames (fields_of row.now) }
-    ensures exact { seen (λ _. lane_fields (fields_of row.now)) result ≡ lane_terms (fields_of row.now) }
+    ensures exact { seen (λ _. terms_of_lane (fields_of row.now)) result ≡ lane_terms (fields_of row.now) }
 {
     test_name(row, 1, are_known)?;
     test_name(row, 2, are_known)?;
@@ -235,7 +235,7 @@ pub(crate) fn spelled_ship(
     are_known: bool,
 ) -> Result<(usize, u64), TableFaultKind>
     requires known { are_known ≡ true → HasThreeNames (fields_of row.now) }
-    ensures exact { seen (λ s. (lane_fields (fields_of row.now), s.0, s.1)) result
+    ensures exact { seen (λ s. (terms_of_lane (fields_of row.now), s.0, s.1)) result
         ≡ ship_terms (fields_of row.now) horizon }
     ensures ranges { IfOk result (λ s. (s.0 < horizon) × (1 ≤ s.1) × (s.1 ≤ MOST_IN_ROW)) }
 {
@@ -249,7 +249,7 @@ pub(crate) fn spelled_ship(
 #[tactic(auto, unfolding(crate::specs::Grammar::cum_terms))]
 pub(crate) fn spelled_cum(row: &StringRecord, are_known: bool) -> Result<u64, TableFaultKind>
     requires known { are_known ≡ true → HasThreeNames (fields_of row.now) }
-    ensures exact { seen (λ figure. (lane_fields (fields_of row.now), figure)) result
+    ensures exact { seen (λ figure. (terms_of_lane (fields_of row.now), figure)) result
         ≡ cum_terms (fields_of row.now) }
     ensures figure { IfOk result (λ figure. figure ≤ MOST) }
 {
@@ -266,7 +266,7 @@ pub(crate) fn spelled_reset(
     are_known: bool,
 ) -> Result<usize, TableFaultKind>
     requires known { are_known ≡ true → HasThreeNames (fields_of row.now) }
-    ensures exact { seen (λ period. (lane_fields (fields_of row.now), period)) result
+    ensures exact { seen (λ period. (terms_of_lane (fields_of row.now), period)) result
         ≡ reset_terms (fields_of row.now) horizon }
     ensures period { IfOk result (λ period. period < horizon) }
 {

@@ -1,7 +1,7 @@
 use Rattle.std.proofs.Common.{◌≡◌, ◌+◌, set, sym, ◌∙◌, subst, refl, arith, rules}
 use Rattle.std.proofs.lemmas.List.{length-set, length_push}
 use Rattle.mrp_tables.specs.Keys.{Knows}
-use Rattle.mrp_tables.specs.declared.draft.Lane.{Lane}
+use Rattle.mrp_tables.specs.declared.draft.Arrivals.{Arrivals}
 use Rattle.mrp_rows.specs.declared.rows.SourceRow.{SourceRow}
 use Rattle.mrp_tables.specs.Lists.{after_ship, FitsRows}
 use Rattle.mrp_rows.specs.Turns.{row_count}
@@ -20,7 +20,7 @@ returns-clause-adds c =
     let k = c.in_ok-ship.place in
     let old = c.requires.draft.holds in
     let d : SourceRow = record { pair = x.pair; plant = x.from; low = 0; high = 0 } in
-    let l : Lane = c.index_mut.result.now in
+    let l : Arrivals = c.index_mut.result.now in
     let each = states_ship N.ships x self.lane_keys.keys N.sources self.lanes.items k d l old.fits.lane_keys old.fits.apart old.fits.each
     c.in_ok-ship.ensures.place c.index_mut.ensures.value in
     let v = after_ship l x.period in
@@ -42,7 +42,7 @@ returns-clause-adds c =
         cum_keys = search rules;
         reset_keys = search rules;
         resets = old.resets;
-        fits = subst (λ (m : Lane). FitsRows c.add_ship.new.self self.lane_keys.keys (set self.lanes.items k m)) (sym c.ship.ensures)
+        fits = subst (λ (m : Arrivals). FitsRows c.add_ship.new.self self.lane_keys.keys (set self.lanes.items k m)) (sym c.ship.ensures)
             (subst (λ (M : Table). FitsRows M self.lane_keys.keys (set self.lanes.items k v)) made fits);
       };
       counted = refl;

@@ -4,7 +4,7 @@ use Rattle.mrp_rows.specs.Table.{IsPair}
 use Rattle.mrp_rows.specs.declared.numbers.PairNo.{PairNo}
 use Rattle.mrp_rows.specs.declared.numbers.PlantNo.{PlantNo}
 use Rattle.mrp_rows.specs.declared.rows.CumRow.{CumRow}
-use Rattle.mrp_tables.specs.Spelled.{lane_fields}
+use Rattle.mrp_tables.specs.Spelled.{terms_of_lane}
 use Rattle.mrp_qty.specs.declared.limits.TheConstants.{MOST_OF_A_KIND}
 use Rattle.mrp_tables.proofs.Finding.{cum_full, cum_known, cum_unknown, of_found}
 use Rattle.mrp_tables.proofs.KeepingSteps.{handed_on}
@@ -14,14 +14,14 @@ pub returns-in_err-lane-clause-exact : goal.returns-in_err-lane-clause-exact
 returns-in_err-lane-clause-exact c =
     rw (handed_on c.from_residual-in_err-lane.result _ c.from_residual-in_err-lane.ensures.1)
     (cum_unknown c.args.self.now.lists (fields_of c.args.row.now)
-    (lane_fields (fields_of c.args.row.now), c.in_ok-figure.figure) c.lane_named-named.result _ c.in_ok-figure.ensures.exact c.lane_named-named.ensures.exact
+    (terms_of_lane (fields_of c.args.row.now), c.in_ok-figure.figure) c.lane_named-named.result _ c.in_ok-figure.ensures.exact c.lane_named-named.ensures.exact
     c.if-has_cum.ensures.exact
     c.in_err-lane.ensures.exact)
 
 pub returns-then-cums-ge-MOST_OF_A_KIND-clause-exact : goal.returns-then-cums-ge-MOST_OF_A_KIND-clause-exact
 returns-then-cums-ge-MOST_OF_A_KIND-clause-exact c =
     let many : MOST_OF_A_KIND ≤ length c.args.self.now.lists.cums = omega (arith, ap length c.cums.ensures.value, c.if-cums-ge-MOST_OF_A_KIND.true) in
-    cum_full c.args.self.now.lists (fields_of c.args.row.now) (lane_fields (fields_of c.args.row.now), c.in_ok-figure.figure) c.lane_named-named.result _
+    cum_full c.args.self.now.lists (fields_of c.args.row.now) (terms_of_lane (fields_of c.args.row.now), c.in_ok-figure.figure) c.lane_named-named.result _
     c.in_ok-figure.ensures.exact c.lane_named-named.ensures.exact c.if-has_cum.ensures.exact
     c.in_ok-lane.ensures.exact many
 
@@ -65,7 +65,7 @@ pub returns-clause-exact : goal.returns-clause-exact
 returns-clause-exact c =
     let room = subst (λ (xs : List CumRow). length xs < MOST_OF_A_KIND) c.cums.ensures.value c.if-cums-ge-MOST_OF_A_KIND.false in
     rw c.of.ensures
-    (cum_known c.args.self.now.lists (fields_of c.args.row.now) (lane_fields (fields_of c.args.row.now), c.in_ok-figure.figure) c.lane_named-named.result
+    (cum_known c.args.self.now.lists (fields_of c.args.row.now) (terms_of_lane (fields_of c.args.row.now), c.in_ok-figure.figure) c.lane_named-named.result
     c.in_ok-lane.lane c.in_ok-figure.ensures.exact c.lane_named-named.ensures.exact c.if-has_cum.ensures.exact
     c.in_ok-lane.ensures.exact room)
 

@@ -5,7 +5,7 @@ use Rattle.mrp_rows.specs.Names.{pair_named, plant_no}
 use Rattle.mrp_rows.specs.Table.{horizon}
 use Rattle.mrp_rows.specs.declared.numbers.PairNo.{PairNo}
 use Rattle.mrp_tables.specs.Grammar.{AmountTerms, amount_terms, field}
-use Rattle.mrp_tables.specs.Spelled.{amount_fields}
+use Rattle.mrp_tables.specs.Spelled.{terms_of_amount}
 use Rattle.mrp_tables.specs.declared.fault.TableFaultKind.{TableFaultKind}
 use Rattle.mrp_tables.proofs.AmountFacts.{having, known_there, lacking, misspelled, unknown_pair, unknown_plant}
 use Rattle.mrp_tables.proofs.KeepingSteps.{handed_on}
@@ -25,7 +25,7 @@ pair_is c =
 -- what it spells
 terms : (c : In_ok-period)
     → ◌≡◌ {A = Result AmountTerms TableFaultKind} (amount_terms (fields_of c.args.row.now) (horizon c.args.self.now.lists))
-    (Ok (amount_fields (fields_of c.args.row.now) c.in_ok-period.period c.in_ok-period.quantity))
+    (Ok (terms_of_amount (fields_of c.args.row.now) c.in_ok-period.period c.in_ok-period.quantity))
 terms c =
     let periods = c.horizon-horizon.ensures.value ∙ ap (λ (k : CalendarTerms). k.periods) c.calendar.ensures.value in
     sym (c.in_ok-period.ensures.exact ∙ ap (amount_terms (fields_of c.args.row.now)) periods)
@@ -48,7 +48,7 @@ pub returns-then-not-has_plant_of-clause-exact : goal.returns-then-not-has_plant
 returns-then-not-has_plant_of-clause-exact c =
     let at = goal.at.returns-then-not-has_plant_of-clause-exact c in
     sym (unknown_plant c.args.self.now.lists (fields_of c.args.row.now)
-    (amount_fields (fields_of c.args.row.now) c.in_ok-period.period c.in_ok-period.quantity)
+    (terms_of_amount (fields_of c.args.row.now) c.in_ok-period.period c.in_ok-period.quantity)
     (terms at.In_ok-period) (plant_is at.After-has_plant_of ∙ c.if-not-has_plant_of.true))
 
 pub returns-in_err-pair-clause-exact : goal.returns-in_err-pair-clause-exact
@@ -58,7 +58,7 @@ returns-in_err-pair-clause-exact c =
     rw (handed_on c.from_residual-in_err-pair.result _ c.from_residual-in_err-pair.ensures.1)
     (rw none.1
     (sym (unknown_pair c.args.self.now.lists (fields_of c.args.row.now)
-    (amount_fields (fields_of c.args.row.now) c.in_ok-period.period c.in_ok-period.quantity)
+    (terms_of_amount (fields_of c.args.row.now) c.in_ok-period.period c.in_ok-period.quantity)
     (terms at.In_ok-period) (sym (pair_is at.After-find_pair-found) ∙ ap (option_map (λ (x : PairNo). x.0)) none.0)
     (plant_is at.After-has_plant_of ∙ c.if-not-has_plant_of.false))))
 
@@ -67,5 +67,5 @@ returns-clause-exact c =
     let at = goal.at.returns-clause-exact c in
     let some = having c.find_pair-found.result c.in_ok-pair.pair _ c.in_ok-pair.ensures.value in
     sym (known_there c.args.self.now.lists c.args.self.now.known (fields_of c.args.row.now)
-    (amount_fields (fields_of c.args.row.now) c.in_ok-period.period c.in_ok-period.quantity) c.in_ok-pair.pair.0 c.requires.knows
+    (terms_of_amount (fields_of c.args.row.now) c.in_ok-period.period c.in_ok-period.quantity) c.in_ok-pair.pair.0 c.requires.knows
     (terms at.In_ok-period) (sym (pair_is at.After-find_pair-found) ∙ ap (option_map (λ (x : PairNo). x.0)) some))

@@ -4,7 +4,7 @@ use Rattle.mrp_cal.specs.Calendar.{CalendarTerms}
 use Rattle.mrp_rows.specs.Table.{arrivals, IsPair, rises_from}
 use Rattle.mrp_rows.specs.declared.numbers.PairNo.{PairNo}
 use Rattle.mrp_rows.specs.declared.numbers.PlantNo.{PlantNo}
-use Rattle.mrp_tables.specs.Spelled.{lane_fields}
+use Rattle.mrp_tables.specs.Spelled.{terms_of_lane}
 use Rattle.mrp_tables.proofs.Finding.{from_not, of_found, placed, reset_falls, reset_known, reset_unknown}
 use Rattle.mrp_tables.proofs.KeepingSteps.{handed_on}
 use Rattle.mrp_tables.proofs.draft.Draft.reset_of.Goals as goal
@@ -14,7 +14,7 @@ returns-in_err-lane-clause-exact c =
     let periods = c.horizon-horizon.ensures.value ∙ ap (λ (k : CalendarTerms). k.periods) c.calendar.ensures.value in
     rw (handed_on c.from_residual-in_err-lane.result _ c.from_residual-in_err-lane.ensures.1)
     (reset_unknown c.args.self.now.lists (fields_of c.args.row.now) _
-    (lane_fields (fields_of c.args.row.now), c.in_ok-period.period) c.lane_named-named.result _ c.in_ok-period.ensures.exact periods c.lane_named-named.ensures.exact
+    (terms_of_lane (fields_of c.args.row.now), c.in_ok-period.period) c.lane_named-named.result _ c.in_ok-period.ensures.exact periods c.lane_named-named.ensures.exact
     c.if-has_reset.ensures.exact c.in_err-lane.ensures.exact)
 
 pub returns-in_err-period-clause-row : goal.returns-in_err-period-clause-row
@@ -59,7 +59,7 @@ returns-then-falls-clause-exact c =
     let periods = c.horizon-horizon.ensures.value ∙ ap (λ (k : CalendarTerms). k.periods) c.calendar.ensures.value in
     let lane = c.in_ok-lane.lane in
     let rises = from_not (rises_from 0 (arrivals N lane.from.0 lane.pair.0)) true c.if-falls.ensures.exact in
-    reset_falls N (fields_of c.args.row.now) _ (lane_fields (fields_of c.args.row.now), c.in_ok-period.period) c.lane_named-named.result lane
+    reset_falls N (fields_of c.args.row.now) _ (terms_of_lane (fields_of c.args.row.now), c.in_ok-period.period) c.lane_named-named.result lane
     c.in_ok-period.ensures.exact periods c.lane_named-named.ensures.exact c.if-has_reset.ensures.exact c.in_ok-lane.ensures.exact rises
 
 pub returns-clause-exact : goal.returns-clause-exact
@@ -68,7 +68,7 @@ returns-clause-exact c =
     let periods = c.horizon-horizon.ensures.value ∙ ap (λ (k : CalendarTerms). k.periods) c.calendar.ensures.value in
     let lane = c.in_ok-lane.lane in
     let rises = from_not (rises_from 0 (arrivals N lane.from.0 lane.pair.0)) false c.if-falls.ensures.exact in
-    reset_known N (fields_of c.args.row.now) _ (lane_fields (fields_of c.args.row.now), c.in_ok-period.period) c.lane_named-named.result lane
+    reset_known N (fields_of c.args.row.now) _ (terms_of_lane (fields_of c.args.row.now), c.in_ok-period.period) c.lane_named-named.result lane
     c.in_ok-period.ensures.exact periods c.lane_named-named.ensures.exact c.if-has_reset.ensures.exact c.in_ok-lane.ensures.exact rises
 
 pub returns-clause-row : goal.returns-clause-row

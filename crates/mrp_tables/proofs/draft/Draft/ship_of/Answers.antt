@@ -6,7 +6,7 @@ use Rattle.mrp_rows.specs.declared.numbers.PairNo.{PairNo}
 use Rattle.mrp_rows.specs.declared.numbers.PlantNo.{PlantNo}
 use Rattle.mrp_rows.specs.declared.rows.ShipRow.{ShipRow}
 use Rattle.mrp_qty.specs.declared.limits.TheConstants.{MOST_OF_A_KIND}
-use Rattle.mrp_tables.specs.Spelled.{lane_fields}
+use Rattle.mrp_tables.specs.Spelled.{terms_of_lane}
 use Rattle.mrp_tables.proofs.Finding.{of_found, placed, ship_full, ship_known, ship_unknown}
 use Rattle.mrp_tables.proofs.KeepingSteps.{handed_on}
 use Rattle.mrp_tables.proofs.draft.Draft.ship_of.Goals as goal
@@ -16,7 +16,7 @@ returns-in_err-lane-clause-exact c =
     let periods = c.horizon-horizon.ensures.value ∙ ap (λ (k : CalendarTerms). k.periods) c.calendar.ensures.value in
     rw (handed_on c.from_residual-in_err-lane.result _ c.from_residual-in_err-lane.ensures.1)
     (ship_unknown c.args.self.now.lists (fields_of c.args.row.now) _
-    (lane_fields (fields_of c.args.row.now), c.in_ok-period.period, c.in_ok-period.quantity) c.lane_named-named.result _ c.in_ok-period.ensures.exact periods
+    (terms_of_lane (fields_of c.args.row.now), c.in_ok-period.period, c.in_ok-period.quantity) c.lane_named-named.result _ c.in_ok-period.ensures.exact periods
     c.lane_named-named.ensures.exact c.in_err-lane.ensures.exact)
 
 pub returns-in_err-period-clause-row : goal.returns-in_err-period-clause-row
@@ -51,7 +51,7 @@ returns-then-ships-ge-MOST_OF_A_KIND-clause-exact c =
     let periods = c.horizon-horizon.ensures.value ∙ ap (λ (k : CalendarTerms). k.periods) c.calendar.ensures.value in
     let many = subst (λ (xs : List ShipRow). MOST_OF_A_KIND ≤ length xs) c.ships.ensures.value c.if-ships-ge-MOST_OF_A_KIND.true in
     ship_full c.args.self.now.lists (fields_of c.args.row.now) _
-    (lane_fields (fields_of c.args.row.now), c.in_ok-period.period, c.in_ok-period.quantity) c.lane_named-named.result c.in_ok-lane.lane
+    (terms_of_lane (fields_of c.args.row.now), c.in_ok-period.period, c.in_ok-period.quantity) c.lane_named-named.result c.in_ok-lane.lane
     c.in_ok-period.ensures.exact periods c.lane_named-named.ensures.exact c.in_ok-lane.ensures.exact many
 
 pub returns-clause-exact : goal.returns-clause-exact
@@ -60,7 +60,7 @@ returns-clause-exact c =
     let room = subst (λ (xs : List ShipRow). length xs < MOST_OF_A_KIND) c.ships.ensures.value c.if-ships-ge-MOST_OF_A_KIND.false in
     rw c.of.ensures
     (ship_known c.args.self.now.lists (fields_of c.args.row.now) _
-    (lane_fields (fields_of c.args.row.now), c.in_ok-period.period, c.in_ok-period.quantity) c.lane_named-named.result c.in_ok-lane.lane
+    (terms_of_lane (fields_of c.args.row.now), c.in_ok-period.period, c.in_ok-period.quantity) c.lane_named-named.result c.in_ok-lane.lane
     c.in_ok-period.ensures.exact periods c.lane_named-named.ensures.exact c.in_ok-lane.ensures.exact room)
 
 pub returns-clause-row : goal.returns-clause-row
