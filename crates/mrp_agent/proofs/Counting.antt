@@ -226,5 +226,3 @@ open_blocks_are_awaited waits joins planned blocks counts k y is known =
     omega (arith, counts.counted y known, some, one)
 
 -- ---- what pairs wait for at first
-
-}

@@ -205,8 +205,6 @@ lowered_waiting inside value gone left y was now kept shown known some read_was 
 
 -- ---- the components, one after another
 
-}
-
 -- a component waits at least as often as it stands in what is left
 pub still_waits : (old now : Progress) (components : List ℕ) (i c : ℕ) → i < length components → c ≡ get_or components i c → Lowers old now (take i components)
     → c < length old.waits → ((y : ℕ) → y < length old.waits → times y components ≤ get_or old.waits y 0) → 0 < get_or now.waits c 0

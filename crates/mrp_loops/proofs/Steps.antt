@@ -220,8 +220,6 @@ none_in (z ∷ zs) x below =
     let l = All-head (λ (w : PairNo). w.0 < x) z zs below in
     or_from (z.0 == x) (is_in zs x) (ne_eqb z.0 x (λ e. omega arith)) (none_in zs x (All-tail (λ (w : PairNo). w.0 < x) z zs below))
 
-}
-
 module _ (N : Table) (x n : ℕ) (queue : List PairNo) (left : List ℕ) (begun : IsBegun N x queue left) (is : n ≡ length (demanders N x)) where
   abbrev this : PairNo
   this = record { 0 = x }

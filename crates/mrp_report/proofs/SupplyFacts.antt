@@ -173,8 +173,6 @@ pub record Next (N : Table) (x low : ℕ) (before now : List ℕ) (edge : Edge) 
   pub ends : edge.high ≤ 1000
   pub more : (after : List ℕ) → after ≡ now ++ source_part (plant_of N edge.pair.0) (edge.high - edge.low) → Written N x edge.high before after
 
-}
-
 last_ends : (low : ℕ) → AreShares low [] → low ≡ 1000
 unfolding AreShares
 last_ends low shares = shares

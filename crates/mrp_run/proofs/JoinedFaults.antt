@@ -28,8 +28,6 @@ worst_more worst fault result one before faults is = record {
       (λ f p. before_trans result worst f before.0 p) faults is.first) before.1;
 }
 
-}
-
 -- ---- what was brought back
 
 abbrev pub plant_in : Back → Option Plant
