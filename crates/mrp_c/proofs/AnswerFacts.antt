@@ -3,7 +3,7 @@ use Rattle.std.proofs.Common.{◌≡◌, ℕ, List, [], ◌++◌, Some, Result, 
 use Rattle.std.specs.Io.KnownBytes.{Appends}
 use Rattle.mrp_rows.specs.Table.{Table}
 use Rattle.mrp_text.specs.declared.fault.TextFault.{TextFault}
-use Rattle.mrp_text.specs.declared.fault.TextFault.TheVariants.{Memory}
+use Rattle.mrp_text.specs.declared.fault.TextFault.TheVariants.{Memory, WriteFault}
 use Rattle.mrp_text.specs.Refusals.{Question, Refuses}
 use Rattle.mrp_text.specs.Text.{OfTable, Writes}
 use Rattle.mrp_c.specs.Answers.{Answers, Tells}
@@ -25,5 +25,7 @@ pub answers-of : {U : Type 0} (bytes start report : List ℕ) (asked : Question)
     → Answers bytes asked IsReport status old new size
 answers-of bytes start report asked IsReport (Ok u) status old new size empty written refused told =
     inl (written.0, written.1, told.0, hands-text start report written.0 old new size empty written.2 told.1)
+answers-of bytes start report asked IsReport (Err WriteFault) status old new size empty written refused told =
+    inr (Memory, (λ is. absurd (cc)), tt, told)
 answers-of bytes start report asked IsReport (Err e) status old new size empty written refused told =
-    ⊎_elim (λ own. inr (e, refused, own)) (λ memory. inr (Memory, tt, memory)) told
+    ⊎_elim (λ own. inr (e, (λ is. absurd (cc)), refused, own)) (λ memory. inr (Memory, (λ is. absurd (cc)), tt, memory)) told

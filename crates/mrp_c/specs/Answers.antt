@@ -1,10 +1,10 @@
 -- What a call from C answers: a status, and a text in the caller's buffer. `old` and `new` are the bytes of the buffer
 -- before the call and after it, and `size` is the length that was told.
-use Rattle.std.specs.Prelude.{◌≡◌, ℕ, ◌⊎◌, List, codes, Some, Result, Ok, Err, IsUtf8}
+use Rattle.std.specs.Prelude.{◌≡◌, ◌≢◌, ℕ, ◌⊎◌, List, codes, Some, Result, Ok, Err, IsUtf8}
 use Rattle.mrp_choice.specs.declared.choice.Heading.{Heading}
 use Rattle.mrp_rows.specs.Table.{Table}
 use Rattle.mrp_text.specs.declared.fault.TextFault.{TextFault}
-use Rattle.mrp_text.specs.declared.fault.TextFault.TheVariants.{Memory}
+use Rattle.mrp_text.specs.declared.fault.TextFault.TheVariants.{Memory, WriteFault}
 use Rattle.mrp_text.specs.Fault.{status_of}
 use Rattle.mrp_text.specs.Lines.{fault_line}
 use Rattle.mrp_text.specs.Refusals.{Question, AskPlants, Refuses}
@@ -23,19 +23,21 @@ TellsFault fault status old new size = (status ≡ status_of fault) × HandsOver
 abbrev pub TellsOrMemory : TextFault → ℕ → List ℕ → List ℕ → ℕ → Type 0
 TellsOrMemory fault status old new size = TellsFault fault status old new size ⊎ TellsFault Memory status old new size
 
--- the report, or a fault
+-- the report, or a fault: a report in memory isn't written only where that is wanting
 abbrev pub Tells : {U : Type 0} → Result U TextFault → List ℕ → ℕ → List ℕ → List ℕ → ℕ → Type 0
 Tells (Ok done) report status old new size = (status ≡ 0) × HandsOver report old new size
+Tells (Err WriteFault) report status old new size = TellsFault Memory status old new size
 Tells (Err fault) report status old new size = TellsOrMemory fault status old new size
 
 -- ---- of a table
 
--- at 0 the text is the report of the table that these bytes are; else it is the line of a fault that is theirs, and the
--- status is that of the fault, 1 or 3
+-- at 0 the text is the report of the table that these bytes are; else it is the line of a fault that is theirs, never
+-- of a failed write, and the status is that of the fault, 1 or 3
 abbrev pub Answers : List ℕ → Question → (Table → List ℕ → Type 0) → ℕ → List ℕ → List ℕ → ℕ → Type 0
 Answers bytes asked IsReport status old new size =
     ((text : List ℕ) × OfTable (Some bytes) (λ N. IsReport N text) × (status ≡ 0) × HandsOver text old new size)
-    ⊎ ((fault : TextFault) × Refuses (Some bytes) asked fault × TellsFault fault status old new size)
+    ⊎ ((fault : TextFault) × (fault ≢ WriteFault) × Refuses (Some bytes) asked fault
+    × TellsFault fault status old new size)
 
 -- what a name is refused by that is no text
 abbrev pub name_line : List ℕ

@@ -9,7 +9,7 @@ use mrp_choice::Choice;
 use mrp_text::{REFUSED, TextFault, report_text, status, write_fault};
 use std::alloc::Global;
 
-/// Writes the report that one thread is asked for, and hands it over, or the line of its fault. Answers with the status.
+/// Hands over the report that one thread is asked for, or the line of its fault. Answers with the status.
 pub(crate) fn answer(
     alloc: Global,
     table: &[u8],

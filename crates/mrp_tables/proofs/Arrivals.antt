@@ -137,7 +137,8 @@ module _ (ships : List ShipRow) (y : ShipRow) (s : SourceRow) where
       ap (λ (rs : List ShipRow). arrivals_state (map (λ (r : ShipRow). r.period) rs)) kept
 
 -- what is known of each source after one shipment more
-pub states_ship : (ships : List ShipRow) (y : ShipRow) (keys : List LaneKey) (sources : List SourceRow) (states : List Arrivals) (k : ℕ) (d : SourceRow) (l : Arrivals)
+pub states_ship : (ships : List ShipRow) (y : ShipRow) (keys : List LaneKey) (sources : List SourceRow) (states : List Arrivals) (k : ℕ) (d : SourceRow)
+    (l : Arrivals)
     → keys ≡ map lane_of sources → IsDistinct is_same_lane keys → states ≡ map (lane_state ships) sources
     → position (λ s. (s.plant.0 == y.from.0) && (s.pair.0 == y.pair.0)) sources ≡ Some k
     → l ≡ get_or states k l → set states k (after_ship l y.period) ≡ map (lane_state (ships ++ y ∷ [])) sources

@@ -1,5 +1,6 @@
 -- What the reading finds of the names of a row on a lane is what the grammar says of them.
-use Rattle.std.proofs.Common.{◌≡◌, ℕ, ◌<◌, ◌≤◌, ◌==◌, ◌&&◌, nat_lt, Bool, not, List, length, Option, Some, None, IfSome, option_map, is_some, arith, subst, Ok, Err, true}
+use Rattle.std.proofs.Common.{◌≡◌, ℕ, ◌<◌, ◌≤◌, ◌==◌, ◌&&◌, nat_lt, Bool, not, List, length, Option, Some, None, IfSome, option_map, is_some, arith}
+use Rattle.std.proofs.Common.{subst, Ok, Err, true}
 use Rattle.std.proofs.Common.{false, refl, sym, ap, ◌∙◌}
 use Rattle.std.proofs.lemmas.Bool.Decides.{nat_tests}
 use Rattle.mrp_rows.specs.declared.numbers.PairNo.{PairNo}
@@ -46,7 +47,8 @@ lane_by from pair place has_to = record { from = from; has_to = has_to; pair = p
 pub known_as : (N : Table) (t : LaneTerms) (l : NamedLane) → Finds N t l → seen lane_ends (known_found l) ≡ known_lane N t
 unfolding lane_by
 known_as N t l f =
-    let P : Bool → Type 0 = λ b. Finds N t (lane_by l.from l.pair l.place b) → seen lane_ends (known_found (lane_by l.from l.pair l.place b)) ≡ known_lane N t in
+    let L : Bool → NamedLane = lane_by l.from l.pair l.place in
+    let P : Bool → Type 0 = λ b. Finds N t (L b) → seen lane_ends (known_found (L b)) ≡ known_lane N t in
     subst P (sym f.to) (known_by N t l.from (plant_no N t.to) l.pair l.place refl) f
 
 -- a lane that isn't there, and one that is

@@ -1,4 +1,4 @@
--- What a row spells, before its names are looked up.
+-- What a row spells.
 use Rattle.std.specs.Prelude.{ℕ, ◌≤◌, List}
 use Rattle.mrp_lot.specs.Lot.{IsRule}
 use Rattle.mrp_lot.specs.declared.rule.TheConstants.{LONGEST_LEAD}
@@ -47,7 +47,12 @@ abbrev pub terms_of_bill : List (List ℕ) → ℕ → BillTerms
 terms_of_bill row per = record { plant = field row 1; parent = field row 2; component = field row 3; per = per }
 
 abbrev pub terms_of_amount : List (List ℕ) → ℕ → ℕ → AmountTerms
-terms_of_amount row period quantity = record { plant = field row 1; item = field row 2; period = period; quantity = quantity }
+terms_of_amount row period quantity = record {
+  plant = field row 1;
+  item = field row 2;
+  period = period;
+  quantity = quantity;
+}
 
 abbrev pub terms_of_lane : List (List ℕ) → LaneTerms
 terms_of_lane row = record { from = field row 1; to = field row 2; item = field row 3 }

@@ -118,7 +118,7 @@ impl Draft {
     }
 
     /// What a ship row says, with the place of its source.
-    #[tactic(auto, using(crate::proofs::Finding::known_err, crate::proofs::Finding::known_ok), unfolding(crate::specs::Grammar::ship_of))]
+    #[tactic(auto, unfolding(crate::specs::Grammar::ship_of))]
     fn ship_of(&self, row: &StringRecord) -> Result<(ShipRow, usize), TableFaultKind>
         requires draft { IsDraft self.now }
         ensures exact { seen (λ s. s.0) result ≡ ship_of self.now.lists (fields_of row.now) }
@@ -161,7 +161,7 @@ impl Draft {
     }
 
     /// What a cum row says.
-    #[tactic(auto, using(crate::proofs::Finding::known_err, crate::proofs::Finding::known_ok), unfolding(crate::specs::Grammar::cum_of))]
+    #[tactic(auto, unfolding(crate::specs::Grammar::cum_of))]
     fn cum_of(&self, row: &StringRecord) -> Result<CumRow, TableFaultKind>
         requires draft { IsDraft self.now }
         ensures exact { result ≡ cum_of self.now.lists (fields_of row.now) }
@@ -216,7 +216,7 @@ impl Draft {
     }
 
     /// What a reset row says.
-    #[tactic(auto, using(crate::proofs::Finding::known_err, crate::proofs::Finding::known_ok), unfolding(crate::specs::Grammar::reset_in_row))]
+    #[tactic(auto, unfolding(crate::specs::Grammar::reset_in_row))]
     fn reset_of(&self, row: &StringRecord) -> Result<ResetRow, TableFaultKind>
         requires draft { IsDraft self.now }
         ensures exact { result ≡ reset_in_row self.now.lists (fields_of row.now) }

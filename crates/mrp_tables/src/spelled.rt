@@ -21,9 +21,7 @@ use csv::StringRecord;
 use mrp_cal::Calendar;
 use mrp_lot::{LONGEST_LEAD, Rule};
 use mrp_qty::{Horizon, LONGEST, MOST};
-use mrp_rows::{
-    MOST_IN_ROW, MOST_PER, SpelledSupply, is_name, is_same_text, number, rule, supply,
-};
+use mrp_rows::{MOST_IN_ROW, MOST_PER, SpelledSupply, is_name, is_same_text, number, rule, supply};
 use std::alloc::Global;
 
 /// How many fields a row has.

@@ -343,7 +343,8 @@ pub fn advice_text<R: Read + Drop, W: Write>(
 
 /// Reads a table and writes the report that one thread is asked for: what each text function but [`plan_text`] does.
 ///
-/// A plan is asked for with `single` alone, and with mailboxes for 1 to [`MOST_CAPACITY`] records.
+/// A plan is asked for with `single` alone, and with mailboxes for 1 to [`MOST_CAPACITY`] records; its workers aren't
+/// looked at.
 ///
 /// # Errors
 ///

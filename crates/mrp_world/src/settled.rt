@@ -20,8 +20,8 @@ use mrp_qty::{Memory, Qty, Row};
 use std::alloc::Global;
 
 /// The cumulative figures of each item of each lane once all is shipped and received, by lane, then lane item: those
-/// that [`World::figures`](crate::World::figures) answers of each finished world, by the network's plan and without
-/// one.
+/// that [`World::figures`](crate::World::figures) answers of each finished world, by a plan that fits the network and
+/// without a world.
 ///
 /// # Errors
 ///
@@ -31,8 +31,7 @@ pub fn settled_figures(
     net: &SizedNet<'_>,
     plan: &Plan,
 ) -> Result<Vec<LaneFigure>, Memory>
-    requires fits { Fits net.now.network plan.now }
-    requires plan { plan.now ≡ plan_of net.now.network }
+    requires { Fits net.now.network plan.now }
     ensures figures { IfOk result (λ figures. figures.items ≡ last_figures net.now.network) }
     ensures lanes { IfOk result (λ figures. All (IsLaneFigure net.now.network) figures.items) }
 {

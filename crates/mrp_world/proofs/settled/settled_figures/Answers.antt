@@ -1,12 +1,23 @@
 use Rattle.std.proofs.Common.{◌≡◌, ℕ, length, ap, subst, sym, ◌∙◌, arith}
 use Rattle.std.specs.List.{flat_map, range_with_len}
 use Rattle.std.specs.Prelude.{All}
+use Rattle.mrp_rows.specs.Table.{IsTable, Table}
 use Rattle.mrp_net.specs.Lanes.{lanes}
+use Rattle.mrp_net.specs.PlanLaws.{Fits}
+use Rattle.mrp_loops.specs.Loop.{IsLoopFree}
+use Rattle.mrp_loops.proofs.OnePlan.{one_plan}
 use Rattle.mrp_world.specs.Figures.{IsLaneFigure, last_figures, last_on}
 use Rattle.mrp_world.proofs.Pieces as piece
 use Rattle.mrp_world.proofs.Settling.{last_are_of_lanes}
 use Rattle.mrp_world.proofs.settled.settled_figures.Goals as goal
 use Rattle.mrp_world.proofs.settled.settled_figures.Goals.{After-loop-l}
+
+pub add_lane-requires-clause-plan : goal.add_lane-requires-clause-plan
+add_lane-requires-clause-plan c =
+    let sized = c.network-network.ensures.sized in
+    let N = c.network-network.result.now in
+    (one_plan N (subst IsTable (sym c.network-network.ensures.value) sized.table) (subst IsLoopFree (sym c.network-network.ensures.value) sized.loop_free)).only
+    c.args.plan.now (subst (λ (M : Table). Fits M c.args.plan.now) (sym c.network-network.ensures.value) c.requires)
 
 pub loop-l-preserved : goal.loop-l-preserved
 loop-l-preserved c =

@@ -14,8 +14,8 @@ returns-in_err-lane-clause-exact c =
     let periods = c.horizon-horizon.ensures.value ∙ ap (λ (k : CalendarTerms). k.periods) c.calendar.ensures.value in
     rw (handed_on c.from_residual-in_err-lane.result _ c.from_residual-in_err-lane.ensures.1)
     (reset_unknown c.args.self.now.lists (fields_of c.args.row.now) _
-    (terms_of_lane (fields_of c.args.row.now), c.in_ok-period.period) c.lane_named-named.result _ c.in_ok-period.ensures.exact periods c.lane_named-named.ensures.exact
-    c.if-has_reset.ensures.exact c.in_err-lane.ensures.exact)
+    (terms_of_lane (fields_of c.args.row.now), c.in_ok-period.period) c.lane_named-named.result _ c.in_ok-period.ensures.exact periods
+    c.lane_named-named.ensures.exact c.if-has_reset.ensures.exact c.in_err-lane.ensures.exact)
 
 pub returns-in_err-period-clause-row : goal.returns-in_err-period-clause-row
 returns-in_err-period-clause-row c = rw (handed_on c.from_residual.result _ c.from_residual.ensures.1) tt
