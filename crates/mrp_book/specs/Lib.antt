@@ -3,3 +3,4 @@ pub mod Faults
 pub mod Figures
 pub mod Laws
 pub mod Meanings
+pub mod LaneFigures

@@ -8,7 +8,7 @@ ghost use Rattle.mrp_net.specs.Suppliers.{suppliers, IsEdge};
 ghost use Rattle.mrp_net.specs.Sums.{pair_at, row_of, demand, demand_total, incoming, received, supply};
 ghost use Rattle.mrp_net.specs.Names.{IsNamed};
 ghost use Rattle.mrp_net.specs.Lanes.{lanes, lane_at, lane_items, figure, opening, shipments, reset, pair_on};
-ghost use Rattle.mrp_net.specs.Lanes.{customer_of, supplier_of};
+ghost use Rattle.mrp_net.specs.Lanes.{customer_of, shipped_from, supplier_of};
 ghost use Rattle.mrp_net.specs.Routes.{route_no, IsLane};
 ghost use Rattle.mrp_net.specs.Sources.{source_no, source_on};
 ghost use Rattle.mrp_net.specs.Texts.{longest_block, longest_text};
@@ -377,6 +377,17 @@ impl Network {
     {
         let at = self.source(self.lane(l), item);
         self.lanes.shipments.get(at)
+    }
+
+    /// The pieces of these shipments, at most 10^18: the same for both lanes of the two plants.
+    pub fn shipped(&self, l: LaneNo, item: ItemNo) -> u64
+        requires lane { l.0 < length (lanes self.now) }
+        requires item { Contains (lane_items self.now (lane_at self.now l.0)) item }
+        ensures { result ≡ shipped_from self.now (pair_on self.now (lane_at self.now l.0) item)
+            (supplier_of (lane_at self.now l.0)) }
+    {
+        let source = self.source(self.lane(l), item);
+        self.lanes.shipped[source]
     }
 
     /// What the supplier had shipped of an item of the lane before the shipments of the table, in

@@ -1,11 +1,11 @@
 -- The report of the cumulative figures of lanes.
-use Rattle.std.specs.Prelude.{ℕ, ◌-◌, ◌<◌, ◌≤◌, List, [], ◌∷◌, length, decimal, codes as text_bytes}
+use Rattle.std.specs.Prelude.{ℕ, ◌-◌, List, [], ◌∷◌, decimal, codes as text_bytes}
 use Rattle.std.specs.List.{flat_map}
 use Rattle.mrp_rows.specs.Table.{Table}
 use Rattle.mrp_net.specs.declared.lane.Lane.{Lane}
 use Rattle.mrp_net.specs.declared.lane.LaneKind.{LaneKind}
 use Rattle.mrp_net.specs.declared.lane.LaneKind.TheVariants.{Despatch, Schedule}
-use Rattle.mrp_net.specs.Lanes.{lane_at, lanes}
+use Rattle.mrp_net.specs.Lanes.{lane_at}
 use Rattle.mrp_book.specs.declared.figure.LaneFigure.{LaneFigure}
 use Rattle.mrp_sheet.specs.RowNames.{name_of_item, name_of_plant}
 use Rattle.mrp_sheet.specs.Rows.{row}
@@ -33,9 +33,3 @@ lane_row N figure = figure_row N (lane_at N figure.lane.0) figure
 -- the report of the figures, in their order
 unfoldable pub lane_text : Table → List LaneFigure → List ℕ
 lane_text N figures = flat_map (lane_row N) figures
-
--- a figure of a lane and an item of the network, with no more received than shipped
-pub record IsFigure (N : Table) (figure : LaneFigure) : Type 0 where
-  pub lane : figure.lane.0 < length (lanes N)
-  pub item : figure.item.0 < length N.items
-  pub received : figure.received ≤ figure.shipped

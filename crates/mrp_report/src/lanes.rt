@@ -4,7 +4,8 @@ ghost use Rattle.std.specs.Prelude.{◌≡◌, ◌++◌, ◌<◌, Err, OnOk, IfO
 ghost use Rattle.mrp_net.specs.Lanes.{lanes};
 ghost use Rattle.mrp_sheet.specs.Headings.{header_row};
 ghost use Rattle.mrp_report.specs.Headings.{lane_names};
-ghost use Rattle.mrp_report.specs.Lanes.{lane_kind_word, lane_row, lane_text, IsFigure};
+ghost use Rattle.mrp_book.specs.LaneFigures.{IsLaneFigure};
+ghost use Rattle.mrp_report.specs.Lanes.{lane_kind_word, lane_row, lane_text};
 ghost use Rattle.mrp_sheet.specs.Writing.{IsBetweenRows, written};
 ghost use Rattle.mrp_sheet.specs.Sent.{SendsReport};
 
@@ -40,7 +41,7 @@ pub fn lane_rows<W: Write>(
     heading: Heading,
     out: &mut W,
 ) -> Result<(), ReportFault>
-    requires { All (IsFigure network.now) figures.now }
+    requires { All (IsLaneFigure network.now) figures.now }
     ensures text { SendsReport (W.contents out.old) (W.contents out.new) result
         (header_row heading lane_names ++ lane_text network.now figures.now) }
     ensures untouched { result ≡ Err ReportFault.Memory → out.new ≡ out.old }
@@ -56,7 +57,7 @@ fn lane_text(
     figures: &[LaneFigure],
     heading: Heading,
 ) -> Result<Vec<u8>, ReportFault>
-    requires { All (IsFigure network.now) figures.now }
+    requires { All (IsLaneFigure network.now) figures.now }
     ensures text { IfOk result (λ text. text.items ≡ header_row heading lane_names
         ++ lane_text network.now figures.now) }
     ensures fault { IfErr result (λ fault. fault ≡ ReportFault.Memory) }
@@ -100,7 +101,7 @@ fn put_figure<'a>(
     figure: LaneFigure,
 ) -> Result<(), ReportFault>
     requires between { IsBetweenRows rows.old }
-    requires figure { IsFigure network.now figure }
+    requires figure { IsLaneFigure network.now figure }
     ensures row { OnOk result (written rows.new ≡ written rows.old ++ lane_row network.now figure) }
     ensures between { OnOk result (IsBetweenRows rows.new) }
     ensures fault { IfErr result (λ fault. fault ≡ ReportFault.Memory) }

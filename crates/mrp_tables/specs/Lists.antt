@@ -1,12 +1,13 @@
 -- What is true of the rows while they are read.
-use Rattle.std.specs.Prelude.{◌≡◌, ℕ, ◌+◌, ◌*◌, ◌≤◌, ◌<◌, ◌==◌, ◌&&◌, ◌||◌, ◌∷◌, [], List, length, map, IfSome, Bool}
-use Rattle.std.specs.Prelude.{true, not, nat_lt}
+use Rattle.std.specs.Prelude.{◌≡◌, ℕ, ◌+◌, ◌*◌, ◌≤◌, ◌<◌, ◌==◌, ◌&&◌, ◌||◌, ◌∷◌, [], List, length, map, IfSome, OnSome}
+use Rattle.std.specs.Prelude.{Bool, true, not, nat_lt}
 use Rattle.std.specs.Prelude.{Option, Some, None, is_some, option_map, position, ok_or, Result, Ok}
 use Rattle.std.specs.List.{IsDistinct, list_all, list_any}
 use Rattle.mrp_rows.specs.Names.{pair_named, plant_no}
 use Rattle.mrp_rows.specs.Table.{Table, IsRead, arrivals_of, rises_from}
 use Rattle.mrp_rows.specs.Turns.{row_count}
 use Rattle.mrp_qty.specs.declared.limits.TheConstants.{MOST_SOURCES_OF_PAIR}
+use Rattle.mrp_rows.specs.declared.numbers.PairNo.{PairNo}
 use Rattle.mrp_rows.specs.declared.rows.SourceRow.{SourceRow}
 use Rattle.mrp_rows.specs.declared.rows.BillRow.{BillRow}
 use Rattle.mrp_rows.specs.declared.rows.ShipRow.{ShipRow}
@@ -21,7 +22,7 @@ use Rattle.mrp_tables.specs.declared.draft.Draft.{Draft}
 use Rattle.mrp_tables.specs.declared.draft.Arrivals.{Arrivals}
 use Rattle.mrp_tables.specs.declared.lanes.KnownLane.{KnownLane}
 use Rattle.mrp_tables.specs.declared.lanes.NamedLane.{NamedLane}
-use Rattle.mrp_tables.specs.Grammar.{◌>>=◌, check, LaneTerms}
+use Rattle.mrp_tables.specs.Grammar.{◌>>=◌, check, BillTerms, LaneTerms}
 
 abbrev pub lane_of : SourceRow → LaneKey
 lane_of s = record { from = s.plant; pair = s.pair }
@@ -125,6 +126,14 @@ pub record Finds (N : Table) (t : LaneTerms) (l : NamedLane) : Type 0 where
   pub to : l.has_to ≡ is_some (plant_no N t.to)
   pub pair : option_map (λ x. x.0) l.pair ≡ pair_named N (plant_no N t.to) t.item
   pub place : l.place ≡ source_named N (plant_no N t.from) (pair_named N (plant_no N t.to) t.item)
+
+-- what the reading finds of the names of a bill row
+pub record FindsBill (N : Table) (t : BillTerms) (x y : Option PairNo) : Type 0 where
+  pub parent : option_map (λ p. p.0) x ≡ pair_named N (plant_no N t.plant) t.parent
+  pub component : option_map (λ p. p.0) y ≡ pair_named N (plant_no N t.plant) t.component
+  pub within : IfSome x (λ p. p.0 < length N.pairs)
+  pub inside : IfSome y (λ p. p.0 < length N.pairs)
+  pub plant : OnSome x (is_some (plant_no N t.plant) ≡ true)
 
 -- the lane of the names that were found, where all of it is there
 unfoldable pub known_found : NamedLane → Result KnownLane TableFaultKind

@@ -18,19 +18,17 @@ struct KnownAmount {
 }
 
 impl Draft {
-    ghost use Rattle.std.specs.Prelude.{◌≡◌, ◌≤◌, ◌<◌, is_some, length, option_map, Some, false, true, OnOk};
-    ghost use Rattle.std.specs.Prelude.{IfOk, IfSome, OnSome};
+    ghost use Rattle.std.specs.Prelude.{◌≡◌, ◌≤◌, ◌<◌, length, option_map, Some, false, OnOk, IfOk};
     ghost use Rattle.csv.specs.Records.{fields_of};
     ghost use Rattle.mrp_qty.specs.declared.limits.TheConstants.{MOST_BILLS, MOST_IN_ROW, MOST_OF_A_KIND};
     ghost use Rattle.mrp_qty.specs.declared.limits.TheConstants.{MOST_PER};
     ghost use Rattle.mrp_tables.specs.Grammar.{bill_fits, bill_of, bill_row, demand_of, demand_row, has_bill};
-    ghost use Rattle.mrp_tables.specs.Grammar.{field, is_made, receipt_of, receipt_row, seen, TellsMade};
+    ghost use Rattle.mrp_tables.specs.Grammar.{is_made, receipt_of, receipt_row, seen, TellsMade};
     ghost use Rattle.mrp_tables.specs.Amounts.{known_amount};
-    ghost use Rattle.mrp_rows.specs.Names.{pair_named, plant_no};
     ghost use Rattle.mrp_tables.specs.Spelled.{terms_of_bill};
     ghost use Rattle.mrp_rows.specs.Table.{IsBillRow, IsDemandRow, IsReceiptRow};
     ghost use Rattle.mrp_tables.specs.Keys.{Knows};
-    ghost use Rattle.mrp_tables.specs.Lists.{IsDraft, AddsRow};
+    ghost use Rattle.mrp_tables.specs.Lists.{AddsRow, FindsBill, IsDraft};
     ghost use Rattle.mrp_rows.specs.Table.{IsRead, horizon};
 
     /// Adds a bill row.
@@ -75,16 +73,7 @@ impl Draft {
         per: u64,
     ) -> Result<BillRow, TableFaultKind>
         requires draft { IsDraft self.now }
-        requires parent { option_map (λ x. x.0) parent
-            ≡ pair_named self.now.lists (plant_no self.now.lists (field (fields_of row.now) 1))
-            (field (fields_of row.now) 2) }
-        requires component { option_map (λ x. x.0) component
-            ≡ pair_named self.now.lists (plant_no self.now.lists (field (fields_of row.now) 1))
-            (field (fields_of row.now) 3) }
-        requires within { IfSome parent (λ x. x.0 < length self.now.lists.pairs) }
-        requires inside { IfSome component (λ x. x.0 < length self.now.lists.pairs) }
-        requires plant { OnSome parent
-            (is_some (plant_no self.now.lists (field (fields_of row.now) 1)) ≡ true) }
+        requires found { FindsBill self.now.lists (terms_of_bill (fields_of row.now) per) parent component }
         requires per { (1 ≤ per) × (per ≤ MOST_PER) }
         ensures exact { result ≡ bill_fits self.now.lists (terms_of_bill (fields_of row.now) per) }
         ensures row { IfOk result (IsBillRow self.now.lists) }

@@ -9,8 +9,7 @@
 //! between plants, [`orders_text`] the planned orders, [`schedule_text`] the delivery schedules between plants,
 //! and [`advice_text`] which open orders to move. [`report_text`] writes the report that a `Choice` of `mrp_choice`
 //! asks for on one thread, and [`answer`] that and a plan by threads. A [`Heading`] says whether the names of the
-//! columns stand above the rows; for codes, terms and figures [`headed_check_text`], [`headed_peg_text`] and
-//! [`headed_cums_text`] take one.
+//! columns stand above the rows; for codes, terms and figures a `Choice` has one.
 //! Where a text was not written whole, a [`TextFault`] says why: [`write_fault`] writes the line that
 //! reports it, and [`status`] and [`exit_status`] are the statuses with which a program ends. [`ended`]
 //! does both after the work, [`after_help`] after help or the version, and [`unread`] where the arguments
@@ -43,6 +42,6 @@ pub use mrp_choice::Heading;
 pub use mrp_report::ReportFault;
 pub use mrp_run::{Gate, NoGate, Settings};
 pub use text::{
-    advice_text, check_text, cums_text, drive_text, headed_check_text, headed_cums_text,
-    headed_peg_text, orders_text, peg_text, pegs_text, plan_text, report_text, schedule_text,
+    advice_text, check_text, cums_text, drive_text, orders_text, peg_text, pegs_text, plan_text,
+    report_text, schedule_text,
 };

@@ -13,7 +13,7 @@ ghost use Rattle.mrp_text.specs.Answer.{IsAlone, IsAnswer, IsBeforeReport, quest
 ghost use Rattle.mrp_text.specs.Fault.{IsBeforeWriting};
 ghost use Rattle.mrp_text.specs.Text.{Writes, OfTable, IsPlanReport};
 ghost use Rattle.mrp_text.specs.Reports.{WritesRows, IsPlanRows, IsCodeReport};
-ghost use Rattle.mrp_report.specs.Headings.{code_names, lane_names, peg_names, pegs_names};
+ghost use Rattle.mrp_report.specs.Headings.{pegs_names};
 ghost use Rattle.mrp_text.specs.Reports.{IsPegReport, IsCumReport, IsOrderReport, IsHeaded};
 ghost use Rattle.mrp_text.specs.Reports.{IsAdviceReport, IsPegsReport, IsScheduleReport, name_of};
 ghost use Rattle.mrp_text.specs.Refusals.{Refuses, AskWhole, AskByThreads, AskPair, AskPlants};
@@ -125,25 +125,7 @@ pub fn check_text<R: Read + Drop, W: Write>(
     ensures refusal { IfErr result (Refuses (R.remaining reader) AskWhole) }
     ensures untouched { IfErr result (λ fault. fault ≢ TextFault.WriteFault → writer.new ≡ writer.old) }
 {
-    headed_check_text(alloc, reader, writer, Heading::Without)
-}
-
-/// The same as [`check_text`], with the names of the columns above the rows where `heading` says so.
-///
-/// # Errors
-///
-/// As those of [`check_text`].
-pub fn headed_check_text<R: Read + Drop, W: Write>(
-    alloc: Global,
-    reader: R,
-    writer: &mut W,
-    heading: Heading,
-) -> Result<(), TextFault>
-    ensures text { Writes (W.contents writer.old) (W.contents writer.new) result
-        (λ text. OfTable (R.remaining reader) (λ N. IsHeaded heading code_names (IsCodeReport N) text)) }
-    ensures refusal { IfErr result (Refuses (R.remaining reader) AskWhole) }
-    ensures untouched { IfErr result (λ fault. fault ≢ TextFault.WriteFault → writer.new ≡ writer.old) }
-{
+    let heading = Heading::Without;
     report_text(alloc, reader, writer, Choice::Check { heading })
 }
 
@@ -168,34 +150,11 @@ pub fn peg_text<R: Read + Drop, W: Write>(
     ensures refusal { IfErr result (Refuses (R.remaining reader) (AskPair plant.now item.now period)) }
     ensures untouched { IfErr result (λ fault. fault ≢ TextFault.WriteFault → writer.new ≡ writer.old) }
 {
-    headed_peg_text(alloc, reader, writer, plant, item, period, Heading::Without)
-}
-
-/// The same as [`peg_text`], with the names of the columns above the rows where `heading` says so.
-///
-/// # Errors
-///
-/// As those of [`peg_text`].
-pub fn headed_peg_text<R: Read + Drop, W: Write>(
-    alloc: Global,
-    reader: R,
-    writer: &mut W,
-    plant: &str,
-    item: &str,
-    period: u64,
-    heading: Heading,
-) -> Result<(), TextFault>
-    ensures text { Writes (W.contents writer.old) (W.contents writer.new) result
-        (λ text. OfTable (R.remaining reader) (λ N. IsHeaded heading peg_names
-        (IsPegReport plant.now item.now period N) text)) }
-    ensures refusal { IfErr result (Refuses (R.remaining reader) (AskPair plant.now item.now period)) }
-    ensures untouched { IfErr result (λ fault. fault ≢ TextFault.WriteFault → writer.new ≡ writer.old) }
-{
     let choice = Choice::Peg {
         plant,
         item,
         period,
-        heading,
+        heading: Heading::Without,
     };
     report_text(alloc, reader, writer, choice)
 }
@@ -217,25 +176,7 @@ pub fn cums_text<R: Read + Drop, W: Write>(
     ensures refusal { IfErr result (Refuses (R.remaining reader) AskWhole) }
     ensures untouched { IfErr result (λ fault. fault ≢ TextFault.WriteFault → writer.new ≡ writer.old) }
 {
-    headed_cums_text(alloc, reader, writer, Heading::Without)
-}
-
-/// The same as [`cums_text`], with the names of the columns above the rows where `heading` says so.
-///
-/// # Errors
-///
-/// As those of [`cums_text`].
-pub fn headed_cums_text<R: Read + Drop, W: Write>(
-    alloc: Global,
-    reader: R,
-    writer: &mut W,
-    heading: Heading,
-) -> Result<(), TextFault>
-    ensures text { Writes (W.contents writer.old) (W.contents writer.new) result
-        (λ text. OfTable (R.remaining reader) (λ N. IsHeaded heading lane_names (IsCumReport N) text)) }
-    ensures refusal { IfErr result (Refuses (R.remaining reader) AskWhole) }
-    ensures untouched { IfErr result (λ fault. fault ≢ TextFault.WriteFault → writer.new ≡ writer.old) }
-{
+    let heading = Heading::Without;
     report_text(alloc, reader, writer, Choice::Cums { heading })
 }
 

@@ -30,7 +30,7 @@ use mrp_net::{Network, PairNo, PlantNo};
 use mrp_plan::{Plan, peg, plan_all};
 use mrp_report::{code_rows, lane_rows, late_rows, order_rows, peg_rows, pegs_rows, plan_rows};
 use mrp_run::{Gate, Settings};
-use mrp_world::settled_figures;
+use mrp_world::last_figures;
 use std::alloc::Global;
 use std::io::Write;
 use std::sync::Wait;
@@ -229,7 +229,7 @@ fn report_cums<W: Write>(
     ensures untouched { IfErr result (λ fault. fault ≢ TextFault.WriteFault → writer.new ≡ writer.old) }
 {
     let plan = plan_all(alloc, net)?;
-    let figures = settled_figures(alloc, net, &plan)?;
+    let figures = last_figures(alloc, net, &plan)?;
     lane_rows(alloc, net.network(), figures.as_slice(), heading, writer)?;
     Ok(())
 }

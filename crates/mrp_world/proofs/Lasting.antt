@@ -26,7 +26,8 @@ use Rattle.mrp_world.specs.Showing.{Showing}
 use Rattle.mrp_world.specs.World.{WorldState}
 use Rattle.mrp_world.specs.Moves.{WorldShows, IsWorld}
 use Rattle.mrp_world.proofs.Worlds.{none_left_is_finished, shows_some}
-use Rattle.mrp_world.specs.Figures.{lane_figure_at, figures_in_lane, figures_in, IsLaneFigure, FiguresAreOfLanes, carried, settled_figure, last_on}
+use Rattle.mrp_world.specs.Figures.{lane_figure_at, figures_in_lane, figures_in, FiguresAreOfLanes, carried, settled_figure, last_on}
+use Rattle.mrp_book.specs.LaneFigures.{IsLaneFigure}
 use Rattle.mrp_world.specs.Figures.{last_figures, FinishedFiguresAreLast}
 
 -- ---- lists

@@ -1,13 +1,13 @@
 pub mod Counts
 pub mod Drives
 pub mod Enabling
+pub mod Carrying
 pub mod Giving
 pub mod Holding
 pub mod Lasting
 pub mod Looks
 pub mod Makes
 pub mod Pieces
-pub mod Settling
 pub mod Steps
 pub mod Worlds
 pub mod MailboxPieces

@@ -1,5 +1,5 @@
 -- The cumulative figures of all lanes in a state.
-use Rattle.std.specs.Prelude.{◌≡◌, ℕ, ◌+◌, ◌<◌, ◌≤◌, List, length, map, All}
+use Rattle.std.specs.Prelude.{◌≡◌, ℕ, ◌+◌, List, length, map, All}
 use Rattle.std.specs.List.{flat_map, range_with_len}
 use Rattle.mrp_rows.specs.declared.numbers.ItemNo.{ItemNo}
 use Rattle.mrp_rows.specs.Table.{Table, IsTable}
@@ -7,6 +7,7 @@ use Rattle.mrp_net.specs.declared.lane.Lane.{Lane}
 use Rattle.mrp_net.specs.Lanes.{lanes, lane_at, lane_items, opening}
 use Rattle.mrp_record.specs.Text.{total}
 use Rattle.mrp_book.specs.declared.figure.LaneFigure.{LaneFigure}
+use Rattle.mrp_book.specs.LaneFigures.{IsLaneFigure}
 use Rattle.mrp_events.specs.LaneOrder.{cum_on}
 use Rattle.mrp_events.specs.Loads.{load_of}
 use Rattle.mrp_events.specs.State.{State, IsFinished, IsReached}
@@ -31,12 +32,6 @@ abbrev pub figures_in : Table → State → List LaneFigure
 figures_in N s = flat_map (figures_in_lane N s) (range_with_len 0 (length (lanes N)))
 
 -- ---- each figure
-
--- it is of a lane and an item of the network, with no more received than shipped
-pub record IsLaneFigure (N : Table) (figure : LaneFigure) : Type 0 where
-  pub lane : figure.lane.0 < length (lanes N)
-  pub item : figure.item.0 < length N.items
-  pub received : figure.received ≤ figure.shipped
 
 -- in each state that events lead to
 abbrev pub FiguresAreOfLanes : Type 0

@@ -12,13 +12,14 @@
 //! The firm over events: all plants of a network with the mailboxes between them, one event at a time.
 //! Whatever list of events a world is given, it takes exactly those that are enabled, each as a step of the
 //! run that it shows ([`World`]); [`laws`] says what follows for every run. The cumulative figures of each finished
-//! run are those of the plan ([`settled_figures`]).
+//! run are those of the plan ([`last_figures`]).
 #![tactic(auto)]
 
 mod acting;
 mod agents;
 mod counting;
 mod driving;
+mod ending;
 mod figures;
 mod gathering;
 pub mod laws;
@@ -26,9 +27,9 @@ mod looking;
 mod mailbox;
 mod making;
 mod plant;
-mod settled;
 mod world;
 
+pub use ending::last_figures;
 pub use mailbox::Mailbox;
 pub use mrp_agent::Agent;
 pub use mrp_book::{BookFault, LaneFigure};
@@ -37,5 +38,4 @@ pub use mrp_net::{ItemNo, LaneNo, PairNo};
 pub use mrp_qty::MOST_ROOM;
 pub use mrp_record::Record;
 pub use plant::Plant;
-pub use settled::settled_figures;
 pub use world::{Firm, World};

@@ -72,7 +72,8 @@ impl<'a, P: Plant> World<'a, P> {
     ghost use Rattle.mrp_events.specs.State.{State, Step, IsEnabled, IsFinished, opening_state};
     ghost use Rattle.mrp_net.specs.Sums.{pair_at};
     ghost use Rattle.mrp_world.specs.Enabled.{CountsEnabled};
-    ghost use Rattle.mrp_world.specs.Figures.{figures_in, last_figures, IsLaneFigure};
+    ghost use Rattle.mrp_world.specs.Figures.{figures_in, last_figures};
+    ghost use Rattle.mrp_book.specs.LaneFigures.{IsLaneFigure};
     ghost use Rattle.mrp_world.specs.Moves.{Runs, WorldShows};
 
     /// A world before the first event.

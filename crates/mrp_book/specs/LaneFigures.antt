@@ -1,0 +1,11 @@
+-- What is said of each figure of a lane.
+use Rattle.std.specs.Prelude.{◌<◌, ◌≤◌, length}
+use Rattle.mrp_rows.specs.Table.{Table}
+use Rattle.mrp_net.specs.Lanes.{lanes}
+use Rattle.mrp_book.specs.declared.figure.LaneFigure.{LaneFigure}
+
+-- it is of a lane and an item of the network, with no more received than shipped
+pub record IsLaneFigure (N : Table) (figure : LaneFigure) : Type 0 where
+  pub lane : figure.lane.0 < length (lanes N)
+  pub item : figure.item.0 < length N.items
+  pub received : figure.received ≤ figure.shipped

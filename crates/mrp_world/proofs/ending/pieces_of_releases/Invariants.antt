@@ -1,0 +1,12 @@
+use Rattle.std.proofs.Common.{◌≡◌, ◌+◌, ◌≤◌, length, slice_index}
+use Rattle.mrp_net.specs.Shares.{share_of}
+use Rattle.mrp_record.specs.Text.{total}
+use Rattle.mrp_events.specs.Loads.{by_period}
+use Rattle.mrp_world.proofs.Carrying.{from_on}
+use Rattle.mrp_world.proofs.ending.pieces_of_releases.Given as goal
+
+-- the pieces so far and those of the periods to come make the whole
+abbrev pub invariant-loop-period : goal.invariant-loop-period
+invariant-loop-period l =
+    l.pieces + from_on (λ t. share_of l.source.low l.source.high (slice_index l.release t)) (length l.release) l.period
+    ≡ total (by_period (λ t. share_of l.source.low l.source.high (slice_index l.release t)) (length l.release))
