@@ -83,7 +83,7 @@ pub record HoldsRows (d : Draft) : Type 0 where
   pub cum_keys : d.cum_keys.keys ≡ map cum_key_of d.lists.cums
   pub reset_keys : d.reset_keys.keys ≡ map reset_key_of d.lists.resets
   pub resets : AreLanes d.lane_keys.keys d.reset_keys.keys
-  pub fits : FitsRows d.lists d.lane_keys.keys d.lanes.items
+  pub fits : FitsRows d.lists d.lane_keys.keys d.arrivals.items
 
 -- the state of the reading fits the rows read so far
 pub record IsDraft (d : Draft) : Type 0 where
@@ -100,7 +100,7 @@ pub record AddsRow (old new : Draft) : Type 0 where
 pub record AddsSources (old new : Draft) (count : ℕ) : Type 0 where
   pub rows : IsRead new.lists
   pub knows : Knows new.lists new.known
-  pub fits : FitsRows new.lists new.lane_keys.keys new.lanes.items
+  pub fits : FitsRows new.lists new.lane_keys.keys new.arrivals.items
   pub same : (row_count new.lists ≡ row_count old.lists) × (new.rows ≡ old.rows)
   pub bills : (new.bill_keys.keys ≡ old.bill_keys.keys) × (new.lists.bills ≡ old.lists.bills)
   pub cums : (new.cum_keys.keys ≡ old.cum_keys.keys) × (new.lists.cums ≡ old.lists.cums)
@@ -148,4 +148,4 @@ known_found l = do
 pub record IsNamedLane (d : Draft) (lane : NamedLane) : Type 0 where
   pub from : IfSome lane.from (λ p. p.0 < length d.lists.plants)
   pub pair : IfSome lane.pair (λ x. x.0 < length d.lists.pairs)
-  pub place : IfSome lane.place (λ k. k < length d.lanes.items)
+  pub place : IfSome lane.place (λ k. k < length d.arrivals.items)

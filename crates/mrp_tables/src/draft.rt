@@ -52,9 +52,9 @@ pub(crate) struct Draft {
     pub(crate) lists: RowLists,
     /// The plants, the items and the pairs by their names.
     pub(crate) known: KnownNames,
-    /// The sources in the order of their rows, and what is known of each.
+    /// The sources in the order of their rows, and the shipments from each.
     pub(crate) lane_keys: IndexSet<LaneKey>,
-    pub(crate) lanes: Vec<Arrivals>,
+    pub(crate) arrivals: Vec<Arrivals>,
     /// The bill rows, the cumulative figures and where they start anew by their keys, in the order of
     /// their rows.
     pub(crate) bill_keys: IndexSet<BillKey>,
@@ -89,7 +89,7 @@ impl Draft {
             lists: RowLists::new(alloc, calendar),
             known: KnownNames::new(alloc),
             lane_keys: IndexSet::new(alloc),
-            lanes: Vec::new(alloc),
+            arrivals: Vec::new(alloc),
             bill_keys: IndexSet::new(alloc),
             cum_keys: IndexSet::new(alloc),
             reset_keys: IndexSet::new(alloc),

@@ -113,7 +113,7 @@ impl Draft {
         let (ship, place) = self.ship_of(row)?;
         let period = ship.period;
         self.lists.add_ship(ship)?;
-        self.lanes[place].ship(period);
+        self.arrivals[place].ship(period);
         Ok(())
     }
 
@@ -259,6 +259,6 @@ impl Draft {
         requires place { source_at self.now.lists lane.from.0 lane.pair.0 ≡ Some lane.place }
         ensures exact { result ≡ not (rises_from 0 (arrivals self.now.lists lane.from.0 lane.pair.0)) }
     {
-        self.lanes[lane.place].falls
+        self.arrivals[lane.place].falls
     }
 }

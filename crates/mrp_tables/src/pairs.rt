@@ -165,7 +165,7 @@ impl Draft {
         requires pair { pair.0 < length self.old.lists.pairs }
         requires sources { AreSources sources.now }
         requires known { knows_sources self.old.lists (map source_view sources.now) ≡ true }
-        requires fits { FitsRows self.old.lists self.old.lane_keys.keys self.old.lanes.items }
+        requires fits { FitsRows self.old.lists self.old.lane_keys.keys self.old.arrivals.items }
         requires fresh { IsNewPair self.old.lists pair.0 }
         requires room { length self.old.lists.sources + MOST_SOURCES_OF_PAIR
             ≤ MOST_SOURCES_OF_PAIR * length self.old.lists.pairs }
@@ -189,7 +189,7 @@ impl Draft {
         requires known { has_plant self.old.lists source.now.plant.now ≡ true }
         requires fresh { is_taken_from self.old.lists pair.0
             (source_row self.old.lists pair.0 (source_view source.now)).plant.0 ≡ false }
-        requires fits { FitsRows self.old.lists self.old.lane_keys.keys self.old.lanes.items }
+        requires fits { FitsRows self.old.lists self.old.lane_keys.keys self.old.arrivals.items }
         requires ships { All (λ s. s.pair.0 < pair.0) self.old.lists.ships }
         requires room { length self.old.lists.sources < MOST_SOURCES_OF_PAIR * length self.old.lists.pairs }
         ensures memory { IfErr result (λ fault. fault ≡ Memory) }
@@ -203,7 +203,7 @@ impl Draft {
         if !self.lane_keys.insert(LaneKey { from, pair })? {
             unreachable!();
         }
-        self.lanes.push(Arrivals {
+        self.arrivals.push(Arrivals {
             last: 0,
             falls: false,
         })?;

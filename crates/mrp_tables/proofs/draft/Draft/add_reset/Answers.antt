@@ -46,7 +46,7 @@ returns-clause-adds c =
     let keys = c.in_ok-insert.ensures.keys ∙ ap (λ b. if b then self.reset_keys.keys else self.reset_keys.keys ++ k ∷ []) fresh in
     let here = found_lane r.from r.pair self.lane_keys.keys self.lists.sources _ d old.fits.lane_keys refl c.in_ok-reset.ensures.source in
     let made = sym c.in_ok-add_reset.ensures.table in
-    let fits : FitsRows (with_reset N r) self.lane_keys.keys self.lanes.items =
+    let fits : FitsRows (with_reset N r) self.lane_keys.keys self.arrivals.items =
     record {
       lane_keys = old.fits.lane_keys;
       apart = old.fits.apart;
@@ -67,7 +67,7 @@ returns-clause-adds c =
         cum_keys = search rules;
         reset_keys = keys ∙ named ∙ ap (λ (M : Table). map reset_key_of M.resets) made;
         resets = subst (AreLanes self.lane_keys.keys) (sym keys) (lanes_push self.lane_keys.keys self.reset_keys.keys k old.resets here);
-        fits = subst (λ (M : Table). FitsRows M self.lane_keys.keys self.lanes.items) made fits;
+        fits = subst (λ (M : Table). FitsRows M self.lane_keys.keys self.arrivals.items) made fits;
       };
       counted = refl;
       count = subst (λ (M : Table). row_count M ≡ row_count N + 1) made count;

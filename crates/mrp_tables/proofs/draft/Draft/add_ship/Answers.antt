@@ -21,14 +21,14 @@ returns-clause-adds c =
     let old = c.requires.draft.holds in
     let d : SourceRow = record { pair = x.pair; plant = x.from; low = 0; high = 0 } in
     let l : Arrivals = c.index_mut.result.now in
-    let each = states_ship N.ships x self.lane_keys.keys N.sources self.lanes.items k d l old.fits.lane_keys old.fits.apart old.fits.each
+    let each = states_ship N.ships x self.lane_keys.keys N.sources self.arrivals.items k d l old.fits.lane_keys old.fits.apart old.fits.each
     c.in_ok-ship.ensures.place c.index_mut.ensures.value in
     let v = after_ship l x.period in
-    let fits : FitsRows (with_ship N x) self.lane_keys.keys (set self.lanes.items k v) = record {
+    let fits : FitsRows (with_ship N x) self.lane_keys.keys (set self.arrivals.items k v) = record {
       lane_keys = old.fits.lane_keys;
       apart = old.fits.apart;
       each = each;
-      lanes = length-set self.lanes.items k v ∙ old.fits.lanes;
+      lanes = length-set self.arrivals.items k v ∙ old.fits.lanes;
       sources = old.fits.sources;
       items = old.fits.items;
     } in
@@ -42,8 +42,8 @@ returns-clause-adds c =
         cum_keys = search rules;
         reset_keys = search rules;
         resets = old.resets;
-        fits = subst (λ (m : Arrivals). FitsRows c.add_ship.new.self self.lane_keys.keys (set self.lanes.items k m)) (sym c.ship.ensures)
-            (subst (λ (M : Table). FitsRows M self.lane_keys.keys (set self.lanes.items k v)) made fits);
+        fits = subst (λ (m : Arrivals). FitsRows c.add_ship.new.self self.lane_keys.keys (set self.arrivals.items k m)) (sym c.ship.ensures)
+            (subst (λ (M : Table). FitsRows M self.lane_keys.keys (set self.arrivals.items k v)) made fits);
       };
       counted = refl;
       count = subst (λ (M : Table). row_count M ≡ row_count N + 1) made count;

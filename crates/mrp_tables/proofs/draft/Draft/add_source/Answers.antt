@@ -35,7 +35,7 @@ returns-clause-adds c =
     let fresh = any_source from c.args.pair _ _ c.requires.fits.lane_keys ∙ other in
     let keys = c.in_ok-insert.ensures.keys ∙ ap (λ b. if b then self.lane_keys.keys else self.lane_keys.keys ++ lane_of s ∷ []) fresh in
     let table = c.in_ok-add_source.ensures.table in
-    let fits = source_fit N c.add_source.new.self s self.lane_keys.keys c.insert.new.self.keys self.lanes.items c.push.new.self.items table keys
+    let fits = source_fit N c.add_source.new.self s self.lane_keys.keys c.insert.new.self.keys self.arrivals.items c.push.new.self.items table keys
     c.insert.ensures.unique c.in_ok-push.ensures.items c.requires.fits c.requires.ships c.requires.room in
     record {
       rows = c.in_ok-add_source.ensures.rows;

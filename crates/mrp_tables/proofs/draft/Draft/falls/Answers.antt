@@ -11,6 +11,6 @@ returns c =
     let d : SourceRow = record { pair = lane.pair; plant = lane.from; low = 0; high = 0 } in
     record {
       exact = ap (λ (l : Arrivals). l.falls)
-          (state_there lists.ships lane.from lane.pair lists.sources c.args.self.now.lanes.items lane.place c.index.result.now d
+          (state_there lists.ships lane.from lane.pair lists.sources c.args.self.now.arrivals.items lane.place c.index.result.now d
           c.requires.draft.holds.fits.each c.requires.place c.index.ensures);
     }
