@@ -39,12 +39,7 @@ IsOfBound N _ _ = ⊥
 
 -- ---- the faults of each step
 
--- reading answers the first fault of the rows
-abbrev pub RowsAnswer : Option (List ℕ) → TextFault → Type 0
-RowsAnswer known (fault.Table e) = OfRecords (option_map strip_bom known) (TellsRows (Err e))
-RowsAnswer known _ = ⊥
-
--- or that memory was wanting for the network
+-- reading answers the first fault of the rows, or memory was wanting for the network
 abbrev pub NetworkAnswers : Option (List ℕ) → TextFault → Type 0
 NetworkAnswers known (fault.Table e) = OfRecords (option_map strip_bom known) (TellsRows (Err e))
 NetworkAnswers known fault.Memory = Unit {0}

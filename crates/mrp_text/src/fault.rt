@@ -88,6 +88,16 @@ impl From<mrp_qty::Memory> for TextFault {
     }
 }
 
+impl From<TableFault> for TextFault {
+    ghost use Rattle.mrp_text.specs.declared.fault.TextFault.{TextFault};
+
+    ghost from_gives = { λ table fault. fault ≡ TextFault.Table table };
+
+    fn from(fault: TableFault) -> TextFault {
+        TextFault::Table(fault)
+    }
+}
+
 impl From<ReportFault> for TextFault {
     ghost from_gives = { IsOfReport };
 

@@ -1,23 +1,19 @@
 //! The network of a table, its low-level codes and its figures within the bound, or the fault that there is.
 
-ghost use Rattle.std.specs.Prelude.{◌≡◌, map, option_map, IfOk, IfErr, All, Ok};
-ghost use Rattle.csv.specs.Reading.{strip_bom};
+ghost use Rattle.std.specs.Prelude.{◌≡◌, map, IfOk, IfErr, All};
 ghost use Rattle.mrp_loops.specs.Sized.{IsSized};
 ghost use Rattle.mrp_rows.specs.Table.{IsPair};
-ghost use Rattle.mrp_tables.specs.Reading.{TellsRows};
-ghost use Rattle.mrp_tables.specs.Written.{OfRecords};
 ghost use Rattle.mrp_loops.specs.Loop.{IsLoopFree};
 ghost use Rattle.mrp_loops.specs.Codes.{AreCodes};
 ghost use Rattle.mrp_text.specs.Text.{IsTableOf};
 ghost use Rattle.mrp_text.specs.Refusals.{IsPairName, AreCalled};
 ghost use Rattle.mrp_text.specs.Checks.{AreLoopPairs, BoundAnswers, IsBoundPair, LoopCheckAnswers, IsOfBound, IsOfLoop};
-ghost use Rattle.mrp_text.specs.Checks.{NetworkAnswers, RowsAnswer};
+ghost use Rattle.mrp_text.specs.Checks.{NetworkAnswers};
 
 use crate::fault::{PairName, TextFault};
 use mrp_loops::{BoundFault, Levels, LoopFault, SizedNet, bound, check};
 use mrp_net::{Network, PairNo};
-use mrp_rows::Tables;
-use mrp_tables::{TableFault, read_tables_uncounted};
+use mrp_tables::read_tables_uncounted;
 use std::alloc::{AllocError, Global};
 use std::io::Read;
 
@@ -26,30 +22,11 @@ pub(crate) fn network_of<R: Read + Drop>(alloc: Global, reader: R) -> Result<Net
     ensures rows { IfOk result (IsTableOf (R.remaining reader)) }
     ensures refusal { IfErr result (NetworkAnswers (R.remaining reader)) }
 {
-    let tables = tables_of(alloc, reader)?;
+    let tables = read_tables_uncounted(alloc, reader)?;
     let network = Network::of(alloc, tables)?;
     // Every network is that of a table.
     let _pairs = network.pairs();
     Ok(network)
-}
-
-/// The table.
-fn tables_of<R: Read + Drop>(alloc: Global, reader: R) -> Result<Tables, TextFault>
-    ensures rows { IfOk result (λ tables. OfRecords (option_map strip_bom (R.remaining reader))
-        (TellsRows (Ok tables))) }
-    ensures refusal { IfErr result (RowsAnswer (R.remaining reader)) }
-{
-    match read_tables_uncounted(alloc, reader) {
-        Ok(tables) => Ok(tables),
-        Err(fault) => Err(table_fault(fault)),
-    }
-}
-
-/// The fault of a text that a fault of its table is.
-fn table_fault(fault: TableFault) -> TextFault
-    ensures { result ≡ TextFault.Table fault }
-{
-    TextFault::Table(fault)
 }
 
 /// The low-level codes of a network without loops.

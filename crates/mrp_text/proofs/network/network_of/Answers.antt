@@ -10,4 +10,4 @@ pub returns-clause-rows : goal.returns-clause-rows
 returns-clause-rows g c =
     let known = g.R.Read.remaining c.args.reader in
     let Told : Table → Type 0 = λ N. OfRecords (option_map strip_bom known) (TellsRows (Ok N)) in
-    is_table_of known c.in_ok-network.network c.pairs-pairs.ensures.table (subst Told (sym c.in_ok-network.ensures) c.in_ok-tables.ensures.rows)
+    is_table_of known c.in_ok-network.network c.pairs-pairs.ensures.table (subst Told (sym c.in_ok-network.ensures) c.in_ok-tables.ensures.table)
