@@ -1,17 +1,17 @@
 -- Waits as counts: of joins with unplanned demanders, and of awaited blocks that aren't ended.
-use Rattle.std.proofs.Common.{◌≡◌, ℕ, ◌+◌, ◌-◌, ◌<◌, ◌≤◌, ◌&&◌, Bool, true, false, not, cond, eqb, List, [], ◌∷◌, inl, inr, length, get_or, set, take, map}
+use Rattle.std.proofs.Common.{◌≡◌, ℕ, ◌+◌, ◌-◌, ◌<◌, ◌≤◌, ◌&&◌, Bool, true, false, not, cond, eqb, List, [], ◌∷◌, inl, inr, length, get_or, set, map}
 use Rattle.std.proofs.Common.{refl, sym, ap, ◌∙◌, subst, arith, Some}
 use Rattle.std.specs.Prelude.{slice_get}
 use Rattle.std.specs.List.{All, count_by, filter}
 use Rattle.std.proofs.lemmas.Bool.{cases_eq, eq-eqb, eqb-true, ne_eqb, and_from, and_parts, both_ways, false_from_ne_true, true_from_ne_false, not-true}
 use Rattle.std.proofs.lemmas.Bool.{not_from_false}
-use Rattle.std.proofs.lemmas.List.{get_or-set_same, get_or-set_other, length-set, length-take-le}
+use Rattle.std.proofs.lemmas.List.{get_or-set_same, get_or-set_other, length-set}
 use Rattle.std.proofs.lemmas.List.Elements.{All-weaker}
-use Rattle.std.proofs.lemmas.List.Sums.{sum_by-cons, sum_by-set, get_or-le-sum_by, sum_by-le, count_by_more_yes, count_by_more_no, count_by-le-length}
+use Rattle.std.proofs.lemmas.List.Sums.{sum_by-cons, sum_by-set, get_or-le-sum_by, sum_by-le}
 use Rattle.std.proofs.lemmas.Option.{slice_get_within, get_or_from_slice_get}
 use Rattle.mrp_agent.specs.declared.join.Join.{Join}
 use Rattle.mrp_agent.specs.Progress.{is_planned, times, IsLess}
-use Rattle.mrp_agent.specs.Counts.{Awaited, AreCounts, AreCounted, AreFirstCounts, IsOneEnded, components_of, join_count, open_blocks, unplanned}
+use Rattle.mrp_agent.specs.Counts.{Awaited, AreCounts, AreFirstCounts, IsOneEnded, components_of, join_count, open_blocks, unplanned}
 use Rattle.mrp_agent.specs.ReadinessLaws.{ReadyWhereNothingIsOpen, ComponentsWait, EndingOpensFewer, OpenBlocksAreAwaited}
 
 -- a test counts where it passes

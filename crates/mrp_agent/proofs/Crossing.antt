@@ -1,5 +1,5 @@
 -- An agent may go to another thread, and threads may share one.
-use denote.Param.Send.{IsSend, IsSync, recorded_send, recorded_sync, struct_send, struct_sync, view_send, view_sync}
+use denote.Param.Send.{IsSend, IsSync, recorded_send, struct_send, struct_sync, view_send}
 use denote.Struct.Declared.{shape}
 use Rattle.mrp_view.proofs.Crossing.{frame_send, frame_sync}
 use Rattle.mrp_agent.proofs.parts.Amounts.TheSendSync as amounts

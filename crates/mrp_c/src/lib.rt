@@ -73,7 +73,8 @@ pub extern "C" fn mrp_orders(
 {
     let until = limit(limited, until);
     let heading = heading(header);
-    answer(alloc, table, Choice::Orders { until, heading }, buffer, size)
+    let choice = Choice::Orders { until, heading };
+    answer(alloc, table, choice, buffer, size)
 }
 
 /// Writes the delivery schedules of a table: those of the supplier plant `from` alone and to the customer plant `to`
@@ -108,7 +109,8 @@ pub extern "C" fn mrp_schedule(
     let from = given(supplier);
     let to = given(customer);
     let heading = heading(header);
-    answer(alloc, table, Choice::Schedule { from, to, heading }, buffer, size)
+    let choice = Choice::Schedule { from, to, heading };
+    answer(alloc, table, choice, buffer, size)
 }
 
 /// Writes the low-level code of each pair of a table.

@@ -1,9 +1,9 @@
 -- A cursor over all that a lane carries gives legal records to the lane's end, and shows what it has sent.
-use Rattle.std.proofs.Common.{◌≡◌, ℕ, suc, ◌+◌, ◌-◌, ◌<◌, ◌≤◌, true, Some, Option, List, [], ◌∷◌, ◌++◌, length, get_or, map, drop, refl, sym, ap, subst, ◌∙◌}
+use Rattle.std.proofs.Common.{◌≡◌, ℕ, suc, ◌+◌, ◌-◌, ◌<◌, ◌≤◌, true, Some, Option, List, [], ◌∷◌, ◌++◌, length, map, refl, sym, ap, subst, ◌∙◌}
 use Rattle.std.proofs.Common.{arith, Contains, not}
 use Rattle.std.specs.List.{filter, range_with_len}
 use Rattle.std.proofs.lemmas.Bool.{ne_eqb}
-use Rattle.std.proofs.lemmas.List.{get_or-map, length-map, drop_all}
+use Rattle.std.proofs.lemmas.List.{get_or-map, length-map}
 use Rattle.std.proofs.lemmas.List.Elements.{All-contains, Contains-get_or}
 use Rattle.std.proofs.lemmas.Option.{slice_get-get_or}
 use Rattle.mrp_lot.specs.One.{PlanRows}
@@ -13,7 +13,6 @@ use Rattle.mrp_rows.specs.Table.{Table, IsTable, IsSourceRow, horizon}
 use Rattle.mrp_net.specs.declared.lane.Lane.{Lane}
 use Rattle.mrp_net.specs.declared.lane.LaneKind.{LaneKind}
 use Rattle.mrp_net.specs.declared.lane.LaneKind.TheVariants.{Despatch, Schedule}
-use Rattle.mrp_net.specs.declared.lane.Shipment.{Shipment}
 use Rattle.mrp_net.specs.Lanes.{lanes, lane_at, lane_items}
 use Rattle.mrp_net.specs.Plan.{rows_at}
 use Rattle.mrp_net.specs.PlanLaws.{Fits}
@@ -25,7 +24,7 @@ use Rattle.mrp_record.specs.declared.record.Record.{Record}
 use Rattle.mrp_record.specs.Entries.{Delivery}
 use Rattle.mrp_record.specs.Text.{Load, total}
 use Rattle.mrp_record.proofs.BlockForm.{length_within}
-use Rattle.mrp_events.specs.Loads.{called_in, delivery_in, delivery_of, has_pieces, lines_by, load_of, loads}
+use Rattle.mrp_events.specs.Loads.{called_in, delivery_in, has_pieces, lines_by, load_of, loads}
 use Rattle.mrp_events.proofs.Small.{load_is_small}
 use Rattle.mrp_record.specs.Cursor as cursor
 use Rattle.mrp_record.specs.Cursor.{OutFigures, Goods}
@@ -33,7 +32,7 @@ use Rattle.mrp_record.specs.declared.remainder.Remainder.{Remainder}
 use Rattle.mrp_record.specs.CursorLaws.{Agrees, IsBounded, IsSmallGoods}
 use Rattle.mrp_record.specs.Next.{IsWhatIsLeft, next_record, stepped}
 use Rattle.mrp_record.specs.Shows.{ShowsSent}
-use Rattle.mrp_record.proofs.Lists.{drop_there, contains_there, range_below}
+use Rattle.mrp_record.proofs.Lists.{contains_there, range_below}
 use Rattle.mrp_record.proofs.Steps.{steps_show, steps_keep_places, given_continues}
 use Rattle.mrp_record.proofs.Texts.{shown_begin}
 use Rattle.mrp_lane.specs.Ends.{End, IsNextRecord}

@@ -1,6 +1,6 @@
 -- Sums and lists over the periods 0 to n - 1, and over the front of a row.
-use Rattle.std.specs.Prelude.{◌≡◌, ℕ, ◌+◌, ◌≤◌, ◌<◌, ◌==◌, if◌then◌else◌, Option, List, []}
-use Rattle.std.specs.Prelude.{◌∷◌, map, sum, sum_by, filter_map, take, drop, slice_index, zero, suc}
+use Rattle.std.specs.Prelude.{◌≡◌, ℕ, ◌+◌, ◌≤◌, ◌<◌, ◌==◌, if◌then◌else◌, List, []}
+use Rattle.std.specs.Prelude.{◌∷◌, map, sum, sum_by, take, drop, slice_index, zero, suc}
 use Rattle.std.specs.List.{range_with_len}
 use Rattle.std.proofs.Common.{arith, refl, ◌∙◌, ap, ⊎_elim, eq-eqb, ne_eqb, add-zero, add-one, get_or-drop}
 use Rattle.std.proofs.lemmas.Bool.{cases_eq, cond-true, cond-false}

@@ -3,7 +3,6 @@ use Rattle.std.proofs.Common.{◌≡◌, ◌<◌, ◌≤◌, ◌+◌, ℕ, List,
 use Rattle.std.proofs.Common.{OnErr}
 use Rattle.std.specs.List.{flat_map, join_with_byte}
 use Rattle.std.proofs.lemmas.List.{flat_map_more, take_more, take_all}
-use Rattle.std.proofs.Math.Seq.{take-append_seam}
 use Rattle.csv.specs.Machine.{line_feed}
 use Rattle.csv.specs.Writing.{comma}
 use Rattle.mrp_stream.specs.Rows.{Grows, record_line}

@@ -5,7 +5,7 @@ use Rattle.std.specs.List.{list_any}
 use Rattle.std.specs.Str.{bytes_eq}
 use Rattle.std.proofs.lemmas.Bool.{eqb-true, false≢true}
 use Rattle.std.proofs.lemmas.Bool.Decides.{nat_tests}
-use Rattle.std.proofs.lemmas.List.{append-nil, get_or_append_left, get_or-take, length-take-le, length_push, map-append, take_all, take_more}
+use Rattle.std.proofs.lemmas.List.{get_or_append_left, get_or-take, length-take-le, length_push, map-append, take_all, take_more}
 use Rattle.std.proofs.lemmas.List.Folds.{list_any-append, list_any_at, list_any_none}
 use Rattle.std.proofs.Math.Seq.{get_or-append_seam}
 use Rattle.std.proofs.lemmas.List.Quantifiers.{position-Some}
@@ -14,13 +14,11 @@ use Rattle.std.proofs.lemmas.Option.{get_or_from_slice_get, slice_get-get_or}
 use Rattle.std.proofs.lemmas.Slice.Eq.{bytes_eq-Decides}
 use Rattle.mrp_tables.specs.declared.draft.Arrivals.{Arrivals}
 use Rattle.mrp_tables.specs.declared.draft.LaneKey.{LaneKey}
-use Rattle.mrp_rows.specs.declared.numbers.PlantNo.{PlantNo}
 use Rattle.mrp_rows.specs.declared.rows.PairRow.{PairRow}
 use Rattle.mrp_rows.specs.declared.rows.SourceRow.{SourceRow}
 use Rattle.mrp_tables.specs.Drafts.{IsNewPair, with_sources}
 use Rattle.mrp_rows.specs.Names.{has_plant, pair_named, pair_of_item, plant_no}
-use Rattle.mrp_tables.specs.Grammar.{knows_sources, pair_with, PairTerms, source_row, with_pair_terms}
-use Rattle.mrp_rows.specs.SupplyParsing.{named_sources}
+use Rattle.mrp_tables.specs.Grammar.{knows_sources, source_row}
 use Rattle.mrp_rows.specs.Growing.{add_item, with_item, with_pair, with_source}
 use Rattle.mrp_tables.specs.Lists.{FitsRows}
 use Rattle.mrp_rows.specs.Supplies.{SourceTerms}

@@ -1,4 +1,4 @@
-use Rattle.std.proofs.Common.{ap, sym, ◌∙◌, arith}
+use Rattle.std.proofs.Common.{ap, ◌∙◌, arith}
 use Rattle.mrp_record.specs.Text.{total}
 use Rattle.mrp_world.proofs.Counts as count
 use Rattle.mrp_world.proofs.ending.pieces_called.Goals as goal
@@ -9,7 +9,7 @@ pieces_of_releases-requires-clause-within c =
       arith,
       c.requires.within,
       ap total (count.called_is c.args.network.now c.args.source c.args.plan.now _ _ c.requires.fits c.requires.plan c.requires.pair
-      c.pair-of_pair.ensures c.release.ensures c.len-periods.ensures.rows),
+          c.pair-of_pair.ensures c.release.ensures c.len-periods.ensures.rows),
     )
 
 pub returns : goal.returns

@@ -1,4 +1,4 @@
-use Rattle.std.proofs.Common.{◌≡◌, ◌+◌, ◌≤◌, length, slice_index}
+use Rattle.std.proofs.Common.{◌≡◌, ◌+◌, length, slice_index}
 use Rattle.mrp_net.specs.Shares.{share_of}
 use Rattle.mrp_record.specs.Text.{total}
 use Rattle.mrp_events.specs.Loads.{by_period}

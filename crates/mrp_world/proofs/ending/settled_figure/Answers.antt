@@ -6,11 +6,19 @@ use Rattle.mrp_world.proofs.ending.settled_figure.Goals as goal
 pub overflow_add-opening : goal.overflow_add-opening
 overflow_add-opening c =
     let N = c.args.network.now in
-    omega (arith, c.opening-opening.ensures, c.pieces_carried.ensures,
-    carried_is_small N c.requires.sized (lane_at N c.args.lane.0) c.args.item c.requires.item)
+    omega (
+      arith,
+      c.opening-opening.ensures,
+      c.pieces_carried.ensures,
+      carried_is_small N c.requires.sized (lane_at N c.args.lane.0) c.args.item c.requires.item,
+    )
 
 pub of-carried-requires : goal.of-carried-requires
 of-carried-requires c =
     let N = c.args.network.now in
-    omega (arith, c.opening-opening.ensures, c.pieces_carried.ensures,
-    carried_is_small N c.requires.sized (lane_at N c.args.lane.0) c.args.item c.requires.item)
+    omega (
+      arith,
+      c.opening-opening.ensures,
+      c.pieces_carried.ensures,
+      carried_is_small N c.requires.sized (lane_at N c.args.lane.0) c.args.item c.requires.item,
+    )

@@ -1,4 +1,4 @@
-use Rattle.std.proofs.Common.{◌≡◌, ℕ, List, Result, Ok, None, Some, true, false, is_some, option_map, ◌∙◌, ap, sym}
+use Rattle.std.proofs.Common.{◌≡◌, ℕ, List, Result, Ok, true, false, is_some, option_map, ◌∙◌, ap, sym}
 use Rattle.csv.specs.Records.{fields_of}
 use Rattle.mrp_cal.specs.Calendar.{CalendarTerms}
 use Rattle.mrp_rows.specs.Names.{pair_named, plant_no}
