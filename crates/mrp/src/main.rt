@@ -11,7 +11,6 @@ ghost use Rattle.mrp.specs.Ending.{refusal_fault, refusal_printed, refusal_statu
 use mrp_arguments::{ChooseFault, Meaning, choose, means, named_words};
 use mrp_report::{ReportFault, send};
 use mrp_text::{Ending, REFUSED, TextFault, after_help, answer, ended, unread};
-use std::alloc::Global;
 use std::env::FillError;
 use std::io::{IsTerminal, Stderr, Write};
 use std::process::ExitCode;
@@ -30,7 +29,6 @@ fn main(rt: HostRuntime) -> ExitCode {
     left(match choose(rt.alloc(), words.as_slice()) {
         Ok(choice) => {
             await_table(&rt);
-            keep_room(rt.alloc());
             let done = answer(&rt, rt.alloc(), choice, rt.reader(), &mut rt.stdout());
             ended::<Stderr>(&done, &mut rt.stderr())
         }
@@ -91,16 +89,6 @@ fn await_table(rt: &HostRuntime) {
             &mut rt.stderr(),
         );
     }
-}
-
-/// So much room is taken at once before a table is read, and given back: 32 MiB less two pages, the most that the C
-/// library takes for a sign.
-const KEPT: usize = (32 << 20) - 8192;
-
-/// Has the C library keep what is given back while a table is read, for the plans that come next: it gives less back to
-/// the system once a block of this size was given back. No page of it is touched, and a refusal is no fault.
-fn keep_room(alloc: Global) {
-    let _ = Vec::<u8>::with_capacity(alloc, KEPT);
 }
 
 /// The end where no choice was made, after what `clap` had to say was printed or could not be: the
