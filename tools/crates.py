@@ -1,4 +1,5 @@
 """The crates of this repository, and rooms: copies of a crate outside the work tree, over what its libraries keep in out/."""
+import atexit
 import contextlib
 import os
 import re
@@ -13,7 +14,7 @@ TOP = os.path.dirname(os.path.dirname(os.path.realpath(__file__)))
 # (the tools beside this file speak as those of bin/ do, by its module reports, and import this one before it)
 sys.path.append(f"{TOP}/bin")
 PARTS = ("src", "specs", "proofs")
-RUNNING, STOPPED = set(), threading.Event()
+RUNNING, STOPPED, REMOVERS = set(), threading.Event(), []
 
 
 def lines_of_list():
@@ -37,18 +38,31 @@ def libraries_below():
     return {name: below(name) for name in lines}
 
 
-def copy_tree(source, to, copy=shutil.copy2):
+def copy_tree(source, to):
     """Copies a folder, if it is there."""
     if os.path.isdir(source):
-        shutil.copytree(source, to, copy_function=copy)
+        shutil.copytree(source, to)
 
 
-def link_or_copy(source, to):
-    """Gives a file that is only read a second name, or copies it where the other folder is of another file system."""
-    try:
-        os.link(source, to)
-    except OSError:
-        shutil.copy2(source, to)
+def lend(folders, to):
+    """Gives each file of these folders, which is only read, a second name in another folder, or copies it where that one is of another file system."""
+    os.makedirs(to, exist_ok=True)
+    there = [it for it in folders if os.path.isdir(it)]
+    if there and subprocess.run(["cp", "-al", "--", *there, to], stderr=subprocess.DEVNULL).returncode:
+        subprocess.run(["cp", "-a", "--", *there, to], check=True)
+
+
+def give_up(folder):
+    """Removes a folder that nothing uses any more, while the caller goes on."""
+    how = {"stdin": subprocess.DEVNULL, "stdout": subprocess.DEVNULL, "stderr": subprocess.DEVNULL}
+    REMOVERS.append(subprocess.Popen(["rm", "-rf", "--", folder], start_new_session=True, **how))
+
+
+@atexit.register
+def end_removers():
+    """Waits until all that was given up is removed."""
+    for it in REMOVERS:
+        it.wait()
 
 
 @contextlib.contextmanager
@@ -57,18 +71,20 @@ def room(name):
     if STOPPED.is_set():
         raise InterruptedError
     lines, below = lines_of_list(), libraries_below()[name]
-    with tempfile.TemporaryDirectory(prefix=f"{name}-") as top:
+    top = tempfile.mkdtemp(prefix=f"{name}-")
+    try:
         with open(f"{top}/crates.txt", "w", encoding="utf-8") as file:
             file.writelines(f"{lines[it]}\n" for it in [*below, name])
         for library in below:
-            for part in PARTS:
-                copy_tree(f"{TOP}/crates/{library}/{part}", f"{top}/crates/{library}/{part}", link_or_copy)
+            lend([f"{TOP}/crates/{library}/{part}" for part in PARTS], f"{top}/crates/{library}")
         for part in (*PARTS, "out/incremental"):
             copy_tree(f"{TOP}/crates/{name}/{part}", f"{top}/crates/{name}/{part}")
         # (rt writes a library into a folder that it has cleared, never over an older one)
         for it in [*below, name]:
-            copy_tree(f"{TOP}/crates/{it}/out/rlib", f"{top}/crates/{it}/out/rlib", link_or_copy)
+            lend([f"{TOP}/crates/{it}/out/rlib"], f"{top}/crates/{it}/out")
         yield f"{top}/crates/{name}"
+    finally:
+        give_up(top)
 
 
 def run(words, folder, heard=lambda line: None):
