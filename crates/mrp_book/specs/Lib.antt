@@ -1,6 +1,6 @@
 pub mod After
 pub mod Faults
 pub mod Figures
+pub mod LaneFigures
 pub mod Laws
 pub mod Meanings
-pub mod LaneFigures

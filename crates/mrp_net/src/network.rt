@@ -379,7 +379,8 @@ impl Network {
         self.lanes.shipments.get(at)
     }
 
-    /// The pieces of these shipments, at most 10^18: the same for both lanes of the two plants.
+    /// The pieces of an item of the lane that are on their way from the supplier to the customer, at most
+    /// 10^18: the same for both lanes of the two plants.
     pub fn shipped(&self, l: LaneNo, item: ItemNo) -> u64
         requires lane { l.0 < length (lanes self.now) }
         requires item { Contains (lane_items self.now (lane_at self.now l.0)) item }

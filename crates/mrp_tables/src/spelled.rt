@@ -190,8 +190,7 @@ pub(crate) fn spelled_bill(row: &StringRecord, are_known: bool) -> Result<u64, T
     test_name(row, 1, are_known)?;
     test_name(row, 2, are_known)?;
     test_name(row, 3, are_known)?;
-    let per = ranged(field(row, 4), 1, MOST_PER)?;
-    Ok(per)
+    ranged(field(row, 4), 1, MOST_PER)
 }
 
 /// The period, counted from 0, and the pieces of a demand or a receipt row. Its names aren't tested where they are
@@ -252,8 +251,7 @@ pub(crate) fn spelled_cum(row: &StringRecord, are_known: bool) -> Result<u64, Ta
     ensures figure { IfOk result (λ figure. figure ≤ MOST) }
 {
     test_lane_names(row, are_known)?;
-    let figure = ranged(field(row, 4), 0, MOST)?;
-    Ok(figure)
+    ranged(field(row, 4), 0, MOST)
 }
 
 /// The period of a reset row. Its names aren't tested where they are known.
