@@ -1,16 +1,14 @@
 //! The command line: what words choose.
 
-ghost use Rattle.std.specs.Prelude.{◌≡◌, ◌≤◌, Some, true, false, [], codes, IfOk, IfErr};
-ghost use Rattle.clap.specs.Words.{app_of, fault_of, found_of, new_app, rows_of, subcommand_rows_of, takes};
+ghost use Rattle.std.specs.Prelude.{◌≡◌, ◌≤◌, Some, true, [], codes, IfOk, IfErr};
+ghost use Rattle.clap.specs.Words.{App, app_of, fault_of, found_of, new_app, rows_of, subcommand_rows_of, takes};
+ghost use Rattle.clap.specs.Words.{with_rule, with_subcommand};
 ghost use Rattle.clap.specs.declared.builder.value_parser.ValueParser.TheVariants.{Unsigned};
 ghost use Rattle.mrp_choice.specs.Range.{IsInRange};
 ghost use Rattle.mrp_arguments.specs.Choice.{IsChosenBy, IsCommand, IsHeadedBy, IsMeantBy, IsMemory};
 ghost use Rattle.mrp_arguments.specs.Choice.{IsRefusalOf, flag_at, number_value, text_at, word_text, texts_of};
-ghost use Rattle.mrp_arguments.specs.CommandLine.{IsRuled, IsWorded, advice_words, check_words, cums_words, mrp};
-ghost use Rattle.mrp_arguments.specs.CommandLine.{orders_words, peg_words, pegs_words};
-ghost use Rattle.mrp_arguments.specs.CommandLine.{plan_words, program_words, schedule_words};
-ghost use Rattle.mrp_arguments.specs.CommandLine.{up_to_check, up_to_cums, up_to_orders, up_to_peg, up_to_pegs};
-ghost use Rattle.mrp_arguments.specs.CommandLine.{up_to_schedule};
+ghost use Rattle.mrp_arguments.specs.CommandLine.{IsRuled, IsWorded, mrp, orders_words, peg_words, plan_words};
+ghost use Rattle.mrp_arguments.specs.CommandLine.{program_words, schedule_words};
 ghost use Rattle.mrp_arguments.specs.CommandLine as rule;
 ghost use Rattle.mrp_choice.specs.declared.choice.TheConstants.{MOST_CAPACITY};
 ghost use Rattle.mrp_arguments.specs.Values.{HasFlag, HasNameValue, HasNumber, HasOrderValues};
@@ -166,101 +164,37 @@ pub fn choose<'a>(alloc: Global, words: &'a [&'a str]) -> Result<Choice<'a>, Cho
 fn program<'a>(alloc: Global) -> Result<Command<'a>, AllocError>
     ensures { IfOk result (λ command. app_of command ≡ mrp) }
 {
-    let Ok(with_all_pegs) = with_pegs(alloc) else {
-        return Err(AllocError);
-    };
-    let Ok(advice) = advice_command(alloc) else {
-        drop(with_all_pegs);
-        return Err(AllocError);
-    };
-    with_all_pegs.subcommand(advice)
+    let line = with(Ok(described(alloc)), plan_command(alloc));
+    let check = headed_command(alloc, "check", CHECK, CHECK_LONG, CHECK_EXAMPLE);
+    let line = with(line, check);
+    let line = with(line, peg_command(alloc));
+    let cums = headed_command(alloc, "cums", CUMS, CUMS_LONG, CUMS_EXAMPLE);
+    let line = with(line, cums);
+    let line = with(line, orders_command(alloc));
+    let line = with(line, schedule_command(alloc));
+    let pegs = headed_command(alloc, "pegs", PEGS, PEGS_LONG, PEGS_EXAMPLE);
+    let line = with(line, pegs);
+    let advice = headed_command(alloc, "advice", ADVICE, ADVICE_LONG, ADVICE_EXAMPLE);
+    with(line, advice)
 }
 
-/// The command line up to `pegs`.
-fn with_pegs<'a>(alloc: Global) -> Result<Command<'a>, AllocError>
-    ensures { IfOk result (λ command. app_of command ≡ up_to_pegs) }
+/// The command line with one command more, where both were made.
+fn with<'a>(
+    line: Result<Command<'a>, AllocError>,
+    command: Result<Command<'a>, AllocError>,
+) -> Result<Command<'a>, AllocError>
+    ensures { (app sub : App) → IfOk line.entry (λ old. app_of old ≡ app) → IfOk command.entry (IsWorded sub)
+        → IfOk result (λ new. app_of new ≡ with_subcommand app sub.top) }
 {
-    let Ok(scheduled) = with_schedule(alloc) else {
+    let Ok(old) = line else {
+        drop(command);
         return Err(AllocError);
     };
-    let Ok(pegs) = pegs_command(alloc) else {
-        drop(scheduled);
+    let Ok(more) = command else {
+        drop(old);
         return Err(AllocError);
     };
-    scheduled.subcommand(pegs)
-}
-
-/// The command line up to `schedule`.
-fn with_schedule<'a>(alloc: Global) -> Result<Command<'a>, AllocError>
-    ensures { IfOk result (λ command. app_of command ≡ up_to_schedule) }
-{
-    let Ok(ordered) = with_orders(alloc) else {
-        return Err(AllocError);
-    };
-    let Ok(schedule) = schedule_command(alloc) else {
-        drop(ordered);
-        return Err(AllocError);
-    };
-    ordered.subcommand(schedule)
-}
-
-/// The command line up to `orders`.
-fn with_orders<'a>(alloc: Global) -> Result<Command<'a>, AllocError>
-    ensures { IfOk result (λ command. app_of command ≡ up_to_orders) }
-{
-    let Ok(figured) = with_cums(alloc) else {
-        return Err(AllocError);
-    };
-    let Ok(orders) = orders_command(alloc) else {
-        drop(figured);
-        return Err(AllocError);
-    };
-    figured.subcommand(orders)
-}
-
-/// The command line up to `cums`.
-fn with_cums<'a>(alloc: Global) -> Result<Command<'a>, AllocError>
-    ensures { IfOk result (λ command. app_of command ≡ up_to_cums) }
-{
-    let Ok(pegged) = with_peg(alloc) else {
-        return Err(AllocError);
-    };
-    let Ok(cums) = cums_command(alloc) else {
-        drop(pegged);
-        return Err(AllocError);
-    };
-    pegged.subcommand(cums)
-}
-
-/// The command line up to `peg`.
-fn with_peg<'a>(alloc: Global) -> Result<Command<'a>, AllocError>
-    ensures { IfOk result (λ command. app_of command ≡ up_to_peg) }
-{
-    let Ok(checked) = with_check(alloc) else {
-        return Err(AllocError);
-    };
-    let Ok(peg) = peg_command(alloc) else {
-        drop(checked);
-        return Err(AllocError);
-    };
-    checked.subcommand(peg)
-}
-
-/// The command line up to `check`.
-fn with_check<'a>(alloc: Global) -> Result<Command<'a>, AllocError>
-    ensures { IfOk result (λ command. app_of command ≡ up_to_check) }
-{
-    let Ok(plan) = plan_command(alloc) else {
-        return Err(AllocError);
-    };
-    let Ok(planned) = described(alloc).subcommand(plan) else {
-        return Err(AllocError);
-    };
-    let Ok(check) = check_command(alloc) else {
-        drop(planned);
-        return Err(AllocError);
-    };
-    planned.subcommand(check)
+    old.subcommand(more)
 }
 
 /// What the command line says of itself, without a command.
@@ -288,6 +222,30 @@ fn explained<'a>(
         .about(about)
         .long_about(long_about)
         .after_help(example)
+}
+
+/// The command that is called `name`, with what help says of it, and with `--header` alone.
+fn headed_command<'a>(
+    alloc: Global,
+    name: &'a str,
+    about: &'a str,
+    long_about: &'a str,
+    example: &'a str,
+) -> Result<Command<'a>, AllocError>
+    ensures { IfOk result (IsWorded (with_rule (new_app name.entry.now) rule.header)) }
+{
+    let headed = explained(alloc, name, about, long_about, example);
+    headed.arg(header_flag(alloc))
+}
+
+/// `--header`.
+fn header_flag<'a>(alloc: Global) -> Arg<'a>
+    ensures { IsRuled rule.header result }
+{
+    Arg::new(alloc, "header")
+        .long("header")
+        .action(ArgAction::SetTrue)
+        .help("Write the names of the columns above the rows")
 }
 
 /// `plan`.
@@ -360,22 +318,6 @@ fn single_flag<'a>(alloc: Global) -> Arg<'a>
         .help("Plan all plants on one thread")
 }
 
-/// `check`.
-fn check_command<'a>(alloc: Global) -> Result<Command<'a>, AllocError>
-    ensures { IfOk result (IsWorded check_words) }
-{
-    let check = explained(alloc, "check", CHECK, CHECK_LONG, CHECK_EXAMPLE);
-    check.arg(header_flag(alloc))
-}
-
-/// `cums`.
-fn cums_command<'a>(alloc: Global) -> Result<Command<'a>, AllocError>
-    ensures { IfOk result (IsWorded cums_words) }
-{
-    let cums = explained(alloc, "cums", CUMS, CUMS_LONG, CUMS_EXAMPLE);
-    cums.arg(header_flag(alloc))
-}
-
 /// `orders`.
 fn orders_command<'a>(alloc: Global) -> Result<Command<'a>, AllocError>
     ensures { IfOk result (IsWorded orders_words) }
@@ -436,32 +378,6 @@ fn free_text_option<'a>(alloc: Global, name: &'a str, value_name: &'a str, help:
         .long(name)
         .value_name(value_name)
         .help(help)
-}
-
-/// `pegs`.
-fn pegs_command<'a>(alloc: Global) -> Result<Command<'a>, AllocError>
-    ensures { IfOk result (IsWorded pegs_words) }
-{
-    let pegs = explained(alloc, "pegs", PEGS, PEGS_LONG, PEGS_EXAMPLE);
-    pegs.arg(header_flag(alloc))
-}
-
-/// `advice`.
-fn advice_command<'a>(alloc: Global) -> Result<Command<'a>, AllocError>
-    ensures { IfOk result (IsWorded advice_words) }
-{
-    let advice = explained(alloc, "advice", ADVICE, ADVICE_LONG, ADVICE_EXAMPLE);
-    advice.arg(header_flag(alloc))
-}
-
-/// `--header`.
-fn header_flag<'a>(alloc: Global) -> Arg<'a>
-    ensures { IsRuled rule.header result }
-{
-    Arg::new(alloc, "header")
-        .long("header")
-        .action(ArgAction::SetTrue)
-        .help("Write the names of the columns above the rows")
 }
 
 /// `peg`.
