@@ -1,6 +1,5 @@
 -- The report is the rows of its sheet, and csv reads it back.
 use Rattle.std.proofs.Common.{◌≡◌, ℕ, List, All, refl, arith}
-use Rattle.std.specs.Prelude.{Option, Some, None}
 use Rattle.std.specs.List.{flat_map}
 use Rattle.csv.specs.Reading.{strip_bom}
 use Rattle.mrp_lot.specs.One.{PlanRows}
@@ -12,7 +11,7 @@ use Rattle.mrp_sheet.specs.Names.{item_of, pairs_of, plant_of}
 use Rattle.mrp_sheet.specs.Rows.{row}
 use Rattle.mrp_sheet.specs.Sheets.{IsPlain}
 use Rattle.mrp_sheet.proofs.FieldFacts.{ArePlain, headed_read, more, none, number}
-use Rattle.mrp_sheet.proofs.PlainFacts.{dates_plain, item_plain, number_plain, plant_plain}
+use Rattle.mrp_sheet.proofs.PlainFacts.{dates_plain, item_plain, plant_plain}
 use Rattle.mrp_sheet.proofs.ReadBack.{IsRow, all_each, all_map, row_each, rows_each}
 use Rattle.mrp_actions.specs.declared.advice.Action.{Action}
 use Rattle.mrp_actions.specs.declared.advice.Action.TheVariants.{Expedite, Defer, Cancel}
@@ -22,9 +21,9 @@ use Rattle.mrp_actions.specs.declared.orders.OrderKind.TheVariants.{Receipt, Shi
 use Rattle.mrp_actions.specs.Advice.{pair_advice}
 use Rattle.mrp_actions.specs.AdviceLaws.{AdviceIsReadBack}
 use Rattle.mrp_actions.specs.AdviceRows.{action_word, advice_fields, advice_names, advice_row, advice_text, order_kind_word}
-use Rattle.mrp_actions.specs.AdviceRows.{messages_text, needed_date, needed_period}
-use Rattle.mrp_actions.specs.AdviceRows.{pair_advice_text, sender_name}
+use Rattle.mrp_actions.specs.AdviceRows.{messages_text, pair_advice_text, sender_name}
 use Rattle.mrp_actions.specs.AdviceSheets.{pair_advice_sheet}
+use Rattle.mrp_actions.proofs.FieldFacts.{date_field_plain, number_field_plain}
 
 action_plain : (action : Action) → IsPlain (action_word action)
 action_plain Expedite = refl
@@ -39,14 +38,6 @@ supplier_plain : (N : Table) → IsTable N → (kind : OrderKind) → IsPlain (s
 supplier_plain N is Receipt = refl
 supplier_plain N is (Ship from) = plant_plain N is from.0
 
-period_plain : (needed : Option ℕ) → IsPlain (needed_period needed)
-period_plain None = refl
-period_plain (Some t) = number_plain t
-
-date_plain : (dates : List (List ℕ)) → ((t : ℕ) → IsPlain (date_in dates t)) → (needed : Option ℕ) → IsPlain (needed_date dates needed)
-date_plain dates each None = refl
-date_plain dates each (Some t) = each t
-
 advice_is_row : (N : Table) → IsTable N → (plant item : List ℕ) (dates : List (List ℕ)) (advice : Advice) → IsPlain plant → IsPlain item
     → ((t : ℕ) → IsPlain (date_in dates t)) → IsRow (advice_fields N plant item dates advice)
 unfolding row strip_bom
@@ -55,7 +46,7 @@ advice_is_row N is plant item dates advice p i d = record {
       let are : ArePlain (advice_fields N plant item dates advice) =
       more refl (more (action_plain advice.action) (more (kind_plain advice.order.kind) (more p (more i (more (supplier_plain N is advice.order.kind)
       (number advice.order.period (more (d advice.order.period) (number advice.order.quantity
-      (more (period_plain advice.needed) (more (date_plain dates d advice.needed) none)))))))))) in
+      (more (number_field_plain advice.needed) (more (date_field_plain dates d advice.needed) none)))))))))) in
       are.all;
   many = omega arith;
   front = λ rest. refl;

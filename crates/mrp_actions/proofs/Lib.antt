@@ -2,6 +2,7 @@ pub mod Finding
 pub mod Needing
 pub mod Coming
 pub mod CoverFacts
+pub mod FieldFacts
 pub mod LineFacts
 pub mod AdviceSheetFacts
 pub mod Amounts

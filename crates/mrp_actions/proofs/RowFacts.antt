@@ -5,6 +5,7 @@ use Rattle.std.specs.Prelude.{Option, Some, None, All, Contains, IfSome, filter,
 use Rattle.std.specs.List.{flat_map}
 use Rattle.std.proofs.lemmas.List.Elements.{All-cons, All-head, All-nil, All-tail}
 use Rattle.std.proofs.lemmas.List.FromFn.{length-map-range_with_len}
+use Rattle.mrp_rows.specs.Said.{item_name}
 use Rattle.mrp_rows.specs.declared.numbers.ItemNo.{ItemNo}
 use Rattle.mrp_rows.specs.declared.numbers.PlantNo.{PlantNo}
 use Rattle.mrp_rows.specs.Table.{IsTable, Table, horizon}
@@ -22,7 +23,6 @@ use Rattle.mrp_record.proofs.Running.{block_delivers}
 use Rattle.mrp_events.specs.Loads.{called_in, lines_by, load_of}
 use Rattle.mrp_events.proofs.Delivered.{by_period_inside}
 use Rattle.mrp_sheet.specs.Dates.{dates_of, period_date}
-use Rattle.mrp_sheet.specs.RowNames.{name_of_item}
 use Rattle.mrp_actions.specs.declared.line.ScheduleLine.{ScheduleLine}
 use Rattle.mrp_actions.specs.declared.line.ScheduleLine.TheVariants.{Call, Opening, Reset}
 use Rattle.mrp_actions.specs.declared.schedule_report.ItemRows.{ItemRows}
@@ -84,7 +84,7 @@ rows_are_of_item N lane item rows lines same are =
     ∙ ap (λ (s : List ℕ). flat_map (schedule_line_row s rows.customer.now rows.item.now rows.dates.now) schedule) are.supplier
     ∙ ap (λ (c : List ℕ). flat_map (schedule_line_row (supplier_name N lane) c rows.item.now rows.dates.now) schedule) are.customer
     ∙ ap (λ (i : List ℕ). flat_map (schedule_line_row (supplier_name N lane) (customer_name N lane) i rows.dates.now) schedule) are.of_item
-    ∙ ap (λ (d : List (List ℕ)). flat_map (schedule_line_row (supplier_name N lane) (customer_name N lane) (name_of_item N item) d) schedule) are.dates
+    ∙ ap (λ (d : List (List ℕ)). flat_map (schedule_line_row (supplier_name N lane) (customer_name N lane) (item_name N item.0) d) schedule) are.dates
 
 kept : {X : Type 0} (text : X → List ℕ) (test : X → Bool) (xs : List X) → flat_map (λ x. cond (test x) (text x) []) xs ≡ flat_map text (filter test xs)
 kept text test [] = refl

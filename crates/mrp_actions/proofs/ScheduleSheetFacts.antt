@@ -1,8 +1,9 @@
 -- The report is the rows of its sheet.
 use Rattle.std.proofs.Common.{◌≡◌, ℕ, List, All, arith, refl}
-use Rattle.std.specs.Prelude.{Option, filter}
+use Rattle.std.specs.Prelude.{Option, Some, None, codes as text_bytes, filter}
 use Rattle.std.specs.List.{flat_map}
 use Rattle.csv.specs.Reading.{strip_bom}
+use Rattle.mrp_rows.specs.Said.{item_name}
 use Rattle.mrp_rows.specs.declared.numbers.ItemNo.{ItemNo}
 use Rattle.mrp_rows.specs.declared.numbers.PlantNo.{PlantNo}
 use Rattle.mrp_rows.specs.Table.{IsTable, Table}
@@ -10,7 +11,6 @@ use Rattle.mrp_net.specs.declared.lane.Lane.{Lane}
 use Rattle.mrp_net.specs.Lanes.{customer_of, lane_items, lanes, supplier_of}
 use Rattle.mrp_sheet.specs.Dates.{dates_of}
 use Rattle.mrp_sheet.specs.DateLists.{date_in}
-use Rattle.mrp_sheet.specs.RowNames.{name_of_item}
 use Rattle.mrp_sheet.specs.Rows.{row}
 use Rattle.mrp_sheet.specs.Sheets.{IsPlain}
 use Rattle.mrp_sheet.proofs.FieldFacts.{ArePlain, headed_read, more, none, number}
@@ -18,27 +18,31 @@ use Rattle.mrp_sheet.proofs.PlainFacts.{dates_plain, item_plain, plant_plain}
 use Rattle.mrp_sheet.proofs.ReadBack.{IsRow, all_each, all_map, row_each, rows_each}
 use Rattle.mrp_actions.specs.declared.line.ScheduleLine.{ScheduleLine}
 use Rattle.mrp_actions.specs.declared.line.ScheduleLine.TheVariants.{Call, Opening, Reset}
-use Rattle.mrp_actions.specs.ScheduleRows.{customer_name, is_between, item_text, lane_schedule_text, lanes_text, schedule_line_fields, schedule_line_row}
-use Rattle.mrp_actions.specs.ScheduleRows.{schedule_names, schedule_text, supplier_name}
+use Rattle.mrp_actions.specs.ScheduleRows.{customer_name, is_between, item_text, kind_fields, lane_schedule_text, lanes_text}
+use Rattle.mrp_actions.specs.ScheduleRows.{schedule_line_fields, schedule_line_row, schedule_names, schedule_text, supplier_name}
 use Rattle.mrp_actions.specs.Schedule.{schedule_of}
 use Rattle.mrp_actions.specs.ScheduleSheets.{SchedulesAreReadBack, item_sheet, lanes_sheet}
+use Rattle.mrp_actions.proofs.FieldFacts.{date_field_plain, number_field_plain}
 
--- an empty field is plain too
-line_plain : (supplier customer item : List ℕ) (dates : List (List ℕ)) → IsPlain supplier → IsPlain customer → IsPlain item
-    → ((t : ℕ) → IsPlain (date_in dates t)) → (line : ScheduleLine) → ArePlain (schedule_line_fields supplier customer item dates line)
-line_plain supplier customer item dates s c i d (Opening transit figure) =
-    more refl (more refl (more s (more c (more i (more refl (more refl (number transit (number figure none))))))))
-line_plain supplier customer item dates s c i d (Call period quantity cumulative) =
-    more refl (more refl (more s (more c (more i (number period (more (d period) (number quantity (number cumulative none))))))))
-line_plain supplier customer item dates s c i d (Reset period closed) =
-    more refl (more refl (more s (more c (more i (number period (more (d period) (more refl (number closed none))))))))
+module _ (supplier customer item : List ℕ) (dates : List (List ℕ)) (s : IsPlain supplier) (c : IsPlain customer) (i : IsPlain item)
+    (d : (t : ℕ) → IsPlain (date_in dates t)) where
+  kind_is_row : (kind : List ℕ) → IsPlain kind → (period pieces : Option ℕ) (figure : ℕ)
+      → IsRow (kind_fields supplier customer item dates kind period pieces figure)
+  unfolding row strip_bom
+  kind_is_row kind k period pieces figure = record {
+    plain =
+        let are : ArePlain (kind_fields supplier customer item dates kind period pieces figure) =
+        more refl (more k (more s (more c (more i (more (number_field_plain period) (more (date_field_plain dates d period)
+        (more (number_field_plain pieces) (number figure none)))))))) in
+        are.all;
+    many = omega arith;
+    front = λ rest. refl;
+  }
 
-line_is_row : (supplier customer item : List ℕ) (dates : List (List ℕ)) (line : ScheduleLine)
-    → ArePlain (schedule_line_fields supplier customer item dates line) → IsRow (schedule_line_fields supplier customer item dates line)
-unfolding row strip_bom
-line_is_row supplier customer item dates (Opening transit figure) are = record { plain = are.all; many = omega arith; front = λ rest. refl }
-line_is_row supplier customer item dates (Call period quantity cumulative) are = record { plain = are.all; many = omega arith; front = λ rest. refl }
-line_is_row supplier customer item dates (Reset period closed) are = record { plain = are.all; many = omega arith; front = λ rest. refl }
+  line_is_row : (line : ScheduleLine) → IsRow (schedule_line_fields supplier customer item dates line)
+  line_is_row (Opening transit figure) = kind_is_row (text_bytes "opening") refl None (Some transit) figure
+  line_is_row (Call period quantity cumulative) = kind_is_row (text_bytes "call") refl (Some period) (Some quantity) cumulative
+  line_is_row (Reset period closed) = kind_is_row (text_bytes "reset") refl (Some period) None closed
 
 names_are_row : IsRow schedule_names
 unfolding row strip_bom
@@ -54,7 +58,7 @@ names_are_row = record {
 item_is_sheet : (N : Table) (lane : Lane) (item : ItemNo) → item_text N lane item ≡ flat_map row (item_sheet N lane item)
 unfolding item_text schedule_line_row
 item_is_sheet N lane item =
-    row_each (schedule_line_fields (supplier_name N lane) (customer_name N lane) (name_of_item N item) (dates_of N.calendar)) (schedule_of N lane item)
+    row_each (schedule_line_fields (supplier_name N lane) (customer_name N lane) (item_name N item.0) (dates_of N.calendar)) (schedule_of N lane item)
 
 lane_is_sheet : (N : Table) (lane : Lane) → lane_schedule_text N lane ≡ flat_map row (flat_map (item_sheet N lane) (lane_items N lane))
 unfolding lane_schedule_text
@@ -69,12 +73,11 @@ item_rows_are : (N : Table) → IsTable N → (lane : Lane) (item : ItemNo) → 
 item_rows_are N is lane item =
     let supplier = supplier_name N lane in
     let customer = customer_name N lane in
-    let name = name_of_item N item in
+    let name = item_name N item.0 in
     let dates = dates_of N.calendar in
     all_map (schedule_line_fields supplier customer name dates)
-    (λ line. line_is_row supplier customer name dates line
-    (line_plain supplier customer name dates (plant_plain N is (supplier_of lane)) (plant_plain N is (customer_of lane)) (item_plain N is item.0)
-    (dates_plain N.calendar) line))
+    (line_is_row supplier customer name dates (plant_plain N is (supplier_of lane)) (plant_plain N is (customer_of lane)) (item_plain N is item.0)
+    (dates_plain N.calendar))
     (schedule_of N lane item)
 
 lanes_rows_are : (from to : Option PlantNo) (N : Table) → IsTable N → All IsRow (lanes_sheet from to N)

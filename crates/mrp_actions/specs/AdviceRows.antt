@@ -1,14 +1,14 @@
 -- The report of exception messages for open orders.
-use Rattle.std.specs.Prelude.{ℕ, List, [], ◌∷◌, ◌++◌, decimal, codes as text_bytes, Option, Some, None}
+use Rattle.std.specs.Prelude.{ℕ, List, [], ◌∷◌, ◌++◌, decimal, codes as text_bytes}
 use Rattle.std.specs.List.{flat_map}
 use Rattle.mrp_lot.specs.One.{PlanRows}
+use Rattle.mrp_rows.specs.Said.{plant_name}
 use Rattle.mrp_rows.specs.Table.{Table}
 use Rattle.mrp_choice.specs.declared.choice.Heading.{Heading}
 use Rattle.mrp_sheet.specs.Dates.{dates_of}
 use Rattle.mrp_sheet.specs.DateLists.{date_in}
 use Rattle.mrp_sheet.specs.Headings.{header_row}
 use Rattle.mrp_sheet.specs.Names.{item_of, pairs_of, plant_of}
-use Rattle.mrp_sheet.specs.RowNames.{name_of_plant}
 use Rattle.mrp_sheet.specs.Rows.{row}
 use Rattle.mrp_actions.specs.declared.advice.Action.{Action}
 use Rattle.mrp_actions.specs.declared.advice.Action.TheVariants.{Expedite, Defer, Cancel}
@@ -16,6 +16,7 @@ use Rattle.mrp_actions.specs.declared.advice.Advice.{Advice}
 use Rattle.mrp_actions.specs.declared.orders.OrderKind.{OrderKind}
 use Rattle.mrp_actions.specs.declared.orders.OrderKind.TheVariants.{Receipt, Ship}
 use Rattle.mrp_actions.specs.Advice.{pair_advice}
+use Rattle.mrp_actions.specs.Fields.{date_if_any, number_if_any}
 
 -- the names of the columns
 abbrev pub advice_names : List (List ℕ)
@@ -38,24 +39,16 @@ order_kind_word (Ship from) = text_bytes "ship"
 -- the sender of a shipment; a receipt has none
 abbrev pub sender_name : Table → OrderKind → List ℕ
 sender_name N Receipt = []
-sender_name N (Ship from) = name_of_plant N from
+sender_name N (Ship from) = plant_name N from.0
 
--- the period in which an order is needed and its first day, and nothing where it is needed in none
-abbrev pub needed_period : Option ℕ → List ℕ
-needed_period None = []
-needed_period (Some t) = decimal t
-
-abbrev pub needed_date : List (List ℕ) → Option ℕ → List ℕ
-needed_date dates None = []
-needed_date dates (Some t) = date_in dates t
-
--- the fields of the row of a message: what to do, what the order is, when it is due, and when it is needed
+-- the fields of the row of a message: what to do, what the order is, when it is due, and when it is needed, which is
+-- empty where it is needed in no period
 abbrev pub advice_fields : Table → List ℕ → List ℕ → List (List ℕ) → Advice → List (List ℕ)
 advice_fields N plant item dates advice =
     text_bytes "advice" ∷ action_word advice.action ∷ order_kind_word advice.order.kind ∷ plant ∷ item
     ∷ sender_name N advice.order.kind
     ∷ decimal advice.order.period ∷ date_in dates advice.order.period ∷ decimal advice.order.quantity
-    ∷ needed_period advice.needed ∷ needed_date dates advice.needed ∷ []
+    ∷ number_if_any advice.needed ∷ date_if_any dates advice.needed ∷ []
 
 -- that row
 unfoldable pub advice_row : Table → List ℕ → List ℕ → List (List ℕ) → Advice → List ℕ

@@ -1,27 +1,33 @@
 -- The schedule rows of one lane and of one item, line by line.
 use Rattle.std.specs.Prelude.{◌≡◌, ℕ, ◌<◌, if◌then◌else◌, List, [], Option}
+use Rattle.mrp_rows.specs.Said.{item_name}
 use Rattle.mrp_rows.specs.declared.numbers.ItemNo.{ItemNo}
 use Rattle.mrp_rows.specs.declared.numbers.PlantNo.{PlantNo}
 use Rattle.mrp_rows.specs.Table.{Table}
 use Rattle.mrp_net.specs.declared.lane.Lane.{Lane}
 use Rattle.mrp_sheet.specs.Dates.{dates_of}
-use Rattle.mrp_sheet.specs.RowNames.{name_of_item}
+use Rattle.mrp_sheet.specs.Rows.{row}
 use Rattle.mrp_actions.specs.declared.line.ScheduleLine.{ScheduleLine}
 use Rattle.mrp_actions.specs.declared.line.ScheduleLine.TheVariants.{Opening, Call, Reset}
 use Rattle.mrp_actions.specs.declared.schedule_report.ItemRows.{ItemRows}
-use Rattle.mrp_actions.specs.ScheduleRows.{customer_name, is_between, lane_schedule_text, schedule_line_row}
-use Rattle.mrp_actions.specs.ScheduleRows.{supplier_name}
+use Rattle.mrp_actions.specs.ScheduleRows.{customer_name, is_between, kind_fields, lane_schedule_text}
+use Rattle.mrp_actions.specs.ScheduleRows.{schedule_line_row, supplier_name}
 
 -- what the rows of an item's schedule have in common
 pub record AreOfItem (N : Table) (lane : Lane) (item : ItemNo) (rows : ItemRows) : Type 0 where
   pub supplier : rows.supplier.now ≡ supplier_name N lane
   pub customer : rows.customer.now ≡ customer_name N lane
-  pub of_item : rows.item.now ≡ name_of_item N item
+  pub of_item : rows.item.now ≡ item_name N item.0
   pub dates : rows.dates.now ≡ dates_of N.calendar
 
 -- the row of a line of the schedule
 abbrev pub item_row : ItemRows → ScheduleLine → List ℕ
 item_row rows line = schedule_line_row rows.supplier.now rows.customer.now rows.item.now rows.dates.now line
+
+-- a row of that kind, in a period or in none, with pieces or without
+abbrev pub kind_row : ItemRows → List ℕ → Option ℕ → Option ℕ → ℕ → List ℕ
+kind_row rows kind period pieces figure =
+    row (kind_fields rows.supplier.now rows.customer.now rows.item.now rows.dates.now kind period pieces figure)
 
 -- a line stands in one of the first so many periods, or in none
 abbrev pub IsLineWithin : ℕ → ScheduleLine → Type 0

@@ -3,6 +3,7 @@ pub mod Needed
 pub mod Advice
 pub mod Covered
 pub mod Gathered
+pub mod Fields
 pub mod AdviceRows
 pub mod AdviceLines
 pub mod AdviceSheets

@@ -1,22 +1,21 @@
 -- The report of delivery schedules.
-use Rattle.std.specs.Prelude.{ℕ, ◌==◌, ◌&&◌, Bool, true, false, List, [], ◌∷◌, ◌++◌, filter, slice_index_or, decimal}
+use Rattle.std.specs.Prelude.{ℕ, ◌==◌, ◌&&◌, Bool, true, List, [], ◌∷◌, ◌++◌, filter, decimal}
 use Rattle.std.specs.Prelude.{codes as text_bytes, Option, Some, None}
 use Rattle.std.specs.List.{flat_map}
+use Rattle.mrp_net.specs.LaneLaws.{is_schedule}
+use Rattle.mrp_rows.specs.Said.{item_name, plant_name}
 use Rattle.mrp_rows.specs.declared.numbers.ItemNo.{ItemNo}
 use Rattle.mrp_rows.specs.declared.numbers.PlantNo.{PlantNo}
 use Rattle.mrp_rows.specs.Table.{Table}
 use Rattle.mrp_choice.specs.declared.choice.Heading.{Heading}
 use Rattle.mrp_net.specs.declared.lane.Lane.{Lane}
-use Rattle.mrp_net.specs.declared.lane.LaneKind.{LaneKind}
-use Rattle.mrp_net.specs.declared.lane.LaneKind.TheVariants.{Despatch, Schedule}
 use Rattle.mrp_net.specs.Lanes.{customer_of, lane_items, lanes, supplier_of}
 use Rattle.mrp_sheet.specs.Dates.{dates_of}
-use Rattle.mrp_sheet.specs.DateLists.{date_in}
 use Rattle.mrp_sheet.specs.Headings.{header_row}
-use Rattle.mrp_sheet.specs.RowNames.{name_of_item}
 use Rattle.mrp_sheet.specs.Rows.{row}
 use Rattle.mrp_actions.specs.declared.line.ScheduleLine.{ScheduleLine}
 use Rattle.mrp_actions.specs.declared.line.ScheduleLine.TheVariants.{Opening, Call, Reset}
+use Rattle.mrp_actions.specs.Fields.{date_if_any, number_if_any}
 use Rattle.mrp_actions.specs.Schedule.{schedule_of}
 
 -- the names of the columns
@@ -28,18 +27,20 @@ schedule_names =
 
 -- ---- the rows of an item
 
--- the fields of a line between two plants: the opening stands in no period, and a reset has no pieces
+-- the fields of a row between two plants: its kind, the item, the period and its date, the pieces, and the figure
+abbrev pub kind_fields : List ℕ → List ℕ → List ℕ → List (List ℕ) → List ℕ → Option ℕ → Option ℕ → ℕ → List (List ℕ)
+kind_fields supplier customer item dates kind period pieces figure =
+    text_bytes "schedule" ∷ kind ∷ supplier ∷ customer ∷ item ∷ number_if_any period ∷ date_if_any dates period
+    ∷ number_if_any pieces ∷ decimal figure ∷ []
+
+-- those of a line: the opening stands in no period, and a reset has no pieces
 abbrev pub schedule_line_fields : List ℕ → List ℕ → List ℕ → List (List ℕ) → ScheduleLine → List (List ℕ)
 schedule_line_fields supplier customer item dates (Opening transit figure) =
-    text_bytes "schedule" ∷ text_bytes "opening" ∷ supplier ∷ customer ∷ item ∷ [] ∷ [] ∷ decimal transit
-    ∷ decimal figure ∷ []
+    kind_fields supplier customer item dates (text_bytes "opening") None (Some transit) figure
 schedule_line_fields supplier customer item dates (Call period quantity cumulative) =
-    text_bytes "schedule" ∷ text_bytes "call" ∷ supplier ∷ customer ∷ item ∷ decimal period ∷ date_in dates period
-    ∷ decimal quantity
-    ∷ decimal cumulative ∷ []
+    kind_fields supplier customer item dates (text_bytes "call") (Some period) (Some quantity) cumulative
 schedule_line_fields supplier customer item dates (Reset period closed) =
-    text_bytes "schedule" ∷ text_bytes "reset" ∷ supplier ∷ customer ∷ item ∷ decimal period ∷ date_in dates period ∷ []
-    ∷ decimal closed ∷ []
+    kind_fields supplier customer item dates (text_bytes "reset") (Some period) None closed
 
 -- that row
 unfoldable pub schedule_line_row : List ℕ → List ℕ → List ℕ → List (List ℕ) → ScheduleLine → List ℕ
@@ -47,15 +48,15 @@ schedule_line_row supplier customer item dates line = row (schedule_line_fields 
 
 -- the names of the two plants of a lane
 abbrev pub supplier_name : Table → Lane → List ℕ
-supplier_name N lane = slice_index_or N.plants (supplier_of lane) []
+supplier_name N lane = plant_name N (supplier_of lane)
 
 abbrev pub customer_name : Table → Lane → List ℕ
-customer_name N lane = slice_index_or N.plants (customer_of lane) []
+customer_name N lane = plant_name N (customer_of lane)
 
 -- the rows of the schedule of an item of a lane
 unfoldable pub item_text : Table → Lane → ItemNo → List ℕ
 item_text N lane item =
-    flat_map (schedule_line_row (supplier_name N lane) (customer_name N lane) (name_of_item N item)
+    flat_map (schedule_line_row (supplier_name N lane) (customer_name N lane) (item_name N item.0)
     (dates_of N.calendar)) (schedule_of N lane item)
 
 -- ---- the report
@@ -63,11 +64,6 @@ item_text N lane item =
 -- the items of a lane, in its order
 unfoldable pub lane_schedule_text : Table → Lane → List ℕ
 lane_schedule_text N lane = flat_map (item_text N lane) (lane_items N lane)
-
--- schedules go over schedule lanes
-abbrev pub is_schedule : LaneKind → Bool
-is_schedule Despatch = false
-is_schedule Schedule = true
 
 -- it is the plant that is asked for; where none is asked for every plant is
 abbrev pub is_asked_for : Option PlantNo → ℕ → Bool

@@ -1,6 +1,7 @@
 -- The report as a sheet: what a reader of comma-separated values has to find in it.
 use Rattle.std.specs.Prelude.{◌++◌, map, filter, Option}
 use Rattle.std.specs.List.{flat_map}
+use Rattle.mrp_rows.specs.Said.{item_name}
 use Rattle.mrp_rows.specs.declared.numbers.ItemNo.{ItemNo}
 use Rattle.mrp_rows.specs.declared.numbers.PlantNo.{PlantNo}
 use Rattle.mrp_rows.specs.Table.{IsTable, Table}
@@ -8,7 +9,6 @@ use Rattle.mrp_choice.specs.declared.choice.Heading.{Heading}
 use Rattle.mrp_net.specs.declared.lane.Lane.{Lane}
 use Rattle.mrp_net.specs.Lanes.{lane_items, lanes}
 use Rattle.mrp_sheet.specs.Dates.{dates_of}
-use Rattle.mrp_sheet.specs.RowNames.{name_of_item}
 use Rattle.mrp_sheet.specs.Sheets.{IsReadAs, Sheet, header_sheet}
 use Rattle.mrp_actions.specs.ScheduleRows.{customer_name, is_between, schedule_line_fields, schedule_names}
 use Rattle.mrp_actions.specs.ScheduleRows.{schedule_text}
@@ -18,7 +18,7 @@ use Rattle.mrp_actions.specs.Schedule.{schedule_of}
 -- the lines of each item
 abbrev pub item_sheet : Table → Lane → ItemNo → Sheet
 item_sheet N lane item =
-    map (schedule_line_fields (supplier_name N lane) (customer_name N lane) (name_of_item N item) (dates_of N.calendar))
+    map (schedule_line_fields (supplier_name N lane) (customer_name N lane) (item_name N item.0) (dates_of N.calendar))
     (schedule_of N lane item)
 
 -- of each lane whose schedules are asked for

@@ -1,12 +1,11 @@
 //! The advice rows: each open order that isn't due in the period in which it is needed.
 
-ghost use Rattle.std.specs.Prelude.{◌≡◌, ◌+◌, ◌<◌, ◌≤◌, ◌++◌, Err, OnOk, IfOk, IfErr, IfSome, length, sum};
+ghost use Rattle.std.specs.Prelude.{◌≡◌, ◌+◌, ◌≤◌, ◌++◌, Err, OnOk, IfOk, IfErr, IfSome, length, sum};
 ghost use Rattle.mrp_qty.specs.declared.quantity.TheConstants.{MOST};
 ghost use Rattle.mrp_rows.specs.Table.{IsPair, horizon};
 ghost use Rattle.mrp_net.specs.PlanLaws.{Fits};
 ghost use Rattle.mrp_loops.specs.Sized.{IsSized};
 ghost use Rattle.mrp_sheet.specs.Dates.{dates_of};
-ghost use Rattle.mrp_sheet.specs.Headings.{header_row};
 ghost use Rattle.mrp_sheet.specs.Writing.{IsBetweenRows, written};
 ghost use Rattle.mrp_sheet.specs.Sent.{SendsReport};
 ghost use Rattle.mrp_actions.specs.Advice.{advice_for};
@@ -15,11 +14,11 @@ ghost use Rattle.mrp_actions.specs.AdviceLines.{advice_line_row, advice_line_tex
 ghost use Rattle.mrp_actions.specs.Covered.{Covers};
 ghost use Rattle.mrp_actions.specs.Gathered.{AreOpenOrders};
 ghost use Rattle.mrp_actions.specs.Needed.{first_short};
-ghost use Rattle.mrp_actions.specs.AdviceRows.{action_word, advice_names, advice_text, order_kind_word};
-ghost use Rattle.mrp_actions.specs.AdviceRows.{messages_text, needed_date, needed_period, pair_advice_text};
-ghost use Rattle.mrp_actions.specs.AdviceRows.{sender_name};
+ghost use Rattle.mrp_actions.specs.AdviceRows.{action_word, advice_text, order_kind_word};
+ghost use Rattle.mrp_actions.specs.AdviceRows.{messages_text, pair_advice_text, sender_name};
 
 use crate::cover::{Cover, next_advice};
+use crate::fields::{date_if_any, number_if_any};
 use crate::gathering::open_orders;
 use crate::{Action, Advice, OpenOrder, OrderKind};
 use csv::Writer;
@@ -298,8 +297,8 @@ fn put_advice<'a>(
             period.format(order.period).as_bytes(),
             date_of(line.dates, order.period),
             quantity.format(order.quantity.get()).as_bytes(),
-            needed_period(&mut needed, advice.needed),
-            needed_date(line.dates, advice.needed),
+            number_if_any(&mut needed, advice.needed),
+            date_if_any(line.dates, advice.needed),
         ],
     )
 }
@@ -333,26 +332,5 @@ fn supplier_name(network: &Network, kind: OrderKind) -> &[u8]
     match kind {
         OrderKind::Receipt => b"",
         OrderKind::Ship(from) => network.plant_name(from).as_bytes(),
-    }
-}
-
-/// The period in which an order is needed as text, which is empty where it is needed in none.
-fn needed_period(buffer: &mut Buffer, needed: Option<usize>) -> &[u8]
-    ensures { result.now ≡ needed_period needed }
-{
-    match needed {
-        None => b"",
-        Some(period) => buffer.format(period).as_bytes(),
-    }
-}
-
-/// The first day of the period in which an order is needed, which is empty where it is needed in none.
-fn needed_date<'a>(dates: &'a [[u8; 10]], needed: Option<usize>) -> &'a [u8]
-    requires { IfSome needed (λ period. period < length dates.now) }
-    ensures { result.now ≡ needed_date dates.now needed }
-{
-    match needed {
-        None => b"",
-        Some(period) => date_of(dates, period),
     }
 }

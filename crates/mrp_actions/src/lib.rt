@@ -12,6 +12,7 @@ mod advice_laws;
 mod advice_report;
 mod calls;
 mod cover;
+mod fields;
 mod gathering;
 mod line;
 mod orders;

@@ -1,20 +1,19 @@
 //! The schedule rows: the delivery schedules between plants, item by item and line by line.
 
-ghost use Rattle.std.specs.Prelude.{◌≡◌, ◌<◌, ◌++◌, Err, OnOk, IfOk, IfErr, All, Contains, length};
+ghost use Rattle.std.specs.Prelude.{◌≡◌, ◌<◌, ◌++◌, Err, OnOk, IfOk, IfErr, IfSome, All, Contains, length};
 ghost use Rattle.std.specs.List.{flat_map};
 ghost use Rattle.mrp_net.specs.declared.lane.LaneKind.TheVariants.{Schedule};
 ghost use Rattle.mrp_net.specs.Lanes.{lane_at, lane_items, lanes};
 ghost use Rattle.mrp_net.specs.PlanLaws.{Fits};
 ghost use Rattle.mrp_net.specs.Routes.{IsLane};
 ghost use Rattle.mrp_sheet.specs.Dates.{dates_of};
-ghost use Rattle.mrp_sheet.specs.Headings.{header_row};
 ghost use Rattle.mrp_sheet.specs.Writing.{IsBetweenRows, written};
 ghost use Rattle.mrp_sheet.specs.Sent.{SendsReport};
-ghost use Rattle.mrp_actions.specs.declared.line.ScheduleLine.TheVariants.{Opening, Call, Reset};
 ghost use Rattle.mrp_actions.specs.ScheduleRows.{is_asked_for, is_between, item_text, lane_schedule_text, lanes_text};
-ghost use Rattle.mrp_actions.specs.ScheduleRows.{schedule_names, schedule_text};
-ghost use Rattle.mrp_actions.specs.ItemRows.{AreOfItem, IsLineWithin, asked_text, item_row};
+ghost use Rattle.mrp_actions.specs.ScheduleRows.{schedule_text};
+ghost use Rattle.mrp_actions.specs.ItemRows.{AreOfItem, IsLineWithin, asked_text, item_row, kind_row};
 
+use crate::fields::{date_if_any, number_if_any};
 use crate::{ScheduleLine, add_schedule};
 use csv::Writer;
 use itoa::Buffer;
@@ -23,7 +22,7 @@ use mrp_loops::SizedNet;
 use mrp_net::{ItemNo, Lane, LaneKind, LaneNo, Network, PlantNo};
 use mrp_plan::Plan;
 use mrp_qty::Qty;
-use mrp_sheet::{ReportFault, date_of, date_texts, put_names, put_row, room_for, send, text_of};
+use mrp_sheet::{ReportFault, date_texts, put_names, put_row, room_for, send, text_of};
 use std::alloc::Global;
 use std::io::Write;
 
@@ -297,57 +296,36 @@ fn put_line(
     ensures fault { IfErr result (λ fault. fault ≡ ReportFault.Memory) }
 {
     match line {
-        ScheduleLine::Opening { transit, figure } => put_opening(rows, common, transit, figure),
+        ScheduleLine::Opening { transit, figure } => {
+            put_kind_row(rows, common, b"opening", None, Some(transit.get()), figure)
+        }
         ScheduleLine::Call {
             period,
             quantity,
-            cumulative,
-        } => put_call(rows, common, period, quantity, cumulative),
-        ScheduleLine::Reset { period, closed } => put_reset(rows, common, period, closed),
+            cumulative: figure,
+        } => {
+            let period = Some(period as usize);
+            put_kind_row(rows, common, b"call", period, Some(quantity.get()), figure)
+        }
+        ScheduleLine::Reset { period, closed } => {
+            put_kind_row(rows, common, b"reset", Some(period as usize), None, closed)
+        }
     }
 }
 
-/// Adds the row with which a schedule begins.
-fn put_opening(
+/// Adds a row of that kind, whose period, date and quantity are empty where it has none.
+fn put_kind_row(
     rows: &mut Writer<Vec<u8>>,
     common: &ItemRows<'_>,
-    transit: Qty,
+    kind: &[u8],
+    period: Option<usize>,
+    pieces: Option<u64>,
     figure: Qty,
 ) -> Result<(), ReportFault>
     requires between { IsBetweenRows rows.old }
-    ensures row { OnOk result (written rows.new ≡ written rows.old ++ item_row common.now (Opening transit figure)) }
-    ensures between { OnOk result (IsBetweenRows rows.new) }
-    ensures fault { IfErr result (λ fault. fault ≡ ReportFault.Memory) }
-{
-    let mut quantity = Buffer::new();
-    let mut cumulative = Buffer::new();
-    put_row(
-        rows,
-        &[
-            b"schedule",
-            b"opening",
-            common.supplier.as_bytes(),
-            common.customer.as_bytes(),
-            common.item.as_bytes(),
-            b"",
-            b"",
-            quantity.format(transit.get()).as_bytes(),
-            cumulative.format(figure.get()).as_bytes(),
-        ],
-    )
-}
-
-/// Adds the row of a delivery that is called for.
-fn put_call(
-    rows: &mut Writer<Vec<u8>>,
-    common: &ItemRows<'_>,
-    period: u64,
-    pieces: Qty,
-    figure: Qty,
-) -> Result<(), ReportFault>
-    requires between { IsBetweenRows rows.old }
-    requires period { period < length common.now.dates.now }
-    ensures row { OnOk result (written rows.new ≡ written rows.old ++ item_row common.now (Call period pieces figure)) }
+    requires period { IfSome period (λ t. t < length common.now.dates.now) }
+    ensures row { OnOk result (written rows.new ≡ written rows.old
+        ++ kind_row common.now kind.now period pieces figure) }
     ensures between { OnOk result (IsBetweenRows rows.new) }
     ensures fault { IfErr result (λ fault. fault ≡ ReportFault.Memory) }
 {
@@ -358,45 +336,14 @@ fn put_call(
         rows,
         &[
             b"schedule",
-            b"call",
+            kind,
             common.supplier.as_bytes(),
             common.customer.as_bytes(),
             common.item.as_bytes(),
-            number.format(period).as_bytes(),
-            date_of(common.dates, period as usize),
-            quantity.format(pieces.get()).as_bytes(),
+            number_if_any(&mut number, period),
+            date_if_any(common.dates, period),
+            number_if_any(&mut quantity, pieces),
             cumulative.format(figure.get()).as_bytes(),
-        ],
-    )
-}
-
-/// Adds the row of a reset before that period.
-fn put_reset(
-    rows: &mut Writer<Vec<u8>>,
-    common: &ItemRows<'_>,
-    first: u64,
-    closed: Qty,
-) -> Result<(), ReportFault>
-    requires between { IsBetweenRows rows.old }
-    requires period { first < length common.now.dates.now }
-    ensures row { OnOk result (written rows.new ≡ written rows.old ++ item_row common.now (Reset first closed)) }
-    ensures between { OnOk result (IsBetweenRows rows.new) }
-    ensures fault { IfErr result (λ fault. fault ≡ ReportFault.Memory) }
-{
-    let mut number = Buffer::new();
-    let mut cumulative = Buffer::new();
-    put_row(
-        rows,
-        &[
-            b"schedule",
-            b"reset",
-            common.supplier.as_bytes(),
-            common.customer.as_bytes(),
-            common.item.as_bytes(),
-            number.format(first).as_bytes(),
-            date_of(common.dates, first as usize),
-            b"",
-            cumulative.format(closed.get()).as_bytes(),
         ],
     )
 }

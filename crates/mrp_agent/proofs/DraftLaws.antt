@@ -15,6 +15,7 @@ use Rattle.mrp_view.specs.declared.view.PlantPair.{PlantPair}
 use Rattle.mrp_view.specs.Seen.{IsOwnPair}
 use Rattle.mrp_view.specs.View.{PlantRows, is_of_plant, plant_pair, plant_pairs, plant_rows}
 use Rattle.mrp_loops.specs.Sized.{IsSized}
+use Rattle.mrp_loops.specs.Order.{pair_of}
 use Rattle.mrp_record.specs.declared.record.Record.{Record}
 use Rattle.mrp_events.specs.State.{State}
 use Rattle.mrp_events.specs.LocalLaws.{IsPairAt, IsReadyAt}
@@ -24,7 +25,7 @@ use Rattle.mrp_events.proofs.Seeing.{sees_pair}
 use Rattle.mrp_agent.specs.State.{AgentState, pair_owned, pair_place, plans_of, no_plant_pair}
 use Rattle.mrp_agent.specs.Shows.{up_to_last}
 use Rattle.mrp_agent.specs.InNetwork.{WorksIn}
-use Rattle.mrp_agent.specs.Laws.{AgentDraftsAreThePlan, AgentDraftsAreWithin, numbered}
+use Rattle.mrp_agent.specs.Laws.{AgentDraftsAreThePlan, AgentDraftsAreWithin}
 use Rattle.mrp_agent.proofs.Drafts.{map_same}
 use Rattle.mrp_agent.proofs.Network.{works}
 use Rattle.mrp_agent.proofs.Owning.{own_within}
@@ -44,14 +45,14 @@ in_row V amount t low =
 -- ---- the pair
 
 module _ (N : Table) (plant x : ℕ) (at : IsPairAt N plant x) where
-  own_pair : IsOwnPair (plant_rows N plant) (numbered x)
+  own_pair : IsOwnPair (plant_rows N plant) (pair_of x)
   own_pair = (plant_pair N x, Contains-from_in (plant_pairs N plant) (plant_pair N x) (sees_pair N plant x at), refl)
 
-  pair_is : pair_owned (plant_rows N plant) (numbered x) ≡ plant_pair N x
+  pair_is : pair_owned (plant_rows N plant) (pair_of x) ≡ plant_pair N x
   pair_is =
       let numbers : List ℕ = filter (is_of_plant N plant) (range_with_len 0 (length N.pairs)) in
       let place : ℕ = pair_place (plant_rows N plant) x in
-      let within : place < length (plant_pairs N plant) = own_within (plant_rows N plant) (numbered x) own_pair in
+      let within : place < length (plant_pairs N plant) = own_within (plant_rows N plant) (pair_of x) own_pair in
       let known : get_or (plant_pairs N plant) place no_plant_pair ≡ plant_pair N (get_or numbers place 0) =
       get_or-map (plant_pair N) numbers place 0 no_plant_pair (omega (arith, within, length-map numbers (plant_pair N))) in
       let found : (get_or (plant_pairs N plant) place no_plant_pair).number.0 ≡ x =
@@ -88,9 +89,9 @@ module _ (V : PlantRows) (taken : ℕ → List Record) (plans : ℕ → PlanRows
 -- the rows that it drafts from
 abbrev RowsAre : Table → (ℕ → List Record) → (ℕ → PlanRows) → List ℕ → List ℕ → ℕ → PlantRows → PlantRows → Type 0
 RowsAre N taken plans came called x R V =
-    (pair_owned V (numbered x) ≡ plant_pair N x)
-    × (local_row V (λ t. amount_at V came (numbered x) t) ≡ local_row R (local_incoming R taken (plant_pair N x)))
-    × (local_row V (λ t. amount_at V called (numbered x) t + asked_within V plans (numbered x) t) ≡ local_row R (local_gross R taken plans (plant_pair N x)))
+    (pair_owned V (pair_of x) ≡ plant_pair N x)
+    × (local_row V (λ t. amount_at V came (pair_of x) t) ≡ local_row R (local_incoming R taken (plant_pair N x)))
+    × (local_row V (λ t. amount_at V called (pair_of x) t + asked_within V plans (pair_of x) t) ≡ local_row R (local_gross R taken plans (plant_pair N x)))
 
 rows_are : (N : Table) → IsSized N → (plant : ℕ) (s : State) (A : AgentState) → WorksIn N plant s A
     → (x : ℕ) → IsPairAt N plant x → IsReadyAt N plant s.taken s.planned x
@@ -120,8 +121,8 @@ drafts_are_within N sized plant s A w x at ready =
     let rows = rows_are N sized plant s A w x at ready in
     let small = network.drafts_are_within N sized plant s.taken s.planned (plans_of A) (works N plant s A w) x at ready in
     let V : PlantRows = A.view in
-    let incoming : List ℕ = local_row V (λ t. amount_at V A.came (numbered x) t) in
-    let gross : List ℕ = local_row V (λ t. amount_at V A.called (numbered x) t + asked_within V (plans_of A) (numbered x) t) in
+    let incoming : List ℕ = local_row V (λ t. amount_at V A.came (pair_of x) t) in
+    let gross : List ℕ = local_row V (λ t. amount_at V A.called (pair_of x) t + asked_within V (plans_of A) (pair_of x) t) in
     subst (λ (q : PlantPair). IsWithin q.params incoming gross) (sym rows.0)
     (subst (λ (z : List ℕ). IsWithin p.params z gross) (sym rows.1)
     (subst (λ (z : List ℕ). IsWithin p.params (local_row R (local_incoming R s.taken p)) z) (sym rows.2) small))
@@ -132,8 +133,8 @@ drafts_are_the_plan N sized plant s A w x at ready =
     let p : PlantPair = plant_pair N x in
     let rows = rows_are N sized plant s A w x at ready in
     let V : PlantRows = A.view in
-    let incoming : List ℕ = local_row V (λ t. amount_at V A.came (numbered x) t) in
-    let gross : List ℕ = local_row V (λ t. amount_at V A.called (numbered x) t + asked_within V (plans_of A) (numbered x) t) in
+    let incoming : List ℕ = local_row V (λ t. amount_at V A.came (pair_of x) t) in
+    let gross : List ℕ = local_row V (λ t. amount_at V A.called (pair_of x) t + asked_within V (plans_of A) (pair_of x) t) in
     ap (λ (q : PlantPair). one q.params incoming gross) rows.0
     ∙ ap (λ (z : List ℕ). one p.params z gross) rows.1
     ∙ ap (λ (z : List ℕ). one p.params (local_row R (local_incoming R s.taken p)) z) rows.2

@@ -10,13 +10,14 @@ use Rattle.std.proofs.lemmas.List.Sums.{sum_by-cons, passes_at_first}
 use Rattle.mrp_lot.specs.One.{one}
 use Rattle.mrp_lot.specs.Bound.{IsWithin}
 use Rattle.mrp_rows.specs.declared.numbers.PairNo.{PairNo}
+use Rattle.mrp_net.specs.Plan.{no_rows}
 use Rattle.mrp_view.specs.declared.view.PlantEdge.{PlantEdge}
 use Rattle.mrp_view.specs.declared.view.PlantPair.{PlantPair}
 use Rattle.mrp_view.specs.Seen.{IsView, IsOwnPair, IsPlantEdge}
 use Rattle.mrp_view.specs.View.{PlantRows}
 use Rattle.mrp_events.specs.LocalPlans.{amount_at, asked_within}
 use Rattle.mrp_agent.specs.declared.edges.ParentEdge.{ParentEdge}
-use Rattle.mrp_agent.specs.State.{AgentState, pair_place, pair_owned, plans_of, no_plan, no_plant_pair}
+use Rattle.mrp_agent.specs.State.{AgentState, pair_place, pair_owned, plans_of, no_plant_pair}
 use Rattle.mrp_agent.specs.Asking.{asked_by, asked_on, ParentCanAsk, HasDraft, grossed}
 use Rattle.mrp_agent.specs.Drafts.{drafted, drafted_incoming, drafted_gross}
 use Rattle.mrp_agent.specs.Kept.{parent_edge, HasRooms}
@@ -135,7 +136,7 @@ module _ (A : AgentState) (view : IsView A.view) (rooms : HasRooms A) (x : PairN
   can_ask : (e : PlantEdge) → IsPlantEdge A.view e → ParentCanAsk A.plans (length (Part A.called)) (parent_edge A.view e)
   can_ask e is =
       let within : pair_place A.view e.parent.0 < length A.plans = omega (arith, own_within A.view e.parent is.parent, rooms.plans.count) in
-      record { known = within; periods_are = (rooms.plans.periods (pair_place A.view e.parent.0) no_plan within).gross ∙ sym called_length }
+      record { known = within; periods_are = (rooms.plans.periods (pair_place A.view e.parent.0) no_rows within).gross ∙ sym called_length }
 
   pub has_draft : IsWithin (pair_owned A.view x).params (drafted_incoming A x) (drafted_gross A x)
       → HasDraft (pair_owned A.view x).params (Part A.came) (Part A.called) (edges_at A.view (pair_place A.view x.0)) A.plans

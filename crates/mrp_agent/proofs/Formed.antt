@@ -1,30 +1,24 @@
 -- What is legal on a lane that comes in is in the form by which its receiver books it.
-use Rattle.std.proofs.Common.{◌≡◌, ℕ, Bool, List, map, refl, sym, ap, ◌∙◌, subst, Contains}
+use Rattle.std.proofs.Common.{◌≡◌, ℕ, Bool, List, sym, ap, ◌∙◌, subst, Contains}
 use Rattle.mrp_rows.specs.Table.{Table, horizon}
-use Rattle.mrp_net.specs.declared.lane.LaneKind.{LaneKind}
-use Rattle.mrp_net.specs.declared.lane.LaneKind.TheVariants.{Despatch, Schedule}
 use Rattle.mrp_net.specs.Lanes.{lane_at}
 use Rattle.mrp_net.proofs.Routing.{map-map}
+use Rattle.mrp_net.specs.LaneLaws.{is_schedule}
 use Rattle.mrp_view.specs.declared.view.IncomingLane.{IncomingLane}
 use Rattle.mrp_view.specs.View.{PlantRows, incoming_lane, incoming_lanes, plant_rows}
 use Rattle.mrp_loops.specs.Sized.{IsSized}
 use Rattle.mrp_record.specs.declared.record.Record.{Record}
 use Rattle.mrp_record.specs.Form.{FormItem, LaneForm, IsInForm}
 use Rattle.mrp_record.specs.Text.{IsBeginning}
-use Rattle.mrp_book.specs.Figures.{book_form_item, rises_on}
+use Rattle.mrp_book.specs.Figures.{book_form_item}
 use Rattle.mrp_events.specs.LoadLaws.{lane_form}
 use Rattle.mrp_events.specs.Loads.{loads}
-use Rattle.mrp_events.specs.Steps.{is_rising}
-use Rattle.mrp_events.specs.Seen.{form_item_of, seen_form}
+use Rattle.mrp_events.specs.Seen.{seen_form}
 use Rattle.mrp_events.proofs.Sending.{forms_are_seen}
 use Rattle.mrp_events.proofs.Small.{legal_is_in_form}
 use Rattle.mrp_agent.specs.Shows.{book_item, form_of}
 use Rattle.mrp_agent.specs.State.{incoming_at, incoming_place}
 use Rattle.mrp_agent.proofs.Placed.{in_placed}
-
-rising_is : (kind : LaneKind) → is_rising kind ≡ rises_on kind
-rising_is Despatch = refl
-rising_is Schedule = refl
 
 abbrev form_with : ℕ → Bool → List FormItem → LaneForm
 form_with periods rising items = record { rising = rising; horizon = periods; items = items }
@@ -32,8 +26,7 @@ form_with periods rising items = record { rising = rising; horizon = periods; it
 -- the form of a lane by what its receiver sees
 form_is : (V : PlantRows) (lane : IncomingLane) → seen_form V.horizon lane ≡ form_of V lane
 form_is V lane =
-    ap (λ (b : Bool). form_with V.horizon b (map form_item_of lane.items)) (rising_is lane.kind)
-    ∙ ap (form_with V.horizon (rises_on lane.kind)) (sym (map-map book_form_item book_item lane.items))
+    ap (form_with V.horizon (is_schedule lane.kind)) (sym (map-map book_form_item book_item lane.items))
 
 -- it is the form by which the lane's receiver books
 pub form_same : (N : Table) (p : ℕ) (V : PlantRows) → V ≡ plant_rows N p → (l : ℕ) → Contains (incoming_lanes N p) (incoming_lane N l)

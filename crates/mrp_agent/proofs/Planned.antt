@@ -2,6 +2,7 @@
 use Rattle.std.proofs.Common.{◌≡◌, ℕ, ◌+◌, ◌<◌, Bool, true, List, length, get_or, set, get_or-set_same, sym, ap, ◌∙◌, arith}
 use Rattle.std.specs.List.{Contains}
 use Rattle.mrp_rows.specs.declared.numbers.PairNo.{PairNo}
+use Rattle.mrp_net.specs.Plan.{no_rows}
 use Rattle.mrp_record.specs.declared.record.Record.{Record}
 use Rattle.mrp_agent.specs.Progress.{IsListed, left_of}
 use Rattle.mrp_events.specs.State.{changed}
@@ -9,7 +10,7 @@ use Rattle.mrp_agent.specs.Drafts.{CanDraft, drafted, ready_numbers}
 use Rattle.mrp_agent.specs.Kept.{Indexes}
 use Rattle.mrp_agent.specs.Marking.{IsMarked}
 use Rattle.mrp_agent.specs.Shows.{ShowsHistory}
-use Rattle.mrp_agent.specs.State.{AgentState, no_plan, plans_of}
+use Rattle.mrp_agent.specs.State.{AgentState, plans_of}
 use Rattle.mrp_agent.proofs.Placing.{IsAtPlace, listed_now, place_within, placed_now}
 use Rattle.mrp_agent.proofs.Shown.{others_stay, planning_shows}
 use Rattle.mrp_agent.proofs.Staying.{drafts_stay}
@@ -36,8 +37,8 @@ has_planned {A} {S} {B} {new} {I} {x} {place} same placed can listed written mar
       kept =
           ap (λ (a : AgentState). plans_of a x.0) marked.same
           ∙ ap (λ (a : AgentState). plans_of a x.0) written
-          ∙ ap (λ (k : ℕ). get_or (set S.plans place (drafted S x)) k no_plan) (sym here.at)
-          ∙ get_or-set_same S.plans place (drafted S x) no_plan within;
+          ∙ ap (λ (k : ℕ). get_or (set S.plans place (drafted S x)) k no_rows) (sym here.at)
+          ∙ get_or-set_same S.plans place (drafted S x) no_rows within;
       left = marked.settled.left ∙ ap (λ (a : AgentState). left_of a.progress.planned) written;
       shows = planning_shows S B new I x place here.kept can ready here.at written marked;
       others = others_stay S B new I x place here.kept can.own here.at written marked;

@@ -9,6 +9,7 @@ use Rattle.std.proofs.lemmas.List.Sums.{sum_by-cons}
 use Rattle.mrp_lot.specs.One.{PlanRows, one}
 use Rattle.mrp_rows.specs.declared.numbers.PairNo.{PairNo}
 use Rattle.mrp_net.specs.declared.lane.LaneKind.TheVariants.{Schedule}
+use Rattle.mrp_net.specs.Plan.{no_rows}
 use Rattle.mrp_view.specs.declared.view.PlantEdge.{PlantEdge}
 use Rattle.mrp_view.specs.declared.view.PlantPair.{PlantPair}
 use Rattle.mrp_view.specs.Seen.{IsOwnPair}
@@ -18,7 +19,7 @@ use Rattle.mrp_record.specs.Cursor.{OutFigures}
 use Rattle.mrp_agent.specs.Progress.{Progress, is_planned}
 use Rattle.mrp_events.specs.State.{changed}
 use Rattle.mrp_events.specs.LocalPlans.{amount_at, booked_on, local_incoming, local_gross, local_plan, local_row}
-use Rattle.mrp_agent.specs.State.{AgentState, pair_place, plans_of, no_plan}
+use Rattle.mrp_agent.specs.State.{AgentState, pair_place, plans_of}
 use Rattle.mrp_agent.specs.After.{after_settled}
 use Rattle.mrp_agent.specs.Kept.{HasRooms}
 use Rattle.mrp_agent.proofs.Drafts.{map_same, places_apart}
@@ -32,12 +33,12 @@ module _ (A : AgentState) (rooms : HasRooms A) (x : PairNo) (own : IsOwnPair A.v
   New = after_settled A (pair_place A.view x.0) plan progress outs
 
   pub plan_there : plans_of (after_settled A (pair_place A.view x.0) plan progress outs) x.0 ≡ plan
-  plan_there = get_or-set_same A.plans (pair_place A.view x.0) plan no_plan (omega (arith, own_within A.view x own, rooms.plans.count))
+  plan_there = get_or-set_same A.plans (pair_place A.view x.0) plan no_rows (omega (arith, own_within A.view x own, rooms.plans.count))
 
   pub plan_elsewhere : (y : PairNo) → IsOwnPair A.view y → (y.0 ≡ x.0 → ⊥)
       → plans_of (after_settled A (pair_place A.view x.0) plan progress outs) y.0 ≡ plans_of A y.0
   plan_elsewhere y own_y other =
-      get_or-set_other A.plans (pair_place A.view x.0) (pair_place A.view y.0) plan no_plan (λ e. other (places_apart A.view y x own_y own e))
+      get_or-set_other A.plans (pair_place A.view x.0) (pair_place A.view y.0) plan no_rows (λ e. other (places_apart A.view y x own_y own e))
 
 -- ---- local plans look at planned parents alone
 

@@ -6,6 +6,7 @@ use Rattle.std.proofs.lemmas.List.{get_or-set_same, get_or-set_other, length-set
 use Rattle.std.proofs.lemmas.List.Elements.{All-contains, Contains-get_or}
 use Rattle.mrp_rows.specs.declared.numbers.PairNo.{PairNo}
 use Rattle.mrp_net.specs.declared.lane.LaneKind.TheVariants.{Schedule}
+use Rattle.mrp_net.specs.Plan.{no_rows}
 use Rattle.mrp_view.specs.declared.view.OutgoingLane.{OutgoingLane}
 use Rattle.mrp_view.specs.declared.view.PlantPair.{PlantPair}
 use Rattle.mrp_view.specs.Loads.{call_of, load_at}
@@ -21,7 +22,7 @@ use Rattle.mrp_record.proofs.Steps.{steps_show, given_continues, steps_keep_plac
 use Rattle.mrp_record.proofs.Texts.{queued_are_places}
 use Rattle.mrp_events.specs.State.{changed}
 use Rattle.mrp_events.specs.Goods.{IsSendable}
-use Rattle.mrp_agent.specs.State.{AgentState, outgoing_at, out_at, pair_place, plans_of, no_out, no_outgoing, no_plan}
+use Rattle.mrp_agent.specs.State.{AgentState, outgoing_at, out_at, pair_place, plans_of, no_out, no_outgoing}
 use Rattle.mrp_agent.specs.After.{after_sent}
 use Rattle.mrp_agent.specs.Kept.{AreCursors, HasPlanRows, HasRooms, HasTaken, Indexes, IsKept}
 use Rattle.mrp_agent.specs.Sending.{left_at, next_out, goods_at, IsWithin64, ContinuesSent, NothingContinues}
@@ -54,7 +55,7 @@ own_place A x (p, there, is) =
 
 pub periods_kept : (A : AgentState) → HasRooms A → (x : PairNo) → IsOwnPair A.view x → HasPlanRows A.view (plans_of A x.0)
 periods_kept A rooms x own =
-    rooms.plans.periods (pair_place A.view x.0) no_plan (omega (arith, own_place A x own, rooms.plans.count))
+    rooms.plans.periods (pair_place A.view x.0) no_rows (omega (arith, own_place A x own, rooms.plans.count))
 
 pub own_of : (A : AgentState) (lane : OutgoingLane) (j : ℕ) → IsScheduleLane A.view lane → j < length lane.items
     → IsOwnPair A.view (call_of (load_at lane.items j)).customer

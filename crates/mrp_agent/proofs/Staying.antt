@@ -7,6 +7,7 @@ use Rattle.std.proofs.lemmas.List.Elements.{Contains-get_or}
 use Rattle.mrp_lot.specs.One.{PlanRows, one}
 use Rattle.mrp_rows.specs.declared.numbers.PairNo.{PairNo}
 use Rattle.mrp_net.proofs.Members.{In, In-from_contains, In-map, All-in}
+use Rattle.mrp_net.specs.Plan.{no_rows}
 use Rattle.mrp_view.specs.declared.view.PlantEdge.{PlantEdge}
 use Rattle.mrp_view.specs.View.{PlantRows}
 use Rattle.mrp_record.specs.Cursor.{OutFigures}
@@ -19,7 +20,7 @@ use Rattle.mrp_agent.specs.Drafts.{CanDraft, drafted, drafted_gross, drafted_inc
 use Rattle.mrp_agent.specs.Kept.{Indexes, IsKept}
 use Rattle.mrp_agent.specs.Marking.{IsMarked}
 use Rattle.mrp_agent.specs.Shows.{awaited, join_of, joins_of}
-use Rattle.mrp_agent.specs.State.{AgentState, pair_owned, pair_place, plans_of, no_plan}
+use Rattle.mrp_agent.specs.State.{AgentState, pair_owned, pair_place, plans_of}
 use Rattle.mrp_agent.proofs.Drafts.{map_same}
 use Rattle.mrp_agent.proofs.Ready.{ready_place}
 use Rattle.mrp_agent.proofs.Replanned.{asked_same, SameParents}
@@ -46,7 +47,7 @@ module _ (A : AgentState) (I : Indexes) (x : PairNo) (kept : IsKept A I) (can : 
       let free : is_planned A.progress.planned (pair_place V x.0) ≡ false =
       ((listed.exact (pair_place V x.0)).0 (ready_place A kept.view kept.rooms x listed can.ready)).unplanned in
       sym
-      (get_or-set_other A.plans (pair_place V x.0) (pair_place V e.parent.0) plan no_plan
+      (get_or-set_other A.plans (pair_place V x.0) (pair_place V e.parent.0) plan no_rows
       (λ same. both_ways (is_planned A.progress.planned (pair_place V x.0)) free (ap (is_planned A.progress.planned) (sym same) ∙ done)))
 
   draft_stays : (y : PairNo) → Contains (ready_numbers A) y → drafted Next y ≡ drafted A y

@@ -5,11 +5,11 @@ use Rattle.mrp_lot.specs.One.{PlanRows}
 use Rattle.mrp_lot.specs.Bound.{IsWithin}
 use Rattle.mrp_lot.specs.declared.params.PairParams.{PairParams}
 use Rattle.mrp_agent.specs.declared.edges.ParentEdge.{ParentEdge}
-use Rattle.mrp_agent.specs.State.{no_plan}
+use Rattle.mrp_net.specs.Plan.{no_rows}
 
 -- the plan at a place
 abbrev pub plan_at_place : List PlanRows → ℕ → PlanRows
-plan_at_place plans place = slice_index_or plans place no_plan
+plan_at_place plans place = slice_index_or plans place no_rows
 
 -- what one parent asks in a period, and what all do
 abbrev pub asked_on : List PlanRows → ℕ → ParentEdge → ℕ

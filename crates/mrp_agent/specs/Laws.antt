@@ -1,7 +1,6 @@
 -- Laws of agents in a network: what they plan is its plan, and what they send is what its lanes carry.
 use Rattle.std.specs.Prelude.{◌≡◌, ℕ, ◌<◌, true, [], ◌∷◌, ◌++◌, length}
 use Rattle.mrp_lot.specs.Bound.{IsWithin}
-use Rattle.mrp_rows.specs.declared.numbers.PairNo.{PairNo}
 use Rattle.mrp_rows.specs.Table.{Table, IsTable}
 use Rattle.mrp_net.specs.Lanes.{lane_at}
 use Rattle.mrp_view.specs.Seen.{IsView}
@@ -9,6 +8,7 @@ use Rattle.mrp_view.specs.View.{plant_rows}
 use Rattle.mrp_loops.specs.Loop.{IsLoopFree}
 use Rattle.mrp_loops.specs.Sized.{IsSized}
 use Rattle.mrp_loops.specs.Within.{plan_at}
+use Rattle.mrp_loops.specs.Order.{pair_of}
 use Rattle.mrp_record.specs.declared.record.Record.{Record}
 use Rattle.mrp_record.specs.Entries.{content}
 use Rattle.mrp_record.specs.Text.{IsBeginning}
@@ -28,17 +28,13 @@ PlannedPairsHaveThePlan =
     → (plant : ℕ) (s : State) (A : AgentState) → WorksIn N plant s A
     → (x : ℕ) → IsPairAt N plant x → s.planned x ≡ true → plans_of A x ≡ plan_at N x
 
--- a pair as calls name it
-abbrev pub numbered : ℕ → PairNo
-numbered x = record { 0 = x }
-
 -- once nothing is missing for a pair, its rows in a sized network are together within 10^15
 abbrev pub AgentDraftsAreWithin : Type 0
 AgentDraftsAreWithin =
     (N : Table) → IsSized N
     → (plant : ℕ) (s : State) (A : AgentState) → WorksIn N plant s A
     → (x : ℕ) → IsPairAt N plant x → IsReadyAt N plant s.taken s.planned x
-    → IsWithin (pair_owned A.view (numbered x)).params (drafted_incoming A (numbered x)) (drafted_gross A (numbered x))
+    → IsWithin (pair_owned A.view (pair_of x)).params (drafted_incoming A (pair_of x)) (drafted_gross A (pair_of x))
 
 -- and what it drafts by them is the network's plan of the pair
 abbrev pub AgentDraftsAreThePlan : Type 0
@@ -46,7 +42,7 @@ AgentDraftsAreThePlan =
     (N : Table) → IsSized N
     → (plant : ℕ) (s : State) (A : AgentState) → WorksIn N plant s A
     → (x : ℕ) → IsPairAt N plant x → IsReadyAt N plant s.taken s.planned x
-    → drafted A (numbered x) ≡ plan_at N x
+    → drafted A (pair_of x) ≡ plan_at N x
 
 -- in a sized network the numbers and figures that it sends stay below 2^64
 abbrev pub SentIsWithin64 : Type 0

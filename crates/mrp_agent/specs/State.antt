@@ -7,6 +7,7 @@ use Rattle.mrp_lot.specs.declared.rule.Rule.TheVariants.{LotForLot}
 use Rattle.mrp_rows.specs.declared.numbers.ItemNo.{ItemNo}
 use Rattle.mrp_rows.specs.declared.numbers.PairNo.{PairNo}
 use Rattle.mrp_net.specs.declared.lane.LaneKind.TheVariants.{Despatch}
+use Rattle.mrp_net.specs.Plan.{no_rows}
 use Rattle.mrp_view.specs.declared.view.IncomingLane.{IncomingLane}
 use Rattle.mrp_view.specs.declared.view.OutgoingLane.{OutgoingLane}
 use Rattle.mrp_view.specs.declared.view.PlantPair.{PlantPair}
@@ -28,9 +29,6 @@ pub record AgentState : Type 0 where
   pub outs : List OutFigures
 
 -- ---- look-ups, and what they read past the end
-
-abbrev pub no_plan : PlanRows
-no_plan = record { gross = []; incoming = []; order = []; release = []; available = []; late = [] }
 
 abbrev pub no_book : Figures
 no_book = record { rising = false; horizon = 0; next = 0; closed = false; begun = None; items = [] }
@@ -97,4 +95,4 @@ pair_owned V x = plant_pair_at V (pair_place V x.0)
 
 -- the plan that is kept of the pair with a number
 abbrev pub plans_of : AgentState → ℕ → PlanRows
-plans_of A x = slice_index_or A.plans (pair_place A.view x) no_plan
+plans_of A x = slice_index_or A.plans (pair_place A.view x) no_rows

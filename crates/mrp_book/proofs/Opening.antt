@@ -17,7 +17,8 @@ use Rattle.mrp_book.specs.declared.item.BookItem.{BookItem}
 use Rattle.mrp_book.specs.declared.item.ItemFigure.{ItemFigure}
 use Rattle.mrp_book.specs.After.{opened, IsBook, IsFigureWithin}
 use Rattle.mrp_net.specs.declared.lane.LaneKind.{LaneKind}
-use Rattle.mrp_book.specs.Figures.{Figures, figure_of, figures, book_form, rises_on, book_form_item, is_same_in_form, is_same_book_item, BookShows}
+use Rattle.mrp_net.specs.LaneLaws.{is_schedule}
+use Rattle.mrp_book.specs.Figures.{Figures, figure_of, figures, book_form, book_form_item, is_same_in_form, is_same_book_item, BookShows}
 
 -- no item stands among those before it
 pub is_new : (xs : List BookItem) (k : ℕ) (d : BookItem) → IsDistinct is_same_book_item xs → k < length xs
@@ -123,7 +124,7 @@ openings_small (i ∷ items) h =
 
 pub opened_shows : (k : ℕ) (items : List BookItem) (names : List ItemNo) (gs : List ItemFigure) (kind : LaneKind) (horizon : ℕ) (rising : Bool)
     → AreOpened k items names gs → length items ≤ k
-    → IsDistinct is_same_book_item items → rising ≡ rises_on kind
+    → IsDistinct is_same_book_item items → rising ≡ is_schedule kind
     → BookShows (book_form kind horizon items) (record { rising = rising; horizon = horizon; next = 1; closed = false; begun = None; items = gs }) []
 opened_shows k items names gs kind horizon rising h l once is =
     let all = whole k items names gs h l in
@@ -135,8 +136,8 @@ opened_shows k items names gs kind horizon rising h l once is =
       is = by gs known rising is;
     }
   where
-    by : (hs : List ItemFigure) → hs ≡ map (figure_of []) (map book_form_item items) → (b : Bool) → b ≡ rises_on kind
+    by : (hs : List ItemFigure) → hs ≡ map (figure_of []) (map book_form_item items) → (b : Bool) → b ≡ is_schedule kind
         → (record { rising = b; horizon = horizon; next = 1; closed = false; begun = None; items = hs }) ≡ figures (book_form kind horizon items) []
     by hs e b f =
         let W : Bool → List ItemFigure → Figures = λ c gs. record { rising = c; horizon = horizon; next = 1; closed = false; begun = None; items = gs } in
-        ap (λ (c : Bool). W c hs) f ∙ ap (λ (gs : List ItemFigure). W (rises_on kind) gs) e
+        ap (λ (c : Bool). W c hs) f ∙ ap (λ (gs : List ItemFigure). W (is_schedule kind) gs) e

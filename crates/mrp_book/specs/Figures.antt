@@ -1,10 +1,10 @@
 -- What a book keeps of a list of records, and which lists a book shows.
-use Rattle.std.specs.Prelude.{◌≡◌, ℕ, ◌+◌, ◌≤◌, ◌==◌, Bool, true, false, List, length, map, fold, All, Option, Some}
+use Rattle.std.specs.Prelude.{◌≡◌, ℕ, ◌+◌, ◌≤◌, ◌==◌, Bool, List, length, map, fold, All, Option, Some}
 use Rattle.std.specs.Prelude.{None}
 use Rattle.std.specs.List.{IsDistinct}
 use Rattle.mrp_qty.specs.declared.quantity.TheConstants.{MOST}
 use Rattle.mrp_net.specs.declared.lane.LaneKind.{LaneKind}
-use Rattle.mrp_net.specs.declared.lane.LaneKind.TheVariants.{Despatch, Schedule}
+use Rattle.mrp_net.specs.LaneLaws.{is_schedule}
 use Rattle.mrp_record.specs.declared.record.Record.{Record}
 use Rattle.mrp_record.specs.Entries.{Entry, LineOf, EndOf, ResetOf, Closing, contents, is_ended, is_closed, in_force}
 use Rattle.mrp_record.specs.Blocks.{line_count, next_period, was_reset}
@@ -71,15 +71,11 @@ pub record BookShows (form : LaneForm) (book : Figures) (records : List Record) 
   pub is : book ≡ figures form records
 
 -- the form of a lane of that kind with these items
-abbrev pub rises_on : LaneKind → Bool
-rises_on Despatch = false
-rises_on Schedule = true
-
 abbrev pub book_form_item : BookItem → FormItem
 book_form_item i = record { item = i.item.0; opening = i.opening; reset = i.reset }
 
 abbrev pub book_form : LaneKind → ℕ → List BookItem → LaneForm
-book_form kind horizon items = record { rising = rises_on kind; horizon = horizon; items = map book_form_item items }
+book_form kind horizon items = record { rising = is_schedule kind; horizon = horizon; items = map book_form_item items }
 
 abbrev pub is_same_book_item : BookItem → BookItem → Bool
 is_same_book_item a b = a.item.0 == b.item.0

@@ -2,7 +2,7 @@
 
 ghost use Rattle.std.specs.Prelude.{◌≡◌, ◌<◌, IfOk, IfSome};
 ghost use Rattle.std.specs.List.{list_all};
-ghost use Rattle.mrp_book.specs.Figures.{rises_on};
+ghost use Rattle.mrp_net.specs.LaneLaws.{is_schedule};
 
 use crate::{BookFault, BookItem, ItemFigure};
 use mrp_net::{ItemNo, LaneKind};
@@ -49,8 +49,8 @@ impl Model for Book {
 }
 
 impl Book {
-    ghost use Rattle.std.specs.Prelude.{◌≤◌, ◌==◌, ◌+◌, [], ◌∷◌, ◌++◌, List, false, length, position, slice_get};
-    ghost use Rattle.std.specs.Prelude.{option_map, unwrap_or, IfErr, MatchResult};
+    ghost use Rattle.std.specs.Prelude.{◌==◌, ◌+◌, [], ◌∷◌, ◌++◌, List, false, length, position};
+    ghost use Rattle.std.specs.Prelude.{option_map, unwrap_or, IfErr};
     ghost use Rattle.std.specs.Prelude.{None, OnErr, OnOk, Some};
     ghost use Rattle.std.specs.List.{IsDistinct};
     ghost use Rattle.mrp_record.specs.declared.record.Record.TheVariants.{Line, ItemEnd, Reset, Close};
@@ -364,7 +364,7 @@ fn are_all_ended(items: &[ItemFigure]) -> bool
 
 /// Whether the periods of an item rise on lanes of that kind.
 fn rises_on(kind: LaneKind) -> bool
-    ensures { result ≡ rises_on kind }
+    ensures { result ≡ is_schedule kind }
 {
     match kind {
         LaneKind::Despatch => false,

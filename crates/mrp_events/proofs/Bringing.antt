@@ -13,7 +13,7 @@ use Rattle.mrp_net.specs.declared.lane.Lane.{Lane}
 use Rattle.mrp_net.specs.declared.lane.LaneKind.{LaneKind}
 use Rattle.mrp_net.specs.declared.lane.LaneKind.TheVariants.{Despatch, Schedule}
 use Rattle.mrp_net.specs.Lanes.{lanes, lane_at, lane_items, lanes_of, lanes_between, taken_over, item_of_source, shipments, customer_of, supplier_of}
-use Rattle.mrp_net.specs.LaneLaws.{is_despatch, is_same_item, arriving}
+use Rattle.mrp_net.specs.LaneLaws.{is_despatch, is_same_item, arriving, is_schedule}
 use Rattle.mrp_net.specs.PlanLaws.{asked_by_source}
 use Rattle.mrp_net.specs.RouteLaws.{over_route, over_plants}
 use Rattle.mrp_net.specs.Plan.{plan_of}
@@ -35,7 +35,6 @@ use Rattle.mrp_record.specs.Text.{Load, block, IsBeginning}
 use Rattle.mrp_record.proofs.Beginnings.{ended_blocks_bring_periods}
 use Rattle.mrp_record.proofs.Loads.{load_count, count_other, count_permuted, no_block}
 use Rattle.mrp_events.specs.Loads.{delivery_of, delivery_in, by_period, called_in, has_pieces, lines_by, load_of, loads}
-use Rattle.mrp_events.specs.Steps.{is_rising}
 use Rattle.mrp_events.specs.Local.{AreLegal, brought_by, brought, DespatchesBringIncoming, SchedulesBringGross}
 use Rattle.mrp_events.specs.State.{IsReady}
 use Rattle.mrp_events.proofs.Calling.{called_pair, pair_behind, source_over}
@@ -198,7 +197,7 @@ only_despatch : (kind : LaneKind) → is_despatch kind ≡ true → kind ≡ Des
 only_despatch Despatch h = refl
 only_despatch Schedule h = absurd (false≢true h)
 
-only_schedule : (kind : LaneKind) → is_rising kind ≡ true → kind ≡ Schedule
+only_schedule : (kind : LaneKind) → is_schedule kind ≡ true → kind ≡ Schedule
 only_schedule Despatch h = absurd (false≢true h)
 only_schedule Schedule h = refl
 
@@ -297,7 +296,7 @@ module _ (N : Table) (table : IsTable N) (planned : ℕ → Bool) (taken : ℕ
       ]
 
   abbrev called_over : Lane → ℕ
-  called_over lane = cond (to_plant is_rising lane) (over_route N asks (customer_of lane) (supplier_of lane)) 0
+  called_over lane = cond (to_plant is_schedule lane) (over_route N asks (customer_of lane) (supplier_of lane)) 0
 
   abbrev despatch : ℕ → ℕ → Lane
   despatch customer supplier = record { kind = Despatch; sender = record { 0 = supplier }; receiver = record { 0 = customer } }
@@ -358,13 +357,13 @@ module _ (N : Table) (table : IsTable N) (planned : ℕ → Bool) (taken : ℕ
       (λ supplier. cond (plant == supplier) (over_route N asks customer plant) 0) (range_with_len 0 n) (between_calls customer)
       ∙ placed_once (over_route N asks customer plant) plant n (table.read.pairs x no_pair pair).plant
 
-  schedules_brought : period < horizon N → brought N taken is_rising x period ≡ over_plants N (λ customer. over_route N asks customer plant)
+  schedules_brought : period < horizon N → brought N taken is_schedule x period ≡ over_plants N (λ customer. over_route N asks customer plant)
   schedules_brought inside =
       let n = length N.plants in
-      sum_same (λ l. cond (to_plant is_rising (lane_at N l)) (brought_by N taken x period l) 0) (λ l. called_over (lane_at N l)) 0 (length (lanes N))
-      (λ l low high. same_where (to_plant is_rising (lane_at N l)) (brought_by N taken x period l)
+      sum_same (λ l. cond (to_plant is_schedule (lane_at N l)) (brought_by N taken x period l) 0) (λ l. called_over (lane_at N l)) 0 (length (lanes N))
+      (λ l low high. same_where (to_plant is_schedule (lane_at N l)) (brought_by N taken x period l)
       (over_route N asks (customer_of (lane_at N l)) (supplier_of (lane_at N l))) (λ t.
-      let parts = and_parts (is_rising (lane_at N l).kind) ((lane_at N l).receiver.0 == plant) t in
+      let parts = and_parts (is_schedule (lane_at N l).kind) ((lane_at N l).receiver.0 == plant) t in
       schedule_brought l (omega arith) inside (only_schedule (lane_at N l).kind parts.0) (eqb-true (lane_at N l).receiver.0 plant parts.1)))
       ∙ by_number N called_over
       ∙ sum-flat_map called_over (lanes_of N) (range_with_len 0 n)

@@ -7,7 +7,7 @@ use Rattle.mrp_lot.proofs.RangeLaws.{map-range-same}
 use Rattle.mrp_rows.specs.Table.{Table, IsTable, horizon}
 use Rattle.mrp_net.specs.declared.lane.LaneKind.{LaneKind}
 use Rattle.mrp_net.specs.declared.lane.LaneKind.TheVariants.{Despatch, Schedule}
-use Rattle.mrp_net.specs.LaneLaws.{is_despatch}
+use Rattle.mrp_net.specs.LaneLaws.{is_despatch, is_schedule}
 use Rattle.mrp_net.specs.PlanLaws.{asked_by_bill}
 use Rattle.mrp_net.specs.Plan.{rows_at, plan_of, gross}
 use Rattle.mrp_net.specs.Sums.{pair_at, params_at, row_of, demand, received, incoming}
@@ -23,7 +23,6 @@ use Rattle.mrp_loops.specs.Within.{plan_at}
 use Rattle.mrp_loops.proofs.OnePlan.{one_plan}
 use Rattle.mrp_record.specs.declared.record.Record.{Record}
 use Rattle.mrp_record.specs.Entries.{contents}
-use Rattle.mrp_events.specs.Steps.{is_rising}
 use Rattle.mrp_events.specs.Local as network
 use Rattle.mrp_events.specs.Local.{AreLegal, brought}
 use Rattle.mrp_events.specs.Seen.{brought_in}
@@ -36,9 +35,9 @@ use Rattle.mrp_events.proofs.Seeing.{amount_is}
 
 -- ---- what has come over lanes
 
-is_schedule : (kind : LaneKind) → is_of_kind Schedule kind ≡ is_rising kind
-is_schedule Despatch = refl
-is_schedule Schedule = refl
+of_schedules : (kind : LaneKind) → is_of_kind Schedule kind ≡ is_schedule kind
+of_schedules Despatch = refl
+of_schedules Schedule = refl
 
 module _ (N : Table) (plant : ℕ) (taken : ℕ → List Record) (x : ℕ) (at : IsPairAt N plant x) (t : ℕ) where
   abbrev lanes_seen : List IncomingLane
@@ -55,12 +54,12 @@ module _ (N : Table) (plant : ℕ) (taken : ℕ → List Record) (x : ℕ) (at :
   despatches_brought : booked_on Despatch (plant_rows N plant) taken (pair_at N x).item t ≡ brought N taken is_despatch x t
   despatches_brought = sum_filter pieces (λ lane. is_despatch lane.kind) lanes_seen ∙ seen_to_bring is_despatch
 
-  schedules_brought : booked_on Schedule (plant_rows N plant) taken (pair_at N x).item t ≡ brought N taken is_rising x t
+  schedules_brought : booked_on Schedule (plant_rows N plant) taken (pair_at N x).item t ≡ brought N taken is_schedule x t
   schedules_brought =
       sum_filter pieces (λ lane. is_of_kind Schedule lane.kind) lanes_seen
-      ∙ sum_by-same (λ lane. cond (is_of_kind Schedule lane.kind) (pieces lane) 0) (λ lane. cond (is_rising lane.kind) (pieces lane) 0) lanes_seen
-      (λ k d h. let lane : IncomingLane = get_or lanes_seen k d in ap (λ (b : Bool). cond b (pieces lane) 0) (is_schedule lane.kind))
-      ∙ seen_to_bring is_rising
+      ∙ sum_by-same (λ lane. cond (is_of_kind Schedule lane.kind) (pieces lane) 0) (λ lane. cond (is_schedule lane.kind) (pieces lane) 0) lanes_seen
+      (λ k d h. let lane : IncomingLane = get_or lanes_seen k d in ap (λ (b : Bool). cond b (pieces lane) 0) (of_schedules lane.kind))
+      ∙ seen_to_bring is_schedule
 
 -- ---- rows
 

@@ -11,7 +11,7 @@ use Rattle.mrp_net.specs.declared.lane.Shipment.{Shipment}
 use Rattle.mrp_view.specs.declared.view.Call.{Call}
 use Rattle.mrp_view.specs.declared.view.IncomingLane.{IncomingLane}
 use Rattle.mrp_net.specs.Lanes.{lane_at, lane_items, shipments, opening, reset, pair_on, customer_of, supplier_of, figure, shipped_from}
-use Rattle.mrp_net.specs.LaneLaws.{AreBothLanes}
+use Rattle.mrp_net.specs.LaneLaws.{AreBothLanes, is_schedule}
 use Rattle.mrp_net.specs.Plan.{release_at}
 use Rattle.mrp_net.specs.Plan.{plan_of}
 use Rattle.mrp_net.specs.Sources.{source_on}
@@ -29,7 +29,6 @@ use Rattle.mrp_record.specs.Text.{Load, total}
 use Rattle.mrp_record.proofs.Beginnings.{ended_blocks_bring_totals}
 use Rattle.mrp_record.proofs.Figures.{cum_is_opening_and_moved}
 use Rattle.mrp_events.specs.Loads.{delivery_of, by_period, despatched, lines_by, load_of, loads}
-use Rattle.mrp_events.specs.Steps.{is_rising}
 use Rattle.mrp_events.specs.Local.{brought_by}
 use Rattle.mrp_net.specs.Shares.{share_of}
 use Rattle.mrp_events.specs.Seen.{DespatchesAreSeen, SchedulesAreSeen, SchedulesOpenAfterShipments, form_item_of, FormsAreSeen, BroughtIsSeen}
@@ -107,7 +106,7 @@ forms_are_seen N l =
     let lane : Lane = lane_at N l in
     let items : map form_item (loads N lane) ≡ map form_item_of (map (incoming_item N lane) (lane_items N lane)) =
     map-map form_item (load_of N lane) (lane_items N lane) ∙ sym (map-map form_item_of (incoming_item N lane) (lane_items N lane)) in
-    ap (λ (z : List FormItem). let f : LaneForm = record { rising = is_rising lane.kind; horizon = horizon N; items = z } in f) items
+    ap (λ (z : List FormItem). let f : LaneForm = record { rising = is_schedule lane.kind; horizon = horizon N; items = z } in f) items
 
 either_order : (a b : Bool) (v : ℕ) → cond (a && b) v 0 ≡ cond b (cond a v 0) 0
 either_order true true v = refl

@@ -22,7 +22,7 @@ use Rattle.mrp_net.specs.declared.lane.LaneKind.TheVariants.{Despatch, Schedule}
 use Rattle.mrp_net.specs.declared.lane.Shipment.{Shipment}
 use Rattle.mrp_net.specs.Lanes.{lanes, lanes_of, lanes_between, taken_over, lane_items, supplier_of, figure, shipped_from, ships_from, shipment_of, shipments}
 use Rattle.mrp_net.specs.Lanes.{opening, reset, pair_on, is_reset_of}
-use Rattle.mrp_net.specs.LaneLaws.{HasSource}
+use Rattle.mrp_net.specs.LaneLaws.{HasSource, is_schedule}
 use Rattle.mrp_net.specs.Plan.{plan_of}
 use Rattle.mrp_net.specs.Sources.{source_on}
 use Rattle.mrp_net.specs.Texts.{longest_block}
@@ -39,13 +39,12 @@ use Rattle.mrp_loops.proofs.OnePlan.{one_plan}
 use Rattle.mrp_loops.proofs.Within.{figures_within}
 use Rattle.mrp_record.specs.Entries.{Delivery}
 use Rattle.mrp_record.specs.Laws as record_laws
-use Rattle.mrp_record.specs.Laws.{AreLoads, IsSmall, AreSmall}
+use Rattle.mrp_record.specs.Laws.{IsSmall}
 use Rattle.mrp_record.specs.Text.{Load, total}
 use Rattle.mrp_record.specs.Lengths.{block_length, length_of_text}
 use Rattle.mrp_record.proofs.Beginnings as beginnings
 use Rattle.mrp_record.proofs.Forming as forming
 use Rattle.mrp_events.specs.Loads.{delivery_of, despatched, called_in, called, lines_by, load_of, loads}
-use Rattle.mrp_events.specs.Steps.{is_rising}
 use Rattle.mrp_events.specs.LoadLaws.{LoadsStandOnce, LoadsAreSmall, OpeningsAreSmall, LegalIsInForm, LegalFiguresAreSmall, LegalCumsAreSmall, TextsAreNoLonger}
 use Rattle.mrp_events.specs.LoadLaws.{LaneBeginningsAreNoLonger, StepsAreFew}
 use Rattle.mrp_events.proofs.Calling.{source_over, source_item}
@@ -215,7 +214,7 @@ module _ (N : Table) (sized : IsSized N) (lane : Lane) (item : ItemNo) (has : Ha
   abbrev load_by : LaneKind → Load
   load_by kind = record { item = item.0; opening = opening N lane item; reset = reset N lane item; lines = lines_by N kind lane item }
 
-  small_by : (kind : LaneKind) → lane.kind ≡ kind → IsSmall (is_rising kind) (horizon N) (load_by kind)
+  small_by : (kind : LaneKind) → lane.kind ≡ kind → IsSmall (is_schedule kind) (horizon N) (load_by kind)
   small_by Despatch e = record {
     some = shipped_some;
     inside = shipped_inside;
@@ -234,12 +233,12 @@ module _ (N : Table) (sized : IsSized N) (lane : Lane) (item : ItemNo) (has : Ha
       }
 
 pub load_is_small : (N : Table) → IsSized N → (lane : Lane) (item : ItemNo) → Contains (lane_items N lane) item
-    → IsSmall (is_rising lane.kind) (horizon N) (load_of N lane item)
+    → IsSmall (is_schedule lane.kind) (horizon N) (load_of N lane item)
 load_is_small N sized lane item there = small_by N sized lane item (items_have_sources N sized.table lane item there) lane.kind refl
 
 pub loads_are_small : LoadsAreSmall
 loads_are_small N sized lane = (
-  All-map (IsSmall (is_rising lane.kind) (horizon N)) (load_of N lane) (lane_items N lane)
+  All-map (IsSmall (is_schedule lane.kind) (horizon N)) (load_of N lane) (lane_items N lane)
       (λ k d h. load_is_small N sized lane (get_or (lane_items N lane) k d) (Contains-get_or (lane_items N lane) k d h)),
   (omega (arith, length_is_short N lane sized.table)),
 )
@@ -251,14 +250,14 @@ openings_are_small N sized lane item there = omega (arith, (load_is_small N size
 
 pub legal_is_in_form : LegalIsInForm
 legal_is_in_form N sized lane records h =
-    forming.beginnings_are_in_form (is_rising lane.kind) (horizon N) (loads N lane) (loads_stand_once N sized.table lane)
+    forming.beginnings_are_in_form (is_schedule lane.kind) (horizon N) (loads N lane) (loads_stand_once N sized.table lane)
     (loads_are_small N sized lane) records h
 
 pub legal_figures_are_small : LegalFiguresAreSmall
 legal_figures_are_small N sized lane records h =
-    forming.figures_are_small (is_rising lane.kind) (horizon N) (loads N lane) (loads_stand_once N sized.table lane) (loads_are_small N sized lane) records h
+    forming.figures_are_small (is_schedule lane.kind) (horizon N) (loads N lane) (loads_stand_once N sized.table lane) (loads_are_small N sized lane) records h
 
 pub legal_cums_are_small : LegalCumsAreSmall
 legal_cums_are_small N sized lane records h item there =
-    forming.cums_are_small (is_rising lane.kind) (horizon N) (loads N lane) (loads_stand_once N sized.table lane) (loads_are_small N sized lane) records h
+    forming.cums_are_small (is_schedule lane.kind) (horizon N) (loads N lane) (loads_stand_once N sized.table lane) (loads_are_small N sized lane) records h
     (load_of N lane item) (load_is_there N lane item there)

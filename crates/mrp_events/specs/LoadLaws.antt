@@ -6,6 +6,7 @@ use Rattle.mrp_rows.specs.Table.{Table, IsTable, horizon}
 use Rattle.mrp_net.specs.declared.lane.Lane.{Lane}
 use Rattle.mrp_net.specs.Lanes.{lane_items, opening}
 use Rattle.mrp_net.specs.Texts.{longest_text}
+use Rattle.mrp_net.specs.LaneLaws.{is_schedule}
 use Rattle.mrp_loops.specs.Sized.{IsSized}
 use Rattle.mrp_record.specs.declared.record.Record.{Record}
 use Rattle.mrp_record.specs.Entries.{number_of, content, contents, cum}
@@ -14,7 +15,7 @@ use Rattle.mrp_record.specs.Laws.{AreLoads, AreSmall, HasSmallFigures, loads_for
 use Rattle.mrp_record.specs.Text.{IsBeginning}
 use Rattle.mrp_record.specs.Lengths.{length_of_text}
 use Rattle.mrp_events.specs.Loads.{loads}
-use Rattle.mrp_events.specs.Steps.{is_rising, steps}
+use Rattle.mrp_events.specs.Steps.{steps}
 
 -- a lane has one load of each of its items
 abbrev pub LoadsStandOnce : Type 0
@@ -23,7 +24,7 @@ LoadsStandOnce = (N : Table) → IsTable N → (lane : Lane) → AreLoads (loads
 -- the loads of a sized network are small: deliveries of one piece at least, in the horizon, on a schedule
 -- lane in rising periods, where figures start anew in the order of arrival, and no figure above 10^15
 abbrev pub LoadsAreSmall : Type 0
-LoadsAreSmall = (N : Table) → IsSized N → (lane : Lane) → AreSmall (is_rising lane.kind) (horizon N) (loads N lane)
+LoadsAreSmall = (N : Table) → IsSized N → (lane : Lane) → AreSmall (is_schedule lane.kind) (horizon N) (loads N lane)
 
 -- no item's figures begin above 10^15
 abbrev pub OpeningsAreSmall : Type 0
@@ -33,7 +34,7 @@ OpeningsAreSmall =
 
 -- what a receiver knows of a lane
 abbrev pub lane_form : Table → Lane → LaneForm
-lane_form N lane = loads_form (is_rising lane.kind) (horizon N) (loads N lane)
+lane_form N lane = loads_form (is_schedule lane.kind) (horizon N) (loads N lane)
 
 -- each legal beginning is in form, and its numbers and figures are at most 10^15
 abbrev pub LegalIsInForm : Type 0

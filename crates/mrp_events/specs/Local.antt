@@ -5,7 +5,7 @@ use Rattle.mrp_lot.specs.One.{PlanRows, one}
 use Rattle.mrp_rows.specs.Table.{Table, IsTable, IsPair, horizon}
 use Rattle.mrp_net.specs.declared.lane.LaneKind.{LaneKind}
 use Rattle.mrp_net.specs.Lanes.{lanes, lane_at}
-use Rattle.mrp_net.specs.LaneLaws.{is_despatch}
+use Rattle.mrp_net.specs.LaneLaws.{is_despatch, is_schedule}
 use Rattle.mrp_net.specs.PlanLaws.{asked_by_bill}
 use Rattle.mrp_net.specs.Plan.{rows_at, plan_of, gross}
 use Rattle.mrp_net.specs.Sums.{pair_at, params_at, row_of, demand, received, incoming}
@@ -16,7 +16,6 @@ use Rattle.mrp_record.specs.Blocks.{deliveries}
 use Rattle.mrp_record.specs.Laws.{quantity_in}
 use Rattle.mrp_record.specs.Text.{IsBeginning}
 use Rattle.mrp_events.specs.Loads.{loads}
-use Rattle.mrp_events.specs.Steps.{is_rising}
 use Rattle.mrp_events.specs.State.{State, IsReady, IsReached}
 
 -- what one lane has brought of a pair's item in a period
@@ -40,7 +39,7 @@ incoming_brought N taken x period = received N x period + brought N taken is_des
 -- its gross requirements: its demand rows, what its parents at the plant ask, and what schedule lanes have called for
 abbrev pub gross_brought : Table → (ℕ → List Record) → List PlanRows → ℕ → ℕ → ℕ
 gross_brought N taken plans x period =
-    demand N x period + sum_by (asked_by_bill plans x period) N.bills + brought N taken is_rising x period
+    demand N x period + sum_by (asked_by_bill plans x period) N.bills + brought N taken is_schedule x period
 
 -- its local plan, beside the plans of its parents
 abbrev pub plan_brought : Table → (ℕ → List Record) → List PlanRows → ℕ → PlanRows

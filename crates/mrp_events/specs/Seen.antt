@@ -9,7 +9,7 @@ use Rattle.mrp_net.specs.declared.lane.LaneKind.TheVariants.{Despatch, Schedule}
 use Rattle.mrp_view.specs.declared.view.IncomingItem.{IncomingItem}
 use Rattle.mrp_view.specs.declared.view.IncomingLane.{IncomingLane}
 use Rattle.mrp_net.specs.Lanes.{lanes, lane_at, lane_items, opening, pair_on}
-use Rattle.mrp_net.specs.LaneLaws.{AreBothLanes}
+use Rattle.mrp_net.specs.LaneLaws.{AreBothLanes, is_schedule}
 use Rattle.mrp_net.specs.Plan.{release_at}
 use Rattle.mrp_view.specs.Loads as seen
 use Rattle.mrp_net.specs.Plan.{plan_of}
@@ -26,7 +26,6 @@ use Rattle.mrp_record.specs.Laws.{quantity_in}
 use Rattle.mrp_record.specs.Text.{Load, IsBeginning}
 use Rattle.mrp_events.specs.LoadLaws.{lane_form}
 use Rattle.mrp_events.specs.Loads.{delivery_of, by_period, load_of, loads}
-use Rattle.mrp_events.specs.Steps.{is_rising}
 use Rattle.mrp_events.specs.Local.{AreLegal, AreLocal, brought}
 
 -- ---- lanes that it sends
@@ -90,7 +89,8 @@ abbrev pub form_item_of : IncomingItem → FormItem
 form_item_of i = record { item = i.item.0; opening = i.opening; reset = i.reset }
 
 abbrev pub seen_form : ℕ → IncomingLane → LaneForm
-seen_form periods lane = record { rising = is_rising lane.kind; horizon = periods; items = map form_item_of lane.items }
+seen_form periods lane =
+    record { rising = is_schedule lane.kind; horizon = periods; items = map form_item_of lane.items }
 
 abbrev pub FormsAreSeen : Type 0
 FormsAreSeen = (N : Table) (l : ℕ) → lane_form N (lane_at N l) ≡ seen_form (horizon N) (incoming_lane N l)

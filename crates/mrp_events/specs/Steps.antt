@@ -1,16 +1,9 @@
--- How many events a run has, and on which lanes periods rise.
-use Rattle.std.specs.Prelude.{ℕ, ◌+◌, ◌*◌, Bool, true, false, length, sum_by}
+-- How many events a run has.
+use Rattle.std.specs.Prelude.{ℕ, ◌+◌, ◌*◌, length, sum_by}
 use Rattle.mrp_rows.specs.Table.{Table}
-use Rattle.mrp_net.specs.declared.lane.LaneKind.{LaneKind}
-use Rattle.mrp_net.specs.declared.lane.LaneKind.TheVariants.{Despatch, Schedule}
 use Rattle.mrp_net.specs.Lanes.{lanes}
 use Rattle.mrp_record.specs.Lengths.{length_of_text}
 use Rattle.mrp_events.specs.Loads.{loads}
-
--- on a schedule lane the periods of an item rise
-abbrev pub is_rising : LaneKind → Bool
-is_rising Despatch = false
-is_rising Schedule = true
 
 -- how many events a whole run has: each pair is planned, and each record of each lane sent and received
 abbrev pub steps : Table → ℕ

@@ -26,6 +26,7 @@ use Rattle.mrp_record.specs.Text.{Load, total}
 use Rattle.mrp_record.proofs.BlockForm.{length_within}
 use Rattle.mrp_events.specs.Loads.{called_in, delivery_in, has_pieces, lines_by, load_of, loads}
 use Rattle.mrp_events.proofs.Small.{load_is_small}
+use Rattle.mrp_events.specs.Goods.{by_period_from}
 use Rattle.mrp_record.specs.Cursor as cursor
 use Rattle.mrp_record.specs.Cursor.{OutFigures, Goods}
 use Rattle.mrp_record.specs.declared.remainder.Remainder.{Remainder}
@@ -38,7 +39,7 @@ use Rattle.mrp_record.proofs.Texts.{shown_begin}
 use Rattle.mrp_lane.specs.Ends.{End, IsNextRecord}
 use Rattle.mrp_lane.specs.Views.{IsLegal}
 use Rattle.mrp_lane.proofs.Counting.{length_fits}
-use Rattle.mrp_firm_cases.specs.Feeding.{amounts_from, lines_from, item_goods, lane_item_at, goods, IsOver, Feeds}
+use Rattle.mrp_firm_cases.specs.Feeding.{lines_from, item_goods, lane_item_at, goods, IsOver, Feeds}
 
 -- ---- lines
 
@@ -54,13 +55,13 @@ amount_skipped : (amount : ℕ → ℕ) (n mark : ℕ) → amount mark ≡ 0 →
 amount_skipped amount n mark none = rw none refl
 
 pub amount_there : (amount : ℕ → ℕ) (periods mark : ℕ) → mark < periods → 0 < amount mark
-    → amounts_from amount periods mark ≡ delivery_in amount mark ∷ amounts_from amount periods (mark + 1)
+    → by_period_from amount periods mark ≡ delivery_in amount mark ∷ by_period_from amount periods (mark + 1)
 amount_there amount periods mark within some =
     let more : periods - mark ≡ suc (periods - (mark + 1)) = omega (arith, within) in
     ap (amounts amount mark) more ∙ amount_first amount (periods - (mark + 1)) mark some
 
 pub amount_none : (amount : ℕ → ℕ) (periods mark : ℕ) → mark < periods → amount mark ≡ 0
-    → amounts_from amount periods mark ≡ amounts_from amount periods (mark + 1)
+    → by_period_from amount periods mark ≡ by_period_from amount periods (mark + 1)
 amount_none amount periods mark within none =
     let more : periods - mark ≡ suc (periods - (mark + 1)) = omega (arith, within) in
     ap (amounts amount mark) more ∙ amount_skipped amount (periods - (mark + 1)) mark none

@@ -1,5 +1,5 @@
 -- What a lane carries as the goods of a cursor, place by place, and a cursor that feeds the lane's end.
-use Rattle.std.specs.Prelude.{◌≡◌, ℕ, ◌-◌, ◌<◌, List, length, map, filter, drop, slice_index_or}
+use Rattle.std.specs.Prelude.{◌≡◌, ℕ, ◌<◌, List, length, map, drop, slice_index_or}
 use Rattle.std.specs.List.{range_with_len}
 use Rattle.mrp_rows.specs.declared.numbers.ItemNo.{ItemNo}
 use Rattle.mrp_rows.specs.Table.{Table, horizon}
@@ -10,7 +10,8 @@ use Rattle.mrp_net.specs.Lanes.{lanes, lane_at, lane_items, opening, reset, ship
 use Rattle.mrp_net.specs.Sources.{source_on}
 use Rattle.mrp_loops.specs.Sized.{IsSized}
 use Rattle.mrp_record.specs.Entries.{Delivery}
-use Rattle.mrp_events.specs.Loads.{called_in, delivery_in, delivery_of, has_pieces}
+use Rattle.mrp_events.specs.Loads.{called_in, delivery_of}
+use Rattle.mrp_events.specs.Goods.{by_period_from}
 use Rattle.mrp_record.specs.Cursor.{OutFigures, Goods}
 use Rattle.mrp_record.specs.Shows.{ShowsSent}
 use Rattle.mrp_lane.specs.Ends.{End}
@@ -19,12 +20,8 @@ use Rattle.mrp_lane.specs.Ends.{End}
 abbrev pub despatches_from : Table → Lane → ItemNo → ℕ → List Delivery
 despatches_from N lane item mark = map delivery_of (drop mark (shipments N lane item))
 
--- an amount of each of so many periods, from a mark on; a period without pieces has none
-abbrev pub amounts_from : (ℕ → ℕ) → ℕ → ℕ → List Delivery
-amounts_from amount periods mark = filter has_pieces (map (delivery_in amount) (range_with_len mark (periods - mark)))
-
 abbrev pub calls_from : Table → Lane → ItemNo → ℕ → List Delivery
-calls_from N lane item mark = amounts_from (called_in N (source_on N lane item)) (horizon N) mark
+calls_from N lane item mark = by_period_from (called_in N (source_on N lane item)) (horizon N) mark
 
 abbrev pub lines_from : LaneKind → Table → Lane → ItemNo → ℕ → List Delivery
 lines_from Despatch N lane item mark = despatches_from N lane item mark

@@ -41,6 +41,25 @@ keys_read {P} key read rows found pairs same_rows same_pairs below =
     subst (λ (z : List Edge). All (λ e. key e < length found) z) (sym same_rows)
     (subst (λ (z : List P). All (λ e. key e < length z) rows) (sym same_pairs) below)
 
+-- edges put into groups are those of the same edges by as many groups as pairs
+grouped_as : (N : Table) (key : Edge → ℕ) (groups : ℕ) (read rows places : List Edge) (begins : List ℕ) → groups ≡ length N.pairs → read ≡ rows
+    → IsGrouped key groups read places begins → IsGrouped key (length N.pairs) rows places begins
+grouped_as N key groups read rows places begins same_groups same_rows is =
+    subst (λ (n : ℕ). IsGrouped key n rows places begins) same_groups (subst (λ (z : List Edge). IsGrouped key groups z places begins) same_rows is)
+
+-- so all edges are put in order of their demanders, then those to each pair together, and then those from each pair
+pub in_order : (N : Table) (groups : ℕ) (read places : List Edge) (begins : List ℕ) → groups ≡ length N.pairs → read ≡ edges N
+    → IsGrouped (λ e. e.demander.0) groups read places begins → places ≡ by_demander N
+in_order N groups read places begins all same is = (grouped_as N _ groups read (edges N) places begins all same is).is
+
+pub by_taken : (N : Table) (groups : ℕ) (read places : List Edge) (begins : List ℕ) → groups ≡ length N.pairs → read ≡ by_demander N
+    → IsGrouped (λ e. e.pair.0) groups read places begins → AreDemanders N places begins
+by_taken N groups read places begins all same is = grouped_as N _ groups read (by_demander N) places begins all same is
+
+pub by_taker : (N : Table) (groups : ℕ) (read places : List Edge) (begins : List ℕ) → groups ≡ length N.pairs → read ≡ by_pair N
+    → IsGrouped (λ e. e.demander.0) groups read places begins → AreSuppliers N places begins
+by_taker N groups read places begins all same is = grouped_as N _ groups read (by_pair N) places begins all same is
+
 -- sorted, they are as many
 sorted_length : (N : Table) (key : Edge → ℕ) (rows : List Edge) → All (λ e. key e < length N.pairs) rows
     → length (sorted_by key (length N.pairs) rows) ≡ length rows

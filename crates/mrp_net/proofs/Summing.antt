@@ -4,7 +4,7 @@ use Rattle.std.proofs.Common.{min, replicate, refl, sym, subst, ap, ◌∙◌, i
 use Rattle.std.specs.List.{All, AllByRecursion, IsDistinct, range_with_len, sum_by}
 use Rattle.std.proofs.lemmas.Bool.{cond_both, cases_Bool, and_from, and_parts, eq-eqb, eqb-true, false_from_ne_true, true≢false}
 use Rattle.std.proofs.lemmas.Grind.{same_number_lists}
-use Rattle.std.proofs.lemmas.List.{get_or_read, take_at, get_or-replicate, get_or-map, get_or-take, get_or-drop, length-replicate, length-map, length-take-le}
+use Rattle.std.proofs.lemmas.List.{take_at, get_or-replicate, get_or-map, get_or-take, get_or-drop, length-replicate, length-map, length-take-le}
 use Rattle.std.proofs.lemmas.List.{length-drop}
 use Rattle.std.proofs.lemmas.List.FromFn.{get_or-map-range_with_len, length-map-range_with_len}
 use Rattle.std.proofs.lemmas.List.Elements.{All-head, All-tail}
@@ -96,21 +96,6 @@ row_read N M sums amounts read x from to is are begins ends pair same =
     ∙ ap (λ (z : ℕ). take z (drop from amounts)) long
     ∙ ap (λ (z : ℕ). take (horizon M) (drop z amounts)) begins
     ∙ row_in_periods M (sums M) amounts x there pair
-
--- and so does the amount of a period
-pub amount_within : (N M : Table) (sums : Table → ℕ → ℕ → ℕ) (amounts : List ℕ) (x t : ℕ) → N ≡ M → ArePeriods N (sums N) amounts → IsPair M x → t < horizon M
-    → x * horizon M + t < length amounts
-amount_within N M sums amounts x t is are pair period =
-    let there : ArePeriods M (sums M) amounts = subst (λ (z : Table). ArePeriods z (sums z) amounts) is are in
-    place_within M amounts x t there.size pair period
-
-pub amount_read : (N M : Table) (sums : Table → ℕ → ℕ → ℕ) (amounts : List ℕ) (x t place v : ℕ) → N ≡ M → ArePeriods N (sums N) amounts
-    → place ≡ x * horizon M + t → IsPair M x → t < horizon M
-    → v ≡ get_or amounts place v → v ≡ sums M x t
-amount_read N M sums amounts x t place v is are at pair period read =
-    let there : ArePeriods M (sums M) amounts = subst (λ (z : Table). ArePeriods z (sums z) amounts) is are in
-    let within : place < length amounts = omega (arith, at, amount_within N M sums amounts x t is are pair period) in
-    get_or_read amounts place v within read 0 ∙ ap (λ (z : ℕ). get_or amounts z 0) at ∙ there.each x t pair period
 
 -- what is added to zeros, in a slice of a list that is put back, are the sums
 pub sums_built : {R : Type 0} (pair period amount : R → ℕ) (N : Table) (periods : ℕ) (rows : List R) (first slice after : List ℕ) (n : ℕ)

@@ -103,6 +103,11 @@ is_despatch Schedule = false
 abbrev pub despatches_to : Table → ℕ → List Lane
 despatches_to N plant = filter (λ lane. is_despatch lane.kind && (lane.receiver.0 == plant)) (lanes N)
 
+-- the schedule lanes, on which the periods of an item rise
+abbrev pub is_schedule : LaneKind → Bool
+is_schedule Despatch = false
+is_schedule Schedule = true
+
 -- what arrives of shipments in a period
 abbrev pub arriving : ℕ → List Shipment → ℕ
 arriving t ships = sum_by (λ s. if s.period == t then s.quantity else 0) ships

@@ -1,6 +1,6 @@
 //! The lanes of a network, and the items on each.
 
-ghost use Rattle.std.specs.Prelude.{◌≡◌, ◌+◌, ◌*◌, ◌^◌, ◌<◌, ◌++◌, true, length, map, replicate, All, IfOk};
+ghost use Rattle.std.specs.Prelude.{◌≡◌, ◌+◌, ◌*◌, ◌<◌, ◌++◌, true, length, map, replicate, All, IfOk};
 ghost use Rattle.mrp_rows.specs.Table.{is_taken_from};
 ghost use Rattle.mrp_rows.specs.Added.{AddsTotals};
 ghost use Rattle.mrp_net.specs.Lanes.{lanes, lanes_of, both_lanes, figure, shipped_from};
@@ -9,10 +9,10 @@ ghost use Rattle.mrp_net.specs.Sources.{source_no};
 ghost use Rattle.mrp_net.specs.SourceRows.{sent, AreSourceStarts, AreShipments, AreSent, AreResets, AreResetsOf};
 
 use crate::lane::{Lane, LaneKind, Shipment};
-use crate::sums::Pieces;
+use crate::sums::{OfPair, Pieces};
 use mrp_qty::Memory;
 use mrp_rows::{
-    AmountOf, Groups, ItemNo, KeyOf, PairNo, PlantNo, SourceRow, Tables, add_totals, group, starts,
+    AmountOf, Groups, ItemNo, KeyOf, PairNo, PlantNo, Tables, add_totals, group, starts,
 };
 use std::alloc::Global;
 
@@ -72,17 +72,6 @@ impl AmountOf<Sent> for Pieces {
 
     fn amount(&self, sent: &Sent) -> u64 {
         sent.shipment.quantity.get()
-    }
-}
-
-/// Puts sources into groups by the pairs that take.
-struct ByTaker;
-
-impl KeyOf<SourceRow> for ByTaker {
-    ghost key_of = { λ _ s. s.pair.0 };
-
-    fn key(&self, source: &SourceRow) -> usize {
-        source.pair.0
     }
 }
 
@@ -183,7 +172,7 @@ fn source_starts(alloc: Global, tables: &Tables) -> Result<Vec<usize>, Memory>
 {
     let rows = tables.rows();
     let pairs = rows.pairs().len();
-    let begins = starts(alloc, &ByTaker, rows.sources(), pairs)?;
+    let begins = starts(alloc, &OfPair, rows.sources(), pairs)?;
     Ok(begins)
 }
 

@@ -1,6 +1,6 @@
 //! The network of a table: its pairs, edges, sums and lanes by their numbers.
 
-ghost use Rattle.std.specs.Prelude.{◌≡◌, ◌<◌, ◌≤◌, ◌^◌, ◌-◌, ◌+◌, ◌*◌, ℕ, true, min};
+ghost use Rattle.std.specs.Prelude.{◌≡◌, ◌<◌, ◌^◌, ◌-◌, ◌+◌, ◌*◌, ℕ, true, min};
 ghost use Rattle.std.specs.Prelude.{length, slice_get, Option, Some, None, IfSome, IfNone, IfOk, Contains, All};
 ghost use Rattle.mrp_rows.specs.Table.{Table, IsTable, horizon, IsPair, is_taken_from, pair_no};
 ghost use Rattle.mrp_net.specs.Edges.{demanders};
@@ -211,15 +211,6 @@ impl Network {
         self.tables.rows().pairs()[x.0]
     }
 
-    /// Where the amount of a pair in a period stands among those of all pairs.
-    fn place_of(&self, x: PairNo, t: usize) -> usize
-        requires pair { IsPair self.now x.0 }
-        requires period { t < horizon self.now }
-        ensures { result ≡ x.0 * horizon self.now + t }
-    {
-        x.0 * self.tables.horizon().get() as usize + t
-    }
-
     /// Where the amounts of a pair stand among those of all pairs.
     fn places_of(&self, x: PairNo) -> Range<usize>
         requires { IsPair self.now x.0 }
@@ -236,7 +227,7 @@ impl Network {
         requires period { t < horizon self.now }
         ensures { result ≡ demand self.now x.0 t }
     {
-        self.amounts.demand[self.place_of(x, t)]
+        self.demand_row(x)[t]
     }
 
     /// The sums of the pair's demand rows, period by period, each at most 10^18 pieces.

@@ -1,9 +1,17 @@
-//! Demands and receipts of a table added up by pair and period.
+//! Rows of a table by their pair and their period, by which they are put in order and added up.
 
-use mrp_rows::{AmountOf, CumRow, DemandRow, KeyOf, ReceiptRow, ShipRow};
+use mrp_rows::{AmountOf, CumRow, DemandRow, KeyOf, ReceiptRow, ShipRow, SourceRow};
 
 /// The pair of a row as its key.
 pub struct OfPair;
+
+impl KeyOf<SourceRow> for OfPair {
+    ghost key_of = { λ _ s. s.pair.0 };
+
+    fn key(&self, row: &SourceRow) -> usize {
+        row.pair.0
+    }
+}
 
 impl KeyOf<DemandRow> for OfPair {
     ghost key_of = { λ _ d. d.pair.0 };

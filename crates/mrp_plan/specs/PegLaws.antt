@@ -5,7 +5,7 @@ use Rattle.mrp_rows.specs.declared.rows.BillRow.{BillRow}
 use Rattle.mrp_rows.specs.declared.rows.SourceRow.{SourceRow}
 use Rattle.mrp_rows.specs.Table.{Table, IsTable, IsPair, horizon, source_pair}
 use Rattle.mrp_net.specs.Sums.{demand}
-use Rattle.mrp_net.specs.Plan.{rows_at}
+use Rattle.mrp_net.specs.Plan.{rows_at, release_at}
 use Rattle.mrp_net.specs.PlanLaws.{Fits}
 use Rattle.mrp_net.specs.Shares.{share_of}
 use Rattle.mrp_plan.specs.Peg.{peg_terms}
@@ -23,10 +23,6 @@ abbrev pub TermsAreProducts : Type 0
 TermsAreProducts = (N : Table) (table : List PlanRows) (x t : ℕ)
     → All (λ p. (p.quantity ≡ p.release * p.per) × (0 < p.quantity)) (peg_terms N table x t)
 
--- planned order release of a pair in a period
-abbrev pub released_in : List PlanRows → ℕ → ℕ → ℕ
-released_in table y t = slice_index (rows_at table y).release t
-
 -- the demand rows of the pair itself, one for one
 pub record IsDemandTerm (N : Table) (x t : ℕ) (p : PegTerm) : Type 0 where
   pub pair : p.pair.0 ≡ x
@@ -40,7 +36,7 @@ pub record IsBillTerm (N : Table) (table : List PlanRows) (x t : ℕ) (p : PegTe
   pub parent : row.parent ≡ p.pair
   pub component : row.component.0 ≡ x
   pub per : row.per ≡ p.per
-  pub release : p.release ≡ released_in table p.pair.0 t
+  pub release : p.release ≡ release_at table p.pair.0 t
 
 -- a source, by which a pair takes its share of its release from this one, one for one
 pub record IsPlantTerm (N : Table) (table : List PlanRows) (x t : ℕ) (p : PegTerm) : Type 0 where
@@ -49,7 +45,7 @@ pub record IsPlantTerm (N : Table) (table : List PlanRows) (x t : ℕ) (p : PegT
   pub taker : row.pair ≡ p.pair
   pub supplier : source_pair N row ≡ x
   pub per : p.per ≡ 1
-  pub release : p.release ≡ share_of row.low row.high (released_in table p.pair.0 t)
+  pub release : p.release ≡ share_of row.low row.high (release_at table p.pair.0 t)
 
 -- what a term of each source is
 abbrev pub IsTermOf : Table → List PlanRows → ℕ → ℕ → PegTerm → PegSource → Type 0

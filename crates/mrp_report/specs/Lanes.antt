@@ -7,7 +7,7 @@ use Rattle.mrp_net.specs.declared.lane.LaneKind.{LaneKind}
 use Rattle.mrp_net.specs.declared.lane.LaneKind.TheVariants.{Despatch, Schedule}
 use Rattle.mrp_net.specs.Lanes.{lane_at}
 use Rattle.mrp_book.specs.declared.figure.LaneFigure.{LaneFigure}
-use Rattle.mrp_sheet.specs.RowNames.{name_of_item, name_of_plant}
+use Rattle.mrp_rows.specs.Said.{item_name, plant_name}
 use Rattle.mrp_sheet.specs.Rows.{row}
 
 -- what the row of a figure calls the kind of its lane
@@ -18,8 +18,8 @@ lane_kind_word Schedule = text_bytes "schedule"
 -- the fields of the row of a figure of that lane: opening, shipped, received, and what is in transit
 abbrev pub figure_fields : Table → Lane → LaneFigure → List (List ℕ)
 figure_fields N lane figure =
-    text_bytes "lane" ∷ lane_kind_word lane.kind ∷ name_of_plant N lane.sender ∷ name_of_plant N lane.receiver
-    ∷ name_of_item N figure.item
+    text_bytes "lane" ∷ lane_kind_word lane.kind ∷ plant_name N lane.sender.0 ∷ plant_name N lane.receiver.0
+    ∷ item_name N figure.item.0
     ∷ decimal figure.opening ∷ decimal figure.shipped ∷ decimal figure.received
     ∷ decimal (figure.shipped - figure.received) ∷ []
 

@@ -7,6 +7,7 @@
 //! writer is as it was.
 #![tactic(auto)]
 
+mod before;
 mod codes;
 mod lanes;
 mod late;

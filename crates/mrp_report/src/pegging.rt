@@ -1,8 +1,7 @@
 //! The pegs rows: the pegging of the whole plan.
 
-ghost use Rattle.std.specs.Prelude.{◌≡◌, ◌+◌, ◌≤◌, ◌<◌, ◌++◌, ◌∷◌, take, drop, length, decimal, All, Err, IfOk, OnOk};
+ghost use Rattle.std.specs.Prelude.{◌≡◌, ◌≤◌, ◌<◌, ◌++◌, drop, length, All, Err, OnOk};
 ghost use Rattle.std.specs.Prelude.{IfErr, OnErr};
-ghost use Rattle.csv.specs.Writing.{comma};
 ghost use Rattle.mrp_rows.specs.Table.{IsPair, IsTable, horizon};
 ghost use Rattle.mrp_net.specs.PlanLaws.{Fits};
 ghost use Rattle.mrp_plan.specs.Peg.{IsPeggable};
@@ -12,8 +11,9 @@ ghost use Rattle.mrp_sheet.specs.Sent.{SendsReport};
 ghost use Rattle.mrp_report.specs.Gathering.{Gathers};
 ghost use Rattle.mrp_report.specs.Headings.{pegs_names};
 ghost use Rattle.mrp_report.specs.Pegs.{pair_pegs_text, pegs_text, period_pegs_text};
-ghost use Rattle.mrp_report.specs.PegParts.{IsPegLine, edges_text, pegs_part, term_part, term_text};
+ghost use Rattle.mrp_report.specs.PegParts.{IsPegLine, edges_text, term_part, term_text};
 
+use crate::before::{number_before, text_before};
 use crate::pegs::source_word;
 use crate::room::{LONGEST_PAIR, LONGEST_ROW, Room, name_pair};
 use itoa::write_digits;
@@ -232,29 +232,4 @@ fn write_term(text: &mut [u8; LONGEST_TERM], network: &Network, t: usize, term: 
     let by_plant = text_before(text, by_item, plant.as_bytes());
     let source = text_before(text, by_plant, source_word(term.source));
     number_before(text, source, t as u64)
-}
-
-/// Writes a number and a comma before what starts at `next`, and returns where the number starts.
-fn number_before(text: &mut [u8; LONGEST_TERM], next: usize, number: u64) -> usize
-    requires room { 21 ≤ next }
-    requires within { next ≤ LONGEST_TERM }
-    ensures before { result ≤ next }
-    ensures longest { next ≤ result + 21 }
-    ensures part { drop result text.new ≡ decimal number ++ comma ∷ drop next text.old }
-{
-    text[next - 1] = b',';
-    write_digits(number, text, next - 1)
-}
-
-/// Writes bytes and a comma before what starts at `next`, and returns where the bytes start.
-fn text_before(text: &mut [u8; LONGEST_TERM], next: usize, bytes: &[u8]) -> usize
-    requires room { length bytes.now + 1 ≤ next }
-    requires within { next ≤ LONGEST_TERM }
-    ensures start { result + length bytes.now + 1 ≡ next }
-    ensures part { drop result text.new ≡ bytes.now ++ comma ∷ drop next text.old }
-{
-    let start = next - 1 - bytes.len();
-    text[next - 1] = b',';
-    text[start..next - 1].copy_from_slice(bytes);
-    start
 }

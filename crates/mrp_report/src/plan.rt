@@ -1,7 +1,7 @@
 //! The plan rows: the record of each pair, period by period.
 
 ghost use Rattle.std.specs.Prelude.{◌≡◌, ◌+◌, ◌-◌, ◌*◌, ◌++◌, ◌∷◌, [], ◌≤◌, drop, take, length, decimal, Err};
-ghost use Rattle.std.specs.Prelude.{IfOk, OnOk, IfErr, OnErr};
+ghost use Rattle.std.specs.Prelude.{OnOk, IfErr, OnErr};
 ghost use Rattle.csv.specs.Writing.{comma};
 ghost use Rattle.mrp_rows.specs.Table.{IsTable};
 ghost use Rattle.mrp_net.specs.PlanLaws.{Fits};
@@ -10,10 +10,11 @@ ghost use Rattle.std.specs.Io.KnownBytes.{Appends};
 ghost use Rattle.mrp_sheet.specs.Sending.{AppendsFront};
 ghost use Rattle.mrp_sheet.specs.Sent.{SendsReport};
 ghost use Rattle.mrp_sheet.specs.Dates.{dates_of};
-ghost use Rattle.mrp_report.specs.Parts.{pair_part, parts_text, period_part};
+ghost use Rattle.mrp_report.specs.Parts.{parts_text, period_part};
 ghost use Rattle.mrp_report.specs.Report.{plan_text};
 ghost use Rattle.mrp_report.specs.Parts.{HasPeriod, HasPeriods, pairs_text, period_at};
 
+use crate::before::{number_before, text_before};
 use crate::room::{LONGEST_PAIR, name_pair, put_parts};
 use itoa::write_digits;
 use mrp_loops::SizedNet;
@@ -207,58 +208,22 @@ fn put_period(text: &mut [u8; LONGEST_PERIOD], date: &[u8; 10], period: Period) 
     ensures within { result ≤ LONGEST_PERIOD }
     ensures part { drop result text.new ≡ period_part date.now period }
 {
-    let available = put_figure(text, LONGEST_PERIOD, period.available);
-    let release = put_before(text, available, period.release);
-    let order = put_before(text, release, period.order);
-    let incoming = put_before(text, order, period.incoming);
-    let gross = put_before(text, incoming, period.gross);
-    let day = put_date(text, gross, date);
-    put_number(text, day, period.number)
+    let available = write_digits(period.available.get(), text, LONGEST_PERIOD);
+    let release = quantity_before(text, available, period.release);
+    let order = quantity_before(text, release, period.order);
+    let incoming = quantity_before(text, order, period.incoming);
+    let gross = quantity_before(text, incoming, period.gross);
+    let day = text_before(text, gross, date);
+    number_before(text, day, period.number as u64)
 }
 
-/// Writes a figure so that it ends before `end`, and returns where it starts.
-fn put_figure(text: &mut [u8; LONGEST_PERIOD], end: usize, figure: Qty) -> usize
-    requires room { 16 ≤ end }
-    requires within { end ≤ LONGEST_PERIOD }
-    ensures before { result ≤ end }
-    ensures longest { end ≤ result + 16 }
-    ensures part { drop result text.new ≡ decimal figure ++ drop end text.old }
-{
-    write_digits(figure.get(), text, end)
-}
-
-/// Writes a figure and a comma before what starts at `next`, and returns where the figure starts.
-fn put_before(text: &mut [u8; LONGEST_PERIOD], next: usize, figure: Qty) -> usize
+/// Writes a quantity and a comma before what starts at `next`, and returns where the quantity starts.
+fn quantity_before(text: &mut [u8; LONGEST_PERIOD], next: usize, quantity: Qty) -> usize
     requires room { 17 ≤ next }
     requires within { next ≤ LONGEST_PERIOD }
     ensures before { result ≤ next }
     ensures longest { next ≤ result + 17 }
-    ensures part { drop result text.new ≡ decimal figure ++ comma ∷ drop next text.old }
+    ensures part { drop result text.new ≡ decimal quantity ++ comma ∷ drop next text.old }
 {
-    text[next - 1] = b',';
-    put_figure(text, next - 1, figure)
-}
-
-/// Writes a date and a comma before what starts at `next`, and returns where the date starts.
-fn put_date(text: &mut [u8; LONGEST_PERIOD], next: usize, date: &[u8; 10]) -> usize
-    requires room { 11 ≤ next }
-    requires within { next ≤ LONGEST_PERIOD }
-    ensures start { result + 11 ≡ next }
-    ensures part { drop result text.new ≡ date.now ++ comma ∷ drop next text.old }
-{
-    let start = next - 11;
-    text[next - 1] = b',';
-    text[start..next - 1].copy_from_slice(date);
-    start
-}
-
-/// Writes a number and a comma before what starts at `next`, and returns where the number starts.
-fn put_number(text: &mut [u8; LONGEST_PERIOD], next: usize, number: usize) -> usize
-    requires room { 21 ≤ next }
-    requires within { next ≤ LONGEST_PERIOD }
-    ensures before { result ≤ next }
-    ensures part { drop result text.new ≡ decimal number ++ comma ∷ drop next text.old }
-{
-    text[next - 1] = b',';
-    write_digits(number as u64, text, next - 1)
+    number_before(text, next, quantity.get())
 }

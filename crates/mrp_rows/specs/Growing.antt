@@ -72,16 +72,4 @@ with_reset N r = record N { resets = N.resets ++ r ∷ [] }
 
 -- the table of a calendar without any row
 abbrev pub empty_table : CalendarTerms → Table
-empty_table c = record {
-  calendar = c;
-  plants = [];
-  items = [];
-  pairs = [];
-  sources = [];
-  bills = [];
-  demands = [];
-  receipts = [];
-  ships = [];
-  cums = [];
-  resets = [];
-}
+empty_table c = table_of c [] [] [] [] [] [] [] [] [] []

@@ -27,13 +27,6 @@ pub(crate) fn place_of(names: &[String], name: &str) -> Option<usize>
     ensures place { result ≡ position (bytes_eq name.now) (map string_bytes names.now) }
     ensures within { IfSome result (λ place. place < length (map string_bytes names.now)) }
 {
-    first_place(names, name)
-}
-
-/// The first place of a name.
-fn first_place(names: &[String], name: &str) -> Option<usize>
-    ensures { result ≡ position (λ text. bytes_eq name.now (string_bytes text)) names.now }
-{
     names
         .iter()
         .position(|known| is_same_text(name, known.as_str()))

@@ -2,8 +2,6 @@
 
 ghost use Rattle.std.specs.Prelude.{◌≡◌, ◌+◌, ◌-◌, ◌==◌, ◌≤◌, if◌then◌else◌, length, map, option_map, Err, IfOk};
 ghost use Rattle.std.specs.Prelude.{IfSome, Some, None};
-ghost use Rattle.std.specs.List.{list_any};
-ghost use Rattle.std.specs.Str.{bytes_eq};
 ghost use Rattle.mrp_rows.specs.Spelled.{share_view, source_view, supply_view, AreSources, HasSources, IsSource};
 ghost use Rattle.mrp_rows.specs.Spelled.{TellsSpelled, TellsWritten};
 ghost use Rattle.mrp_rows.specs.Parsing.{number_within};
@@ -217,13 +215,6 @@ fn share_of<'r>(
 /// Whether one of the sources is the plant of that name.
 pub fn names_plant(sources: &[SpelledSource<'_>], plant: &str) -> bool
     ensures exact { result ≡ names_plant (map source_view sources.now) plant.now }
-{
-    has_plant(sources, plant)
-}
-
-/// Whether one of the sources is the plant of that name.
-fn has_plant(sources: &[SpelledSource<'_>], plant: &str) -> bool
-    ensures { result ≡ list_any (λ s. bytes_eq s.plant.now plant.now) sources.now }
 {
     sources.iter().any(|source| source.plant == plant)
 }

@@ -6,6 +6,7 @@ use Rattle.std.proofs.lemmas.Bool.{eq-eqb}
 use Rattle.std.proofs.lemmas.List.{ext_get_or, get_or_append_left, get_or_at, get_or-map, length-map}
 use Rattle.mrp_netting.specs.declared.plan.PairPlan.{PairPlan}
 use Rattle.mrp_rows.specs.Table.{Table}
+use Rattle.mrp_net.specs.Plan.{no_rows}
 use Rattle.mrp_view.specs.Seen.{pairs_of_number}
 use Rattle.mrp_view.specs.View.{PlantRows, is_of_plant, plant_pair}
 use Rattle.mrp_view.specs.declared.view.PlantPair.{PlantPair}
@@ -13,7 +14,7 @@ use Rattle.mrp_view.proofs.Seeing.{numbers_stand_once}
 use Rattle.mrp_loops.specs.Within.{plan_at}
 use Rattle.mrp_events.specs.LocalLaws.{IsPairAt}
 use Rattle.mrp_events.proofs.Seeing.{pairs_are_at}
-use Rattle.mrp_agent.specs.State.{AgentState, no_plant_pair, no_plan, pair_place}
+use Rattle.mrp_agent.specs.State.{AgentState, no_plant_pair, pair_place}
 use Rattle.mrp_agent.proofs.Looking.{place_is_only}
 use Rattle.mrp_run.specs.declared.plant.Plant.{Plant}
 use Rattle.mrp_run.specs.Ends.{EachAt, HasPlans, HavePlans}
@@ -23,28 +24,28 @@ use Rattle.mrp_plan.specs.Given.{plans_below}
 
 -- the plan at a place is the network's plan of the pair there
 plan_given : (N : Table) (p : ℕ) (A : AgentState) → HasPlans N p A → (k : ℕ) → k < length A.view.pairs
-    → get_or A.plans k no_plan ≡ plan_at N (get_or A.view.pairs k no_plant_pair).number.0
+    → get_or A.plans k no_rows ≡ plan_at N (get_or A.view.pairs k no_plant_pair).number.0
 plan_given N p A has k within =
     let x : ℕ = (get_or A.view.pairs k no_plant_pair).number.0 in
     let own : All (λ q. IsPairAt N p q.number.0) A.view.pairs = subst (λ (V : PlantRows). All (λ q. IsPairAt N p q.number.0) V.pairs) (sym has.view)
     (pairs_are_at N p) in
     let once : pairs_of_number x A.view.pairs ≤ 1 = subst (λ (V : PlantRows). pairs_of_number x V.pairs ≤ 1) (sym has.view) (numbers_stand_once N p x) in
     let place : pair_place A.view x ≡ k = place_is_only (λ (q : PlantPair). q.number.0 == x) A.view.pairs k no_plant_pair once within (eq-eqb x x refl) in
-    sym (ap (λ (n : ℕ). get_or A.plans n no_plan) place) ∙ has.plans x (own k no_plant_pair within)
+    sym (ap (λ (n : ℕ). get_or A.plans n no_rows) place) ∙ has.plans x (own k no_plant_pair within)
 
 pub gives : (N : Table) (p : ℕ) (A : AgentState) → HasPlans N p A → length A.plans ≡ length A.view.pairs → A.plans ≡ plans_below N p (length N.pairs)
 gives N p A has all =
     let xs : List ℕ = filter (is_of_plant N p) (range_with_len 0 (length N.pairs)) in
     let pairs : A.view.pairs ≡ map (plant_pair N) xs = ap (λ (V : PlantRows). V.pairs) has.view in
     let size : length A.view.pairs ≡ length xs = ap (λ (z : List PlantPair). length z) pairs ∙ length-map xs (plant_pair N) in
-    ext_get_or no_plan A.plans (plans_below N p (length N.pairs)) (all ∙ size ∙ sym (length-map xs (plan_at N)))
+    ext_get_or no_rows A.plans (plans_below N p (length N.pairs)) (all ∙ size ∙ sym (length-map xs (plan_at N)))
     (λ k within.
     let low : k < length A.view.pairs = omega (arith, within, all) in
     let there : k < length xs = omega (arith, low, size) in
     let number : (get_or A.view.pairs k no_plant_pair).number.0 ≡ get_or xs k 0 =
     ap (λ (z : List PlantPair). (get_or z k no_plant_pair).number.0) pairs
     ∙ ap (λ (q : PlantPair). q.number.0) (get_or-map (plant_pair N) xs k 0 no_plant_pair there) in
-    plan_given N p A has k low ∙ ap (plan_at N) number ∙ sym (get_or-map (plan_at N) xs k 0 no_plan there))
+    plan_given N p A has k low ∙ ap (plan_at N) number ∙ sym (get_or-map (plan_at N) xs k 0 no_rows there))
 
 -- one plant more has given its plans
 or_less : (k n : ℕ) → (k < n) ⊎ (n ≤ k)

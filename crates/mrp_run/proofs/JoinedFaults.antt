@@ -1,12 +1,13 @@
 -- The worst of some faults, and what was brought back where there is none.
 use Rattle.std.proofs.Common.{◌≡◌, ◌⊎◌, inl, inr, List, [], ◌∷◌, ◌++◌, length, map, Option, Some, None, Ok, Err, refl, sym, ap, subst, ◌∙◌, arith, append_assoc}
 use Rattle.std.proofs.Common.{append-nil}
+use Rattle.std.specs.Result.{result_err}
 use Rattle.std.specs.List.{Contains, filter_map}
 use Rattle.std.specs.Option.{option_to_list}
 use Rattle.std.proofs.lemmas.List.Elements.{All-push, All-weaker, Contains-append_left, Contains-push, filter_map-append}
 use Rattle.mrp_run.specs.declared.fault.RunFault.{RunFault}
 use Rattle.mrp_run.specs.declared.plant.Plant.{Plant}
-use Rattle.mrp_run.specs.Joined.{Back, fault_back, faults_in}
+use Rattle.mrp_run.specs.Joined.{Back, faults_in}
 use Rattle.mrp_run.specs.Worst.{IsBefore, IsWorst, IsWorstOf}
 
 -- ---- the worst
@@ -44,10 +45,10 @@ pub plants_same : (backs : List Back) (fault : RunFault) → plants_in (backs ++
 plants_same backs fault = filter_map-append plant_in backs (Err fault ∷ []) ∙ append-nil (plants_in backs)
 
 pub faults_more : (backs : List Back) (fault : RunFault) → faults_in (backs ++ Err fault ∷ []) ≡ faults_in backs ++ fault ∷ []
-faults_more backs fault = filter_map-append fault_back backs (Err fault ∷ [])
+faults_more backs fault = filter_map-append result_err backs (Err fault ∷ [])
 
 pub faults_same : (backs : List Back) (plant : Plant) → faults_in (backs ++ Ok plant ∷ []) ≡ faults_in backs
-faults_same backs plant = filter_map-append fault_back backs (Ok plant ∷ []) ∙ append-nil (faults_in backs)
+faults_same backs plant = filter_map-append result_err backs (Ok plant ∷ []) ∙ append-nil (faults_in backs)
 
 -- where no fault was brought back, plants alone were
 pub no_fault : (backs : List Back) → faults_in backs ≡ [] → backs ≡ map Ok (plants_in backs)

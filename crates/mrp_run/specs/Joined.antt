@@ -1,6 +1,7 @@
 -- The threads of the plants, and what they bring back.
-use Rattle.std.specs.Prelude.{◌≡◌, ℕ, ◌≤◌, List, [], map, Option, Some, None, Result, Ok, Err, All, IfOk, IfErr, OnOk}
+use Rattle.std.specs.Prelude.{◌≡◌, ℕ, ◌≤◌, List, [], map, Result, All, IfOk, IfErr, OnOk}
 use Rattle.std.specs.Prelude.{filter_map}
+use Rattle.std.specs.Result.{result_err}
 use Rattle.std.specs.Vec.{vec_capacity}
 use Rattle.std.specs.declared.thread.PromisedHandle.{PromisedHandle}
 use Rattle.mrp_run.specs.declared.fault.RunFault.{RunFault}
@@ -49,13 +50,9 @@ AreNumberedThreads turns threads = EachAt (λ number thread. (thread.promise.num
 abbrev pub AreByRule : (RunFault → Type 0) → List Back → Type 0
 AreByRule Rule backs = All (λ back. IfErr back Rule) backs
 
-abbrev pub fault_back : Back → Option RunFault
-fault_back (Ok plant) = None
-fault_back (Err fault) = Some fault
-
 -- all faults that were brought back
 abbrev pub faults_in : List Back → List RunFault
-faults_in backs = filter_map fault_back backs
+faults_in backs = filter_map result_err backs
 
 -- ---- rooms
 

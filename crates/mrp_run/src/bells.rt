@@ -53,17 +53,14 @@ impl Bells {
         let Some(ends) = self.lanes.get(lane.0) else {
             return;
         };
-        match lanes {
-            Lanes::Outgoing => {
-                self.signs.put_up(lane, lanes);
-                self.ring_at(ends.receiver);
-            }
-            Lanes::Incoming => {
-                if count >= self.capacity {
-                    self.signs.put_up(lane, lanes);
-                    self.ring_at(ends.sender);
-                }
-            }
+        let waiting = match lanes {
+            Lanes::Outgoing => Some(ends.receiver),
+            Lanes::Incoming if count >= self.capacity => Some(ends.sender),
+            Lanes::Incoming => None,
+        };
+        if let Some(plant) = waiting {
+            self.signs.put_up(lane, lanes);
+            self.ring_at(plant);
         }
     }
 

@@ -1,14 +1,16 @@
 //! What the plants give to the plan of the network.
-ghost use Rattle.std.specs.Prelude.{◌≡◌, ◌<◌, IfOk, length};
+ghost use Rattle.std.specs.Prelude.{◌≡◌, IfErr, IfOk, length};
 ghost use Rattle.mrp_rows.specs.Table.{Table};
 ghost use Rattle.mrp_net.specs.Plan.{plan_of};
 ghost use Rattle.mrp_loops.specs.Sized.{IsSized};
 ghost use Rattle.mrp_run.specs.Ends.{HavePlans};
 ghost use Rattle.mrp_plan.specs.Given.{HaveGiven};
 
+use crate::fault::RunFault;
 use crate::plant::Plant;
 use mrp_net::Network;
 use mrp_netting::PairPlan;
+use mrp_plan::gather;
 use mrp_qty::Memory;
 use std::alloc::Global;
 
@@ -16,22 +18,23 @@ use std::alloc::Global;
 ///
 /// # Errors
 ///
-/// [`Memory`] where a growth is refused; all plans are gone then.
-pub(crate) fn gather(
+/// [`RunFault::Memory`] where a growth is refused; all plans are gone then.
+pub(crate) fn plans_of(
     alloc: Global,
     network: &Network,
     plants: Vec<Plant>,
-) -> Result<Vec<PairPlan>, Memory>
+) -> Result<Vec<PairPlan>, RunFault>
     requires sized { IsSized network.now }
     requires plans { HavePlans network.now plants.items }
-    ensures { IfOk result (λ plans. plans.items ≡ plan_of network.now) }
+    ensures plans { IfOk result (λ plans. plans.items ≡ plan_of network.now) }
+    ensures fault { IfErr result (λ fault. fault ≡ RunFault.Memory) }
 {
-    let given = given_plans(alloc, plants)?;
-    mrp_plan::gather(alloc, network, given)
+    let given = plans_by_plant(alloc, plants)?;
+    Ok(gather(alloc, network, given)?)
 }
 
 /// The plans of each plant's pairs, in table order.
-fn given_plans(alloc: Global, plants: Vec<Plant>) -> Result<Vec<Vec<PairPlan>>, Memory>
+fn plans_by_plant(alloc: Global, plants: Vec<Plant>) -> Result<Vec<Vec<PairPlan>>, Memory>
     ensures { (N : Table) → HavePlans N plants.items → IfOk result (λ given. HaveGiven N given.items (length N.pairs)) }
 {
     let mut given = Vec::with_capacity(alloc, plants.len())?;

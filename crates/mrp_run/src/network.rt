@@ -10,7 +10,7 @@ ghost use Rattle.mrp_run.specs.Outcome.{IsOutcome};
 
 use crate::dealing::ready_plants;
 use crate::fault::RunFault;
-use crate::gathering::gather;
+use crate::gathering::plans_of;
 use crate::pairing::reconcile_all;
 use crate::plant::Plant;
 use crate::settings::Settings;
@@ -129,16 +129,6 @@ fn run_through<R: Threads + Wait + Sync, G: Gate>(
     )
 }
 
-/// The plans of plants that have finished, in table order.
-fn plans_of(alloc: Global, network: &Network, plants: Vec<Plant>) -> Result<Vec<PairPlan>, RunFault>
-    requires sized { IsSized network.now }
-    requires through { AreThrough network.now plants.items }
-    ensures plans { IfOk result (λ plans. plans.items ≡ plan_of network.now) }
-    ensures fault { IfErr result (λ fault. fault ≡ RunFault.Memory) }
-{
-    Ok(gather(alloc, network, plants)?)
-}
-
 /// What plants that have finished come to.
 fn outcome_of<R: Wait>(
     rt: &R,
@@ -152,6 +142,6 @@ fn outcome_of<R: Wait>(
     ensures fault { IfErr result (λ fault. fault ≡ RunFault.Memory) }
 {
     let lanes = reconcile_all(rt, alloc, network, plants.as_mut_slice())?;
-    let plans = gather(alloc, network, plants)?;
+    let plans = plans_of(alloc, network, plants)?;
     Ok(Outcome { plans, lanes })
 }

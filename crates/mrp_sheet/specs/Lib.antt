@@ -2,7 +2,6 @@ pub mod DateLists
 pub mod Dates
 pub mod Headings
 pub mod Names
-pub mod RowNames
 pub mod Rows
 pub mod Sending
 pub mod Sent

@@ -14,7 +14,7 @@ use Rattle.mrp_rows.proofs.Keys.{position_is}
 use Rattle.mrp_rows.specs.declared.numbers.ItemNo.{ItemNo}
 use Rattle.mrp_rows.specs.Table.{IsTable, Table}
 use Rattle.mrp_net.proofs.Naming.{name_at_place}
-use Rattle.mrp_stream.specs.Rows.{record_item_name}
+use Rattle.mrp_rows.specs.Said.{item_name}
 use Rattle.mrp_stream.specs.Grammar.{item_named}
 
 -- where no name stands twice, a name has one place
@@ -75,16 +75,16 @@ found_more names x name i old new once here so_far is =
     turned false o = refl
 
 -- the item of its own name
-pub item_of_name : (N : Table) (item : ItemNo) → IsTable N → item.0 < length N.items → item_named N (record_item_name N item) ≡ Some item
+pub item_of_name : (N : Table) (item : ItemNo) → IsTable N → item.0 < length N.items → item_named N (item_name N item.0) ≡ Some item
 item_of_name N item is within = ap (option_map (λ i. record { 0 = i }))
-    (place_of_name N.items (record_item_name N item) item.0 is.once.items (slice_get-get_or N.items item.0 [] within))
+    (place_of_name N.items (item_name N item.0) item.0 is.once.items (slice_get-get_or N.items item.0 [] within))
 
 -- the name of an item that was found
-pub name_of_item : (N : Table) (name : List ℕ) (item : ItemNo) → item_named N name ≡ Some item → (item.0 < length N.items) × (name ≡ record_item_name N item)
+pub name_of_item : (N : Table) (name : List ℕ) (item : ItemNo) → item_named N name ≡ Some item → (item.0 < length N.items) × (name ≡ item_name N item.0)
 name_of_item N name item is = by (position (bytes_eq name) N.items) refl is
   where
     by : (at : Option ℕ) → position (bytes_eq name) N.items ≡ at → option_map (λ i. record { 0 = i }) at ≡ Some item
-        → (item.0 < length N.items) × (name ≡ record_item_name N item)
+        → (item.0 < length N.items) × (name ≡ item_name N item.0)
     by None at e = absurd (cc)
     by (Some i) at e =
         let same : i ≡ item.0 = cc in

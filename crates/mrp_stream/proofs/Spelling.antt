@@ -17,11 +17,12 @@ use Rattle.mrp_rows.specs.Table.{Table}
 use Rattle.mrp_record.specs.declared.record.Record.{Record}
 use Rattle.mrp_tables.specs.Grammar.{◌>>=◌, field, is_empty}
 use Rattle.mrp_tables.proofs.KeepingSteps.{after, after_check, after_some, same_Ok}
+use Rattle.mrp_rows.specs.Said.{item_name}
 use Rattle.mrp_stream.specs.declared.fault.RecordFaultKind.{RecordFaultKind}
 use Rattle.mrp_stream.specs.declared.fault.RecordFaultKind.TheVariants as fault
 use Rattle.mrp_stream.specs.declared.kind.Kind.{Kind}
 use Rattle.mrp_stream.specs.declared.kind.Kind.TheVariants as kind
-use Rattle.mrp_stream.specs.Rows.{HasRow, record_item_name, record_fields}
+use Rattle.mrp_stream.specs.Rows.{HasRow, record_fields}
 use Rattle.mrp_stream.specs.Grammar.{spelled_close, spelled_end, record_is_empty_from, item_field, item_named, record_kind_of, spelled_line, number_field}
 use Rattle.mrp_stream.specs.Grammar.{of_kind, record_of, spelled_reset, record_row_kind, spelled_record, record_fields_used, with_record_fields}
 use Rattle.mrp_stream.proofs.Bytes.{both_true}
@@ -124,7 +125,7 @@ two_read row made r e = let n = number_read row 1 (λ n. number_field row 3 >>= 
 record ItemRead (N : Table) (row : List (List ℕ)) (made : ItemNo → Record) (r : Record) : Type 0 where
   item : ItemNo
   there : item.0 < length N.items
-  field_is : field row 2 ≡ record_item_name N item
+  field_is : field row 2 ≡ item_name N item.0
   is_made : made item ≡ r
 
 item_read : (N : Table) (row : List (List ℕ)) (made : ItemNo → Record) (r : Record) → (item_field N row >>= λ item. Ok (made item)) ≡ Ok r

@@ -16,7 +16,8 @@ use Rattle.mrp_rows.specs.Table.{IsName, IsTable, Table}
 use Rattle.mrp_record.specs.declared.record.Record.{Record}
 use Rattle.mrp_record.specs.declared.record.Record.TheVariants.{Line, ItemEnd, Reset, Close}
 use Rattle.mrp_tables.proofs.Records.{none_left, one_left}
-use Rattle.mrp_stream.specs.Rows.{HasRow, record_item_name, record_fields, record_text, records_text, record_line}
+use Rattle.mrp_rows.specs.Said.{item_name}
+use Rattle.mrp_stream.specs.Rows.{HasRow, record_fields, record_text, records_text, record_line}
 use Rattle.mrp_stream.specs.Grammar.{spelled_close, spelled_end, item_named, spelled_line, record_of, spelled_reset, record_row_kind, spelled_record}
 use Rattle.mrp_stream.proofs.Bytes.{IsPlain, name_plain, number_text_plain, plain_unquoted, plain_utf8}
 use Rattle.mrp_stream.proofs.Names.{item_of_name}
@@ -41,8 +42,8 @@ three_short a b c h = let t = two_short b c (All-tail IsShort a (b ∷ c ∷ [])
 four_short : (a b c d : ℕ) → All IsShort (a ∷ b ∷ c ∷ d ∷ []) → IsShort a × IsShort b × IsShort c × IsShort d
 four_short a b c d h = let t = three_short b c d (All-tail IsShort a (b ∷ c ∷ d ∷ []) h) in (All-head IsShort a (b ∷ c ∷ d ∷ []) h, t.0, t.1, t.2)
 
-item_plain : (N : Table) (item : ItemNo) → IsTable N → item.0 < length N.items → IsPlain (record_item_name N item)
-item_plain N item is within = name_plain (record_item_name N item) (All-get_or IsName N.items item.0 [] within is.read.items)
+item_plain : (N : Table) (item : ItemNo) → IsTable N → item.0 < length N.items → IsPlain (item_name N item.0)
+item_plain N item is within = name_plain (item_name N item.0) (All-get_or IsName N.items item.0 [] within is.read.items)
 
 pub record_plain : (N : Table) (r : Record) → IsTable N → HasRow N r → AllPlain (record_fields N r)
 record_plain N (Line number item period quantity cumulative) is has =

@@ -1,5 +1,5 @@
 -- The row of a record: its fields, and its bytes.
-use Rattle.std.specs.Prelude.{◌≡◌, ℕ, ◌<◌, List, [], ◌∷◌, ◌++◌, length, slice_index_or, codes, All, Option, Some, None}
+use Rattle.std.specs.Prelude.{◌≡◌, ℕ, ◌<◌, List, [], ◌∷◌, ◌++◌, length, codes, All, Option, Some, None}
 use Rattle.std.specs.Prelude.{IfSome}
 use Rattle.std.specs.List.{flat_map, join_with_byte}
 use Rattle.csv.specs.Machine.{line_feed}
@@ -7,13 +7,10 @@ use Rattle.csv.specs.Writing.{comma}
 use Rattle.mrp_rows.specs.Spelling.{number_text}
 use Rattle.mrp_rows.specs.Parsing.{IsShort}
 use Rattle.mrp_rows.specs.declared.numbers.ItemNo.{ItemNo}
+use Rattle.mrp_rows.specs.Said.{item_name}
 use Rattle.mrp_rows.specs.Table.{Table}
 use Rattle.mrp_record.specs.declared.record.Record.{Record}
 use Rattle.mrp_record.specs.declared.record.Record.TheVariants.{Line, ItemEnd, Reset, Close}
-
--- the name of an item
-abbrev pub record_item_name : Table → ItemNo → List ℕ
-record_item_name N item = slice_index_or N.items item.0 []
 
 -- the six fields of each kind of record; those that it doesn't use are empty
 abbrev pub line_fields : ℕ → List ℕ → ℕ → ℕ → ℕ → List (List ℕ)
@@ -33,9 +30,9 @@ close_fields number = codes "close" ∷ number_text number ∷ [] ∷ [] ∷ [] 
 -- the fields of a record
 abbrev pub record_fields : Table → Record → List (List ℕ)
 record_fields N (Line number item period quantity cumulative) =
-    line_fields number (record_item_name N item) period quantity cumulative
-record_fields N (ItemEnd number item lines cumulative) = end_fields number (record_item_name N item) lines cumulative
-record_fields N (Reset number item closed) = reset_record_fields number (record_item_name N item) closed
+    line_fields number (item_name N item.0) period quantity cumulative
+record_fields N (ItemEnd number item lines cumulative) = end_fields number (item_name N item.0) lines cumulative
+record_fields N (Reset number item closed) = reset_record_fields number (item_name N item.0) closed
 record_fields N (Close number) = close_fields number
 
 -- a row: fields with commas between them, and a line feed at the end

@@ -2,7 +2,8 @@
 -- anything, since an earlier one tells that it isn't. The first test of the list that a row fails is the fault that it
 -- has.
 use Rattle.std.specs.Prelude.{◌≡◌, ℕ, ◌==◌, ◌&&◌, not, Bool, true, false, List, [], ◌∷◌, length, find, Option, Some}
-use Rattle.std.specs.Prelude.{None, is_some, Result, Ok, Err}
+use Rattle.std.specs.Prelude.{None, is_some}
+use Rattle.std.specs.Result.{result_err}
 use Rattle.std.specs.List.{list_all}
 use Rattle.std.specs.Str.{is_utf8}
 use Rattle.mrp_rows.specs.Parsing.{spelled_number}
@@ -60,11 +61,7 @@ record_passes N row fault.BadNumber = has_numbers row (record_kind_of (field row
 record_passes N row fault.UnknownItem = has_known_item N row (record_kind_of (field row 0))
 record_passes N row e = true
 
-abbrev pub record_refusal : {A : Type 0} → Result A RecordFaultKind → Option RecordFaultKind
-record_refusal (Ok r) = None
-record_refusal (Err e) = Some e
-
 -- a row is refused for the first fault of the list whose test it fails, and taken where it passes all of them
 abbrev pub RowsHaveTheirFirstFault : Type 0
 RowsHaveTheirFirstFault = (N : Table) (row : List (List ℕ))
-    → record_refusal (record_of N row) ≡ find (λ e. not (record_passes N row e)) row_faults
+    → result_err (record_of N row) ≡ find (λ e. not (record_passes N row e)) row_faults

@@ -29,9 +29,9 @@ use Rattle.mrp_rows.specs.Table.{arrivals, horizon, is_same_bill, is_same_cum, i
 use Rattle.mrp_rows.specs.Table.{IsReceiptRow, IsResetRow, IsShipRow, IsTable, plant_at, rises_from, supply_at, Table}
 use Rattle.mrp_tables.specs.declared.kind.Kind.{Kind}
 use Rattle.mrp_tables.specs.declared.kind.Kind.TheVariants as kind
-use Rattle.mrp_tables.specs.Grammar.{◌>>=◌, amount_row, amount_terms, bill_fits, bill_row, bill_terms, cum_between, cum_of, cum_row, cum_terms, demand_made}
+use Rattle.mrp_tables.specs.Grammar.{◌>>=◌, amount_row, amount_terms, bill_fits, bill_row, bill_terms, cum_between, cum_of, cum_row, lane_number, demand_made}
 use Rattle.mrp_tables.specs.Grammar.{demand_of, field, has_bill, is_empty_from, is_made, is_make, kind_of, known_lane, known_pair, lane_terms, may_follow}
-use Rattle.mrp_tables.specs.Grammar.{kind_place, receipt_made, receipt_of, reset_between, reset_in_row, reset_row, reset_terms, row_kind, ship_of, ship_row}
+use Rattle.mrp_tables.specs.Grammar.{kind_place, receipt_made, receipt_of, reset_between, reset_in_row, reset_row, row_kind, ship_of, ship_row}
 use Rattle.mrp_tables.specs.Grammar.{ship_terms, used}
 use Rattle.mrp_tables.specs.Reading.{at_row, go_on, kind_of_row, row_after, row_of_kind, rows_after}
 use Rattle.mrp_tables.specs.Written.{bill_fields, cum_fields, demand_fields, receipt_fields, reset_fields, ship_fields}
@@ -128,14 +128,14 @@ ship_read N a b c d e f g x p q l period quantity room = rw (l.from_is, l.to_is,
 cum_read : (N : Table) (a b c d : List ℕ) (f g x n : ℕ) → NamesLane N a b c f g x → number_within d 0 MOST ≡ Some n → cum_between N (Some f) (Some x) ≡ false
     → ltb (length N.cums) MOST_OF_A_KIND ≡ true
     → cum_row N (codes "cum" ∷ a ∷ b ∷ c ∷ d ∷ [] ∷ [] ∷ [] ∷ []) ≡ Ok (with_cum N (record { from = record { 0 = f }; pair = record { 0 = x }; figure = n }))
-unfolding field_at cum_of cum_terms lane_terms known_lane
+unfolding field_at cum_of lane_number lane_terms known_lane
 cum_read N a b c d f g x n l figure new room = rw (l.from_is, l.to_is, l.item_is, figure, l.from, l.to, l.pair, l.taken, new, room) refl
 
 reset_read : (N : Table) (a b c d : List ℕ) (f g x p : ℕ) → NamesLane N a b c f g x → number_within d 0 (horizon N - 1) ≡ Some p
     → reset_between N (Some f) (Some x) ≡ false → rises_from 0 (arrivals N f x) ≡ true
     → reset_row N (codes "reset" ∷ a ∷ b ∷ c ∷ d ∷ [] ∷ [] ∷ [] ∷ [])
     ≡ Ok (with_reset N (record { from = record { 0 = f }; pair = record { 0 = x }; period = p }))
-unfolding field_at reset_in_row reset_terms lane_terms known_lane
+unfolding field_at reset_in_row lane_number lane_terms known_lane
 reset_read N a b c d f g x p l period new rises = rw (l.from_is, l.to_is, l.item_is, period, l.from, l.to, l.pair, l.taken, new, rises) refl
 
 -- ---- a made pair, room for one more, and numbers in their ranges

@@ -1,5 +1,5 @@
 -- What the reading finds of the names of a row on a lane is what the grammar says of them.
-use Rattle.std.proofs.Common.{◌≡◌, ℕ, ◌<◌, ◌≤◌, ◌==◌, ◌&&◌, nat_lt, Bool, not, List, length, Option, Some, None, IfSome, option_map, is_some, arith}
+use Rattle.std.proofs.Common.{◌-◌, ◌≡◌, ℕ, ◌<◌, ◌≤◌, ◌==◌, ◌&&◌, nat_lt, Bool, not, List, length, Option, Some, None, IfSome, option_map, is_some, arith}
 use Rattle.std.proofs.Common.{subst, Ok, Err, true}
 use Rattle.std.proofs.Common.{false, refl, sym, ap, ◌∙◌}
 use Rattle.std.proofs.lemmas.Bool.Decides.{nat_tests}
@@ -8,11 +8,12 @@ use Rattle.mrp_rows.specs.declared.numbers.PlantNo.{PlantNo}
 use Rattle.mrp_rows.specs.Names.{pair_named, plant_no}
 use Rattle.mrp_rows.specs.Table.{arrivals, horizon, is_taken_from, rises_from, Table}
 use Rattle.mrp_qty.specs.declared.limits.TheConstants.{MOST_OF_A_KIND}
+use Rattle.mrp_qty.specs.declared.quantity.TheConstants.{MOST}
 use Rattle.mrp_tables.specs.declared.fault.TableFaultKind.{TableFaultKind}
 use Rattle.mrp_tables.specs.declared.fault.TableFaultKind.TheVariants as fault
 use Rattle.mrp_tables.specs.declared.lanes.KnownLane.{KnownLane}
 use Rattle.mrp_tables.specs.declared.lanes.NamedLane.{NamedLane}
-use Rattle.mrp_tables.specs.Grammar.{cum_between, cum_of, cum_terms, has_cum, has_reset, known_lane, LaneTerms, reset_between, reset_in_row, reset_terms, seen}
+use Rattle.mrp_tables.specs.Grammar.{cum_between, cum_of, lane_number, has_cum, has_reset, known_lane, LaneTerms, reset_between, reset_in_row, seen}
 use Rattle.mrp_tables.specs.Grammar.{ship_of, ship_terms}
 use Rattle.mrp_tables.specs.Lists.{Finds, known_found, source_at, source_named}
 use Rattle.mrp_rows.proofs.Keys.{any-from_no_position, any-from_position}
@@ -66,44 +67,62 @@ pub ship_unknown : (N : Table) (row : List (List ℕ)) (periods : ℕ) (t : Lane
 unfolding ship_of
 ship_unknown N row periods t l e spelled same finds is = let terms = spelled ∙ ap (ship_terms row) same in rw (← terms, known_err N t.0 l e finds is) refl
 
-cum_fresh : (N : Table) (t : LaneTerms) (l : NamedLane) → Finds N t l → false ≡ cum_between N (option_map (λ p. p.0) l.from) (option_map (λ x. x.0) l.pair)
-    → has_cum N t ≡ false
-cum_fresh N t l f h =
+cum_is : (N : Table) (t : LaneTerms) (l : NamedLane) (b : Bool) → Finds N t l → b ≡ cum_between N (option_map (λ p. p.0) l.from) (option_map (λ x. x.0) l.pair)
+    → has_cum N t ≡ b
+cum_is N t l b f h =
     sym (h ∙ ap (λ (o : Option ℕ). cum_between N o (option_map (λ x. x.0) l.pair)) f.from ∙ ap (λ (o : Option ℕ). cum_between N (plant_no N t.from) o) f.pair)
 
-pub cum_unknown : (N : Table) (row : List (List ℕ)) (t : LaneTerms × ℕ) (l : NamedLane) (e : TableFaultKind) → Ok t ≡ cum_terms row → Finds N t.0 l
+pub cum_repeated : (N : Table) (row : List (List ℕ)) (t : LaneTerms × ℕ) (l : NamedLane) → Ok t ≡ lane_number row MOST → Finds N t.0 l
+    → true ≡ cum_between N (option_map (λ p. p.0) l.from) (option_map (λ x. x.0) l.pair) → Err fault.Repeated ≡ cum_of N row
+unfolding cum_of
+cum_repeated N row t l spelled finds there = rw (← spelled, cum_is N t.0 l true finds there) refl
+
+pub cum_unknown : (N : Table) (row : List (List ℕ)) (t : LaneTerms × ℕ) (l : NamedLane) (e : TableFaultKind) → Ok t ≡ lane_number row MOST → Finds N t.0 l
     → false ≡ cum_between N (option_map (λ p. p.0) l.from) (option_map (λ x. x.0) l.pair) → Err e ≡ known_found l → Err e ≡ cum_of N row
 unfolding cum_of
-cum_unknown N row t l e spelled finds new is = rw (← spelled, cum_fresh N t.0 l finds new, known_err N t.0 l e finds is) refl
+cum_unknown N row t l e spelled finds new is = rw (← spelled, cum_is N t.0 l false finds new, known_err N t.0 l e finds is) refl
 
 full : (count most : ℕ) → most ≤ count → nat_lt count most ≡ false
 full count most le = grind (arith, nat_tests)
 
-pub cum_full : (N : Table) (row : List (List ℕ)) (t : LaneTerms × ℕ) (l : NamedLane) (k : KnownLane) → Ok t ≡ cum_terms row → Finds N t.0 l
+pub cum_full : (N : Table) (row : List (List ℕ)) (t : LaneTerms × ℕ) (l : NamedLane) (k : KnownLane) → Ok t ≡ lane_number row MOST → Finds N t.0 l
     → false ≡ cum_between N (option_map (λ p. p.0) l.from) (option_map (λ x. x.0) l.pair) → Ok k ≡ known_found l → MOST_OF_A_KIND ≤ length N.cums
     → Err fault.TooMany ≡ cum_of N row
 unfolding cum_of
 cum_full N row t l k spelled finds new is most = rw (
   ← spelled,
-  cum_fresh N t.0 l finds new,
+  cum_is N t.0 l false finds new,
   known_ok N t.0 l k finds is,
   full
       (length N.cums) MOST_OF_A_KIND most,
 ) refl
 
-reset_fresh : (N : Table) (t : LaneTerms) (l : NamedLane) → Finds N t l → false ≡ reset_between N (option_map (λ p. p.0) l.from) (option_map (λ x. x.0) l.pair)
-    → has_reset N t ≡ false
-reset_fresh N t l f h =
+reset_is : (N : Table) (t : LaneTerms) (l : NamedLane) (b : Bool) → Finds N t l
+    → b ≡ reset_between N (option_map (λ p. p.0) l.from) (option_map (λ x. x.0) l.pair) → has_reset N t ≡ b
+reset_is N t l b f h =
     sym (h ∙ ap (λ (o : Option ℕ). reset_between N o (option_map (λ x. x.0) l.pair)) f.from
     ∙ ap (λ (o : Option ℕ). reset_between N (plant_no N t.from) o) f.pair)
 
-pub reset_unknown : (N : Table) (row : List (List ℕ)) (periods : ℕ) (t : LaneTerms × ℕ) (l : NamedLane) (e : TableFaultKind) → Ok t ≡ reset_terms row periods
+pub reset_refused : (N : Table) (row : List (List ℕ)) (periods : ℕ) (e : TableFaultKind) → Err e ≡ lane_number row (periods - 1) → periods ≡ horizon N
+    → Err e ≡ reset_in_row N row
+unfolding reset_in_row
+reset_refused N row periods e spelled same = let terms = spelled ∙ ap (λ (n : ℕ). lane_number row (n - 1)) same in rw (← terms) refl
+
+pub reset_repeated : (N : Table) (row : List (List ℕ)) (periods : ℕ) (t : LaneTerms × ℕ) (l : NamedLane) → Ok t ≡ lane_number row (periods - 1)
     → periods ≡ horizon N → Finds N t.0 l
+    → true ≡ reset_between N (option_map (λ p. p.0) l.from) (option_map (λ x. x.0) l.pair) → Err fault.Repeated ≡ reset_in_row N row
+unfolding reset_in_row
+reset_repeated N row periods t l spelled same finds there =
+    let terms = spelled ∙ ap (λ (n : ℕ). lane_number row (n - 1)) same in
+    rw (← terms, reset_is N t.0 l true finds there) refl
+
+pub reset_unknown : (N : Table) (row : List (List ℕ)) (periods : ℕ) (t : LaneTerms × ℕ) (l : NamedLane) (e : TableFaultKind)
+    → Ok t ≡ lane_number row (periods - 1) → periods ≡ horizon N → Finds N t.0 l
     → false ≡ reset_between N (option_map (λ p. p.0) l.from) (option_map (λ x. x.0) l.pair) → Err e ≡ known_found l → Err e ≡ reset_in_row N row
 unfolding reset_in_row
 reset_unknown N row periods t l e spelled same finds new is =
-    let terms = spelled ∙ ap (reset_terms row) same in
-    rw (← terms, reset_fresh N t.0 l finds new, known_err N t.0 l e finds is) refl
+    let terms = spelled ∙ ap (λ (n : ℕ). lane_number row (n - 1)) same in
+    rw (← terms, reset_is N t.0 l false finds new, known_err N t.0 l e finds is) refl
 
 -- ---- rows of a lane that is there
 
@@ -126,37 +145,37 @@ ship_known N row periods t l k spelled same finds is room =
     let terms = spelled ∙ ap (ship_terms row) same in
     rw (← terms, known_ok N t.0 l k finds is, few (length N.ships) MOST_OF_A_KIND room) refl
 
-pub cum_known : (N : Table) (row : List (List ℕ)) (t : LaneTerms × ℕ) (l : NamedLane) (k : KnownLane) → Ok t ≡ cum_terms row → Finds N t.0 l
+pub cum_known : (N : Table) (row : List (List ℕ)) (t : LaneTerms × ℕ) (l : NamedLane) (k : KnownLane) → Ok t ≡ lane_number row MOST → Finds N t.0 l
     → false ≡ cum_between N (option_map (λ p. p.0) l.from) (option_map (λ x. x.0) l.pair) → Ok k ≡ known_found l → length N.cums < MOST_OF_A_KIND
     → Ok (record { from = k.from; pair = k.pair; figure = t.1 }) ≡ cum_of N row
 unfolding cum_of
 cum_known N row t l k spelled finds new is room = rw (
   ← spelled,
-  cum_fresh N t.0 l finds new,
+  cum_is N t.0 l false finds new,
   known_ok N t.0 l k finds is,
   few
       (length N.cums) MOST_OF_A_KIND room,
 ) refl
 
-pub reset_known : (N : Table) (row : List (List ℕ)) (periods : ℕ) (t : LaneTerms × ℕ) (l : NamedLane) (k : KnownLane) → Ok t ≡ reset_terms row periods
+pub reset_known : (N : Table) (row : List (List ℕ)) (periods : ℕ) (t : LaneTerms × ℕ) (l : NamedLane) (k : KnownLane) → Ok t ≡ lane_number row (periods - 1)
     → periods ≡ horizon N → Finds N t.0 l
     → false ≡ reset_between N (option_map (λ p. p.0) l.from) (option_map (λ x. x.0) l.pair) → Ok k ≡ known_found l
     → rises_from 0 (arrivals N k.from.0 k.pair.0) ≡ true
     → Ok (record { from = k.from; pair = k.pair; period = t.1 }) ≡ reset_in_row N row
 unfolding reset_in_row
 reset_known N row periods t l k spelled same finds new is rises =
-    let terms = spelled ∙ ap (reset_terms row) same in
-    rw (← terms, reset_fresh N t.0 l finds new, known_ok N t.0 l k finds is, rises) refl
+    let terms = spelled ∙ ap (λ (n : ℕ). lane_number row (n - 1)) same in
+    rw (← terms, reset_is N t.0 l false finds new, known_ok N t.0 l k finds is, rises) refl
 
-pub reset_falls : (N : Table) (row : List (List ℕ)) (periods : ℕ) (t : LaneTerms × ℕ) (l : NamedLane) (k : KnownLane) → Ok t ≡ reset_terms row periods
+pub reset_falls : (N : Table) (row : List (List ℕ)) (periods : ℕ) (t : LaneTerms × ℕ) (l : NamedLane) (k : KnownLane) → Ok t ≡ lane_number row (periods - 1)
     → periods ≡ horizon N → Finds N t.0 l
     → false ≡ reset_between N (option_map (λ p. p.0) l.from) (option_map (λ x. x.0) l.pair) → Ok k ≡ known_found l
     → rises_from 0 (arrivals N k.from.0 k.pair.0) ≡ false
     → Err fault.ResetOrder ≡ reset_in_row N row
 unfolding reset_in_row
 reset_falls N row periods t l k spelled same finds new is falls =
-    let terms = spelled ∙ ap (reset_terms row) same in
-    rw (← terms, reset_fresh N t.0 l finds new, known_ok N t.0 l k finds is, falls) refl
+    let terms = spelled ∙ ap (λ (n : ℕ). lane_number row (n - 1)) same in
+    rw (← terms, reset_is N t.0 l false finds new, known_ok N t.0 l k finds is, falls) refl
 
 pub from_not : (b s : Bool) → s ≡ not b → b ≡ not s
 from_not true s is = ap not (sym is)

@@ -1,5 +1,5 @@
 -- What is read of a row that is kept: what its fields spell, and each test of its grammar.
-use Rattle.std.proofs.Common.{◌≡◌, ℕ, Bool, true, false, not, ltb, List, length, Some, is_some, Ok}
+use Rattle.std.proofs.Common.{◌-◌, ◌≡◌, ℕ, Bool, true, false, not, ltb, List, length, Some, is_some, Ok}
 use Rattle.std.proofs.lemmas.Bool.{not-true}
 use Rattle.mrp_qty.specs.declared.limits.TheConstants.{MOST_BILLS, MOST_OF_A_KIND}
 use Rattle.mrp_rows.specs.declared.rows.BillRow.{BillRow}
@@ -12,8 +12,9 @@ use Rattle.mrp_rows.specs.Names.{pair_named, plant_no}
 use Rattle.mrp_rows.specs.Table.{Table, arrivals, horizon, rises_from}
 use Rattle.mrp_rows.specs.declared.numbers.PlantNo.{PlantNo}
 use Rattle.mrp_rows.specs.declared.numbers.PairNo.{PairNo}
-use Rattle.mrp_tables.specs.Grammar.{AmountTerms, BillTerms, LaneTerms, amount_row, amount_terms, bill_fits, cum_of, cum_terms, demand_made, demand_of}
-use Rattle.mrp_tables.specs.Grammar.{has_bill, has_cum, has_reset, is_made, known_lane, known_pair, receipt_made, receipt_of, reset_in_row, reset_terms}
+use Rattle.mrp_qty.specs.declared.quantity.TheConstants.{MOST}
+use Rattle.mrp_tables.specs.Grammar.{AmountTerms, BillTerms, LaneTerms, amount_row, amount_terms, bill_fits, cum_of, lane_number, demand_made, demand_of}
+use Rattle.mrp_tables.specs.Grammar.{has_bill, has_cum, has_reset, is_made, known_lane, known_pair, receipt_made, receipt_of, reset_in_row}
 use Rattle.mrp_tables.specs.Grammar.{ship_of, ship_terms}
 use Rattle.mrp_tables.proofs.KeepingSteps.{after, after_check, after_some, same_Ok}
 
@@ -101,7 +102,7 @@ ship_parts N row x is =
 pub record CumParts (N : Table) (row : List (List ℕ)) (x : CumRow) : Type 0 where
   pub terms : LaneTerms × ℕ
   pub lane : PlantNo × PairNo
-  pub read : cum_terms row ≡ Ok terms
+  pub read : lane_number row MOST ≡ Ok terms
   pub new : has_cum N terms.0 ≡ false
   pub known : known_lane N terms.0 ≡ Ok lane
   pub room : ltb (length N.cums) MOST_OF_A_KIND ≡ true
@@ -110,7 +111,7 @@ pub record CumParts (N : Table) (row : List (List ℕ)) (x : CumRow) : Type 0 wh
 pub cum_parts : (N : Table) (row : List (List ℕ)) (x : CumRow) → cum_of N row ≡ Ok x → CumParts N row x
 unfolding cum_of
 cum_parts N row x is =
-    let a = after (cum_terms row) _ x is in
+    let a = after (lane_number row MOST) _ x is in
     let z = after_check (not (has_cum N a.0.0)) _ _ x a.2 in
     let b = after (known_lane N a.0.0) _ x z.1 in
     let c = after_check (ltb (length N.cums) MOST_OF_A_KIND) _ _ x b.2 in
@@ -119,7 +120,7 @@ cum_parts N row x is =
 pub record ResetParts (N : Table) (row : List (List ℕ)) (x : ResetRow) : Type 0 where
   pub terms : LaneTerms × ℕ
   pub lane : PlantNo × PairNo
-  pub read : reset_terms row (horizon N) ≡ Ok terms
+  pub read : lane_number row (horizon N - 1) ≡ Ok terms
   pub new : has_reset N terms.0 ≡ false
   pub known : known_lane N terms.0 ≡ Ok lane
   pub rises : rises_from 0 (arrivals N lane.0.0 lane.1.0) ≡ true
@@ -128,7 +129,7 @@ pub record ResetParts (N : Table) (row : List (List ℕ)) (x : ResetRow) : Type 
 pub reset_parts : (N : Table) (row : List (List ℕ)) (x : ResetRow) → reset_in_row N row ≡ Ok x → ResetParts N row x
 unfolding reset_in_row
 reset_parts N row x is =
-    let a = after (reset_terms row (horizon N)) _ x is in
+    let a = after (lane_number row (horizon N - 1)) _ x is in
     let z = after_check (not (has_reset N a.0.0)) _ _ x a.2 in
     let b = after (known_lane N a.0.0) _ x z.1 in
     let c = after_check (rises_from 0 (arrivals N b.0.0.0 b.0.1.0)) _ _ x b.2 in

@@ -32,9 +32,9 @@ use Rattle.mrp_rows.proofs.Mapped.{list_any_keys}
 use Rattle.mrp_rows.proofs.Ranges.{within_range}
 use Rattle.mrp_tables.specs.declared.fault.TableFaultKind.{TableFaultKind}
 use Rattle.mrp_tables.specs.declared.fault.TableFaultKind.TheVariants as fault
-use Rattle.mrp_tables.specs.Grammar.{◌>>=◌, amount_terms, AmountTerms, bill_fits, bill_of, bill_terms, BillTerms, cum_of, cum_terms, demand_made, demand_of}
-use Rattle.mrp_tables.specs.Grammar.{field, known_lane, known_pair, lane_number, lane_terms, LaneTerms, name_field, plant_in_row, plant_terms, ranged}
-use Rattle.mrp_tables.specs.Grammar.{receipt_made, receipt_of, reset_in_row, reset_terms, ship_of, ship_terms}
+use Rattle.mrp_tables.specs.Grammar.{◌>>=◌, amount_terms, AmountTerms, bill_fits, bill_of, bill_terms, BillTerms, cum_of, lane_number, demand_made, demand_of}
+use Rattle.mrp_tables.specs.Grammar.{field, known_lane, known_pair, lane_terms, LaneTerms, name_field, plant_in_row, plant_terms, ranged}
+use Rattle.mrp_tables.specs.Grammar.{receipt_made, receipt_of, reset_in_row, ship_of, ship_terms}
 use Rattle.mrp_tables.proofs.KeepingLists.{position_there}
 use Rattle.mrp_tables.proofs.KeepingParts.{AmountParts, bill_parts, cum_parts, demand_parts, receipt_parts, reset_parts, ship_parts}
 use Rattle.mrp_tables.proofs.KeepingRows.{on_lane}
@@ -243,14 +243,14 @@ pub record LaneNumberRead (row : List (List ℕ)) (most : ℕ) (t : LaneTerms ×
   pub number : ranged (field row 4) 0 most ≡ Ok t.1
 
 pub lane_number_read : (row : List (List ℕ)) (most : ℕ) (t : LaneTerms × ℕ) → lane_number row most ≡ Ok t → LaneNumberRead row most t
+unfolding lane_number
 lane_number_read row most t is =
     let a = after (lane_terms row) _ t is in
     let b = after (ranged (field row 4) 0 most) _ t a.2 in
     let same : ◌≡◌ {A = LaneTerms × ℕ} (a.0, b.0) t = same_Ok _ t b.2 in
     subst (LaneNumberRead row most) same (record { lane = a.1; number = b.1 })
 
-figure_is : (row : List (List ℕ)) (t : LaneTerms × ℕ) → cum_terms row ≡ Ok t → t.1 ≤ MOST
-unfolding cum_terms
+figure_is : (row : List (List ℕ)) (t : LaneTerms × ℕ) → lane_number row MOST ≡ Ok t → t.1 ≤ MOST
 figure_is row t is = (ranged_is (field row 4) 0 MOST t.1 (lane_number_read row MOST t is).number).1
 
 pub cum_read : (N : Table) (row : List (List ℕ)) (x : CumRow) → IsRead N → cum_of N row ≡ Ok x → IsRead (with_cum N x)
@@ -310,8 +310,7 @@ resets_few N once sourced =
     (λ q m. among_sources N.sources q N.resets sourced.resets m) in
     omega (arith, few, length-map N.sources start_of)
 
-start_is : (N : Table) (row : List (List ℕ)) (t : LaneTerms × ℕ) → IsRead N → reset_terms row (horizon N) ≡ Ok t → Falls N t.1
-unfolding reset_terms
+start_is : (N : Table) (row : List (List ℕ)) (t : LaneTerms × ℕ) → IsRead N → lane_number row (horizon N - 1) ≡ Ok t → Falls N t.1
 start_is N row t read is = period_is N (field row 4) t.1 read (lane_number_read row (horizon N - 1) t is).number
 
 pub reset_read : (N : Table) (row : List (List ℕ)) (x : ResetRow) → IsRead N → IsOnce (with_reset N x) → IsSourced (with_reset N x) → reset_in_row N row ≡ Ok x

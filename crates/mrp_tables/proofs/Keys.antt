@@ -1,8 +1,10 @@
 -- The places of keys.
-use Rattle.std.proofs.Common.{◌≡◌, ◌==◌, ◌&&◌, List, map, position, ap, ◌∙◌}
+use Rattle.std.proofs.Common.{◌≡◌, ◌==◌, ◌&&◌, false, List, map, position, Option, Some, None, option_map, ap, refl, ◌∙◌}
 use Rattle.std.specs.List.{list_any}
 use Rattle.mrp_rows.specs.declared.rows.ResetRow.{ResetRow}
-use Rattle.mrp_tables.specs.Lists.{bill_key_of, cum_key_of, lane_of, reset_key_of}
+use Rattle.mrp_rows.specs.Table.{Table}
+use Rattle.mrp_tables.specs.Grammar.{cum_between, reset_between}
+use Rattle.mrp_tables.specs.Lists.{bill_key_of, cum_key_of, key_between, lane_of, reset_key_of}
 use Rattle.mrp_tables.specs.contracts.draft.BillKeyPartialEq.TheImpl as bill
 use Rattle.mrp_tables.specs.contracts.draft.LaneKeyPartialEq.TheImpl as lane
 use Rattle.mrp_tables.specs.declared.draft.BillKey.{BillKey}
@@ -47,3 +49,24 @@ pub place_of_source : (f : PlantNo) (x : PairNo) (keys : List LaneKey) (sources 
 place_of_source f x keys sources same =
     ap (position (lane.eq-value.it (record { from = f; pair = x }))) same
     ∙ position_keys lane_of _ (λ s. (s.plant.0 == f.0) && (s.pair.0 == x.0)) (λ s. swap f.0 s.plant.0 x.0 s.pair.0) sources
+
+-- a key is of a plant and a pair that are there
+pub key_is : (from : Option PlantNo) (x : Option PairNo) (k : LaneKey) → key_between from x ≡ Some k → (from ≡ Some k.from) × (x ≡ Some k.pair)
+key_is None x k e = absurd (cc e)
+key_is (Some f) None k e = absurd (cc e)
+key_is (Some f) (Some x) k e =
+    let same : record { from = f; pair = x } ≡ k = cc e in
+    (ap (λ (l : LaneKey). Some l.from) same, ap (λ (l : LaneKey). Some l.pair) same)
+
+-- without one there is no row of them
+pub no_cum : (N : Table) (from : Option PlantNo) (x : Option PairNo) → key_between from x ≡ None
+    → cum_between N (option_map (λ p. p.0) from) (option_map (λ p. p.0) x) ≡ false
+no_cum N None x e = refl
+no_cum N (Some f) None e = refl
+no_cum N (Some f) (Some x) e = absurd (cc e)
+
+pub no_reset : (N : Table) (from : Option PlantNo) (x : Option PairNo) → key_between from x ≡ None
+    → reset_between N (option_map (λ p. p.0) from) (option_map (λ p. p.0) x) ≡ false
+no_reset N None x e = refl
+no_reset N (Some f) None e = refl
+no_reset N (Some f) (Some x) e = absurd (cc e)

@@ -23,10 +23,10 @@ use Rattle.mrp_tables.specs.declared.fault.TableFaultKind.TheVariants as fault
 use Rattle.mrp_tables.specs.declared.kind.Kind.{Kind}
 use Rattle.mrp_tables.specs.declared.kind.Kind.TheVariants as kind
 use Rattle.mrp_tables.specs.Faults.{faults_of, faults_of_any, HasListedFaults, IsListedFault, Rise}
-use Rattle.mrp_tables.specs.Grammar.{◌>>=◌, amount_row, amount_terms, bill_fits, bill_terms, BillTerms, check, cum_of, cum_terms, demand_made, demand_of}
+use Rattle.mrp_tables.specs.Grammar.{◌>>=◌, amount_row, amount_terms, bill_fits, bill_terms, BillTerms, check, cum_of, lane_number, demand_made, demand_of}
 use Rattle.mrp_tables.specs.Grammar.{field, is_empty_from, kind_of, known_lane, known_pair}
-use Rattle.mrp_tables.specs.Grammar.{has_bill, has_cum, has_reset, is_made, knows_sources, lane_number, lane_terms, LaneTerms, may_follow, name_field}
-use Rattle.mrp_tables.specs.Grammar.{pair_fits, pair_terms, PairTerms, plant_in_row, ranged, receipt_made, receipt_of, reset_in_row, reset_terms}
+use Rattle.mrp_tables.specs.Grammar.{has_bill, has_cum, has_reset, is_made, knows_sources, lane_terms, LaneTerms, may_follow, name_field}
+use Rattle.mrp_tables.specs.Grammar.{pair_fits, pair_terms, PairTerms, plant_in_row, ranged, receipt_made, receipt_of, reset_in_row}
 use Rattle.mrp_tables.specs.Grammar.{row_kind, run_terms, RunTerms, ship_of, ship_terms, TellsFault, used}
 use Rattle.mrp_tables.specs.Reading.{first_terms, is_run, kind_of_row, row_after, row_of_kind, started, Starts, StartsWith, UnlessMemory}
 use Rattle.mrp_tables.proofs.KeepingSteps.{chosen, found, steps, tested}
@@ -66,15 +66,8 @@ module _ (P : TableFaultKind → Type 0) where
       (λ period. steps P _ _ (number (field row 5) 1 MOST_IN_ROW n) (λ quantity. tt)))
 
   lane-number : (row : List (List ℕ)) (most : ℕ) → P fault.BadName → P fault.BadNumber → IfErr (lane_number row most) P
+  unfolding lane_number
   lane-number row most m n = steps P _ _ (lane-terms row m) (λ lane. steps P _ _ (number (field row 4) 0 most n) (λ figure. tt))
-
-  cum-terms : (row : List (List ℕ)) → P fault.BadName → P fault.BadNumber → IfErr (cum_terms row) P
-  unfolding cum_terms
-  cum-terms row m n = lane-number row MOST m n
-
-  reset-terms : (row : List (List ℕ)) (periods : ℕ) → P fault.BadName → P fault.BadNumber → IfErr (reset_terms row periods) P
-  unfolding reset_terms
-  reset-terms row periods m n = lane-number row (periods - 1) m n
 
   pair-terms : (row : List (List ℕ)) → P fault.BadName → P fault.BadNumber → P fault.BadRule → P fault.BadSupply → IfErr (pair_terms row) P
   unfolding pair_terms
@@ -145,13 +138,13 @@ module _ (P : TableFaultKind → Type 0) where
   cum-of : (N : Table) (row : List (List ℕ)) → P fault.BadName → P fault.BadNumber → P fault.Repeated → P fault.UnknownPlant → P fault.UnknownPair
       → P fault.NotSourced → P fault.TooMany → IfErr (cum_of N row) P
   unfolding cum_of
-  cum-of N row m n r u p s t = steps P _ _ (cum-terms row m n) (λ a. steps P _ _ (tested P (not (has_cum N a.0)) _ r)
+  cum-of N row m n r u p s t = steps P _ _ (lane-number row MOST m n) (λ a. steps P _ _ (tested P (not (has_cum N a.0)) _ r)
       (λ fresh. steps P _ _ (known-lane N a.0 u p s) (λ lane. steps P _ _ (tested P (nat_lt (length N.cums) MOST_OF_A_KIND) _ t) (λ room. tt))))
 
   reset-of : (N : Table) (row : List (List ℕ)) → P fault.BadName → P fault.BadNumber → P fault.Repeated → P fault.UnknownPlant → P fault.UnknownPair
       → P fault.NotSourced → P fault.ResetOrder → IfErr (reset_in_row N row) P
   unfolding reset_in_row
-  reset-of N row m n r u p s o = steps P _ _ (reset-terms row (horizon N) m n)
+  reset-of N row m n r u p s o = steps P _ _ (lane-number row (horizon N - 1) m n)
       (λ a. steps P _ _ (tested P (not (has_reset N a.0)) _ r) (λ fresh. steps P _ _ (known-lane N a.0 u p s)
       (λ lane. steps P _ _ (tested P (rises_from 0 (arrivals N lane.0.0 lane.1.0)) _ o) (λ in_order. tt))))
 

@@ -20,9 +20,9 @@ use Rattle.mrp_rows.specs.Names.{has_plant, pair_named, plant_no}
 use Rattle.mrp_rows.specs.Table.{horizon, Table}
 use Rattle.mrp_tables.specs.declared.kind.Kind.{Kind}
 use Rattle.mrp_tables.specs.declared.kind.Kind.TheVariants as kind
-use Rattle.mrp_tables.specs.Grammar.{amount_terms, AmountTerms, bill_fits, bill_of, bill_terms, BillTerms, cum_of, cum_terms, demand_made, demand_of, field}
-use Rattle.mrp_tables.specs.Grammar.{known_lane, known_pair, lane_number, lane_terms, LaneTerms, name_field}
-use Rattle.mrp_tables.specs.Grammar.{plant_in_row, plant_terms, ranged, receipt_made, receipt_of, reset_in_row, reset_terms, run_terms, RunTerms, ship_of}
+use Rattle.mrp_tables.specs.Grammar.{amount_terms, AmountTerms, bill_fits, bill_of, bill_terms, BillTerms, cum_of, lane_number, demand_made, demand_of, field}
+use Rattle.mrp_tables.specs.Grammar.{known_lane, known_pair, lane_terms, LaneTerms, name_field}
+use Rattle.mrp_tables.specs.Grammar.{plant_in_row, plant_terms, ranged, receipt_made, receipt_of, reset_in_row, run_terms, RunTerms, ship_of}
 use Rattle.mrp_tables.specs.Grammar.{ship_terms}
 use Rattle.mrp_tables.specs.Reading.{first_terms, is_run, kind_of_row}
 use Rattle.mrp_tables.specs.Written.{bill_fields, cum_fields, demand_fields, plant_fields, receipt_fields, reset_fields}
@@ -160,14 +160,6 @@ lane_number_said : (row : List (List ℕ)) (most : ℕ) (t : LaneTerms × ℕ) �
 lane_number_said row most t is = let read = lane_number_read row most t is
     in record { lane = lane_said row t.0 read.lane; figure = ranged_text (field row 4) 0 most t.1 read.number }
 
-cum_terms_said : (row : List (List ℕ)) (t : LaneTerms × ℕ) → cum_terms row ≡ Ok t → FigureSaid row t
-unfolding cum_terms
-cum_terms_said row t is = lane_number_said row MOST t is
-
-reset_terms_said : (row : List (List ℕ)) (periods : ℕ) (t : LaneTerms × ℕ) → reset_terms row periods ≡ Ok t → FigureSaid row t
-unfolding reset_terms
-reset_terms_said row periods t is = lane_number_said row (periods - 1) t is
-
 -- the names of a lane that is there
 record LaneWritten (N : Table) (row : List (List ℕ)) (lane : PlantNo × PairNo) : Type 0 where
   from : field row 1 ≡ plant_name N lane.0.0
@@ -199,13 +191,13 @@ ship_said N row x k is =
 pub cum_said : (N : Table) (row : List (List ℕ)) (x : CumRow) → IsOfKind row kind.Cum → cum_of N row ≡ Ok x → row ≡ cum_fields N x
 cum_said N row x k is =
     let p = cum_parts N row x is in
-    subst (λ (z : CumRow). row ≡ cum_fields N z) p.same (figure_said N row kind.Cum p.terms p.lane k k.free (cum_terms_said row p.terms p.read) p.known)
+    subst (λ (z : CumRow). row ≡ cum_fields N z) p.same (figure_said N row kind.Cum p.terms p.lane k k.free (lane_number_said row MOST p.terms p.read) p.known)
 
 pub reset_said : (N : Table) (row : List (List ℕ)) (x : ResetRow) → IsOfKind row kind.Reset → reset_in_row N row ≡ Ok x → row ≡ reset_fields N x
 reset_said N row x k is =
     let p = reset_parts N row x is in
     subst (λ (z : ResetRow). row ≡ reset_fields N z) p.same (figure_said N row kind.Reset p.terms p.lane k k.free
-    (reset_terms_said row (horizon N) p.terms p.read) p.known)
+    (lane_number_said row (horizon N - 1) p.terms p.read) p.known)
 
 -- ---- the run
 

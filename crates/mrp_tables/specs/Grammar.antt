@@ -204,17 +204,11 @@ ship_terms row periods = do
   Ok (lane, period, quantity)
 
 -- the names of a lane and the number after them, which is at most so much
-abbrev pub lane_number : List (List ℕ) → ℕ → Result (LaneTerms × ℕ) TableFaultKind
+unfoldable pub lane_number : List (List ℕ) → ℕ → Result (LaneTerms × ℕ) TableFaultKind
 lane_number row most = do
   lane ← lane_terms row
   number ← ranged (field row 4) 0 most
   Ok (lane, number)
-
-unfoldable pub cum_terms : List (List ℕ) → Result (LaneTerms × ℕ) TableFaultKind
-cum_terms row = lane_number row MOST
-
-unfoldable pub reset_terms : List (List ℕ) → ℕ → Result (LaneTerms × ℕ) TableFaultKind
-reset_terms row periods = lane_number row (periods - 1)
 
 pub record PairTerms : Type 0 where
   pub plant : List ℕ
@@ -421,7 +415,7 @@ ship_of N row = do
 
 unfoldable pub cum_of : Table → List (List ℕ) → Result CumRow TableFaultKind
 cum_of N row = do
-  t ← cum_terms row
+  t ← lane_number row MOST
   _ ← check (not (has_cum N t.0)) fault.Repeated
   lane ← known_lane N t.0
   _ ← check (nat_lt (length N.cums) MOST_OF_A_KIND) fault.TooMany
@@ -429,7 +423,7 @@ cum_of N row = do
 
 unfoldable pub reset_in_row : Table → List (List ℕ) → Result ResetRow TableFaultKind
 reset_in_row N row = do
-  t ← reset_terms row (horizon N)
+  t ← lane_number row (horizon N - 1)
   _ ← check (not (has_reset N t.0)) fault.Repeated
   lane ← known_lane N t.0
   _ ← check (rises_from 0 (arrivals N lane.0.0 lane.1.0)) fault.ResetOrder

@@ -8,6 +8,7 @@ use Rattle.mrp_rows.specs.Table.{Table, IsRead, arrivals_of, rises_from}
 use Rattle.mrp_rows.specs.Turns.{row_count}
 use Rattle.mrp_qty.specs.declared.limits.TheConstants.{MOST_SOURCES_OF_PAIR}
 use Rattle.mrp_rows.specs.declared.numbers.PairNo.{PairNo}
+use Rattle.mrp_rows.specs.declared.numbers.PlantNo.{PlantNo}
 use Rattle.mrp_rows.specs.declared.rows.SourceRow.{SourceRow}
 use Rattle.mrp_rows.specs.declared.rows.BillRow.{BillRow}
 use Rattle.mrp_rows.specs.declared.rows.ShipRow.{ShipRow}
@@ -70,6 +71,12 @@ cum_key_of c = record { from = c.from; pair = c.pair }
 
 abbrev pub reset_key_of : ResetRow → LaneKey
 reset_key_of r = record { from = r.from; pair = r.pair }
+
+-- the key of a plant and a pair, where both are there
+abbrev pub key_between : Option PlantNo → Option PairNo → Option LaneKey
+key_between None x = None
+key_between (Some f) None = None
+key_between (Some f) (Some x) = Some (record { from = f; pair = x })
 
 -- each of these is a source
 abbrev pub AreLanes : List LaneKey → List LaneKey → Type 0

@@ -3,7 +3,7 @@
 -- has.
 use Rattle.std.specs.Prelude.{◌≡◌, ℕ, ◌-◌, ◌==◌, ◌&&◌, not, nat_lt, Bool, true, false}
 use Rattle.std.specs.Prelude.{List, [], ◌∷◌, ◌++◌, length, find, Option, Some, None, is_some, option_map, unwrap_or}
-use Rattle.std.specs.Prelude.{Result, Ok, Err}
+use Rattle.std.specs.Result.{result_err}
 use Rattle.std.specs.List.{list_all}
 use Rattle.std.specs.Str.{is_utf8}
 use Rattle.mrp_lot.specs.declared.rule.TheConstants.{LONGEST_LEAD}
@@ -168,10 +168,6 @@ run_passes row e = row_passes (kind_of (field row 0)) is_run (λ f. true) row e
 
 -- ---- the fault that a row has
 
-abbrev pub refusal : {A : Type 0} → Result A TableFaultKind → Option TableFaultKind
-refusal (Ok x) = None
-refusal (Err e) = Some e
-
 -- the first of those faults whose test isn't passed, if there is one
 abbrev pub first_failed : (TableFaultKind → Bool) → List TableFaultKind → Option TableFaultKind
 first_failed passed faults = find (λ e. not (passed e)) faults
@@ -180,5 +176,6 @@ first_failed passed faults = find (λ e. not (passed e)) faults
 -- first row, which then has its calendar or the first of its calendar's faults, and as a later one whatever the rows
 -- above it
 pub record HasFirstFault (row : List (List ℕ)) : Type 0 where
-  pub first : refusal (first_terms row) ≡ first_failed (run_passes row) (faults_of_any ++ fault.BadNumber ∷ [])
-  pub later : (s : Table × Kind) → refusal (row_after s row) ≡ first_failed (passes s row) (faults_of (kind_of_row row))
+  pub first : result_err (first_terms row) ≡ first_failed (run_passes row) (faults_of_any ++ fault.BadNumber ∷ [])
+  pub later : (s : Table × Kind)
+      → result_err (row_after s row) ≡ first_failed (passes s row) (faults_of (kind_of_row row))

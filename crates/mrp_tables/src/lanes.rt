@@ -2,13 +2,14 @@
 //! tested for being names.
 
 ghost use Rattle.std.specs.Prelude.{◌≡◌, IfOk};
+ghost use Rattle.mrp_tables.specs.Lists.{key_between};
 
 use crate::TableFaultKind;
 use crate::draft::{Draft, LaneKey};
 use crate::fields::field;
-use crate::spelled::{spelled_cum, spelled_reset, spelled_ship};
+use crate::spelled::{spelled_lane_number, spelled_ship};
 use csv::StringRecord;
-use mrp_qty::Qty;
+use mrp_qty::{MOST, Qty};
 use mrp_rows::{CumRow, MOST_OF_A_KIND, PairNo, PlantNo, ResetRow, ShipRow};
 
 /// What a row on a lane names, as far as it is there.
@@ -28,6 +29,16 @@ pub(crate) struct KnownLane {
     pub(crate) from: PlantNo,
     pub(crate) pair: PairNo,
     pub(crate) place: usize,
+}
+
+/// The key of a plant that ships and a pair that receives, where both are there.
+fn lane_key(from: Option<PlantNo>, pair: Option<PairNo>) -> Option<LaneKey>
+    ensures { result ≡ key_between from pair }
+{
+    match (from, pair) {
+        (Some(from), Some(pair)) => Some(LaneKey { from, pair }),
+        _ => None,
+    }
 }
 
 impl NamedLane {
@@ -60,7 +71,7 @@ impl NamedLane {
 }
 
 impl Draft {
-    ghost use Rattle.std.specs.Prelude.{◌≡◌, ◌+◌, ◌<◌, length, OnOk, IfOk, IfSome};
+    ghost use Rattle.std.specs.Prelude.{◌≡◌, ◌<◌, length, OnOk, IfOk, IfSome};
     ghost use Rattle.std.specs.Prelude.{option_map};
     ghost use Rattle.mrp_qty.specs.declared.limits.TheConstants.{MOST_OF_A_KIND};
     ghost use Rattle.mrp_rows.specs.Table.{IsCumRow, IsResetRow, IsShipRow};
@@ -71,7 +82,6 @@ impl Draft {
     ghost use Rattle.mrp_tables.specs.Grammar.{reset_row, seen, ship_of, ship_row, TellsMade};
     ghost use Rattle.mrp_tables.specs.Spelled.{terms_of_lane, HasThreeNames};
     ghost use Rattle.mrp_tables.specs.Lists.{AddsRow, Finds, IsDraft, IsNamedLane, source_at, source_named};
-    ghost use Rattle.mrp_rows.specs.Table.{IsRead};
 
     /// What the names of a row on a lane stand for.
     fn lane_named(&self, row: &StringRecord) -> NamedLane
@@ -98,10 +108,8 @@ impl Draft {
         ensures exact { result ≡ source_named self.now.lists (option_map (λ p. p.0) from) (option_map (λ x. x.0) pair) }
         ensures within { IfSome result (λ place. place < length self.now.lane_keys.keys) }
     {
-        match (from, pair) {
-            (Some(from), Some(pair)) => self.lane_keys.get_index_of(&LaneKey { from, pair }),
-            _ => None,
-        }
+        let key = lane_key(from, pair)?;
+        self.lane_keys.get_index_of(&key)
     }
 
     /// Adds a ship row.
@@ -170,7 +178,7 @@ impl Draft {
         ensures room { OnOk result (length self.now.lists.cums < MOST_OF_A_KIND) }
     {
         let named = self.lane_named(row);
-        let figure = spelled_cum(row, named.is_named())?;
+        let figure = spelled_lane_number(row, MOST, named.is_named())?;
         if self.has_cum(named) {
             return Err(TableFaultKind::Repeated);
         }
@@ -191,9 +199,9 @@ impl Draft {
         ensures exact { result ≡ cum_between self.now.lists (option_map (λ p. p.0) named.from)
             (option_map (λ x. x.0) named.pair) }
     {
-        match (named.from, named.pair) {
-            (Some(from), Some(pair)) => self.cum_keys.contains(&LaneKey { from, pair }),
-            _ => false,
+        match lane_key(named.from, named.pair) {
+            Some(key) => self.cum_keys.contains(&key),
+            None => false,
         }
     }
 
@@ -226,7 +234,7 @@ impl Draft {
     {
         let named = self.lane_named(row);
         let horizon = self.lists.calendar().horizon();
-        let period = spelled_reset(row, horizon, named.is_named())?;
+        let period = spelled_lane_number(row, horizon.get() - 1, named.is_named())? as usize;
         if self.has_reset(named) {
             return Err(TableFaultKind::Repeated);
         }
@@ -247,9 +255,9 @@ impl Draft {
         ensures exact { result ≡ reset_between self.now.lists (option_map (λ p. p.0) named.from)
             (option_map (λ x. x.0) named.pair) }
     {
-        match (named.from, named.pair) {
-            (Some(from), Some(pair)) => self.reset_keys.contains(&LaneKey { from, pair }),
-            _ => false,
+        match lane_key(named.from, named.pair) {
+            Some(key) => self.reset_keys.contains(&key),
+            None => false,
         }
     }
 

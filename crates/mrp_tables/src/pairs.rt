@@ -18,7 +18,6 @@ use std::alloc::Global;
 
 impl Draft {
     ghost use Rattle.std.specs.Prelude.{◌≡◌, ◌+◌, ◌*◌, ◌≤◌, ◌<◌, false, true, length, map, All, OnOk, IfErr, IfOk};
-    ghost use Rattle.std.specs.List.{list_all};
     ghost use Rattle.csv.specs.Records.{fields_of};
     ghost use Rattle.mrp_tables.specs.declared.fault.TableFaultKind.TheVariants.{Memory};
     ghost use Rattle.mrp_qty.specs.declared.limits.TheConstants.{MOST_PLANTS};
@@ -113,14 +112,6 @@ impl Draft {
     fn knows_all(&self, sources: &[SpelledSource<'_>]) -> bool
         requires knows { Knows self.now.lists self.now.known }
         ensures exact { result ≡ knows_sources self.now.lists (map source_view sources.now) }
-    {
-        self.has_plants(sources)
-    }
-
-    /// Whether each source is a plant with a row.
-    fn has_plants(&self, sources: &[SpelledSource<'_>]) -> bool
-        requires knows { Knows self.now.lists self.now.known }
-        ensures { result ≡ list_all (λ s. has_plant self.now.lists s.plant.now) sources.now }
     {
         sources.iter().all(|source| self.has_plant(source.plant))
     }

@@ -1,12 +1,11 @@
 //! What the fields of a row spell.
 
 ghost use Rattle.std.specs.Prelude.{◌≡◌, ◌≤◌, ◌<◌, true, IfOk};
-ghost use Rattle.mrp_qty.specs.declared.quantity.TheConstants.{MOST};
 ghost use Rattle.mrp_qty.specs.declared.horizon.TheConstants.{LONGEST};
 ghost use Rattle.mrp_qty.specs.declared.limits.TheConstants.{MOST_IN_ROW, MOST_PER};
 ghost use Rattle.csv.specs.Records.{fields_of};
-ghost use Rattle.mrp_tables.specs.Grammar.{amount_terms, bill_terms, cum_terms, field, is_empty_from};
-ghost use Rattle.mrp_tables.specs.Grammar.{kind_of, lane_terms, name_field, pair_terms, plant_terms, reset_terms};
+ghost use Rattle.mrp_tables.specs.Grammar.{amount_terms, bill_terms, field, is_empty_from};
+ghost use Rattle.mrp_tables.specs.Grammar.{kind_of, lane_number, lane_terms, name_field, pair_terms, plant_terms};
 ghost use Rattle.mrp_tables.specs.Grammar.{row_kind, run_terms, seen, ship_terms, TellsSeen};
 ghost use Rattle.mrp_tables.specs.Spelled.{terms_of_amount, terms_of_bill, terms_of_lane, pair_view, run_view};
 ghost use Rattle.mrp_tables.specs.Spelled.{HasThreeNames, HasTwoNames, IsSpelledPair};
@@ -20,8 +19,8 @@ use crate::{Kind, TableFaultKind};
 use csv::StringRecord;
 use mrp_cal::Calendar;
 use mrp_lot::{LONGEST_LEAD, Rule};
-use mrp_qty::{Horizon, LONGEST, MOST};
-use mrp_rows::{MOST_IN_ROW, MOST_PER, SpelledSupply, is_name, is_same_text, number, rule, supply};
+use mrp_qty::{Horizon, LONGEST};
+use mrp_rows::{MOST_IN_ROW, MOST_PER, SpelledSupply, is_same_text, number, rule, supply};
 use std::alloc::Global;
 
 /// How many fields a row has.
@@ -172,11 +171,10 @@ fn test_name(row: &StringRecord, i: usize, is_known: bool) -> Result<(), TableFa
     requires { is_known ≡ true → IsName (field (fields_of row.now) i) }
     ensures { seen (λ _. field (fields_of row.now) i) result ≡ name_field (field (fields_of row.now) i) }
 {
-    if is_known || is_name(field(row, i)) {
-        Ok(())
-    } else {
-        Err(TableFaultKind::BadName)
+    if !is_known {
+        name(field(row, i))?;
     }
+    Ok(())
 }
 
 /// The pieces of a component that go into one of its parent, by a bill row. Its names aren't tested where they are
@@ -242,31 +240,18 @@ pub(crate) fn spelled_ship(
     Ok((period, quantity))
 }
 
-/// The figure of a cum row. Its names aren't tested where they are known.
-#[tactic(auto, unfolding(crate::specs::Grammar::cum_terms))]
-pub(crate) fn spelled_cum(row: &StringRecord, are_known: bool) -> Result<u64, TableFaultKind>
-    requires known { are_known ≡ true → HasThreeNames (fields_of row.now) }
-    ensures exact { seen (λ figure. (terms_of_lane (fields_of row.now), figure)) result
-        ≡ cum_terms (fields_of row.now) }
-    ensures figure { IfOk result (λ figure. figure ≤ MOST) }
-{
-    test_lane_names(row, are_known)?;
-    ranged(field(row, 4), 0, MOST)
-}
-
-/// The period of a reset row. Its names aren't tested where they are known.
-#[tactic(auto, unfolding(crate::specs::Grammar::reset_terms))]
-pub(crate) fn spelled_reset(
+/// The number of a cum or a reset row, 0 to `most`: a figure or a period. Its names aren't tested where they are known.
+#[tactic(auto, unfolding(crate::specs::Grammar::lane_number))]
+pub(crate) fn spelled_lane_number(
     row: &StringRecord,
-    horizon: Horizon,
+    most: u64,
     are_known: bool,
-) -> Result<usize, TableFaultKind>
+) -> Result<u64, TableFaultKind>
     requires known { are_known ≡ true → HasThreeNames (fields_of row.now) }
-    ensures exact { seen (λ period. (terms_of_lane (fields_of row.now), period)) result
-        ≡ reset_terms (fields_of row.now) horizon }
-    ensures period { IfOk result (λ period. period < horizon) }
+    ensures exact { seen (λ number. (terms_of_lane (fields_of row.now), number)) result
+        ≡ lane_number (fields_of row.now) most }
+    ensures within { IfOk result (λ number. number ≤ most) }
 {
     test_lane_names(row, are_known)?;
-    let period = ranged(field(row, 4), 0, horizon.get() - 1)? as usize;
-    Ok(period)
+    ranged(field(row, 4), 0, most)
 }

@@ -32,11 +32,6 @@ abbrev pub Reports : {W : Type 0} → (W → Option (List ℕ)) → W → W → 
 Reports contents old new reported None = (new ≡ old) × (reported ≡ Ok tt)
 Reports contents old new reported (Some met) = TellsLine (contents old) (contents new) reported (fault_line met)
 
--- after the work: its fault
-abbrev pub fault_in : {U : Type 0} → Result U TextFault → Option TextFault
-fault_in (Ok done) = None
-fault_in (Err met) = Some met
-
 -- after help or the version: that it could not be printed
 abbrev pub help_fault : {U E : Type 0} → Result U E → Option TextFault
 help_fault (Ok printed) = None

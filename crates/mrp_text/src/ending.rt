@@ -1,9 +1,10 @@
 //! How a program ends: the status of the process, and the line that it reports.
 
 ghost use Rattle.std.specs.Prelude.{◌≡◌, Ok};
+ghost use Rattle.std.specs.Result.{result_err};
 ghost use Rattle.std.specs.IoError.{error_kind};
 ghost use Rattle.mrp_text.specs.Answer.{exit_status_of};
-ghost use Rattle.mrp_text.specs.Ending.{IsStatusOfUnread, Reports, TellsLine, fault_in, help_fault, help_status};
+ghost use Rattle.mrp_text.specs.Ending.{IsStatusOfUnread, Reports, TellsLine, help_fault, help_status};
 ghost use Rattle.mrp_text.specs.Ending.{unread_line};
 
 use crate::answers::exit_status;
@@ -31,7 +32,7 @@ pub struct Ending {
 pub fn ended<W: Write>(done: &Result<(), TextFault>, writer: &mut W) -> Ending
     ensures status { result.status ≡ exit_status_of done.now }
     ensures printed { result.printed ≡ Ok tt }
-    ensures line { Reports W.contents writer.old writer.new result.reported (fault_in done.now) }
+    ensures line { Reports W.contents writer.old writer.new result.reported (result_err done.now) }
 {
     let reported = match done {
         Ok(()) => Ok(()),

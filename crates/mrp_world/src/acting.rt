@@ -111,7 +111,7 @@ pub(crate) fn act<P: Plant>(
     }
 }
 
-/// Lets one event happen, if it is enabled.
+/// Lets one event happen, if it is enabled, over the lists that own the plants and the mailboxes.
 pub(crate) fn act_on<P: Plant>(
     network: &Network,
     plants: &mut Vec<P>,

@@ -1,19 +1,18 @@
 //! How many events a whole run of a network has.
-ghost use Rattle.std.specs.Prelude.{◌≡◌, ◌<◌, ◌≤◌, Contains, IfOk, length, slice_index};
-ghost use Rattle.mrp_rows.specs.Table.{IsPair, horizon};
+ghost use Rattle.std.specs.Prelude.{◌≡◌, ◌<◌, Contains, IfOk, length};
 ghost use Rattle.mrp_net.specs.Lanes.{lanes, lane_at, lane_items};
 ghost use Rattle.mrp_net.specs.Plan.{plan_of};
 ghost use Rattle.mrp_net.specs.PlanLaws.{Fits};
 ghost use Rattle.mrp_loops.specs.Sized.{IsSized};
 ghost use Rattle.mrp_record.specs.Lengths.{block_length, length_of_text};
-ghost use Rattle.mrp_events.specs.Loads.{by_period, called_in, load_of, loads};
+ghost use Rattle.mrp_events.specs.Loads.{load_of, loads};
 ghost use Rattle.mrp_events.specs.Steps.{steps};
-ghost use Rattle.mrp_net.specs.Shares.{share_of};
 
+use crate::carried::{Carried, carried_on};
 use mrp_loops::SizedNet;
-use mrp_net::{ItemNo, LaneKind, LaneNo, Network, SourceRow, share_of};
+use mrp_net::{ItemNo, LaneNo, Network};
 use mrp_plan::{Plan, plan_all};
-use mrp_qty::{Memory, Row};
+use mrp_qty::Memory;
 use std::alloc::Global;
 
 /// How many events a whole run of a network has: each pair is planned, and each record of each lane is
@@ -67,55 +66,9 @@ fn block_length(network: &Network, plan: &Plan, lane: LaneNo, item: ItemNo) -> u
     requires item { Contains (lane_items network.now (lane_at network.now lane.0)) item }
     ensures { result ≡ block_length (load_of network.now (lane_at network.now lane.0) item) }
 {
-    let lines = line_count(network, plan, lane, item);
+    let Carried { lines, .. } = carried_on(network, plan, lane, item);
     match network.reset(lane, item) {
         Some(_) => lines + 2,
         None => lines + 1,
     }
-}
-
-/// How many lines an item has on a lane: one for each shipment on its way, or for each period in which its
-/// source is called for something.
-fn line_count(network: &Network, plan: &Plan, lane: LaneNo, item: ItemNo) -> u64
-    requires sized { IsSized network.now }
-    requires fits { Fits network.now plan.now }
-    requires plan { plan.now ≡ plan_of network.now }
-    requires lane { lane.0 < length (lanes network.now) }
-    requires item { Contains (lane_items network.now (lane_at network.now lane.0)) item }
-    ensures { result ≡ length (load_of network.now (lane_at network.now lane.0) item).lines }
-{
-    match network.lane(lane).kind {
-        LaneKind::Despatch => network.shipments(lane, item).len() as u64,
-        LaneKind::Schedule => calls(network, plan, network.lane_source(lane, item)),
-    }
-}
-
-/// In how many periods a source is called for something by the plan.
-fn calls(network: &Network, plan: &Plan, source: SourceRow) -> u64
-    requires fits { Fits network.now plan.now }
-    requires plan { plan.now ≡ plan_of network.now }
-    requires pair { IsPair network.now source.pair.0 }
-    requires rises { source.low ≤ source.high }
-    requires ends { source.high ≤ 1000 }
-    ensures { result ≡ length (by_period (called_in network.now source) (horizon network.now)) }
-{
-    let of_pair = plan.pair(source.pair);
-    let _periods = of_pair.len();
-    calls_in(source, of_pair.release())
-}
-
-/// In how many periods a source is called for something.
-fn calls_in(source: SourceRow, release: &Row) -> u64
-    requires rises { source.low ≤ source.high }
-    requires ends { source.high ≤ 1000 }
-    ensures { result ≡ length (by_period (λ t. share_of source.low source.high (slice_index release.now t))
-        (length release.now)) }
-{
-    let mut calls = 0;
-    for period in 0..release.len() {
-        if share_of(source.low, source.high, release.get(period).get()) > 0 {
-            calls += 1;
-        }
-    }
-    calls
 }

@@ -17,6 +17,7 @@
 
 mod acting;
 mod agents;
+mod carried;
 mod counting;
 mod driving;
 mod ending;

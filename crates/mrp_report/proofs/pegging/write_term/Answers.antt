@@ -1,66 +1,81 @@
-use Rattle.std.proofs.Common.{◌≡◌, ◌≤◌, length, decimal, drop, [], append-nil, arith, refl, ap}
-use Rattle.std.proofs.lemmas.Fmt.{length-decimal-le}
+use Rattle.std.proofs.Common.{◌≡◌, length, drop, [], append-nil, arith, refl, ap}
 use Rattle.std.proofs.lemmas.List.{drop_all}
 use Rattle.mrp_sheet.proofs.RowFacts.{item_is, plant_is}
+use Rattle.mrp_report.proofs.DigitFacts.{twenty}
 use Rattle.mrp_report.proofs.PegFacts.{source_short}
 use Rattle.mrp_report.proofs.RoomFacts.{item_short, plant_short}
 use Rattle.mrp_report.proofs.pegging.write_term.Goals as goal
 
 pub write_digits-quantity-requires : goal.write_digits-quantity-requires
 write_digits-quantity-requires c =
-    let short : length (decimal c.args.term.quantity) ≤ 20 = length-decimal-le 20 c.args.term.quantity (omega arith) (omega arith) (omega arith) in
-    (omega arith, omega arith)
+    let quantity = twenty c.args.term.quantity (omega arith) in
+    (omega (arith, quantity), omega arith)
 
 pub number_before-per-requires-clause-room : goal.number_before-per-requires-clause-room
 number_before-per-requires-clause-room c =
-    let short : length (decimal c.args.term.quantity) ≤ 20 = length-decimal-le 20 c.args.term.quantity (omega arith) (omega arith) (omega arith) in
-    omega (arith, short, c.write_digits-quantity.ensures.start)
+    let quantity = twenty c.args.term.quantity (omega arith) in
+    let per = twenty c.args.term.per (omega arith) in
+    omega (arith, quantity, per, c.write_digits-quantity.ensures.start)
 
 pub number_before-release-requires-clause-room : goal.number_before-release-requires-clause-room
 number_before-release-requires-clause-room c =
-    let short : length (decimal c.args.term.quantity) ≤ 20 = length-decimal-le 20 c.args.term.quantity (omega arith) (omega arith) (omega arith) in
-    omega (arith, short, c.write_digits-quantity.ensures.start, c.number_before-per.ensures.longest)
+    let quantity = twenty c.args.term.quantity (omega arith) in
+    let per = twenty c.args.term.per (omega arith) in
+    let release = twenty c.args.term.release (omega arith) in
+    omega (arith, quantity, per, release, c.write_digits-quantity.ensures.start, c.number_before-per.ensures.start)
 
 pub text_before-by_item-requires-clause-room : goal.text_before-by_item-requires-clause-room
 text_before-by_item-requires-clause-room c =
-    let short : length (decimal c.args.term.quantity) ≤ 20 = length-decimal-le 20 c.args.term.quantity (omega arith) (omega arith) (omega arith) in
+    let quantity = twenty c.args.term.quantity (omega arith) in
+    let per = twenty c.args.term.per (omega arith) in
+    let release = twenty c.args.term.release (omega arith) in
     let item = item_short c.args.network.now c.args.term.pair.0 _ _ c.requires.table c.pair_name.ensures in
     omega (
       arith,
-      short,
+      quantity,
+      per,
+      release,
       item,
       c.as_bytes.ensures.len,
       c.write_digits-quantity.ensures.start,
-      c.number_before-per.ensures.longest,
-      c.number_before-release.ensures.longest,
+      c.number_before-per.ensures.start,
+      c.number_before-release.ensures.start,
     )
 
 pub text_before-by_plant-requires-clause-room : goal.text_before-by_plant-requires-clause-room
 text_before-by_plant-requires-clause-room c =
-    let short : length (decimal c.args.term.quantity) ≤ 20 = length-decimal-le 20 c.args.term.quantity (omega arith) (omega arith) (omega arith) in
+    let quantity = twenty c.args.term.quantity (omega arith) in
     let plant = plant_short c.args.network.now c.args.term.pair.0 _ _ c.requires.table c.pair_name.ensures in
+    let per = twenty c.args.term.per (omega arith) in
+    let release = twenty c.args.term.release (omega arith) in
     let item = item_short c.args.network.now c.args.term.pair.0 _ _ c.requires.table c.pair_name.ensures in
     omega (
       arith,
-      short,
+      quantity,
+      per,
+      release,
       plant,
       item,
       c.as_bytes.ensures.len,
       c.as_bytes-2.ensures.len,
       c.write_digits-quantity.ensures.start,
-      c.number_before-per.ensures.longest,
-      c.number_before-release.ensures.longest,
+      c.number_before-per.ensures.start,
+      c.number_before-release.ensures.start,
       c.text_before-by_item.ensures.start,
     )
 
 pub text_before-source-requires-clause-room : goal.text_before-source-requires-clause-room
 text_before-source-requires-clause-room c =
-    let short : length (decimal c.args.term.quantity) ≤ 20 = length-decimal-le 20 c.args.term.quantity (omega arith) (omega arith) (omega arith) in
+    let quantity = twenty c.args.term.quantity (omega arith) in
     let plant = plant_short c.args.network.now c.args.term.pair.0 _ _ c.requires.table c.pair_name.ensures in
+    let per = twenty c.args.term.per (omega arith) in
+    let release = twenty c.args.term.release (omega arith) in
     let item = item_short c.args.network.now c.args.term.pair.0 _ _ c.requires.table c.pair_name.ensures in
     omega (
       arith,
-      short,
+      quantity,
+      per,
+      release,
       plant,
       item,
       source_short c.args.term.source,
@@ -68,20 +83,25 @@ text_before-source-requires-clause-room c =
       c.as_bytes.ensures.len,
       c.as_bytes-2.ensures.len,
       c.write_digits-quantity.ensures.start,
-      c.number_before-per.ensures.longest,
-      c.number_before-release.ensures.longest,
+      c.number_before-per.ensures.start,
+      c.number_before-release.ensures.start,
       c.text_before-by_item.ensures.start,
       c.text_before-by_plant.ensures.start,
     )
 
 pub number_before-requires-clause-room : goal.number_before-requires-clause-room
 number_before-requires-clause-room c =
-    let short : length (decimal c.args.term.quantity) ≤ 20 = length-decimal-le 20 c.args.term.quantity (omega arith) (omega arith) (omega arith) in
+    let quantity = twenty c.args.term.quantity (omega arith) in
     let plant = plant_short c.args.network.now c.args.term.pair.0 _ _ c.requires.table c.pair_name.ensures in
+    let per = twenty c.args.term.per (omega arith) in
+    let release = twenty c.args.term.release (omega arith) in
     let item = item_short c.args.network.now c.args.term.pair.0 _ _ c.requires.table c.pair_name.ensures in
     omega (
       arith,
-      short,
+      quantity,
+      per,
+      release,
+      twenty c.args.t (omega arith),
       plant,
       item,
       source_short c.args.term.source,
@@ -89,8 +109,8 @@ number_before-requires-clause-room c =
       c.as_bytes.ensures.len,
       c.as_bytes-2.ensures.len,
       c.write_digits-quantity.ensures.start,
-      c.number_before-per.ensures.longest,
-      c.number_before-release.ensures.longest,
+      c.number_before-per.ensures.start,
+      c.number_before-release.ensures.start,
       c.text_before-by_item.ensures.start,
       c.text_before-by_plant.ensures.start,
       c.text_before-source.ensures.start,

@@ -6,7 +6,7 @@ use Rattle.mrp_netting.specs.declared.plan.PairPlan.{PairPlan}
 use Rattle.mrp_run.proofs.GatheredPlans.{AreOwn, given_more}
 use Rattle.mrp_run.proofs.DealtLists.{pushed}
 use Rattle.mrp_run.proofs.JoinedThreads.{one_left, whole_next, none_left}
-use Rattle.mrp_run.proofs.gathering.given_plans.Goals as goal
+use Rattle.mrp_run.proofs.gathering.plans_by_plant.Goals as goal
 
 pub unwrap-requires : goal.unwrap-requires
 unwrap-requires c =

@@ -3,7 +3,7 @@ use Rattle.std.specs.Vec.Iter.{into_iter_items}
 use Rattle.mrp_rows.specs.Table.{Table}
 use Rattle.mrp_run.specs.Ends.{HavePlans}
 use Rattle.mrp_run.proofs.GatheredPlans.{AreOwn}
-use Rattle.mrp_run.proofs.gathering.given_plans.Given as goal
+use Rattle.mrp_run.proofs.gathering.plans_by_plant.Given as goal
 
 -- the plants so far have given the plans of their pairs
 abbrev pub invariant-loop-plant : goal.invariant-loop-plant

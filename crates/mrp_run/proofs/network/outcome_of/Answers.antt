@@ -25,11 +25,11 @@ reconcile_all-requires g c =
 pub returns-in_err-lanes-clause-outcome : goal.returns-in_err-lanes-clause-outcome
 returns-in_err-lanes-clause-outcome g c = IfOk-from_err c.from_residual.result (λ o. IsOutcome c.args.network.now o) c.from_residual.ensures.0
 
-pub gather-requires-clause-sized : goal.gather-requires-clause-sized
-gather-requires-clause-sized g c = c.requires.sized
+pub plans_of-requires-clause-sized : goal.plans_of-requires-clause-sized
+plans_of-requires-clause-sized g c = c.requires.sized
 
-pub gather-requires-clause-plans : goal.gather-requires-clause-plans
-gather-requires-clause-plans g c =
+pub plans_of-requires-clause-plans : goal.plans_of-requires-clause-plans
+plans_of-requires-clause-plans g c =
     let plans = c.in_ok-lanes.ensures.plans in
     subst (HavePlans c.args.network.now)
     (sym (in_place c.args.plants.items c.reconcile_all.new.plants c.args.plants.len c.args.plants.ok.0 (plans.all_plants ∙ sym c.requires.through.all_plants)))
@@ -43,12 +43,12 @@ pub returns-in_err-lanes-clause-fault : goal.returns-in_err-lanes-clause-fault
 returns-in_err-lanes-clause-fault g c = handed_on (λ fault. fault ≡ Memory) c.from_residual.result Memory c.from_residual.ensures.1 refl
 
 pub returns-in_err-plans-clause-fault : goal.returns-in_err-plans-clause-fault
-returns-in_err-plans-clause-fault g c = handed_on (λ fault. fault ≡ Memory) c.from_residual-in_err-plans.result Memory c.from_residual-in_err-plans.ensures.1
-    refl
+returns-in_err-plans-clause-fault g c = handed_on (λ fault. fault ≡ Memory) c.from_residual-in_err-plans.result _ c.from_residual-in_err-plans.ensures.1
+    c.in_err-plans.ensures.fault
 
 pub returns-clause-outcome : goal.returns-clause-outcome
 returns-clause-outcome g c = record {
-  plans = c.in_ok-plans.ensures;
+  plans = c.in_ok-plans.ensures.plans;
   lanes = c.in_ok-lanes.ensures.lanes;
   run = is_run c.args.network.now c.requires.sized c.args.plants.items c.requires.through c.in_ok-lanes.lanes.items c.in_ok-lanes.ensures.lanes
       (subst (λ (plants : List Plant). EachAt (IsOfEnds c.args.network.now plants) c.in_ok-lanes.lanes.items) c.as_mut_slice.ensures.value

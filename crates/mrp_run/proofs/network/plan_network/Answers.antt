@@ -3,12 +3,12 @@ use Rattle.std.specs.Result.{IfOk}
 use Rattle.std.proofs.lemmas.Result.{IfErr-at_err, IfOk-at_ok, IfOk-from_err}
 use Rattle.mrp_rows.specs.Table.{Table}
 use Rattle.mrp_loops.specs.Sized.{IsSized}
-use Rattle.mrp_run.specs.Ends.{AreThrough}
+use Rattle.mrp_run.specs.Ends.{AreThrough, HavePlans}
 use Rattle.mrp_run.specs.Faults.{AllTurned, WasShut, WasSpent}
 use Rattle.mrp_net.specs.Plan.{plan_of}
 use Rattle.mrp_qty.specs.declared.limits.TheConstants.{MOST_TURNS}
 use Rattle.mrp_run.specs.Worst.{IsFaultIn}
-use Rattle.mrp_run.proofs.JoinedNetwork.{gate_at_end, gate_at_refusal}
+use Rattle.mrp_run.proofs.JoinedNetwork.{gate_at_end, gate_at_refusal, have_plans}
 use Rattle.mrp_run.proofs.network.plan_network.Goals as goal
 
 pub returns-in_err-through-clause-plans : goal.returns-in_err-through-clause-plans
@@ -25,10 +25,12 @@ returns-in_err-through-clause-gate g c =
 pub plans_of-requires-clause-sized : goal.plans_of-requires-clause-sized
 plans_of-requires-clause-sized g c = subst IsSized (sym c.network.ensures.value) c.network.ensures.sized
 
-pub plans_of-requires-clause-through : goal.plans_of-requires-clause-through
-plans_of-requires-clause-through g c =
-    subst (λ (N : Table). AreThrough N c.in_ok-through.through.items) (sym c.network.ensures.value)
-    (IfOk-at_ok (λ plants. AreThrough c.args.net.now.network plants.items) c.in_ok-through.was c.run_through.ensures.through)
+pub plans_of-requires-clause-plans : goal.plans_of-requires-clause-plans
+plans_of-requires-clause-plans g c =
+    let plants = c.in_ok-through.through.items in
+    subst (λ (N : Table). HavePlans N plants) (sym c.network.ensures.value)
+    (have_plans c.args.net.now.network plants
+    (IfOk-at_ok (λ plants. AreThrough c.args.net.now.network plants.items) c.in_ok-through.was c.run_through.ensures.through))
 
 pub returns-clause-plans : goal.returns-clause-plans
 returns-clause-plans g c = subst (λ (N : Table). IfOk c.plans_of.result (λ plans. plans.items ≡ plan_of N)) c.network.ensures.value c.plans_of.ensures.plans

@@ -1,10 +1,23 @@
-use Rattle.std.proofs.Common.{length, ap, ◌∙◌}
+use Rattle.std.proofs.Common.{length, ap, ◌∙◌, arith}
+use Rattle.mrp_record.specs.Text.{total}
 use Rattle.mrp_world.proofs.Counts as count
-use Rattle.mrp_world.proofs.counting.calls.Goals as goal
+use Rattle.mrp_world.proofs.carried.called.Goals as goal
 
-pub returns : goal.returns
-returns c =
-    let N = c.args.network.now in
-    let s = c.args.source in
-    c.calls_in.ensures ∙ ap length (count.called_is N s c.args.plan.now _ _ c.requires.fits c.requires.plan c.requires.pair c.pair-of_pair.ensures
-    c.release.ensures c.len-periods.ensures.rows)
+pub called_by-requires-clause-within : goal.called_by-requires-clause-within
+called_by-requires-clause-within c =
+    omega (
+      arith,
+      c.requires.within,
+      ap total (count.called_is c.args.network.now c.args.source c.args.plan.now _ _ c.requires.fits c.requires.plan c.requires.pair
+          c.pair-of_pair.ensures c.release.ensures c.len-periods.ensures.rows),
+    )
+
+pub returns-clause-lines : goal.returns-clause-lines
+returns-clause-lines c =
+    c.called_by.ensures.lines ∙ ap length (count.called_is c.args.network.now c.args.source c.args.plan.now _ _ c.requires.fits c.requires.plan
+    c.requires.pair c.pair-of_pair.ensures c.release.ensures c.len-periods.ensures.rows)
+
+pub returns-clause-pieces : goal.returns-clause-pieces
+returns-clause-pieces c =
+    c.called_by.ensures.pieces ∙ ap total (count.called_is c.args.network.now c.args.source c.args.plan.now _ _ c.requires.fits c.requires.plan
+    c.requires.pair c.pair-of_pair.ensures c.release.ensures c.len-periods.ensures.rows)

@@ -9,16 +9,16 @@ overflow_add-opening c =
     omega (
       arith,
       c.opening-opening.ensures,
-      c.pieces_carried.ensures,
+      c.carried_on-pieces.ensures.pieces,
       carried_is_small N c.requires.sized (lane_at N c.args.lane.0) c.args.item c.requires.item,
     )
 
-pub of-carried-requires : goal.of-carried-requires
-of-carried-requires c =
+pub of-last-requires : goal.of-last-requires
+of-last-requires c =
     let N = c.args.network.now in
     omega (
       arith,
       c.opening-opening.ensures,
-      c.pieces_carried.ensures,
+      c.carried_on-pieces.ensures.pieces,
       carried_is_small N c.requires.sized (lane_at N c.args.lane.0) c.args.item c.requires.item,
     )

@@ -1,9 +1,10 @@
 use Rattle.std.proofs.Common.{◌≡◌, ℕ, ◌<◌, ◌∙◌, false, true, None, Some, refl, Bor, get_or, length, sym, ap, subst, arith}
 use Rattle.std.proofs.lemmas.List.{get_or_default}
+use Rattle.mrp_net.specs.Plan.{no_rows}
 use Rattle.mrp_netting.specs.declared.plan.PairPlan.{PairPlan}
 use Rattle.mrp_agent.specs.Progress.{is_planned}
 use Rattle.mrp_agent.specs.Fields.{indexes_of}
-use Rattle.mrp_agent.specs.State.{AgentState, no_plan, pair_place, plans_of}
+use Rattle.mrp_agent.specs.State.{AgentState, pair_place, plans_of}
 use Rattle.mrp_agent.specs.contracts.agent.Agent.{the_view}
 use Rattle.mrp_agent.proofs.Reading.{other_unplanned, place_said, planned_said, none_there}
 use Rattle.mrp_agent.proofs.agent.Agent.planned.Goals as goal
@@ -44,7 +45,7 @@ returns-then-planned-clause-plan c =
     let A : AgentState = the_view c.self.inside in
     let at = place_said A c.args.x c.place.result c.in_ok-place.place c.place.ensures c.in_ok-place.was in
     let inside : c.in_ok-place.place < length A.plans = omega (arith, at.1, c.self.invariant.rooms.plans.count) in
-    c.index.ensures ∙ get_or_default A.plans c.in_ok-place.place c.index.result.now no_plan inside ∙ ap (λ (n : ℕ). get_or A.plans n no_plan) (sym at.0)
+    c.index.ensures ∙ get_or_default A.plans c.in_ok-place.place c.index.result.now no_rows inside ∙ ap (λ (n : ℕ). get_or A.plans n no_rows) (sym at.0)
     ∙ ap (λ (a : AgentState). plans_of a c.args.x.0) c.self.view_is
 
 pub returns-else-planned-clause-there : goal.returns-else-planned-clause-there

@@ -1,11 +1,12 @@
 use Rattle.std.proofs.Common.{◌≡◌, ℕ, ◌<◌, ◌≤◌, ◌-◌, ◌==◌, Some, List, length, get_or, position, sym, ap, ◌∙◌, subst, arith}
 use Rattle.std.specs.List.{Contains, count_by, position_or_len}
+use Rattle.mrp_net.specs.Plan.{no_rows}
 use Rattle.mrp_view.specs.declared.view.Call.{Call}
 use Rattle.mrp_view.specs.declared.view.IncomingLane.{IncomingLane}
 use Rattle.mrp_view.specs.declared.view.OutgoingItem.{OutgoingItem}
 use Rattle.mrp_view.specs.declared.view.PlantPair.{PlantPair}
 use Rattle.mrp_view.specs.Loads.{call_of, load_at}
-use Rattle.mrp_agent.specs.State.{AgentState, book_at, incoming_place, pair_place, plans_of, no_book, no_plan}
+use Rattle.mrp_agent.specs.State.{AgentState, book_at, incoming_place, pair_place, plans_of, no_book}
 use Rattle.mrp_agent.specs.Kept.{IsShowing}
 use Rattle.mrp_agent.specs.Sending.{IsCallShare, remainder}
 use Rattle.mrp_agent.specs.contracts.agent.Agent.{the_view}
@@ -91,7 +92,7 @@ returns c =
     let here : c.in-Some-place.customer ≡ place = cc same in
     let within : c.in-Some-place.customer < length A.plans = omega (arith, facts.customer, here) in
     let plan : c.index-2.result.now ≡ plans_of A (call_of (load_at c.args.lane.now.items c.args.place)).customer.0 =
-    read_is A.plans c.in-Some-place.customer c.index-2.result.now no_plan c.index-2.ensures within ∙ ap (λ (n : ℕ). get_or A.plans n no_plan) here in
+    read_is A.plans c.in-Some-place.customer c.index-2.result.now no_rows c.index-2.ensures within ∙ ap (λ (n : ℕ). get_or A.plans n no_rows) here in
     call_is A c.args.lane.now c.args.place c.args.mark c.get-item.result c.in-Some.call c.index.result.now c.index-2.result.now c.left_to_call.result
     c.requires.schedule c.get-item.ensures call is plan c.left_to_call.ensures
     ∙ ap (λ (a : AgentState). remainder a c.args.lane.now c.args.mark c.args.place) c.self.view_is

@@ -1,16 +1,19 @@
-use Rattle.std.proofs.Common.{arith}
+use Rattle.std.proofs.Common.{length, arith, ap}
+use Rattle.std.proofs.lemmas.List.FromFn.{length-map-range_with_len}
+use Rattle.mrp_rows.specs.Table.{horizon}
 use Rattle.mrp_net.specs.Sums.{demand}
-use Rattle.mrp_net.proofs.Summing.{amount_read, amount_within}
+use Rattle.mrp_net.proofs.Periods.{row_reads}
 use Rattle.mrp_net.proofs.network.Network.demand.Goals as goal
 
-pub index-requires : goal.index-requires
-index-requires c =
-    let inside = amount_within _ c.args.self.now demand c.self.inside.amounts.demand.items c.args.x.0 c.args.t c.self.view_is c.self.invariant.amounts.demanded
-    c.requires.pair c.requires.period in
-    omega (arith, c.self.inside.amounts.demand.ok.0, c.place_of.ensures, inside)
+pub offset_bounds-demand_row-t : goal.offset_bounds-demand_row-t
+offset_bounds-demand_row-t c =
+    let N = c.args.self.now in
+    omega (arith, ap length c.demand_row.ensures, length-map-range_with_len (demand N c.args.x.0) 0 (horizon N), c.requires.period, c.demand_row.type_inv)
+
+pub bounds-demand_row-t : goal.bounds-demand_row-t
+bounds-demand_row-t c =
+    let N = c.args.self.now in
+    omega (arith, ap length c.demand_row.ensures, length-map-range_with_len (demand N c.args.x.0) 0 (horizon N), c.requires.period)
 
 pub returns : goal.returns
-returns c =
-    amount_read _ c.args.self.now demand c.self.inside.amounts.demand.items c.args.x.0 c.args.t c.place_of.result c.index.result.now c.self.view_is
-    c.self.invariant.amounts.demanded
-    c.place_of.ensures c.requires.pair c.requires.period c.index.ensures
+returns c = row_reads c.args.self.now (demand c.args.self.now c.args.x.0) c.demand_row.result.now c.args.t c.demand_row.ensures c.requires.period

@@ -6,7 +6,7 @@ use Rattle.mrp_rows.specs.declared.numbers.PlantNo.{PlantNo}
 use Rattle.mrp_rows.specs.declared.rows.CumRow.{CumRow}
 use Rattle.mrp_tables.specs.Spelled.{terms_of_lane}
 use Rattle.mrp_qty.specs.declared.limits.TheConstants.{MOST_OF_A_KIND}
-use Rattle.mrp_tables.proofs.Finding.{cum_full, cum_known, cum_unknown, of_found}
+use Rattle.mrp_tables.proofs.Finding.{cum_full, cum_known, cum_repeated, cum_unknown, of_found}
 use Rattle.mrp_tables.proofs.KeepingSteps.{handed_on}
 use Rattle.mrp_tables.proofs.draft.Draft.cum_of.Goals as goal
 
@@ -33,6 +33,11 @@ returns-in_err-figure-clause-fresh c = rw (handed_on c.from_residual.result _ c.
 
 pub returns-in_err-figure-clause-room : goal.returns-in_err-figure-clause-room
 returns-in_err-figure-clause-room c = rw (handed_on c.from_residual.result _ c.from_residual.ensures.1) tt
+
+pub returns-then-has_cum-clause-exact : goal.returns-then-has_cum-clause-exact
+returns-then-has_cum-clause-exact c =
+    cum_repeated c.args.self.now.lists (fields_of c.args.row.now) (terms_of_lane (fields_of c.args.row.now), c.in_ok-figure.figure) c.lane_named-named.result
+    c.in_ok-figure.ensures.exact c.lane_named-named.ensures.exact c.if-has_cum.ensures.exact
 
 pub returns-then-has_cum-clause-row : goal.returns-then-has_cum-clause-row
 returns-then-has_cum-clause-row c = tt
@@ -75,7 +80,7 @@ returns-clause-row c =
     record {
       from = of_found _ c.in_ok-lane.lane.from (λ (p : PlantNo). p.0 < length N.plants) c.lane_named-named.ensures.named.from c.in_ok-lane.ensures.from;
       pair = of_found _ c.in_ok-lane.lane.pair (λ (x : PairNo). IsPair N x.0) c.lane_named-named.ensures.named.pair c.in_ok-lane.ensures.pair;
-      figure = rw c.of.ensures c.in_ok-figure.ensures.figure;
+      figure = rw c.of.ensures c.in_ok-figure.ensures.within;
     }
 
 pub returns-clause-room : goal.returns-clause-room

@@ -1,0 +1,30 @@
+//! Fields of a row, written from its end: each with a comma before what stands behind it.
+
+ghost use Rattle.std.specs.Prelude.{◌≡◌, ◌+◌, ◌++◌, ◌∷◌, ◌≤◌, drop, length, decimal};
+ghost use Rattle.csv.specs.Writing.{comma};
+
+use itoa::write_digits;
+
+/// Writes a number and a comma before what starts at `next`, and returns where the number starts.
+pub(crate) fn number_before(text: &mut [u8], next: usize, number: u64) -> usize
+    requires room { length (decimal number) + 1 ≤ next }
+    requires within { next ≤ length text.old }
+    ensures start { result + length (decimal number) + 1 ≡ next }
+    ensures part { drop result text.new ≡ decimal number ++ comma ∷ drop next text.old }
+{
+    text[next - 1] = b',';
+    write_digits(number, text, next - 1)
+}
+
+/// Writes bytes and a comma before what starts at `next`, and returns where the bytes start.
+pub(crate) fn text_before(text: &mut [u8], next: usize, bytes: &[u8]) -> usize
+    requires room { length bytes.now + 1 ≤ next }
+    requires within { next ≤ length text.old }
+    ensures start { result + length bytes.now + 1 ≡ next }
+    ensures part { drop result text.new ≡ bytes.now ++ comma ∷ drop next text.old }
+{
+    let start = next - 1 - bytes.len();
+    text[next - 1] = b',';
+    text[start..next - 1].copy_from_slice(bytes);
+    start
+}
