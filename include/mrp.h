@@ -17,7 +17,7 @@
  * process with threads.
  *
  * With `header` the names of the columns stand above the rows. That the text is this is proved of the library that a
- * caller links (crates/mrp_c); that a caller keeps to this page isn't.
+ * caller links (crates/mrp_c_api); that a caller keeps to this page isn't.
  */
 #ifndef MRP_H
 #define MRP_H

@@ -1,12 +1,12 @@
 -- With which status the program ends, and what it reports, where the words are refused or ask for help or the version.
 use Rattle.std.specs.Prelude.{ℕ, Option, Some, None, Result, Ok, Err}
-use Rattle.mrp_arguments.specs.declared.meaning.Meaning.{Meaning}
-use Rattle.mrp_arguments.specs.declared.meaning.Meaning.TheVariants as means
-use Rattle.mrp_sheet.specs.declared.fault.ReportFault.{ReportFault}
-use Rattle.mrp_sheet.specs.declared.fault.ReportFault.TheVariants as report
-use Rattle.mrp_text.specs.declared.fault.TextFault.{TextFault}
-use Rattle.mrp_text.specs.declared.fault.TextFault.TheVariants as fault
-use Rattle.mrp_text.specs.Ending.{help_fault, help_status}
+use Rattle.mrp_command_line.specs.declared.meaning.Meaning.{Meaning}
+use Rattle.mrp_command_line.specs.declared.meaning.Meaning.TheVariants as means
+use Rattle.mrp_csv_out.specs.declared.fault.ReportFault.{ReportFault}
+use Rattle.mrp_csv_out.specs.declared.fault.ReportFault.TheVariants as report
+use Rattle.mrp_planner.specs.declared.fault.TextFault.{TextFault}
+use Rattle.mrp_planner.specs.declared.fault.TextFault.TheVariants as fault
+use Rattle.mrp_planner.specs.Ending.{help_fault, help_status}
 
 -- after the words were refused: 3 for want of memory, that of help after help or the version, and else 2
 abbrev pub refusal_status : {U E : Type 0} → Meaning → Result U E → ℕ

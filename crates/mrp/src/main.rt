@@ -1,16 +1,16 @@
 //! `mrp` plans the material of all plants of a firm at once.
 //!
-//! The program is thin: words in, one call of the library `mrp_text`, a status out.
+//! The program is thin: words in, one call of the library `mrp_planner`, a status out.
 #![tactic(auto)]
 
 ghost use Rattle.std.specs.Prelude.{◌≡◌};
 ghost use Rattle.std.specs.Process.{exit_status};
-ghost use Rattle.mrp_text.specs.Ending.{Reports};
+ghost use Rattle.mrp_planner.specs.Ending.{Reports};
 ghost use Rattle.mrp.specs.Ending.{refusal_fault, refusal_printed, refusal_status};
 
-use mrp_arguments::{ChooseFault, Meaning, choose, means, named_words};
+use mrp_command_line::{ChooseFault, Meaning, choose, means, named_words};
+use mrp_planner::{Ending, REFUSED, TextFault, after_help, answer, ended, unread};
 use mrp_report::{ReportFault, send};
-use mrp_text::{Ending, REFUSED, TextFault, after_help, answer, ended, unread};
 use std::env::FillError;
 use std::io::{IsTerminal, Stderr, Write};
 use std::process::ExitCode;

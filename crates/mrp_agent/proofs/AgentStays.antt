@@ -3,30 +3,30 @@ use Rattle.std.proofs.Common.{◌≡◌, ℕ, ◌+◌, ◌-◌, ◌<◌, true, L
 use Rattle.std.specs.List.{flat_map, range_with_len}
 use Rattle.std.proofs.lemmas.List.Elements.{All-filter, All-contains, All-head, All-tail}
 use Rattle.mrp_lot.specs.One.{PlanRows, one}
-use Rattle.mrp_rows.specs.declared.numbers.ItemNo.{ItemNo}
-use Rattle.mrp_rows.specs.declared.numbers.PairNo.{PairNo}
-use Rattle.mrp_rows.specs.Table.{Table}
+use Rattle.mrp_table_rows.specs.declared.numbers.ItemNo.{ItemNo}
+use Rattle.mrp_table_rows.specs.declared.numbers.PairNo.{PairNo}
+use Rattle.mrp_table_rows.specs.Table.{Table}
 use Rattle.mrp_net.specs.declared.lane.LaneKind.{LaneKind}
 use Rattle.mrp_net.specs.declared.lane.LaneKind.TheVariants.{Despatch, Schedule}
 use Rattle.mrp_net.proofs.Covering.{sum_by-same}
-use Rattle.mrp_view.specs.declared.view.IncomingItem.{IncomingItem}
-use Rattle.mrp_view.specs.declared.view.IncomingLane.{IncomingLane}
-use Rattle.mrp_view.specs.declared.view.OutgoingLane.{OutgoingLane}
-use Rattle.mrp_view.specs.declared.view.PlantPair.{PlantPair}
-use Rattle.mrp_view.specs.Loads as view
-use Rattle.mrp_view.specs.Seen.{IsView, IsOwnPair, lane_before}
-use Rattle.mrp_view.specs.View.{PlantRows, plant_rows}
+use Rattle.mrp_plant_view.specs.declared.view.IncomingItem.{IncomingItem}
+use Rattle.mrp_plant_view.specs.declared.view.IncomingLane.{IncomingLane}
+use Rattle.mrp_plant_view.specs.declared.view.OutgoingLane.{OutgoingLane}
+use Rattle.mrp_plant_view.specs.declared.view.PlantPair.{PlantPair}
+use Rattle.mrp_plant_view.specs.Loads as view
+use Rattle.mrp_plant_view.specs.Seen.{IsView, IsOwnPair, lane_before}
+use Rattle.mrp_plant_view.specs.View.{PlantRows, plant_rows}
 use Rattle.mrp_record.specs.declared.record.Record.{Record}
 use Rattle.mrp_record.specs.Entries.{contents, is_ended}
 use Rattle.mrp_book.specs.Figures as book
-use Rattle.mrp_events.specs.State.{State}
+use Rattle.mrp_protocol.specs.State.{State}
 use Rattle.mrp_record.specs.Cursor.{Goods}
 use Rattle.mrp_record.specs.Shows.{ShowsSent}
 use Rattle.mrp_agent.specs.Counts.{Awaited, AreCounts, open_blocks}
-use Rattle.mrp_events.proofs.Seeing.{pairs_are_at}
-use Rattle.mrp_events.specs.Goods.{goods_by, goods_of, schedule_goods, IsSendable}
-use Rattle.mrp_events.specs.LocalPlans.{amount_at, asked_within, booked_on, is_of_kind, lanes_in, local_gross, local_incoming}
-use Rattle.mrp_events.specs.LocalPlans.{local_plan, local_row, pieces_in, AwaitsNothing, IsLocal, IsPlannedLocally}
+use Rattle.mrp_protocol.proofs.Seeing.{pairs_are_at}
+use Rattle.mrp_protocol.specs.Goods.{goods_by, goods_of, schedule_goods, IsSendable}
+use Rattle.mrp_protocol.specs.LocalPlans.{amount_at, asked_within, booked_on, is_of_kind, lanes_in, local_gross, local_incoming}
+use Rattle.mrp_protocol.specs.LocalPlans.{local_plan, local_row, pieces_in, AwaitsNothing, IsLocal, IsPlannedLocally}
 use Rattle.mrp_agent.specs.Shows.{ShowsHistory, OutShows, awaited, awaited_on, form_of, joins_of, up_to_last}
 use Rattle.mrp_agent.specs.State.{AgentState, book_at, incoming_at, out_at, outgoing_at, pair_place, plans_of, no_incoming, no_outgoing}
 use Rattle.mrp_agent.proofs.Owning.{own_of_item}

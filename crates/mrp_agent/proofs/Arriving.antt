@@ -6,18 +6,18 @@ use Rattle.std.proofs.lemmas.Bool.{cases_Bool, cases_eq, eq-eqb, ne_eqb}
 use Rattle.std.proofs.lemmas.List.{map-append}
 use Rattle.std.proofs.lemmas.List.Elements.{filter-append, filter_map-append}
 use Rattle.std.proofs.lemmas.List.Sums.{sum_by-cons, sum_by-append, get_or-le-sum_by}
-use Rattle.mrp_rows.proofs.Kept.{sum_filter}
-use Rattle.mrp_rows.specs.declared.numbers.ItemNo.{ItemNo}
+use Rattle.mrp_table_rows.proofs.Kept.{sum_filter}
+use Rattle.mrp_table_rows.specs.declared.numbers.ItemNo.{ItemNo}
 use Rattle.mrp_net.specs.declared.lane.LaneKind.{LaneKind}
-use Rattle.mrp_view.specs.declared.view.IncomingLane.{IncomingLane}
-use Rattle.mrp_view.specs.View.{PlantRows}
-use Rattle.mrp_view.proofs.Once.{one}
+use Rattle.mrp_plant_view.specs.declared.view.IncomingLane.{IncomingLane}
+use Rattle.mrp_plant_view.specs.View.{PlantRows}
+use Rattle.mrp_plant_view.proofs.Once.{one}
 use Rattle.mrp_record.specs.declared.record.Record.{Record}
 use Rattle.mrp_record.specs.Entries.{Entry, LineOf, EndOf, ResetOf, Delivery, content, contents, entries_of, is_of, is_end, is_ended}
 use Rattle.mrp_record.specs.Blocks.{deliveries, entry_delivery}
 use Rattle.mrp_record.specs.Laws.{quantity_in}
-use Rattle.mrp_events.specs.State.{changed}
-use Rattle.mrp_events.specs.LocalPlans.{pieces_in, is_of_kind, booked_on}
+use Rattle.mrp_protocol.specs.State.{changed}
+use Rattle.mrp_protocol.specs.LocalPlans.{pieces_in, is_of_kind, booked_on}
 use Rattle.mrp_agent.specs.State.{incoming_at, no_incoming}
 use Rattle.mrp_agent.proofs.Sent.{changed_there, changed_elsewhere}
 

@@ -3,9 +3,9 @@ use Rattle.std.proofs.Common.{◌≡◌, ℕ, ◌<◌, eqb, Bool, Some, IfSome, 
 use Rattle.std.proofs.lemmas.Bool.{eqb-true}
 use Rattle.std.proofs.lemmas.List.{get_or_default, get_or_read}
 use Rattle.std.proofs.lemmas.List.Sums.{passes_at_first}
-use Rattle.mrp_rows.specs.declared.numbers.ItemNo.{ItemNo}
+use Rattle.mrp_table_rows.specs.declared.numbers.ItemNo.{ItemNo}
 use Rattle.mrp_net.specs.declared.lane.LaneKind.{LaneKind}
-use Rattle.mrp_view.specs.declared.view.IncomingLane.{IncomingLane}
+use Rattle.mrp_plant_view.specs.declared.view.IncomingLane.{IncomingLane}
 use Rattle.mrp_record.specs.declared.record.Record.{Record}
 use Rattle.mrp_record.specs.Form.{LaneForm, IsInForm}
 use Rattle.mrp_book.specs.declared.fault.BookFault.{BookFault}
@@ -13,7 +13,7 @@ use Rattle.mrp_book.specs.Faults.{first_fault}
 use Rattle.mrp_book.specs.Figures as book
 use Rattle.mrp_book.specs.Figures.{Figures, figures}
 use Rattle.mrp_agent.specs.Progress.{Progress}
-use Rattle.mrp_events.specs.State.{changed}
+use Rattle.mrp_protocol.specs.State.{changed}
 use Rattle.mrp_agent.specs.State.{AgentState, book_at, incoming_at, incoming_place, no_book, no_incoming}
 use Rattle.mrp_agent.specs.After.{after_booked, came_by, called_after, ended_place, items_of, BlockEnded, IsAwaited}
 use Rattle.mrp_agent.specs.Kept.{Indexes, IsKept}

@@ -6,16 +6,16 @@ use Rattle.std.proofs.lemmas.Bool.{both_ways, cases_eq, cases_lt, eq-eqb, false_
 use Rattle.std.proofs.lemmas.List.{get_or-map, get_or-set_same, get_or-set_other, length-map, length-set}
 use Rattle.std.proofs.lemmas.List.Elements.{All-contains}
 use Rattle.mrp_lot.specs.One.{PlanRows, one}
-use Rattle.mrp_rows.specs.declared.numbers.ItemNo.{ItemNo}
+use Rattle.mrp_table_rows.specs.declared.numbers.ItemNo.{ItemNo}
 use Rattle.mrp_net.specs.declared.lane.LaneKind.{LaneKind}
 use Rattle.mrp_net.specs.declared.lane.LaneKind.TheVariants.{Despatch, Schedule}
-use Rattle.mrp_view.specs.declared.view.IncomingItem.{IncomingItem}
-use Rattle.mrp_view.specs.declared.view.IncomingLane.{IncomingLane}
-use Rattle.mrp_view.specs.declared.view.OutgoingLane.{OutgoingLane}
-use Rattle.mrp_view.specs.declared.view.PlantPair.{PlantPair}
-use Rattle.mrp_view.specs.Loads.{OutgoingLoad, call_of, load_at, no_load}
-use Rattle.mrp_view.specs.Seen.{IsView, IsOwnOf}
-use Rattle.mrp_view.specs.View.{PlantRows}
+use Rattle.mrp_plant_view.specs.declared.view.IncomingItem.{IncomingItem}
+use Rattle.mrp_plant_view.specs.declared.view.IncomingLane.{IncomingLane}
+use Rattle.mrp_plant_view.specs.declared.view.OutgoingLane.{OutgoingLane}
+use Rattle.mrp_plant_view.specs.declared.view.PlantPair.{PlantPair}
+use Rattle.mrp_plant_view.specs.Loads.{OutgoingLoad, call_of, load_at, no_load}
+use Rattle.mrp_plant_view.specs.Seen.{IsView, IsOwnOf}
+use Rattle.mrp_plant_view.specs.View.{PlantRows}
 use Rattle.mrp_record.specs.declared.record.Record.{Record}
 use Rattle.mrp_record.specs.declared.record.Record.TheVariants.{Line, ItemEnd, Reset, Close}
 use Rattle.mrp_record.specs.Entries.{Entry, closed_of, content, contents, entries_of, figure_after, is_end, is_ended, is_of}
@@ -28,9 +28,9 @@ use Rattle.mrp_record.specs.Cursor.{Goods}
 use Rattle.mrp_record.proofs.Queues.{looks_at_queued}
 use Rattle.mrp_agent.specs.Counts.{open_blocks}
 use Rattle.mrp_agent.specs.Progress.{Progress, is_planned}
-use Rattle.mrp_events.specs.Goods.{goods_by, goods_of, called_for, by_period_from, IsSendable}
-use Rattle.mrp_events.specs.LocalPlans.{amount_at, asked_within, booked_on, is_of_kind, lanes_in, local_gross, local_incoming, local_plan, local_row}
-use Rattle.mrp_events.specs.LocalPlans.{AwaitsNothing, Carries, IsLocal, IsPlannedLocally}
+use Rattle.mrp_protocol.specs.Goods.{goods_by, goods_of, called_for, by_period_from, IsSendable}
+use Rattle.mrp_protocol.specs.LocalPlans.{amount_at, asked_within, booked_on, is_of_kind, lanes_in, local_gross, local_incoming, local_plan, local_row}
+use Rattle.mrp_protocol.specs.LocalPlans.{AwaitsNothing, Carries, IsLocal, IsPlannedLocally}
 use Rattle.mrp_agent.specs.State.{AgentState, book_at, incoming_at, outgoing_at, out_at, pair_place, plans_of, no_book, no_incoming}
 use Rattle.mrp_agent.specs.After.{after_booked, added_for, came_by, called_after, ended_place, items_of, place_of, with_line, BlockEnded, IsAwaited}
 use Rattle.mrp_agent.specs.Kept.{HasRooms, HasTaken, Indexes, IsKept}

@@ -7,18 +7,18 @@ use Rattle.std.proofs.lemmas.Bool.{cases_Bool, cases_eq, cases_lt, eq-eqb, eqb-t
 use Rattle.std.proofs.lemmas.List.{get_or-map, get_or-set_same, get_or-set_other, get_or_default, length-map}
 use Rattle.std.proofs.lemmas.List.Sums.{passes_at_first}
 use Rattle.std.proofs.lemmas.Nat.{mul-add-lt, same_from_place}
-use Rattle.mrp_rows.specs.declared.numbers.ItemNo.{ItemNo}
-use Rattle.mrp_view.specs.declared.view.IncomingItem.{IncomingItem}
-use Rattle.mrp_view.specs.declared.view.IncomingLane.{IncomingLane}
-use Rattle.mrp_view.specs.declared.view.PlantPair.{PlantPair}
-use Rattle.mrp_view.specs.Seen.{IsView}
-use Rattle.mrp_view.specs.View.{PlantRows}
+use Rattle.mrp_table_rows.specs.declared.numbers.ItemNo.{ItemNo}
+use Rattle.mrp_plant_view.specs.declared.view.IncomingItem.{IncomingItem}
+use Rattle.mrp_plant_view.specs.declared.view.IncomingLane.{IncomingLane}
+use Rattle.mrp_plant_view.specs.declared.view.PlantPair.{PlantPair}
+use Rattle.mrp_plant_view.specs.Seen.{IsView}
+use Rattle.mrp_plant_view.specs.View.{PlantRows}
 use Rattle.mrp_record.specs.declared.record.Record.{Record}
 use Rattle.mrp_record.specs.declared.record.Record.TheVariants.{Line, ItemEnd, Reset, Close}
 use Rattle.mrp_record.specs.Entries.{Entry, LineOf, EndOf, ResetOf, Closing, content, is_of, is_ended}
 use Rattle.mrp_record.specs.Form.{FormItem, EntryFits, GoesOn, item_on}
 use Rattle.mrp_book.specs.Figures as book
-use Rattle.mrp_events.specs.LocalPlans.{amount_at}
+use Rattle.mrp_protocol.specs.LocalPlans.{amount_at}
 use Rattle.mrp_agent.specs.State.{pair_place, no_plant_pair}
 use Rattle.mrp_agent.specs.After.{added_for, items_of, place_of, with_line}
 use Rattle.mrp_agent.specs.Shows.{form_of, up_to_last, book_item}

@@ -2,8 +2,8 @@
 use Rattle.std.proofs.Common.{◌≡◌, ℕ, suc, ◌+◌, ◌-◌, ◌<◌, ◌≤◌, not, true, false, Option, Some, None, option_map, List, length, map, refl, ap, ◌∙◌, arith}
 use Rattle.std.specs.List.{find, range_with_len}
 use Rattle.std.proofs.lemmas.Bool.{eq-eqb, ne_eqb}
-use Rattle.mrp_view.specs.declared.view.Call.{Call}
-use Rattle.mrp_events.specs.Loads.{delivery_in, has_pieces}
+use Rattle.mrp_plant_view.specs.declared.view.Call.{Call}
+use Rattle.mrp_protocol.specs.Loads.{delivery_in, has_pieces}
 use Rattle.mrp_record.specs.declared.remainder.NextLine.{NextLine}
 use Rattle.mrp_agent.specs.Sending.{next_called, called_by, call_line}
 

@@ -6,11 +6,11 @@ use Rattle.std.proofs.lemmas.List.Elements.{All-contains}
 use Rattle.mrp_lot.specs.One.{PlanRows}
 use Rattle.mrp_net.specs.declared.lane.LaneKind.{LaneKind}
 use Rattle.mrp_net.specs.declared.lane.LaneKind.TheVariants.{Schedule}
-use Rattle.mrp_view.specs.declared.view.Call.{Call}
-use Rattle.mrp_view.specs.declared.view.OutgoingItem.{OutgoingItem}
-use Rattle.mrp_view.specs.declared.view.OutgoingLane.{OutgoingLane}
-use Rattle.mrp_view.specs.Loads.{bare, call_of, load_at, no_load}
-use Rattle.mrp_view.specs.Seen.{IsOwnPair, HasCall, IsScheduleLane}
+use Rattle.mrp_plant_view.specs.declared.view.Call.{Call}
+use Rattle.mrp_plant_view.specs.declared.view.OutgoingItem.{OutgoingItem}
+use Rattle.mrp_plant_view.specs.declared.view.OutgoingLane.{OutgoingLane}
+use Rattle.mrp_plant_view.specs.Loads.{bare, call_of, load_at, no_load}
+use Rattle.mrp_plant_view.specs.Seen.{IsOwnPair, HasCall, IsScheduleLane}
 use Rattle.mrp_record.specs.declared.record.Record.{Record}
 use Rattle.mrp_book.specs.Figures.{Figures}
 use Rattle.mrp_record.specs.declared.remainder.Remainder.{Remainder}

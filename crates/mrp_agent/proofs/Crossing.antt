@@ -1,7 +1,7 @@
 -- An agent may go to another thread, and threads may share one.
 use denote.Param.Send.{IsSend, IsSync, recorded_send, struct_send, struct_sync, view_send}
 use denote.Struct.Declared.{shape}
-use Rattle.mrp_view.proofs.Crossing.{frame_send, frame_sync}
+use Rattle.mrp_plant_view.proofs.Crossing.{frame_send, frame_sync}
 use Rattle.mrp_agent.proofs.parts.Amounts.TheSendSync as amounts
 use Rattle.mrp_agent.proofs.parts.Lanes.TheSendSync as lanes
 use Rattle.mrp_agent.proofs.parts.Structure.TheSendSync as structure

@@ -8,20 +8,20 @@ use Rattle.std.proofs.lemmas.List.Sums.{get_or-le-sum_by, passes_at_first}
 use Rattle.mrp_qty.specs.declared.quantity.TheConstants.{MOST}
 use Rattle.mrp_lot.specs.One.{PlanRows, one}
 use Rattle.mrp_lot.specs.Bound.{IsWithin}
-use Rattle.mrp_rows.specs.Table.{Table}
+use Rattle.mrp_table_rows.specs.Table.{Table}
 use Rattle.mrp_net.specs.declared.lane.LaneKind.TheVariants.{Schedule}
 use Rattle.mrp_net.proofs.Members.{Contains-from_in}
-use Rattle.mrp_view.specs.declared.view.PlantPair.{PlantPair}
-use Rattle.mrp_view.specs.Seen.{IsOwnPair}
-use Rattle.mrp_view.specs.View.{PlantRows, is_of_plant, plant_pair, plant_pairs, plant_rows}
+use Rattle.mrp_plant_view.specs.declared.view.PlantPair.{PlantPair}
+use Rattle.mrp_plant_view.specs.Seen.{IsOwnPair}
+use Rattle.mrp_plant_view.specs.View.{PlantRows, is_of_plant, plant_pair, plant_pairs, plant_rows}
 use Rattle.mrp_loops.specs.Sized.{IsSized}
 use Rattle.mrp_loops.specs.Order.{pair_of}
 use Rattle.mrp_record.specs.declared.record.Record.{Record}
-use Rattle.mrp_events.specs.State.{State}
-use Rattle.mrp_events.specs.LocalLaws.{IsPairAt, IsReadyAt}
-use Rattle.mrp_events.specs.LocalPlans.{amount_at, asked_within, booked_on, local_incoming, local_gross, local_row}
-use Rattle.mrp_events.proofs.LocalPlanned as network
-use Rattle.mrp_events.proofs.Seeing.{sees_pair}
+use Rattle.mrp_protocol.specs.State.{State}
+use Rattle.mrp_protocol.specs.LocalLaws.{IsPairAt, IsReadyAt}
+use Rattle.mrp_protocol.specs.LocalPlans.{amount_at, asked_within, booked_on, local_incoming, local_gross, local_row}
+use Rattle.mrp_protocol.proofs.LocalPlanned as network
+use Rattle.mrp_protocol.proofs.Seeing.{sees_pair}
 use Rattle.mrp_agent.specs.State.{AgentState, pair_owned, pair_place, plans_of, no_plant_pair}
 use Rattle.mrp_agent.specs.Shows.{up_to_last}
 use Rattle.mrp_agent.specs.InNetwork.{WorksIn}

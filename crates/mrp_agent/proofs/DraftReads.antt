@@ -2,7 +2,7 @@
 use Rattle.std.proofs.Common.{◌≡◌, ℕ, List, length, sym, ap, ◌∙◌, subst}
 use Rattle.mrp_lot.specs.One.{PlanRows, one}
 use Rattle.mrp_lot.specs.declared.params.PairParams.{PairParams}
-use Rattle.mrp_rows.specs.declared.numbers.PairNo.{PairNo}
+use Rattle.mrp_table_rows.specs.declared.numbers.PairNo.{PairNo}
 use Rattle.mrp_agent.specs.declared.edges.ParentEdge.{ParentEdge}
 use Rattle.mrp_agent.specs.Asking.{HasDraft, grossed}
 use Rattle.mrp_agent.specs.Drafts.{CanDraft, drafted}

@@ -9,13 +9,13 @@ use Rattle.std.proofs.lemmas.List.Elements.{All-head, All-tail, All-filter, All-
 use Rattle.std.proofs.lemmas.List.Sums.{sum_by-cons, passes_at_first}
 use Rattle.mrp_lot.specs.One.{one}
 use Rattle.mrp_lot.specs.Bound.{IsWithin}
-use Rattle.mrp_rows.specs.declared.numbers.PairNo.{PairNo}
+use Rattle.mrp_table_rows.specs.declared.numbers.PairNo.{PairNo}
 use Rattle.mrp_net.specs.Plan.{no_rows}
-use Rattle.mrp_view.specs.declared.view.PlantEdge.{PlantEdge}
-use Rattle.mrp_view.specs.declared.view.PlantPair.{PlantPair}
-use Rattle.mrp_view.specs.Seen.{IsView, IsOwnPair, IsPlantEdge}
-use Rattle.mrp_view.specs.View.{PlantRows}
-use Rattle.mrp_events.specs.LocalPlans.{amount_at, asked_within}
+use Rattle.mrp_plant_view.specs.declared.view.PlantEdge.{PlantEdge}
+use Rattle.mrp_plant_view.specs.declared.view.PlantPair.{PlantPair}
+use Rattle.mrp_plant_view.specs.Seen.{IsView, IsOwnPair, IsPlantEdge}
+use Rattle.mrp_plant_view.specs.View.{PlantRows}
+use Rattle.mrp_protocol.specs.LocalPlans.{amount_at, asked_within}
 use Rattle.mrp_agent.specs.declared.edges.ParentEdge.{ParentEdge}
 use Rattle.mrp_agent.specs.State.{AgentState, pair_place, pair_owned, plans_of, no_plant_pair}
 use Rattle.mrp_agent.specs.Asking.{asked_by, asked_on, ParentCanAsk, HasDraft, grossed}

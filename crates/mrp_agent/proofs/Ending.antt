@@ -4,13 +4,13 @@ use Rattle.std.proofs.Common.{length, get_or, position, refl, sym, ap, ◌∙◌
 use Rattle.std.specs.List.{count_by, sum_by, flat_map}
 use Rattle.std.proofs.lemmas.Bool.{cases_Bool, eq-eqb, ne_eqb, or_right}
 use Rattle.std.proofs.lemmas.List.Sums.{sum_by-cons, sum_by-append}
-use Rattle.mrp_rows.specs.declared.numbers.ItemNo.{ItemNo}
-use Rattle.mrp_rows.specs.declared.numbers.PairNo.{PairNo}
-use Rattle.mrp_view.specs.declared.view.IncomingItem.{IncomingItem}
-use Rattle.mrp_view.specs.declared.view.IncomingLane.{IncomingLane}
-use Rattle.mrp_view.specs.Seen.{IsView, IsOwnOf, IsIncomingLane}
-use Rattle.mrp_view.specs.View.{PlantRows}
-use Rattle.mrp_view.proofs.Once.{one, none, count-map}
+use Rattle.mrp_table_rows.specs.declared.numbers.ItemNo.{ItemNo}
+use Rattle.mrp_table_rows.specs.declared.numbers.PairNo.{PairNo}
+use Rattle.mrp_plant_view.specs.declared.view.IncomingItem.{IncomingItem}
+use Rattle.mrp_plant_view.specs.declared.view.IncomingLane.{IncomingLane}
+use Rattle.mrp_plant_view.specs.Seen.{IsView, IsOwnOf, IsIncomingLane}
+use Rattle.mrp_plant_view.specs.View.{PlantRows}
+use Rattle.mrp_plant_view.proofs.Once.{one, none, count-map}
 use Rattle.mrp_record.specs.declared.record.Record.{Record}
 use Rattle.mrp_record.specs.declared.record.Record.TheVariants.{Line, ItemEnd, Reset, Close}
 use Rattle.mrp_record.specs.Entries.{LineOf, EndOf, ResetOf, content, contents, is_ended}

@@ -1,21 +1,21 @@
 -- What is legal on a lane that comes in is in the form by which its receiver books it.
 use Rattle.std.proofs.Common.{◌≡◌, ℕ, Bool, List, sym, ap, ◌∙◌, subst, Contains}
-use Rattle.mrp_rows.specs.Table.{Table, horizon}
+use Rattle.mrp_table_rows.specs.Table.{Table, horizon}
 use Rattle.mrp_net.specs.Lanes.{lane_at}
 use Rattle.mrp_net.proofs.Routing.{map-map}
 use Rattle.mrp_net.specs.LaneLaws.{is_schedule}
-use Rattle.mrp_view.specs.declared.view.IncomingLane.{IncomingLane}
-use Rattle.mrp_view.specs.View.{PlantRows, incoming_lane, incoming_lanes, plant_rows}
+use Rattle.mrp_plant_view.specs.declared.view.IncomingLane.{IncomingLane}
+use Rattle.mrp_plant_view.specs.View.{PlantRows, incoming_lane, incoming_lanes, plant_rows}
 use Rattle.mrp_loops.specs.Sized.{IsSized}
 use Rattle.mrp_record.specs.declared.record.Record.{Record}
 use Rattle.mrp_record.specs.Form.{FormItem, LaneForm, IsInForm}
 use Rattle.mrp_record.specs.Text.{IsBeginning}
 use Rattle.mrp_book.specs.Figures.{book_form_item}
-use Rattle.mrp_events.specs.LoadLaws.{lane_form}
-use Rattle.mrp_events.specs.Loads.{loads}
-use Rattle.mrp_events.specs.Seen.{seen_form}
-use Rattle.mrp_events.proofs.Sending.{forms_are_seen}
-use Rattle.mrp_events.proofs.Small.{legal_is_in_form}
+use Rattle.mrp_protocol.specs.LoadLaws.{lane_form}
+use Rattle.mrp_protocol.specs.Loads.{loads}
+use Rattle.mrp_protocol.specs.Seen.{seen_form}
+use Rattle.mrp_protocol.proofs.Sending.{forms_are_seen}
+use Rattle.mrp_protocol.proofs.Small.{legal_is_in_form}
 use Rattle.mrp_agent.specs.Shows.{book_item, form_of}
 use Rattle.mrp_agent.specs.State.{incoming_at, incoming_place}
 use Rattle.mrp_agent.proofs.Placed.{in_placed}

@@ -10,15 +10,15 @@ use Rattle.std.proofs.lemmas.Option.{slice_get-get_or}
 use Rattle.mrp_net.specs.declared.lane.LaneKind.{LaneKind}
 use Rattle.mrp_net.specs.declared.lane.LaneKind.TheVariants.{Despatch, Schedule}
 use Rattle.mrp_net.specs.declared.lane.Shipment.{Shipment}
-use Rattle.mrp_view.specs.declared.view.IncomingLane.{IncomingLane}
-use Rattle.mrp_view.specs.declared.view.OutgoingLane.{OutgoingLane}
-use Rattle.mrp_view.specs.Loads.{OutgoingLoad, call_of, load_at, no_load}
-use Rattle.mrp_view.specs.Seen.{IsView, IsOutgoingLane, IsScheduleLane, lane_before, despatched_item}
-use Rattle.mrp_view.proofs.Once.{count-map}
+use Rattle.mrp_plant_view.specs.declared.view.IncomingLane.{IncomingLane}
+use Rattle.mrp_plant_view.specs.declared.view.OutgoingLane.{OutgoingLane}
+use Rattle.mrp_plant_view.specs.Loads.{OutgoingLoad, call_of, load_at, no_load}
+use Rattle.mrp_plant_view.specs.Seen.{IsView, IsOutgoingLane, IsScheduleLane, lane_before, despatched_item}
+use Rattle.mrp_plant_view.proofs.Once.{count-map}
 use Rattle.mrp_record.specs.declared.record.Record.{Record}
 use Rattle.mrp_record.specs.Entries.{Delivery, contents, cum}
 use Rattle.mrp_record.specs.Form.{FormItem, LaneForm, item_on}
-use Rattle.mrp_events.specs.Loads.{delivery_of, delivery_in, has_pieces}
+use Rattle.mrp_protocol.specs.Loads.{delivery_of, delivery_in, has_pieces}
 use Rattle.mrp_book.specs.declared.item.ItemFigure.{ItemFigure}
 use Rattle.mrp_book.specs.Faults.{find_item}
 use Rattle.mrp_book.specs.Figures as book
@@ -26,7 +26,7 @@ use Rattle.mrp_book.specs.Figures.{Figures}
 use Rattle.mrp_book.proofs.Showing.{shown}
 use Rattle.mrp_record.specs.Next.{IsWhatIsLeft, IsNextLine, IsRemainder}
 use Rattle.mrp_record.proofs.Lists.{drop_there, none_there}
-use Rattle.mrp_events.specs.Goods.{called_for, by_period_from, goods_of, goods_by}
+use Rattle.mrp_protocol.specs.Goods.{called_for, by_period_from, goods_of, goods_by}
 use Rattle.mrp_agent.specs.State.{AgentState, incoming_at, incoming_place, outgoing_at, book_at, out_at, plans_of, no_incoming}
 use Rattle.mrp_agent.specs.Sending.{booked_figure, figure_in, next_shipment, shipment_line, call_line, remainder, remainder_by, left_at}
 use Rattle.mrp_agent.specs.Shows.{BooksShow, form_of, book_item}

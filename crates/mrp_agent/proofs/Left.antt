@@ -6,32 +6,32 @@ use Rattle.std.proofs.lemmas.Bool.{eq-eqb, eqb-true}
 use Rattle.std.proofs.lemmas.List.{get_or-map, length-map}
 use Rattle.std.proofs.lemmas.List.Elements.{All-map}
 use Rattle.std.proofs.lemmas.Option.{slice_get-get_or}
-use Rattle.mrp_rows.specs.declared.numbers.ItemNo.{ItemNo}
-use Rattle.mrp_rows.specs.Table.{Table, IsTable}
+use Rattle.mrp_table_rows.specs.declared.numbers.ItemNo.{ItemNo}
+use Rattle.mrp_table_rows.specs.Table.{Table, IsTable}
 use Rattle.mrp_net.specs.declared.lane.Lane.{Lane}
 use Rattle.mrp_net.specs.declared.lane.LaneKind.TheVariants.{Schedule}
 use Rattle.mrp_net.specs.Lanes.{lane_at, lane_items, pair_on}
 use Rattle.mrp_net.proofs.Behind.{items_have_sources}
 use Rattle.mrp_net.proofs.Members.{In, In-append_right}
-use Rattle.mrp_view.specs.declared.view.Call.{Call}
-use Rattle.mrp_view.specs.declared.view.OutgoingLane.{OutgoingLane}
-use Rattle.mrp_view.specs.Loads as view
-use Rattle.mrp_view.specs.View.{goes_from, lane_numbers, outgoing_item, outgoing_lane, outgoing_lanes}
-use Rattle.mrp_view.proofs.Calling.{call_seen}
+use Rattle.mrp_plant_view.specs.declared.view.Call.{Call}
+use Rattle.mrp_plant_view.specs.declared.view.OutgoingLane.{OutgoingLane}
+use Rattle.mrp_plant_view.specs.Loads as view
+use Rattle.mrp_plant_view.specs.View.{goes_from, lane_numbers, outgoing_item, outgoing_lane, outgoing_lanes}
+use Rattle.mrp_plant_view.proofs.Calling.{call_seen}
 use Rattle.mrp_record.specs.declared.record.Record.{Record}
 use Rattle.mrp_record.specs.Entries.{Entry, LineOf, EndOf, ResetOf, Closing, content, contents, is_of}
 use Rattle.mrp_record.specs.Text.{Load, IsBeginning, text_of}
 use Rattle.mrp_record.proofs.Beginnings.{contents_parts}
 use Rattle.mrp_record.proofs.Own.{AllOf, AllOf-block}
 use Rattle.mrp_record.proofs.Standing.{IsWithin, stands}
-use Rattle.mrp_events.specs.Loads.{loads, load_of}
-use Rattle.mrp_events.specs.State.{IsDecided}
-use Rattle.mrp_events.proofs.Going.{AllOf_at, item_of_load, from_order}
+use Rattle.mrp_protocol.specs.Loads.{loads, load_of}
+use Rattle.mrp_protocol.specs.State.{IsDecided}
+use Rattle.mrp_protocol.proofs.Going.{AllOf_at, item_of_load, from_order}
 use Rattle.mrp_record.specs.Cursor as cursor
 use Rattle.mrp_record.specs.Cursor.{OutFigures, Goods}
 use Rattle.mrp_record.specs.CursorLaws.{IsQueued, MaySend}
-use Rattle.mrp_events.specs.Goods.{IsSendable}
-use Rattle.mrp_events.specs.LocalLaws.{HasGoods}
+use Rattle.mrp_protocol.specs.Goods.{IsSendable}
+use Rattle.mrp_protocol.specs.LocalLaws.{HasGoods}
 
 -- ---- what a record is of
 

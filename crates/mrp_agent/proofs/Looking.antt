@@ -5,7 +5,7 @@ use Rattle.std.specs.List.{Contains, count_by, position_or_len}
 use Rattle.std.proofs.lemmas.Bool.{cases_Bool, cases_lt, lt-ltb, ltb-true}
 use Rattle.std.proofs.lemmas.Bool.Decides.{nat_tests}
 use Rattle.std.proofs.lemmas.List.Sums.{fails_before_first, sum_by-cons, get_or-le-sum_by}
-use Rattle.mrp_view.proofs.Once.{one, none}
+use Rattle.mrp_plant_view.proofs.Once.{one, none}
 
 -- a place is in the list or just past its end
 pub place_bound : {X : Type 0} (p : X → Bool) (xs : List X) → position_or_len p xs ≤ length xs

@@ -6,14 +6,14 @@ use Rattle.std.proofs.lemmas.List.{length-set}
 use Rattle.std.proofs.lemmas.List.Elements.{All-filter, All-map}
 use Rattle.std.proofs.lemmas.List.FromFn.{get_or-map-range_with_len, length-map-range_with_len}
 use Rattle.std.proofs.lemmas.Option.{get_or_from_slice_get}
-use Rattle.mrp_rows.specs.declared.numbers.ItemNo.{ItemNo}
+use Rattle.mrp_table_rows.specs.declared.numbers.ItemNo.{ItemNo}
 use Rattle.mrp_net.specs.declared.lane.LaneKind.{LaneKind}
 use Rattle.mrp_net.specs.declared.lane.LaneKind.TheVariants.{Despatch, Schedule}
-use Rattle.mrp_view.specs.declared.view.OutgoingLane.{OutgoingLane}
-use Rattle.mrp_view.specs.declared.view.PlantEdge.{PlantEdge}
-use Rattle.mrp_view.specs.Seen.{IsPlantEdge}
+use Rattle.mrp_plant_view.specs.declared.view.OutgoingLane.{OutgoingLane}
+use Rattle.mrp_plant_view.specs.declared.view.PlantEdge.{PlantEdge}
+use Rattle.mrp_plant_view.specs.Seen.{IsPlantEdge}
 use Rattle.mrp_record.specs.Cursor.{OutFigures}
-use Rattle.mrp_rows.proofs.Sorting.{IsGrouped-within}
+use Rattle.mrp_table_rows.proofs.Sorting.{IsGrouped-within}
 use Rattle.mrp_agent.specs.declared.join.Join.{Join}
 use Rattle.mrp_agent.specs.Counts.{components_of, open_blocks}
 use Rattle.mrp_agent.specs.Progress.{IsFree, Progress, times}

@@ -1,20 +1,20 @@
 -- An agent's plans are those of the network, and what it sends is what the network's lanes carry.
 use Rattle.std.proofs.Common.{◌≡◌, ℕ, ◌<◌, length, sym, subst}
 use Rattle.std.specs.List.{All, Contains}
-use Rattle.mrp_rows.specs.Table.{Table}
+use Rattle.mrp_table_rows.specs.Table.{Table}
 use Rattle.mrp_net.specs.Lanes.{lane_at}
-use Rattle.mrp_view.specs.declared.view.OutgoingLane.{OutgoingLane}
-use Rattle.mrp_view.specs.View.{PlantRows, outgoing_lane}
+use Rattle.mrp_plant_view.specs.declared.view.OutgoingLane.{OutgoingLane}
+use Rattle.mrp_plant_view.specs.View.{PlantRows, outgoing_lane}
 use Rattle.mrp_loops.specs.Sized.{IsSized}
-use Rattle.mrp_events.specs.Loads.{loads}
-use Rattle.mrp_events.specs.State.{State}
-use Rattle.mrp_events.proofs.Small.{loads_stand_once}
+use Rattle.mrp_protocol.specs.Loads.{loads}
+use Rattle.mrp_protocol.specs.State.{State}
+use Rattle.mrp_protocol.proofs.Small.{loads_stand_once}
 use Rattle.mrp_record.specs.CursorLaws.{Agrees}
-use Rattle.mrp_events.specs.Goods.{goods_of, IsSendable}
-use Rattle.mrp_events.specs.LocalLaws.{HasGoods, HasSmallGoods, PlansLocally, QueuesSendable}
-use Rattle.mrp_events.specs.LocalPlans.{IsLocal}
-use Rattle.mrp_events.proofs.LocalPlanned.{local_plans_are_the_plan}
-use Rattle.mrp_events.proofs.LocalSending.{local_goods_are_the_loads, local_goods_agree, local_goods_are_small}
+use Rattle.mrp_protocol.specs.Goods.{goods_of, IsSendable}
+use Rattle.mrp_protocol.specs.LocalLaws.{HasGoods, HasSmallGoods, PlansLocally, QueuesSendable}
+use Rattle.mrp_protocol.specs.LocalPlans.{IsLocal}
+use Rattle.mrp_protocol.proofs.LocalPlanned.{local_plans_are_the_plan}
+use Rattle.mrp_protocol.proofs.LocalSending.{local_goods_are_the_loads, local_goods_agree, local_goods_are_small}
 use Rattle.mrp_agent.specs.State.{AgentState, outgoing_at, out_at, plans_of, no_outgoing}
 use Rattle.mrp_agent.specs.InNetwork.{WorksIn}
 use Rattle.mrp_agent.specs.Laws.{NothingLegalIsLeft, PlannedPairsHaveThePlan, SentIsLegal, SentIsWithin64}

@@ -7,16 +7,16 @@ use Rattle.std.proofs.lemmas.List.Elements.{Contains-get_or}
 use Rattle.std.proofs.lemmas.List.Sums.{passes_at_first}
 use Rattle.mrp_qty.specs.declared.quantity.TheConstants.{MOST}
 use Rattle.mrp_lot.specs.One.{one}
-use Rattle.mrp_rows.specs.declared.numbers.ItemNo.{ItemNo}
-use Rattle.mrp_rows.specs.declared.numbers.PairNo.{PairNo}
+use Rattle.mrp_table_rows.specs.declared.numbers.ItemNo.{ItemNo}
+use Rattle.mrp_table_rows.specs.declared.numbers.PairNo.{PairNo}
 use Rattle.mrp_net.specs.declared.lane.LaneKind.TheVariants.{Schedule}
 use Rattle.mrp_net.proofs.Members.{In, In-from_contains, In-map, In-flat_map, All-in, map_only}
-use Rattle.mrp_view.specs.declared.view.IncomingItem.{IncomingItem}
-use Rattle.mrp_view.specs.declared.view.IncomingLane.{IncomingLane}
-use Rattle.mrp_view.specs.declared.view.PlantEdge.{PlantEdge}
-use Rattle.mrp_view.specs.declared.view.PlantPair.{PlantPair}
-use Rattle.mrp_view.specs.Seen.{IsView, IsOwnPair, IsIncomingItem}
-use Rattle.mrp_view.specs.View.{PlantRows}
+use Rattle.mrp_plant_view.specs.declared.view.IncomingItem.{IncomingItem}
+use Rattle.mrp_plant_view.specs.declared.view.IncomingLane.{IncomingLane}
+use Rattle.mrp_plant_view.specs.declared.view.PlantEdge.{PlantEdge}
+use Rattle.mrp_plant_view.specs.declared.view.PlantPair.{PlantPair}
+use Rattle.mrp_plant_view.specs.Seen.{IsView, IsOwnPair, IsIncomingItem}
+use Rattle.mrp_plant_view.specs.View.{PlantRows}
 use Rattle.mrp_record.specs.declared.record.Record.{Record}
 use Rattle.mrp_record.specs.Entries.{contents, is_ended}
 use Rattle.mrp_agent.specs.declared.join.Join.{Join}
@@ -24,8 +24,9 @@ use Rattle.mrp_agent.specs.Counts.{Awaited}
 use Rattle.mrp_agent.specs.ReadinessLaws.{NothingIsOpen}
 use Rattle.mrp_agent.specs.Progress.{IsListed, is_planned}
 use Rattle.mrp_agent.proofs.Counting.{ready_where_nothing_is_open}
-use Rattle.mrp_events.specs.State.{changed}
-use Rattle.mrp_events.specs.LocalPlans.{amount_at, asked_within, booked_on, local_incoming, local_gross, local_plan, local_row, AwaitsNothing, Carries, HasCome}
+use Rattle.mrp_protocol.specs.State.{changed}
+use Rattle.mrp_protocol.specs.LocalPlans.{amount_at, asked_within, booked_on, local_incoming, local_gross}
+use Rattle.mrp_protocol.specs.LocalPlans.{local_plan, local_row, AwaitsNothing, Carries, HasCome}
 use Rattle.mrp_agent.specs.Drafts.{CanDraft, drafted}
 use Rattle.mrp_agent.specs.Kept.{Indexes, IsKept}
 use Rattle.mrp_agent.specs.Shows.{ShowsHistory, awaited, awaited_on, block_awaited, join_of, joins_of, up_to_last}

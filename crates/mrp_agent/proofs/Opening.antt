@@ -11,13 +11,13 @@ use Rattle.mrp_qty.specs.declared.quantity.TheConstants.{MOST}
 use Rattle.mrp_lot.specs.One.{PlanRows}
 use Rattle.mrp_net.specs.declared.lane.LaneKind.{LaneKind}
 use Rattle.mrp_net.specs.declared.lane.LaneKind.TheVariants.{Despatch, Schedule}
-use Rattle.mrp_view.specs.declared.view.IncomingItem.{IncomingItem}
-use Rattle.mrp_view.specs.declared.view.IncomingLane.{IncomingLane}
-use Rattle.mrp_view.specs.declared.view.OutgoingLane.{OutgoingLane}
-use Rattle.mrp_view.specs.declared.view.PlantEdge.{PlantEdge}
-use Rattle.mrp_view.specs.declared.view.PlantPair.{PlantPair}
-use Rattle.mrp_view.specs.Seen.{IsView, IsIncomingLane, IsPlantEdge}
-use Rattle.mrp_view.specs.View.{PlantRows}
+use Rattle.mrp_plant_view.specs.declared.view.IncomingItem.{IncomingItem}
+use Rattle.mrp_plant_view.specs.declared.view.IncomingLane.{IncomingLane}
+use Rattle.mrp_plant_view.specs.declared.view.OutgoingLane.{OutgoingLane}
+use Rattle.mrp_plant_view.specs.declared.view.PlantEdge.{PlantEdge}
+use Rattle.mrp_plant_view.specs.declared.view.PlantPair.{PlantPair}
+use Rattle.mrp_plant_view.specs.Seen.{IsView, IsIncomingLane, IsPlantEdge}
+use Rattle.mrp_plant_view.specs.View.{PlantRows}
 use Rattle.mrp_netting.specs.Plan.{nothing_planned}
 use Rattle.mrp_record.specs.declared.record.Record.{Record}
 use Rattle.mrp_record.specs.Form.{FormItem}
@@ -30,8 +30,8 @@ use Rattle.mrp_record.proofs.Lists.{range_below, range_has}
 use Rattle.mrp_agent.specs.declared.join.Join.{Join}
 use Rattle.mrp_agent.specs.Counts.{Awaited, AreCounts, open_blocks}
 use Rattle.mrp_agent.specs.Progress.{Progress, is_planned, times}
-use Rattle.mrp_events.specs.Goods.{goods_of, IsSendable}
-use Rattle.mrp_events.specs.LocalPlans.{amount_at, booked_on, lanes_in}
+use Rattle.mrp_protocol.specs.Goods.{goods_of, IsSendable}
+use Rattle.mrp_protocol.specs.LocalPlans.{amount_at, booked_on, lanes_in}
 use Rattle.mrp_agent.specs.State.{AgentState, incoming_at, outgoing_at, book_at, out_at, no_book, no_incoming, pair_place, plans_of}
 use Rattle.mrp_agent.specs.Shows.{ShowsHistory, OutShows, BooksShow, awaited, awaited_on, block_awaited, book_item, form_of, join_of, joins_of, up_to_last}
 use Rattle.mrp_agent.specs.Kept.{parent_edge, HasPlanRows, HasRooms, HasSmallItems, HasSmallOpenings, Indexes, AreIndexes, IsKept}

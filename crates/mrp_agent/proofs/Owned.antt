@@ -2,12 +2,12 @@
 use Rattle.std.proofs.Common.{ℕ, length}
 use Rattle.std.specs.List.{All, filter}
 use Rattle.std.proofs.lemmas.List.Elements.{All-map}
-use Rattle.mrp_rows.specs.Table.{Table}
+use Rattle.mrp_table_rows.specs.Table.{Table}
 use Rattle.mrp_net.specs.Lanes.{lanes, lane_at}
-use Rattle.mrp_view.specs.declared.view.IncomingLane.{IncomingLane}
-use Rattle.mrp_view.specs.declared.view.OutgoingLane.{OutgoingLane}
-use Rattle.mrp_view.specs.View.{comes_to, goes_from, lane_numbers, incoming_lane, incoming_lanes, outgoing_lane, outgoing_lanes}
-use Rattle.mrp_view.proofs.Seeing.{owned}
+use Rattle.mrp_plant_view.specs.declared.view.IncomingLane.{IncomingLane}
+use Rattle.mrp_plant_view.specs.declared.view.OutgoingLane.{OutgoingLane}
+use Rattle.mrp_plant_view.specs.View.{comes_to, goes_from, lane_numbers, incoming_lane, incoming_lanes, outgoing_lane, outgoing_lanes}
+use Rattle.mrp_plant_view.proofs.Seeing.{owned}
 use Rattle.mrp_agent.specs.OwnPart.{IsIn, IsOut}
 
 pub outgoing_are_out : (N : Table) (p : ℕ) → All (λ lane. IsOut N p lane.number.0) (outgoing_lanes N p)

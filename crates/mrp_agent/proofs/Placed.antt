@@ -4,10 +4,10 @@ use Rattle.std.specs.List.{filter}
 use Rattle.std.proofs.lemmas.Bool.{eqb-true, eq-eqb}
 use Rattle.std.proofs.lemmas.List.Elements.{All-map}
 use Rattle.std.proofs.lemmas.List.Sums.{passes_at_first}
-use Rattle.mrp_rows.specs.Table.{Table}
-use Rattle.mrp_view.specs.declared.view.IncomingLane.{IncomingLane}
-use Rattle.mrp_view.specs.declared.view.OutgoingLane.{OutgoingLane}
-use Rattle.mrp_view.specs.View.{PlantRows, comes_to, incoming_lane, incoming_lanes, lane_numbers, outgoing_lane, outgoing_lanes, plant_rows}
+use Rattle.mrp_table_rows.specs.Table.{Table}
+use Rattle.mrp_plant_view.specs.declared.view.IncomingLane.{IncomingLane}
+use Rattle.mrp_plant_view.specs.declared.view.OutgoingLane.{OutgoingLane}
+use Rattle.mrp_plant_view.specs.View.{PlantRows, comes_to, incoming_lane, incoming_lanes, lane_numbers, outgoing_lane, outgoing_lanes, plant_rows}
 use Rattle.mrp_agent.specs.State.{incoming_at, incoming_place, outgoing_at, outgoing_place, no_incoming, no_outgoing}
 use Rattle.mrp_agent.proofs.Looking.{place_found}
 

@@ -7,21 +7,21 @@ use Rattle.std.proofs.lemmas.List.{get_or-map, length-map}
 use Rattle.std.proofs.lemmas.List.Elements.{Contains-append_left, Contains-append_right, Contains-append_cases}
 use Rattle.std.proofs.lemmas.List.Quantifiers.{position-Some}
 use Rattle.mrp_lot.specs.One.{PlanRows}
-use Rattle.mrp_rows.specs.declared.numbers.ItemNo.{ItemNo}
-use Rattle.mrp_rows.specs.declared.numbers.PairNo.{PairNo}
+use Rattle.mrp_table_rows.specs.declared.numbers.ItemNo.{ItemNo}
+use Rattle.mrp_table_rows.specs.declared.numbers.PairNo.{PairNo}
 use Rattle.mrp_net.specs.declared.lane.LaneKind.{LaneKind}
 use Rattle.mrp_net.specs.declared.lane.LaneKind.TheVariants.{Despatch, Schedule}
-use Rattle.mrp_view.specs.declared.view.OutgoingLane.{OutgoingLane}
-use Rattle.mrp_view.specs.declared.view.PlantPair.{PlantPair}
-use Rattle.mrp_view.specs.Loads.{OutgoingLoad, call_of, load_at, no_load}
-use Rattle.mrp_view.specs.Seen.{IsView, IsOwnPair, IsOwnOf, IsOutgoingLane, IsScheduleLane}
-use Rattle.mrp_view.specs.View.{PlantRows}
+use Rattle.mrp_plant_view.specs.declared.view.OutgoingLane.{OutgoingLane}
+use Rattle.mrp_plant_view.specs.declared.view.PlantPair.{PlantPair}
+use Rattle.mrp_plant_view.specs.Loads.{OutgoingLoad, call_of, load_at, no_load}
+use Rattle.mrp_plant_view.specs.Seen.{IsView, IsOwnPair, IsOwnOf, IsOutgoingLane, IsScheduleLane}
+use Rattle.mrp_plant_view.specs.View.{PlantRows}
 use Rattle.mrp_record.specs.declared.record.Record.{Record}
 use Rattle.mrp_record.specs.Cursor.{OutFigures, Goods}
 use Rattle.mrp_record.specs.Shows.{ShowsSent}
 use Rattle.mrp_record.proofs.Queues.{queues_show, looks_at_queued}
-use Rattle.mrp_events.specs.State.{changed}
-use Rattle.mrp_events.specs.Goods.{by_period_from, goods_by, goods_of, schedule_goods, share, IsSendable}
+use Rattle.mrp_protocol.specs.State.{changed}
+use Rattle.mrp_protocol.specs.Goods.{by_period_from, goods_by, goods_of, schedule_goods, share, IsSendable}
 use Rattle.mrp_agent.specs.After.{place_of, queued_at, queued_by, settled_out}
 use Rattle.mrp_agent.proofs.Looking.{only_place, place_found, place_known}
 use Rattle.mrp_agent.proofs.Marked.{queued_size}

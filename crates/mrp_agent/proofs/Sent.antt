@@ -4,13 +4,13 @@ use Rattle.std.specs.List.{Contains}
 use Rattle.std.proofs.lemmas.Bool.{cases_eq, eq-eqb, ne_eqb}
 use Rattle.std.proofs.lemmas.List.{get_or-set_same, get_or-set_other, length-set}
 use Rattle.std.proofs.lemmas.List.Elements.{All-contains, Contains-get_or}
-use Rattle.mrp_rows.specs.declared.numbers.PairNo.{PairNo}
+use Rattle.mrp_table_rows.specs.declared.numbers.PairNo.{PairNo}
 use Rattle.mrp_net.specs.declared.lane.LaneKind.TheVariants.{Schedule}
 use Rattle.mrp_net.specs.Plan.{no_rows}
-use Rattle.mrp_view.specs.declared.view.OutgoingLane.{OutgoingLane}
-use Rattle.mrp_view.specs.declared.view.PlantPair.{PlantPair}
-use Rattle.mrp_view.specs.Loads.{call_of, load_at}
-use Rattle.mrp_view.specs.Seen.{IsView, IsOwnPair, IsOwnOf, IsScheduleLane}
+use Rattle.mrp_plant_view.specs.declared.view.OutgoingLane.{OutgoingLane}
+use Rattle.mrp_plant_view.specs.declared.view.PlantPair.{PlantPair}
+use Rattle.mrp_plant_view.specs.Loads.{call_of, load_at}
+use Rattle.mrp_plant_view.specs.Seen.{IsView, IsOwnPair, IsOwnOf, IsScheduleLane}
 use Rattle.mrp_record.specs.declared.record.Record.{Record}
 use Rattle.mrp_record.specs.declared.remainder.Remainder.{Remainder}
 use Rattle.mrp_record.specs.Cursor.{OutFigures}
@@ -20,8 +20,8 @@ use Rattle.mrp_record.proofs.Lists.{contains_there}
 use Rattle.mrp_record.proofs.Nothing.{none_is_left}
 use Rattle.mrp_record.proofs.Steps.{steps_show, given_continues, steps_keep_places}
 use Rattle.mrp_record.proofs.Texts.{queued_are_places}
-use Rattle.mrp_events.specs.State.{changed}
-use Rattle.mrp_events.specs.Goods.{IsSendable}
+use Rattle.mrp_protocol.specs.State.{changed}
+use Rattle.mrp_protocol.specs.Goods.{IsSendable}
 use Rattle.mrp_agent.specs.State.{AgentState, outgoing_at, out_at, pair_place, plans_of, no_out, no_outgoing}
 use Rattle.mrp_agent.specs.After.{after_sent}
 use Rattle.mrp_agent.specs.Kept.{AreCursors, HasPlanRows, HasRooms, HasTaken, Indexes, IsKept}

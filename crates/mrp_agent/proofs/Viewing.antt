@@ -3,13 +3,13 @@ use Rattle.std.proofs.Common.{ℕ, ◌≤◌, get_or}
 use Rattle.std.specs.List.{filter}
 use Rattle.std.proofs.lemmas.List.Elements.{All-map, Contains-get_or}
 use Rattle.mrp_qty.specs.declared.quantity.TheConstants.{MOST}
-use Rattle.mrp_rows.specs.Table.{Table}
+use Rattle.mrp_table_rows.specs.Table.{Table}
 use Rattle.mrp_net.specs.Lanes.{lane_at, lane_items}
-use Rattle.mrp_view.specs.declared.view.IncomingItem.{IncomingItem}
-use Rattle.mrp_view.specs.View.{comes_to, incoming_item, incoming_lane, lane_numbers, plant_rows}
-use Rattle.mrp_view.proofs.Views.{views_say_enough}
+use Rattle.mrp_plant_view.specs.declared.view.IncomingItem.{IncomingItem}
+use Rattle.mrp_plant_view.specs.View.{comes_to, incoming_item, incoming_lane, lane_numbers, plant_rows}
+use Rattle.mrp_plant_view.proofs.Views.{views_say_enough}
 use Rattle.mrp_loops.specs.Sized.{IsSized}
-use Rattle.mrp_events.proofs.Small.{openings_are_small}
+use Rattle.mrp_protocol.proofs.Small.{openings_are_small}
 use Rattle.mrp_agent.specs.Kept.{HasSmallItems, HasSmallOpenings}
 use Rattle.mrp_agent.specs.Laws.{ViewsCanBePlanned}
 

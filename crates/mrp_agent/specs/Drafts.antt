@@ -2,10 +2,10 @@
 use Rattle.std.specs.Prelude.{ℕ, ◌+◌, List, map, Contains}
 use Rattle.mrp_lot.specs.One.{PlanRows, one}
 use Rattle.mrp_lot.specs.Bound.{IsWithin}
-use Rattle.mrp_rows.specs.declared.numbers.PairNo.{PairNo}
-use Rattle.mrp_view.specs.Seen.{IsOwnPair}
+use Rattle.mrp_table_rows.specs.declared.numbers.PairNo.{PairNo}
+use Rattle.mrp_plant_view.specs.Seen.{IsOwnPair}
 use Rattle.mrp_agent.specs.Chosen.{number_at}
-use Rattle.mrp_events.specs.LocalPlans.{amount_at, asked_within, local_row}
+use Rattle.mrp_protocol.specs.LocalPlans.{amount_at, asked_within, local_row}
 use Rattle.mrp_agent.specs.State.{AgentState, plans_of, pair_owned}
 
 -- what comes in of a pair, and what is asked for: beside the parents what has come, and what their plans release

@@ -1,10 +1,10 @@
 -- Laws of agents in a network: what they plan is its plan, and what they send is what its lanes carry.
 use Rattle.std.specs.Prelude.{◌≡◌, ℕ, ◌<◌, true, [], ◌∷◌, ◌++◌, length}
 use Rattle.mrp_lot.specs.Bound.{IsWithin}
-use Rattle.mrp_rows.specs.Table.{Table, IsTable}
+use Rattle.mrp_table_rows.specs.Table.{Table, IsTable}
 use Rattle.mrp_net.specs.Lanes.{lane_at}
-use Rattle.mrp_view.specs.Seen.{IsView}
-use Rattle.mrp_view.specs.View.{plant_rows}
+use Rattle.mrp_plant_view.specs.Seen.{IsView}
+use Rattle.mrp_plant_view.specs.View.{plant_rows}
 use Rattle.mrp_loops.specs.Loop.{IsLoopFree}
 use Rattle.mrp_loops.specs.Sized.{IsSized}
 use Rattle.mrp_loops.specs.Within.{plan_at}
@@ -12,9 +12,9 @@ use Rattle.mrp_loops.specs.Order.{pair_of}
 use Rattle.mrp_record.specs.declared.record.Record.{Record}
 use Rattle.mrp_record.specs.Entries.{content}
 use Rattle.mrp_record.specs.Text.{IsBeginning}
-use Rattle.mrp_events.specs.Loads.{loads}
-use Rattle.mrp_events.specs.State.{State, IsDecided}
-use Rattle.mrp_events.specs.LocalLaws.{IsPairAt, IsReadyAt}
+use Rattle.mrp_protocol.specs.Loads.{loads}
+use Rattle.mrp_protocol.specs.State.{State, IsDecided}
+use Rattle.mrp_protocol.specs.LocalLaws.{IsPairAt, IsReadyAt}
 use Rattle.mrp_agent.specs.State.{AgentState, outgoing_at, plans_of, pair_owned}
 use Rattle.mrp_agent.specs.Sending.{ContinuesSent, NothingContinues, IsWithin64}
 use Rattle.mrp_agent.specs.Kept.{HasSmallOpenings}

@@ -3,10 +3,10 @@ use Rattle.std.specs.Prelude.{◌≡◌, ℕ, ◌<◌, ◌^◌, false, List, [],
 use Rattle.std.specs.List.{flat_map, range_with_len}
 use Rattle.mrp_net.specs.declared.lane.LaneKind.{LaneKind}
 use Rattle.mrp_net.specs.declared.lane.LaneKind.TheVariants.{Despatch, Schedule}
-use Rattle.mrp_view.specs.declared.view.IncomingItem.{IncomingItem}
-use Rattle.mrp_view.specs.declared.view.IncomingLane.{IncomingLane}
-use Rattle.mrp_view.specs.declared.view.OutgoingLane.{OutgoingLane}
-use Rattle.mrp_view.specs.View.{PlantRows}
+use Rattle.mrp_plant_view.specs.declared.view.IncomingItem.{IncomingItem}
+use Rattle.mrp_plant_view.specs.declared.view.IncomingLane.{IncomingLane}
+use Rattle.mrp_plant_view.specs.declared.view.OutgoingLane.{OutgoingLane}
+use Rattle.mrp_plant_view.specs.View.{PlantRows}
 use Rattle.mrp_book.specs.Figures as book
 use Rattle.mrp_book.specs.Figures.{Figures}
 use Rattle.mrp_record.specs.Cursor.{OutFigures, Goods}

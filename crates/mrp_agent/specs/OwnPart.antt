@@ -1,9 +1,9 @@
 -- The part of a state that is a plant's own: its lanes and its pairs.
 use Rattle.std.specs.Prelude.{◌≡◌, ℕ, ◌<◌, length}
-use Rattle.mrp_rows.specs.Table.{Table}
+use Rattle.mrp_table_rows.specs.Table.{Table}
 use Rattle.mrp_net.specs.Lanes.{lanes, lane_at}
-use Rattle.mrp_events.specs.LocalLaws.{IsPairAt}
-use Rattle.mrp_events.specs.State.{State}
+use Rattle.mrp_protocol.specs.LocalLaws.{IsPairAt}
+use Rattle.mrp_protocol.specs.State.{State}
 
 -- the plant sends the lane
 pub record IsOut (N : Table) (p l : ℕ) : Type 0 where

@@ -1,6 +1,6 @@
 -- The rows of the pair at a place: its part of the amounts by pairs and periods, and its edges.
 use Rattle.std.specs.Prelude.{ℕ, ◌+◌, ◌*◌, ◌==◌, List, map, filter, slice_range}
-use Rattle.mrp_view.specs.View.{PlantRows}
+use Rattle.mrp_plant_view.specs.View.{PlantRows}
 use Rattle.mrp_agent.specs.declared.edges.ParentEdge.{ParentEdge}
 use Rattle.mrp_agent.specs.Kept.{parent_edge}
 

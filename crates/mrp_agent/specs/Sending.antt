@@ -5,16 +5,16 @@ use Rattle.std.specs.List.{range_with_len}
 use Rattle.mrp_net.specs.declared.lane.LaneKind.{LaneKind}
 use Rattle.mrp_net.specs.declared.lane.LaneKind.TheVariants.{Despatch, Schedule}
 use Rattle.mrp_net.specs.declared.lane.Shipment.{Shipment}
-use Rattle.mrp_view.specs.declared.view.Call.{Call}
-use Rattle.mrp_view.specs.declared.view.OutgoingLane.{OutgoingLane}
-use Rattle.mrp_view.specs.declared.view.OutgoingItem.{OutgoingItem}
-use Rattle.mrp_view.specs.Loads.{OutgoingLoad, bare, call_of, load_at}
+use Rattle.mrp_plant_view.specs.declared.view.Call.{Call}
+use Rattle.mrp_plant_view.specs.declared.view.OutgoingLane.{OutgoingLane}
+use Rattle.mrp_plant_view.specs.declared.view.OutgoingItem.{OutgoingItem}
+use Rattle.mrp_plant_view.specs.Loads.{OutgoingLoad, bare, call_of, load_at}
 use Rattle.mrp_record.specs.declared.record.Record.{Record}
 use Rattle.mrp_record.specs.Entries.{Delivery, content}
 use Rattle.mrp_record.specs.Laws.{AreLoads}
 use Rattle.mrp_record.specs.Text as lane
 use Rattle.mrp_record.specs.Text.{IsBeginning}
-use Rattle.mrp_events.specs.Loads.{delivery_in, has_pieces}
+use Rattle.mrp_protocol.specs.Loads.{delivery_in, has_pieces}
 use Rattle.mrp_book.specs.declared.item.ItemFigure.{ItemFigure}
 use Rattle.mrp_book.specs.Faults.{find_item}
 use Rattle.mrp_book.specs.Figures.{Figures}
@@ -23,7 +23,7 @@ use Rattle.mrp_record.specs.declared.remainder.Remainder.{Remainder}
 use Rattle.mrp_record.specs.Cursor.{Goods}
 use Rattle.mrp_record.specs.CursorLaws.{Agrees, IsBounded, MaySend}
 use Rattle.mrp_record.specs.Next.{next_record}
-use Rattle.mrp_events.specs.Goods.{goods_of, share}
+use Rattle.mrp_protocol.specs.Goods.{goods_of, share}
 use Rattle.mrp_agent.specs.State.{AgentState, book_at, out_at, incoming_place, outgoing_at, plans_of}
 
 -- the cumulative figure of an item in a book

@@ -1,7 +1,7 @@
 -- What calls of an agent's sending promise, for every history that it shows.
 use Rattle.std.specs.Prelude.{ℕ, Bool, List, [], ◌∷◌, ◌++◌}
 use Rattle.mrp_record.specs.declared.record.Record.{Record}
-use Rattle.mrp_events.specs.State.{changed}
+use Rattle.mrp_protocol.specs.State.{changed}
 use Rattle.mrp_agent.specs.State.{AgentState, outgoing_at}
 use Rattle.mrp_agent.specs.Sending.{ContinuesSent, NothingContinues, IsWithin64}
 use Rattle.mrp_agent.specs.Shows.{ShowsHistory}

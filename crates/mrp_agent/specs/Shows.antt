@@ -3,11 +3,11 @@
 use Rattle.std.specs.Prelude.{◌≡◌, ◌↔◌, ℕ, ◌+◌, ◌-◌, ◌<◌, ◌^◌, ◌==◌, ◌&&◌, min, Bool, List, length, map, Contains}
 use Rattle.std.specs.List.{flat_map, list_all}
 use Rattle.mrp_net.specs.declared.lane.LaneKind.TheVariants.{Schedule}
-use Rattle.mrp_view.specs.declared.view.IncomingItem.{IncomingItem}
-use Rattle.mrp_view.specs.declared.view.IncomingLane.{IncomingLane}
-use Rattle.mrp_view.specs.declared.view.PlantEdge.{PlantEdge}
-use Rattle.mrp_view.specs.declared.view.PlantPair.{PlantPair}
-use Rattle.mrp_view.specs.View.{PlantRows}
+use Rattle.mrp_plant_view.specs.declared.view.IncomingItem.{IncomingItem}
+use Rattle.mrp_plant_view.specs.declared.view.IncomingLane.{IncomingLane}
+use Rattle.mrp_plant_view.specs.declared.view.PlantEdge.{PlantEdge}
+use Rattle.mrp_plant_view.specs.declared.view.PlantPair.{PlantPair}
+use Rattle.mrp_plant_view.specs.View.{PlantRows}
 use Rattle.mrp_record.specs.declared.record.Record.{Record}
 use Rattle.mrp_record.specs.Entries.{contents, is_ended}
 use Rattle.mrp_record.specs.Form.{LaneForm}
@@ -17,9 +17,9 @@ use Rattle.mrp_record.specs.Shows.{ShowsSent}
 use Rattle.mrp_agent.specs.declared.join.Join.{Join}
 use Rattle.mrp_agent.specs.Counts.{Awaited, AreCounts, open_blocks}
 use Rattle.mrp_agent.specs.Progress.{is_planned, left_of}
-use Rattle.mrp_events.specs.LocalPlans.{amount_at, booked_on, local_incoming, IsLocal}
+use Rattle.mrp_protocol.specs.LocalPlans.{amount_at, booked_on, local_incoming, IsLocal}
 use Rattle.mrp_agent.specs.State.{AgentState, incoming_at, outgoing_at, book_at, out_at, pair_place, plans_of}
-use Rattle.mrp_events.specs.Goods.{goods_of, IsSendable}
+use Rattle.mrp_protocol.specs.Goods.{goods_of, IsSendable}
 
 -- ---- books
 

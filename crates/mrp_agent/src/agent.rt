@@ -10,9 +10,9 @@ use crate::places::LastPlaces;
 use mrp_book::Book;
 use mrp_net::{ItemNo, LaneNo, PairNo};
 use mrp_netting::PairPlan;
+use mrp_plant_view::{PlantFrame, PlantView};
 use mrp_qty::{Memory, Qty};
 use mrp_record::OutCursor;
-use mrp_view::{PlantFrame, PlantView};
 use std::alloc::Global;
 use std::marker::Model;
 
@@ -45,12 +45,12 @@ impl Model for Agent {
 impl Agent {
     ghost use Rattle.std.specs.Prelude.{◌↔◌, ℕ, Bool, IfNone, IsSome, IsTrue, List, slice_get, ◌≢◌, AllPairs, Contains};
     ghost use Rattle.std.specs.Prelude.{length};
-    ghost use Rattle.mrp_events.specs.State.{opening_state};
+    ghost use Rattle.mrp_protocol.specs.State.{opening_state};
     ghost use Rattle.mrp_agent.specs.Progress.{is_planned, left_of};
     ghost use Rattle.mrp_record.specs.declared.record.Record.{Record};
-    ghost use Rattle.mrp_view.specs.declared.view.PlantPair.{PlantPair};
-    ghost use Rattle.mrp_view.specs.Seen.{IsOwnPair, IsView};
-    ghost use Rattle.mrp_events.specs.LocalPlans.{CanBePlanned};
+    ghost use Rattle.mrp_plant_view.specs.declared.view.PlantPair.{PlantPair};
+    ghost use Rattle.mrp_plant_view.specs.Seen.{IsOwnPair, IsView};
+    ghost use Rattle.mrp_protocol.specs.LocalPlans.{CanBePlanned};
     ghost use Rattle.mrp_agent.specs.Drafts.{ready_numbers};
     ghost use Rattle.mrp_agent.specs.Kept.{HasSmallOpenings};
     ghost use Rattle.mrp_agent.specs.Reading.{HasDone, NoneCanBePlanned, OwnCanBePlanned, OwnIsPlanned, received_over};

@@ -9,8 +9,8 @@ use crate::places::ItemPlaces;
 use crate::{Agent, Readiness};
 use mrp_book::BookFault;
 use mrp_net::{LaneKind, LaneNo};
+use mrp_plant_view::{IncomingLane, PlantFrame};
 use mrp_record::Record;
-use mrp_view::{IncomingLane, PlantFrame};
 
 impl Agent {
     ghost use Rattle.std.specs.Prelude.{ℕ, List, [], ◌∷◌, ◌++◌, Bool, Some, IfErr, OnErr, OnOk};
@@ -18,7 +18,7 @@ impl Agent {
     ghost use Rattle.mrp_record.specs.Form.{IsInForm};
     ghost use Rattle.mrp_book.specs.Faults.{first_fault};
     ghost use Rattle.mrp_book.specs.Figures.{figures};
-    ghost use Rattle.mrp_events.specs.State.{changed};
+    ghost use Rattle.mrp_protocol.specs.State.{changed};
     ghost use Rattle.mrp_agent.specs.State.{incoming_place, incoming_at};
     ghost use Rattle.mrp_agent.specs.Shows.{ShowsHistory, BooksShow, form_of};
 

@@ -6,7 +6,7 @@ ghost use Rattle.mrp_qty.specs.declared.quantity.TheConstants.{MOST};
 ghost use Rattle.mrp_book.specs.Figures.{BookShows};
 ghost use Rattle.mrp_agent.specs.Counts.{AreCounts};
 ghost use Rattle.mrp_agent.specs.Progress.{times};
-ghost use Rattle.mrp_view.specs.Seen.{IsIncomingItem, IsIncomingLane};
+ghost use Rattle.mrp_plant_view.specs.Seen.{IsIncomingItem, IsIncomingLane};
 ghost use Rattle.mrp_agent.specs.Kept.{HasSmallItems};
 ghost use Rattle.mrp_agent.specs.Making.{AreFit, AreIdleOuts, new_figures, IsIdleOut, awaited_places, place_awaited};
 ghost use Rattle.mrp_agent.specs.Shows.{book_item, form_of};
@@ -14,9 +14,9 @@ ghost use Rattle.mrp_agent.specs.Shows.{book_item, form_of};
 use crate::{Join, PairNo, Readiness, first_waits};
 use mrp_book::{Book, BookItem};
 use mrp_net::LaneKind;
+use mrp_plant_view::{IncomingItem, IncomingLane, OutgoingLane, PlantFrame};
 use mrp_qty::{Memory, Qty};
 use mrp_record::OutCursor;
-use mrp_view::{IncomingItem, IncomingLane, OutgoingLane, PlantFrame};
 use std::alloc::{AllocError, Global};
 
 /// The book of each lane that comes in.

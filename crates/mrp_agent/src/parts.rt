@@ -3,7 +3,7 @@
 ghost use Rattle.std.specs.Prelude.{◌≡◌, IfOk, length, map, replicate};
 ghost use Rattle.std.specs.List.{range_with_len};
 ghost use Rattle.mrp_agent.specs.Counts.{components_of};
-ghost use Rattle.mrp_view.specs.Seen.{IsView};
+ghost use Rattle.mrp_plant_view.specs.Seen.{IsView};
 ghost use Rattle.mrp_agent.specs.Kept.{parent_edge};
 ghost use Rattle.mrp_agent.specs.Making.{IsFirstProgress};
 ghost use Rattle.mrp_agent.specs.Shows.{joins_of};
@@ -16,10 +16,10 @@ use crate::room::Room;
 use crate::{Components, Join, Readiness};
 use mrp_book::Book;
 use mrp_netting::{PairPlan, blank_plans};
+use mrp_plant_view::PlantFrame;
 use mrp_qty::Memory;
 use mrp_record::OutCursor;
-use mrp_rows::{Groups, group};
-use mrp_view::PlantFrame;
+use mrp_table_rows::{Groups, group};
 use std::alloc::Global;
 
 /// The pairs of a plant by their places: their items, their edges, and which of them can be planned.
@@ -32,7 +32,7 @@ pub(crate) struct Structure {
 }
 
 impl Structure {
-    ghost use Rattle.mrp_rows.specs.Starts.{IsGrouped};
+    ghost use Rattle.mrp_table_rows.specs.Starts.{IsGrouped};
 
     /// The pairs of a plant where nothing is planned and nothing has come.
     pub(crate) fn new(alloc: Global, view: &PlantFrame) -> Result<Structure, Memory>
@@ -120,7 +120,7 @@ pub(crate) struct Lanes {
 }
 
 impl Lanes {
-    ghost use Rattle.mrp_rows.specs.Starts.{IsGrouped};
+    ghost use Rattle.mrp_table_rows.specs.Starts.{IsGrouped};
     ghost use Rattle.mrp_agent.specs.After.{items_of};
     ghost use Rattle.mrp_agent.specs.Kept.{HasSmallOpenings};
     ghost use Rattle.mrp_agent.specs.Making.{AreIdleOuts, new_figures};

@@ -2,8 +2,8 @@
 
 ghost use Rattle.std.specs.Prelude.{◌≡◌, IfOk, map};
 
-use mrp_rows::{ItemNo, Places};
-use mrp_view::PlantPair;
+use mrp_plant_view::PlantPair;
+use mrp_table_rows::{ItemNo, Places};
 use std::alloc::{AllocError, Global};
 use std::marker::Model;
 
@@ -15,7 +15,7 @@ pub(crate) struct ItemPlaces {
 
 impl Model for ItemPlaces {
     ghost use Rattle.std.specs.Prelude.{List};
-    ghost use Rattle.mrp_rows.specs.declared.numbers.ItemNo.{ItemNo};
+    ghost use Rattle.mrp_table_rows.specs.declared.numbers.ItemNo.{ItemNo};
 
     ghost Value = { List ItemNo };
 

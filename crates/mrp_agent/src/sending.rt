@@ -2,7 +2,7 @@
 
 ghost use Rattle.std.specs.Prelude.{◌≡◌, ◌==◌, ◌<◌, ◌≤◌, count_by, length, position};
 ghost use Rattle.std.specs.List.{position_or_len};
-ghost use Rattle.mrp_view.specs.Loads.{load_at};
+ghost use Rattle.mrp_plant_view.specs.Loads.{load_at};
 ghost use Rattle.mrp_agent.specs.Sending.{next_shipment, next_called, left_to_ship, left_to_call, figure_in};
 ghost use Rattle.mrp_agent.specs.Sending.{IsCallShare};
 ghost use Rattle.mrp_agent.specs.After.{gone_on};
@@ -14,10 +14,10 @@ use crate::booking::incoming_near;
 use mrp_book::Book;
 use mrp_net::{LaneKind, LaneNo, Shipment, share_of};
 use mrp_netting::PairPlan;
+use mrp_plant_view::{Call, OutgoingItem, OutgoingItems, OutgoingLane};
 use mrp_qty::Row;
 use mrp_record::{NextLine, OutCursor, Record, Remainder};
-use mrp_rows::ItemNo;
-use mrp_view::{Call, OutgoingItem, OutgoingItems, OutgoingLane};
+use mrp_table_rows::ItemNo;
 
 impl Agent {
     ghost use Rattle.std.specs.Prelude.{IsSome, IfSome, IfNone, Contains, Some};

@@ -8,7 +8,7 @@ use crate::{BookFault, BookItem, ItemFigure};
 use mrp_net::{ItemNo, LaneKind};
 use mrp_qty::{Horizon, MOST, Qty};
 use mrp_record::Record;
-use mrp_rows::Places;
+use mrp_table_rows::Places;
 use std::alloc::{AllocError, Global};
 use std::marker::Model;
 

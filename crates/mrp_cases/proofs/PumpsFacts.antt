@@ -3,12 +3,12 @@ use Rattle.std.proofs.Common.{refl}
 use Rattle.std.specs.Fmt.{digits}
 use Rattle.mrp_cal.specs.Days.{date_at}
 use Rattle.mrp_lot.specs.One.{balance_before, greatest_need, one, order_at}
-use Rattle.mrp_sheet.specs.Dates.{period_date}
-use Rattle.mrp_sheet.specs.Rows.{row}
+use Rattle.mrp_csv_out.specs.Dates.{period_date}
+use Rattle.mrp_csv_out.specs.Rows.{row}
 use Rattle.mrp_report.specs.Lanes as lanes
 use Rattle.mrp_report.specs.Orders.{planned_order_row, order_text, orders_text, pair_orders_text}
-use Rattle.mrp_actions.specs.ScheduleRows.{item_text, lane_schedule_text, lanes_text, schedule_line_row, schedule_text}
-use Rattle.mrp_actions.specs.AdviceRows.{advice_row, advice_text, messages_text, pair_advice_text}
+use Rattle.mrp_advice.specs.ScheduleRows.{item_text, lane_schedule_text, lanes_text, schedule_line_row, schedule_text}
+use Rattle.mrp_advice.specs.AdviceRows.{advice_row, advice_text, messages_text, pair_advice_text}
 use Rattle.mrp_world.specs.Figures.{last_figures}
 use Rattle.mrp_cases.specs.PumpsReports.{PumpsAreAdvised, PumpsAreCounted, PumpsAreOrdered, PumpsAreScheduled}
 

@@ -3,8 +3,8 @@ use Rattle.std.proofs.Common.{refl}
 use Rattle.std.specs.Fmt.{digits}
 use Rattle.mrp_cal.specs.Days.{date_at}
 use Rattle.mrp_lot.specs.One.{balance_before, greatest_need, one, order_at}
-use Rattle.mrp_sheet.specs.Dates.{period_date}
-use Rattle.mrp_sheet.specs.Rows.{row}
+use Rattle.mrp_csv_out.specs.Dates.{period_date}
+use Rattle.mrp_csv_out.specs.Rows.{row}
 use Rattle.mrp_report.specs.Report.{late_text, pair_text, plan_text}
 use Rattle.mrp_cases.specs.Pumps.{PumpsArePlanned, PumpsAreWritten}
 use Rattle.mrp_cases.specs.Worked.{BicycleIsPlanned, BicycleIsWritten, FirmOfTwoIsPlanned, FirmOfTwoIsWritten}

@@ -1,14 +1,14 @@
 -- A ready pair of a plannable agent can be drafted, and isn't planned yet.
 use Rattle.std.proofs.Common.{◌≡◌, ◌↔◌, ℕ, Bool, false, List, sym, subst, All, Contains}
 use Rattle.std.proofs.lemmas.List.Elements.{All-contains, All-contains_itself, All-weaker}
-use Rattle.mrp_rows.specs.declared.numbers.PairNo.{PairNo}
-use Rattle.mrp_view.specs.declared.view.PlantPair.{PlantPair}
-use Rattle.mrp_view.specs.Seen.{IsOwnPair}
-use Rattle.mrp_view.specs.View.{PlantRows, plant_pair, plant_rows}
+use Rattle.mrp_table_rows.specs.declared.numbers.PairNo.{PairNo}
+use Rattle.mrp_plant_view.specs.declared.view.PlantPair.{PlantPair}
+use Rattle.mrp_plant_view.specs.Seen.{IsOwnPair}
+use Rattle.mrp_plant_view.specs.View.{PlantRows, plant_pair, plant_rows}
 use Rattle.mrp_record.specs.declared.record.Record.{Record}
-use Rattle.mrp_events.specs.LocalLaws.{IsPairAt}
-use Rattle.mrp_events.specs.LocalPlans.{CanBePlanned}
-use Rattle.mrp_events.proofs.Seeing.{own_at, seen_there}
+use Rattle.mrp_protocol.specs.LocalLaws.{IsPairAt}
+use Rattle.mrp_protocol.specs.LocalPlans.{CanBePlanned}
+use Rattle.mrp_protocol.proofs.Seeing.{own_at, seen_there}
 use Rattle.mrp_agent.specs.Drafts.{CanDraft, ready_numbers}
 use Rattle.mrp_agent.specs.Shows.{ShowsHistory}
 use Rattle.mrp_agent.specs.State.{AgentState}

@@ -1,8 +1,8 @@
 -- The law of planning in a network.
 use Rattle.std.specs.Prelude.{ℕ, List}
-use Rattle.mrp_rows.specs.declared.numbers.PairNo.{PairNo}
-use Rattle.mrp_rows.specs.Table.{Table}
-use Rattle.mrp_events.specs.State.{State}
+use Rattle.mrp_table_rows.specs.declared.numbers.PairNo.{PairNo}
+use Rattle.mrp_table_rows.specs.Table.{Table}
+use Rattle.mrp_protocol.specs.State.{State}
 use Rattle.mrp_agent.specs.InNetwork.{WorksIn}
 use Rattle.mrp_agent.specs.State.{AgentState}
 use Rattle.mrp_crew.specs.Planning.{after_planning, PlansAll}

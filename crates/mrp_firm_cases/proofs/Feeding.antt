@@ -7,9 +7,9 @@ use Rattle.std.proofs.lemmas.List.{get_or-map, length-map}
 use Rattle.std.proofs.lemmas.List.Elements.{All-contains, Contains-get_or}
 use Rattle.std.proofs.lemmas.Option.{slice_get-get_or}
 use Rattle.mrp_lot.specs.One.{PlanRows}
-use Rattle.mrp_rows.specs.declared.numbers.ItemNo.{ItemNo}
-use Rattle.mrp_rows.specs.declared.rows.SourceRow.{SourceRow}
-use Rattle.mrp_rows.specs.Table.{Table, IsTable, IsSourceRow, horizon}
+use Rattle.mrp_table_rows.specs.declared.numbers.ItemNo.{ItemNo}
+use Rattle.mrp_table_rows.specs.declared.rows.SourceRow.{SourceRow}
+use Rattle.mrp_table_rows.specs.Table.{Table, IsTable, IsSourceRow, horizon}
 use Rattle.mrp_net.specs.declared.lane.Lane.{Lane}
 use Rattle.mrp_net.specs.declared.lane.LaneKind.{LaneKind}
 use Rattle.mrp_net.specs.declared.lane.LaneKind.TheVariants.{Despatch, Schedule}
@@ -24,9 +24,9 @@ use Rattle.mrp_record.specs.declared.record.Record.{Record}
 use Rattle.mrp_record.specs.Entries.{Delivery}
 use Rattle.mrp_record.specs.Text.{Load, total}
 use Rattle.mrp_record.proofs.BlockForm.{length_within}
-use Rattle.mrp_events.specs.Loads.{called_in, delivery_in, has_pieces, lines_by, load_of, loads}
-use Rattle.mrp_events.proofs.Small.{load_is_small}
-use Rattle.mrp_events.specs.Goods.{by_period_from}
+use Rattle.mrp_protocol.specs.Loads.{called_in, delivery_in, has_pieces, lines_by, load_of, loads}
+use Rattle.mrp_protocol.proofs.Small.{load_is_small}
+use Rattle.mrp_protocol.specs.Goods.{by_period_from}
 use Rattle.mrp_record.specs.Cursor as cursor
 use Rattle.mrp_record.specs.Cursor.{OutFigures, Goods}
 use Rattle.mrp_record.specs.declared.remainder.Remainder.{Remainder}

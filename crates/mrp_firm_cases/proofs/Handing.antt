@@ -6,17 +6,17 @@ use Rattle.std.specs.List.{range_with_len}
 use Rattle.std.proofs.lemmas.Bool.{cases_Bool, eqb-true, eq-eqb, false≢true}
 use Rattle.std.proofs.lemmas.List.{get_or-set_same, get_or-set_other, get_or_past, set-get_or}
 use Rattle.std.proofs.lemmas.List.FromFn.{get_or-map-range_with_len, length-map-range_with_len}
-use Rattle.mrp_rows.specs.Table.{Table, IsPair}
+use Rattle.mrp_table_rows.specs.Table.{Table, IsPair}
 use Rattle.mrp_net.specs.Lanes.{lanes, lane_at}
 use Rattle.mrp_net.specs.Sums.{pair_at}
 use Rattle.mrp_net.specs.Texts.{longest_text}
 use Rattle.mrp_loops.specs.Sized.{IsSized}
 use Rattle.mrp_record.specs.declared.record.Record.{Record}
-use Rattle.mrp_events.specs.declared.event.Event.{Event}
-use Rattle.mrp_events.specs.declared.event.Event.TheVariants.{Plan, Receive, Send}
-use Rattle.mrp_events.specs.State.{CanTake, CanPlan, opening_state, after_send, after_take, after_plan}
-use Rattle.mrp_events.proofs.Keeping.{opening_is_reached}
-use Rattle.mrp_events.proofs.Small.{beginnings_are_no_longer}
+use Rattle.mrp_protocol.specs.declared.event.Event.{Event}
+use Rattle.mrp_protocol.specs.declared.event.Event.TheVariants.{Plan, Receive, Send}
+use Rattle.mrp_protocol.specs.State.{CanTake, CanPlan, opening_state, after_send, after_take, after_plan}
+use Rattle.mrp_protocol.proofs.Keeping.{opening_is_reached}
+use Rattle.mrp_protocol.proofs.Small.{beginnings_are_no_longer}
 use Rattle.mrp_agent.specs.State.{AgentState}
 use Rattle.mrp_agent.proofs.AgentStays.{agent_stays}
 use Rattle.mrp_agent.specs.InNetwork.{ShowsAgent}

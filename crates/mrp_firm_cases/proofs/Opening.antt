@@ -1,13 +1,13 @@
 -- A new agent of a plant of a sized network can be planned for.
 use Rattle.std.proofs.Common.{◌≡◌, ℕ, sym, subst}
-use Rattle.mrp_rows.specs.Table.{Table}
+use Rattle.mrp_table_rows.specs.Table.{Table}
 use Rattle.mrp_net.specs.Lanes.{lane_at}
-use Rattle.mrp_view.specs.Seen.{IsView}
-use Rattle.mrp_view.specs.View.{plant_rows}
+use Rattle.mrp_plant_view.specs.Seen.{IsView}
+use Rattle.mrp_plant_view.specs.View.{plant_rows}
 use Rattle.mrp_loops.specs.Sized.{IsSized}
 use Rattle.mrp_record.proofs.Beginnings.{empty_is_a_beginning}
-use Rattle.mrp_events.specs.Loads.{loads}
-use Rattle.mrp_events.specs.State.{opening_state}
+use Rattle.mrp_protocol.specs.Loads.{loads}
+use Rattle.mrp_protocol.specs.State.{opening_state}
 use Rattle.mrp_agent.specs.Shows.{ShowsHistory}
 use Rattle.mrp_agent.specs.State.{AgentState}
 use Rattle.mrp_agent.proofs.Viewing.{views_can_be_planned}

@@ -1,8 +1,8 @@
 -- What a lane carries as the goods of a cursor, place by place, and a cursor that feeds the lane's end.
 use Rattle.std.specs.Prelude.{◌≡◌, ℕ, ◌<◌, List, length, map, drop, slice_index_or}
 use Rattle.std.specs.List.{range_with_len}
-use Rattle.mrp_rows.specs.declared.numbers.ItemNo.{ItemNo}
-use Rattle.mrp_rows.specs.Table.{Table, horizon}
+use Rattle.mrp_table_rows.specs.declared.numbers.ItemNo.{ItemNo}
+use Rattle.mrp_table_rows.specs.Table.{Table, horizon}
 use Rattle.mrp_net.specs.declared.lane.Lane.{Lane}
 use Rattle.mrp_net.specs.declared.lane.LaneKind.{LaneKind}
 use Rattle.mrp_net.specs.declared.lane.LaneKind.TheVariants.{Despatch, Schedule}
@@ -10,8 +10,8 @@ use Rattle.mrp_net.specs.Lanes.{lanes, lane_at, lane_items, opening, reset, ship
 use Rattle.mrp_net.specs.Sources.{source_on}
 use Rattle.mrp_loops.specs.Sized.{IsSized}
 use Rattle.mrp_record.specs.Entries.{Delivery}
-use Rattle.mrp_events.specs.Loads.{called_in, delivery_of}
-use Rattle.mrp_events.specs.Goods.{by_period_from}
+use Rattle.mrp_protocol.specs.Loads.{called_in, delivery_of}
+use Rattle.mrp_protocol.specs.Goods.{by_period_from}
 use Rattle.mrp_record.specs.Cursor.{OutFigures, Goods}
 use Rattle.mrp_record.specs.Shows.{ShowsSent}
 use Rattle.mrp_lane.specs.Ends.{End}

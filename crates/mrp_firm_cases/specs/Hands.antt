@@ -1,8 +1,8 @@
 -- Agents that stand alone: what one of them sends is handed to the other plant's agent.
 use Rattle.std.specs.Prelude.{◌≡◌, ℕ, ◌≤◌, List, [], ◌∷◌}
-use Rattle.mrp_rows.specs.Table.{Table}
+use Rattle.mrp_table_rows.specs.Table.{Table}
 use Rattle.mrp_record.specs.declared.record.Record.{Record}
-use Rattle.mrp_events.specs.State.{State}
+use Rattle.mrp_protocol.specs.State.{State}
 use Rattle.mrp_agent.specs.State.{AgentState}
 use Rattle.mrp_agent.specs.InNetwork.{ShowsAgent}
 use Rattle.mrp_world.specs.Mailbox.{Held}

@@ -7,8 +7,8 @@ use Rattle.std.proofs.lemmas.List.{map-append, take_all, take_more}
 use Rattle.std.proofs.lemmas.List.Elements.{All-head, All-tail, All-get_or, All-map, All-contains_itself, All-weaker, All-from_recursion, filter-append}
 use Rattle.std.proofs.lemmas.List.Sums.{sum_by-append}
 use Rattle.mrp_qty.specs.declared.quantity.TheConstants.{MOST}
-use Rattle.mrp_rows.specs.declared.numbers.ItemNo.{ItemNo}
-use Rattle.mrp_rows.specs.Table.{Table, IsTable}
+use Rattle.mrp_table_rows.specs.declared.numbers.ItemNo.{ItemNo}
+use Rattle.mrp_table_rows.specs.Table.{Table, IsTable}
 use Rattle.mrp_net.specs.Lanes.{lane_at, lane_items, opening}
 use Rattle.mrp_net.proofs.Covering.{lane_items_stand_once}
 use Rattle.mrp_loops.specs.Sized.{IsSized}
@@ -17,9 +17,9 @@ use Rattle.mrp_record.specs.declared.record.Record.TheVariants.{Line, ItemEnd, R
 use Rattle.mrp_record.specs.Entries.{content, contents, entries_of, is_of, moved, quantity_of}
 use Rattle.mrp_record.proofs.Beginnings.{beginnings_are_no_longer}
 use Rattle.mrp_record.proofs.Figures.{cum_is_opening_and_moved, moved_within}
-use Rattle.mrp_events.specs.LaneOrder.{cum_on}
-use Rattle.mrp_events.specs.Loads.{loads, load_of}
-use Rattle.mrp_events.proofs.Small.{load_is_small, load_is_there, loads_are_small, loads_stand_once}
+use Rattle.mrp_protocol.specs.LaneOrder.{cum_on}
+use Rattle.mrp_protocol.specs.Loads.{loads, load_of}
+use Rattle.mrp_protocol.proofs.Small.{load_is_small, load_is_there, loads_are_small, loads_stand_once}
 use Rattle.mrp_lane.specs.declared.tally.ItemPieces.{ItemPieces}
 use Rattle.mrp_lane.specs.Reconciled.{figures_of, figure_on, figures_on}
 use Rattle.mrp_lane.specs.Tallies.{is_same_pieces, record_pieces, with_record, counted, more_of, item_pieces_of, counts_of}

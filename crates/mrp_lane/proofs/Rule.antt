@@ -5,11 +5,11 @@ use mathlib.Core.Option.{some, some-ne-none}
 use lib.ListN.{get_elem?}
 use Rattle.crossbeam_queue.specs.Fifo.{Pushes, Pops, Forks, Merges, Learns}
 use Rattle.crossbeam_queue.proofs.Lists.{at_set, at_snoc}
-use Rattle.mrp_rows.specs.Table.{Table}
+use Rattle.mrp_table_rows.specs.Table.{Table}
 use Rattle.mrp_net.specs.Lanes.{lane_at}
 use Rattle.mrp_record.specs.declared.record.Record.{Record}
 use Rattle.mrp_record.proofs.Beginnings.{empty_is_a_beginning, fronts_are_beginnings}
-use Rattle.mrp_events.specs.Loads.{loads}
+use Rattle.mrp_protocol.specs.Loads.{loads}
 use Rattle.mrp_lane.specs.declared.view.LaneView.{LaneView}
 use Rattle.mrp_lane.specs.Laws.{MailboxesKeepOrder}
 use Rattle.mrp_lane.specs.Views.{IsLegal, blank, unnamed, sending, taking, joined_pass, spent, Line, IsLaneNamed, FitsLine, AreStamped, CarriesLine, Keeps}

@@ -1,13 +1,13 @@
 -- What reconciling the two ends of a lane answers.
 use Rattle.std.specs.Prelude.{◌≡◌, ℕ, ◌+◌, ◌<◌, List, [], ◌∷◌, ◌++◌, drop, length, map, take}
 use Rattle.crossbeam_queue.specs.Passes.{Pass, view}
-use Rattle.mrp_rows.specs.declared.numbers.ItemNo.{ItemNo}
-use Rattle.mrp_rows.specs.Table.{Table}
+use Rattle.mrp_table_rows.specs.declared.numbers.ItemNo.{ItemNo}
+use Rattle.mrp_table_rows.specs.Table.{Table}
 use Rattle.mrp_net.specs.declared.lane.LaneNo.{LaneNo}
 use Rattle.mrp_net.specs.Lanes.{lanes, lane_at, lane_items, opening}
 use Rattle.mrp_record.specs.declared.record.Record.{Record}
 use Rattle.mrp_book.specs.declared.figure.LaneFigure.{LaneFigure}
-use Rattle.mrp_events.specs.LaneOrder.{cum_on}
+use Rattle.mrp_protocol.specs.LaneOrder.{cum_on}
 use Rattle.mrp_lane.specs.declared.tally.ItemPieces.{ItemPieces}
 use Rattle.mrp_lane.specs.declared.view.LaneView.{LaneView}
 use Rattle.mrp_lane.specs.Views.{IsLegal}

@@ -2,12 +2,12 @@
 use Rattle.std.specs.Prelude.{◌≡◌, ℕ, true, false, List, [], ◌∷◌, ◌++◌, length, pos}
 use mathlib.Core.Option.{some}
 use lib.ListN.{get_elem?}
-use Rattle.mrp_rows.specs.Table.{Table}
-use Rattle.mrp_rows.specs.Growing.{empty_table}
+use Rattle.mrp_table_rows.specs.Table.{Table}
+use Rattle.mrp_table_rows.specs.Growing.{empty_table}
 use Rattle.mrp_net.specs.Lanes.{lane_at}
 use Rattle.mrp_record.specs.declared.record.Record.{Record}
 use Rattle.mrp_record.specs.Text.{IsBeginning}
-use Rattle.mrp_events.specs.Loads.{loads}
+use Rattle.mrp_protocol.specs.Loads.{loads}
 use Rattle.mrp_lane.specs.declared.view.LaneView.{LaneView}
 
 -- a legal beginning of what the lane l of the network N carries

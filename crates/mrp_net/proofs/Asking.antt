@@ -5,9 +5,9 @@ use Rattle.std.proofs.lemmas.Bool.{cases_Bool, eqb-true, eq-eqb}
 use Rattle.std.proofs.lemmas.List.Elements.{All-filter}
 use Rattle.std.proofs.lemmas.List.Sums.{sum_by-append}
 use Rattle.mrp_lot.specs.One.{PlanRows}
-use Rattle.mrp_rows.specs.declared.rows.BillRow.{BillRow}
-use Rattle.mrp_rows.specs.declared.rows.SourceRow.{SourceRow}
-use Rattle.mrp_rows.specs.Table.{Table, IsTable, IsPair, source_pair, item_at}
+use Rattle.mrp_table_rows.specs.declared.rows.BillRow.{BillRow}
+use Rattle.mrp_table_rows.specs.declared.rows.SourceRow.{SourceRow}
+use Rattle.mrp_table_rows.specs.Table.{Table, IsTable, IsPair, source_pair, item_at}
 use Rattle.mrp_net.specs.declared.edge.Edge.{Edge}
 use Rattle.mrp_net.specs.Edges.{part, edge_need, bill_edge, source_edge, edges, demanders}
 use Rattle.mrp_net.specs.PlanLaws.{asked_by_bill, asked_by_source, GrossIsLocalAndCalled}
@@ -17,7 +17,7 @@ use Rattle.mrp_net.specs.Sums.{pair_at}
 use Rattle.mrp_net.proofs.Covering.{sum_by-same, routes_cover_suppliers}
 use Rattle.mrp_net.proofs.Joining.{edges_join}
 use Rattle.mrp_net.proofs.Local.{pair_of, whole_need}
-use Rattle.mrp_rows.proofs.Kept.{sum-sorted_by, sum_filter}
+use Rattle.mrp_table_rows.proofs.Kept.{sum-sorted_by, sum_filter}
 use Rattle.mrp_net.proofs.Sharing.{sum_map}
 
 -- what an edge asks of its pair

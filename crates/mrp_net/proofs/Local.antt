@@ -7,12 +7,12 @@ use Rattle.std.proofs.lemmas.List.{append-nil}
 use Rattle.std.proofs.lemmas.List.Elements.{All-append, All-map, All-filter, filter-append}
 use Rattle.std.proofs.lemmas.List.Sums.{passes_at_first}
 use Rattle.std.proofs.lemmas.Option.{slice_get-get_or}
-use Rattle.mrp_rows.specs.declared.numbers.ItemNo.{ItemNo}
-use Rattle.mrp_rows.specs.declared.numbers.PlantNo.{PlantNo}
-use Rattle.mrp_rows.specs.declared.rows.BillRow.{BillRow}
-use Rattle.mrp_rows.specs.declared.rows.PairRow.{PairRow}
-use Rattle.mrp_rows.specs.declared.rows.SourceRow.{SourceRow}
-use Rattle.mrp_rows.specs.Table.{Table, IsTable, IsPair, pair_no, plant_at, item_at, source_pair}
+use Rattle.mrp_table_rows.specs.declared.numbers.ItemNo.{ItemNo}
+use Rattle.mrp_table_rows.specs.declared.numbers.PlantNo.{PlantNo}
+use Rattle.mrp_table_rows.specs.declared.rows.BillRow.{BillRow}
+use Rattle.mrp_table_rows.specs.declared.rows.PairRow.{PairRow}
+use Rattle.mrp_table_rows.specs.declared.rows.SourceRow.{SourceRow}
+use Rattle.mrp_table_rows.specs.Table.{Table, IsTable, IsPair, pair_no, plant_at, item_at, source_pair}
 use Rattle.mrp_net.specs.declared.edge.Edge.{Edge}
 use Rattle.mrp_net.specs.Edges.{bill_edge, source_edge, edges}
 use Rattle.mrp_net.specs.Lanes.{item_of_source}
@@ -21,7 +21,7 @@ use Rattle.mrp_net.specs.EdgeLaws.{CrossingEdgesAreSources}
 use Rattle.mrp_net.specs.Sums.{pair_at, no_pair}
 use Rattle.mrp_net.proofs.Naming.{place_of}
 use Rattle.mrp_net.proofs.Sharing.{share-whole, zero_share}
-use Rattle.mrp_rows.proofs.Sorting.{filter_none, filter_whole, All-sorted_by}
+use Rattle.mrp_table_rows.proofs.Sorting.{filter_none, filter_whole, All-sorted_by}
 
 pub plant_is : (N : Table) (x : ℕ) → IsPair N x → plant_at N x ≡ (pair_at N x).plant.0
 plant_is N x h = ap (λ o. unwrap_or (option_map (λ (p : PairRow). p.plant.0) o) 0) (slice_get-get_or N.pairs x no_pair h)

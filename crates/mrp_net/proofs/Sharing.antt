@@ -10,23 +10,23 @@ use Rattle.std.proofs.lemmas.Map.Keys.{apart_from_distinct}
 use Rattle.std.proofs.lemmas.Nat.{le-div}
 use Rattle.std.proofs.lemmas.Option.{slice_get-get_or}
 use Rattle.std.proofs.Math.Nat.{div-mul-le_self, mul-div_cancel, mul-le-mul_left}
-use Rattle.mrp_rows.specs.declared.rows.BillRow.{BillRow}
-use Rattle.mrp_rows.specs.declared.rows.PairRow.{PairRow}
-use Rattle.mrp_rows.specs.declared.rows.SourceRow.{SourceRow}
-use Rattle.mrp_rows.specs.declared.rows.Supply.{Supply}
-use Rattle.mrp_rows.specs.declared.rows.Supply.TheVariants.{Make, Buy, From}
-use Rattle.mrp_rows.specs.Table.{Table, IsTable, IsPair, IsSourceRow, AreShares, HasSupply, is_same_pair, sources_of_pair, supply_at}
+use Rattle.mrp_table_rows.specs.declared.rows.BillRow.{BillRow}
+use Rattle.mrp_table_rows.specs.declared.rows.PairRow.{PairRow}
+use Rattle.mrp_table_rows.specs.declared.rows.SourceRow.{SourceRow}
+use Rattle.mrp_table_rows.specs.declared.rows.Supply.{Supply}
+use Rattle.mrp_table_rows.specs.declared.rows.Supply.TheVariants.{Make, Buy, From}
+use Rattle.mrp_table_rows.specs.Table.{Table, IsTable, IsPair, IsSourceRow, AreShares, HasSupply, is_same_pair, sources_of_pair, supply_at}
 use Rattle.mrp_net.specs.declared.edge.Edge.{Edge}
 use Rattle.mrp_net.specs.Edges.{part, edge_need, bill_edge, source_edge, edges}
-use Rattle.mrp_rows.specs.Groups.{sorted_by}
+use Rattle.mrp_table_rows.specs.Groups.{sorted_by}
 use Rattle.mrp_net.specs.SupplyLaws.{PartsAreWhole, NeedsAreWhole, OthersHaveNoSources, OthersHaveComponents, BoughtHaveNoEdges, PairsAreFound}
 use Rattle.mrp_net.specs.Sums.{pair_at, no_pair}
-use Rattle.mrp_rows.proofs.Grouping.{sorted_by-suc}
-use Rattle.mrp_rows.proofs.Kept.{sum-sorted_by}
+use Rattle.mrp_table_rows.proofs.Grouping.{sorted_by-suc}
+use Rattle.mrp_table_rows.proofs.Kept.{sum-sorted_by}
 use Rattle.mrp_net.proofs.Joining.{edges_join}
 use Rattle.mrp_net.proofs.Naming.{place_of}
 use Rattle.mrp_net.proofs.Routing.{filter-map}
-use Rattle.mrp_rows.proofs.Sorting.{filter_none}
+use Rattle.mrp_table_rows.proofs.Sorting.{filter_none}
 
 -- a running share of a release rises with the share, and the whole share is the release
 share-le : (release low high : ℕ) → low ≤ high → release * low / 1000 ≤ release * high / 1000

@@ -9,14 +9,14 @@ use Rattle.std.proofs.lemmas.List.{get_or_read, get_or-map, length-map}
 use Rattle.std.proofs.lemmas.List.Elements.{All-head, All-tail, All-map, All-filter, filter_passes}
 use Rattle.std.proofs.lemmas.List.Folds.{list_any_at, list_any_none}
 use Rattle.std.proofs.lemmas.List.Sums.{sum_by-cons, fails_before_first, passes_at_first}
-use Rattle.mrp_rows.specs.declared.numbers.ItemNo.{ItemNo}
-use Rattle.mrp_rows.specs.declared.rows.CumRow.{CumRow}
-use Rattle.mrp_rows.specs.declared.rows.SourceRow.{SourceRow}
-use Rattle.mrp_rows.specs.Table.{Table, IsTable, IsPair, IsSourceRow, is_taken_from, pair_no}
+use Rattle.mrp_table_rows.specs.declared.numbers.ItemNo.{ItemNo}
+use Rattle.mrp_table_rows.specs.declared.rows.CumRow.{CumRow}
+use Rattle.mrp_table_rows.specs.declared.rows.SourceRow.{SourceRow}
+use Rattle.mrp_table_rows.specs.Table.{Table, IsTable, IsPair, IsSourceRow, is_taken_from, pair_no}
 use Rattle.mrp_net.specs.declared.lane.Lane.{Lane}
 use Rattle.mrp_net.specs.declared.lane.Shipment.{Shipment}
 use Rattle.mrp_net.specs.declared.lanes.Sent.{Sent}
-use Rattle.mrp_rows.specs.Starts.{before_key}
+use Rattle.mrp_table_rows.specs.Starts.{before_key}
 use Rattle.mrp_net.specs.Lanes.{figure, shipped_from, ships_from, shipment_of, lane_items, pair_on, taken_over, item_of_source, customer_of, supplier_of}
 use Rattle.mrp_net.specs.Sources.{source_no}
 use Rattle.mrp_net.specs.SourceRows.{AreSourceStarts, sent, AreShipments, AreSent}

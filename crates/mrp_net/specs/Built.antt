@@ -1,14 +1,14 @@
 -- What the lists of a built network hold.
 use Rattle.std.specs.Prelude.{◌≡◌, ℕ, ◌+◌, ◌-◌, ◌*◌, ◌^◌, ◌<◌, min, List, length, slice_index}
-use Rattle.mrp_rows.specs.Table.{Table, IsTable, IsPair, horizon}
+use Rattle.mrp_table_rows.specs.Table.{Table, IsTable, IsPair, horizon}
 use Rattle.mrp_net.specs.declared.edge.Edge.{Edge}
 use Rattle.mrp_net.specs.declared.build.Edges.{Edges}
 use Rattle.mrp_net.specs.declared.build.Amounts.{Amounts}
 use Rattle.mrp_net.specs.declared.lanes.LaneLists.{LaneLists}
 use Rattle.mrp_net.specs.Edges.{edges}
 use Rattle.mrp_net.specs.Incoming.{IsIncoming}
-use Rattle.mrp_rows.specs.Groups.{sorted_by}
-use Rattle.mrp_rows.specs.Starts.{IsGrouped}
+use Rattle.mrp_table_rows.specs.Groups.{sorted_by}
+use Rattle.mrp_table_rows.specs.Starts.{IsGrouped}
 use Rattle.mrp_net.specs.Routes.{AreLaneLists}
 use Rattle.mrp_net.specs.Sums.{demand, demand_total, received, supply}
 

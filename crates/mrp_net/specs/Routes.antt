@@ -1,12 +1,12 @@
 -- What the lists behind the lanes hold.
 use Rattle.std.specs.Prelude.{◌≡◌, ℕ, ◌+◌, ◌*◌, ◌<◌, List, length, map}
-use Rattle.mrp_rows.specs.declared.numbers.ItemNo.{ItemNo}
-use Rattle.mrp_rows.specs.declared.rows.SourceRow.{SourceRow}
-use Rattle.mrp_rows.specs.Table.{Table}
+use Rattle.mrp_table_rows.specs.declared.numbers.ItemNo.{ItemNo}
+use Rattle.mrp_table_rows.specs.declared.rows.SourceRow.{SourceRow}
+use Rattle.mrp_table_rows.specs.Table.{Table}
 use Rattle.mrp_net.specs.declared.lane.Lane.{Lane}
 use Rattle.mrp_net.specs.declared.lanes.LaneLists.{LaneLists}
 use Rattle.mrp_net.specs.declared.lanes.Taken.{Taken}
-use Rattle.mrp_rows.specs.Starts.{ShowsGroups}
+use Rattle.mrp_table_rows.specs.Starts.{ShowsGroups}
 use Rattle.mrp_net.specs.Sums.{pair_at}
 use Rattle.mrp_net.specs.SourceRows.{AreSourceStarts, AreShipments, AreSent, AreResets}
 use Rattle.mrp_net.specs.Lanes.{lanes, item_of_source, figure, shipped_from, customer_of, supplier_of}

@@ -1,13 +1,13 @@
 -- What is kept of each source of the table: the shipments on their way by it, and its figures.
 use Rattle.std.specs.Prelude.{◌≡◌, ℕ, true, List, length, map, slice_index, slice_index_or, Option, None}
-use Rattle.mrp_rows.specs.declared.numbers.ItemNo.{ItemNo}
-use Rattle.mrp_rows.specs.declared.rows.ResetRow.{ResetRow}
-use Rattle.mrp_rows.specs.declared.rows.ShipRow.{ShipRow}
-use Rattle.mrp_rows.specs.Table.{Table, is_taken_from, pair_no}
+use Rattle.mrp_table_rows.specs.declared.numbers.ItemNo.{ItemNo}
+use Rattle.mrp_table_rows.specs.declared.rows.ResetRow.{ResetRow}
+use Rattle.mrp_table_rows.specs.declared.rows.ShipRow.{ShipRow}
+use Rattle.mrp_table_rows.specs.Table.{Table, is_taken_from, pair_no}
 use Rattle.mrp_net.specs.declared.lane.Lane.{Lane}
 use Rattle.mrp_net.specs.declared.lane.Shipment.{Shipment}
 use Rattle.mrp_net.specs.declared.lanes.Sent.{Sent}
-use Rattle.mrp_rows.specs.Starts.{AreStarts, ShowsGroups}
+use Rattle.mrp_table_rows.specs.Starts.{AreStarts, ShowsGroups}
 use Rattle.mrp_net.specs.Lanes.{shipment_of, anew_in, supplier_of}
 use Rattle.mrp_net.specs.Sources.{source_no}
 

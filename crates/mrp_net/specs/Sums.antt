@@ -3,10 +3,10 @@ use Rattle.std.specs.Prelude.{ℕ, ◌+◌, ◌==◌, ◌&&◌, if◌then◌else
 use Rattle.std.specs.List.{range_with_len}
 use Rattle.mrp_lot.specs.declared.params.PairParams.{PairParams}
 use Rattle.mrp_lot.specs.declared.rule.Rule.TheVariants.{LotForLot}
-use Rattle.mrp_rows.specs.declared.rows.PairRow.{PairRow}
-use Rattle.mrp_rows.specs.declared.rows.Supply.TheVariants.{Buy}
-use Rattle.mrp_rows.specs.Rows.{params_of}
-use Rattle.mrp_rows.specs.Table.{Table, horizon}
+use Rattle.mrp_table_rows.specs.declared.rows.PairRow.{PairRow}
+use Rattle.mrp_table_rows.specs.declared.rows.Supply.TheVariants.{Buy}
+use Rattle.mrp_table_rows.specs.Rows.{params_of}
+use Rattle.mrp_table_rows.specs.Table.{Table, horizon}
 
 -- what a look-up past the pairs of the table reads
 abbrev pub no_pair : PairRow

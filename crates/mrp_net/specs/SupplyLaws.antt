@@ -1,12 +1,12 @@
 -- Laws of what a pair takes: the parts of its release, its sources and its components.
 use Rattle.std.specs.Prelude.{◌≡◌, ℕ, ◌≤◌, ◌==◌}
 use Rattle.std.specs.Prelude.{[], length, map, filter, sum_by}
-use Rattle.mrp_rows.specs.declared.rows.Supply.TheVariants.{From, Buy}
-use Rattle.mrp_rows.specs.Table.{Table, IsTable, IsPair, pair_no, sources_of_pair}
+use Rattle.mrp_table_rows.specs.declared.rows.Supply.TheVariants.{From, Buy}
+use Rattle.mrp_table_rows.specs.Table.{Table, IsTable, IsPair, pair_no, sources_of_pair}
 use Rattle.mrp_net.specs.declared.edge.Edge.{Edge}
 use Rattle.mrp_net.specs.Edges.{part, edge_need, bill_edge, source_edge}
 use Rattle.mrp_net.specs.Suppliers.{suppliers, IsEdge}
-use Rattle.mrp_rows.specs.Groups.{sorted_by}
+use Rattle.mrp_table_rows.specs.Groups.{sorted_by}
 use Rattle.mrp_net.specs.Sums.{pair_at}
 
 -- the parts of a release over the sources of a pair that is taken from plants are the release

@@ -2,15 +2,15 @@
 //! pairs have rows of their own.
 
 ghost use Rattle.std.specs.Prelude.{◌≡◌, ℕ, ◌-◌, ◌*◌, ◌<◌, ◌^◌, [], length, All, IfOk, slice_index};
-ghost use Rattle.mrp_rows.specs.Table.{horizon};
-ghost use Rattle.mrp_rows.specs.Added.{AddsAmounts};
+ghost use Rattle.mrp_table_rows.specs.Table.{horizon};
+ghost use Rattle.mrp_table_rows.specs.Added.{AddsAmounts};
 ghost use Rattle.mrp_net.specs.Built.{ArePeriods};
 ghost use Rattle.mrp_net.specs.Incoming.{AreCounted, AreRows, IsIncoming};
 ghost use Rattle.mrp_net.specs.Sums.{received};
 
 use crate::sums::{ByPeriod, Pieces};
 use mrp_qty::Memory;
-use mrp_rows::{KeyOf, ShipRow, Tables, add_amounts};
+use mrp_table_rows::{KeyOf, ShipRow, Tables, add_amounts};
 use std::alloc::Global;
 
 /// What comes in for each pair to which something is on its way, row by row, and the place of each

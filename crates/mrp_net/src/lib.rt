@@ -18,6 +18,8 @@ mod sums;
 
 pub use edge::Edge;
 pub use lane::{Lane, LaneKind, LaneNo, Shipment};
-pub use mrp_rows::{ItemNo, PairNo, PairRow, PlantNo, ReceiptRow, ShipRow, SourceRow, Supply};
+pub use mrp_table_rows::{
+    ItemNo, PairNo, PairRow, PlantNo, ReceiptRow, ShipRow, SourceRow, Supply,
+};
 pub use network::Network;
 pub use shares::share_of;

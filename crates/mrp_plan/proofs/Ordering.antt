@@ -9,7 +9,7 @@ use Rattle.mrp_lot.specs.One.{PlanRows, is_late, late_order, late_orders, one, r
 use Rattle.mrp_lot.specs.declared.params.Late.{Late}
 use Rattle.mrp_lot.specs.declared.params.PairParams.{PairParams}
 use Rattle.mrp_lot.proofs.OneLaws.{length-one-order}
-use Rattle.mrp_rows.specs.Table.{horizon}
+use Rattle.mrp_table_rows.specs.Table.{horizon}
 use Rattle.mrp_net.specs.Plan.{gross, pair_plan, rows_at}
 use Rattle.mrp_net.specs.Sums.{incoming, params_at, row_of}
 use Rattle.mrp_plan.specs.Orders.{has_order, planned_order}

@@ -12,7 +12,7 @@ use Rattle.mrp_lot.specs.One.{PlanRows, one}
 use Rattle.mrp_lot.specs.Bound.{IsWithin}
 use Rattle.mrp_lot.proofs.OneLaws.{release_at, releases-le, one-release, length-one-release}
 use Rattle.mrp_lot.proofs.RangeLaws.{map-range-same}
-use Rattle.mrp_rows.specs.Table.{Table, IsTable, horizon}
+use Rattle.mrp_table_rows.specs.Table.{Table, IsTable, horizon}
 use Rattle.mrp_net.specs.Edges.{demanders, edge_need}
 use Rattle.mrp_net.specs.Sums.{demand, demand_total, incoming, params_at, pair_at, row_of, no_pair}
 use Rattle.mrp_net.specs.Plan.{rows_at, no_rows, gross, pair_plan, asked}

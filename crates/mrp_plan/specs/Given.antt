@@ -4,8 +4,8 @@ use Rattle.std.specs.Global.{Global}
 use Rattle.std.specs.List.{range_with_len}
 use Rattle.mrp_lot.specs.One.{PlanRows}
 use Rattle.mrp_netting.specs.declared.plan.PairPlan.{PairPlan}
-use Rattle.mrp_rows.specs.Table.{Table}
-use Rattle.mrp_view.specs.View.{is_of_plant}
+use Rattle.mrp_table_rows.specs.Table.{Table}
+use Rattle.mrp_plant_view.specs.View.{is_of_plant}
 use Rattle.mrp_loops.specs.Within.{plan_at}
 
 -- by the plan of the network the plans of a plant's pairs with numbers below one, in table order

@@ -9,7 +9,7 @@ use Rattle.std.proofs.lemmas.List.Sorted.{IsPermutation-refl, sum_by-IsPermutati
 use Rattle.mrp_record.specs.declared.record.Record.{Record}
 use Rattle.mrp_record.specs.Entries.{Entry, EndOf, Closing, content, contents, number_of, is_of, is_end, entries_of}
 use Rattle.mrp_record.specs.Blocks.{entry_delivery}
-use Rattle.mrp_record.specs.Laws.{AreLoads, EmptyIsABeginning, FrontsAreBeginnings, FrontsAreNested, NothingFollowsClosing, ClosedIsWhole, TextsHaveOneLength}
+use Rattle.mrp_record.specs.Laws.{AreLoads, EmptyIsABeginning, PrefixesAreBeginnings, PrefixesAreNested, NothingFollowsClosing, ClosedIsWhole, TextsHaveOneLength}
 use Rattle.mrp_record.specs.Laws.{BeginningsAreNoLonger, EndedBlocksAreWhole, EndedBlocksBringDeliveries, EndedBlocksBringPeriods, EndedBlocksBringTotals}
 use Rattle.mrp_record.specs.Laws.{EndedItemsAreDone, quantity_in}
 use Rattle.mrp_record.specs.Text.{Load, body, block, last_figure, text_of, IsText, IsBeginning, NumberedFrom, total}
@@ -30,7 +30,7 @@ pub number_at : (n : ℕ) (before after : List Record) (r : Record) → Numbered
 number_at n [] after r h = omega (arith, h.0)
 number_at n (x ∷ before) after r h = omega (arith, number_at (n + 1) before after r h.1)
 
--- ---- fronts
+-- ---- prefixes
 
 pub empty_is_a_beginning : EmptyIsABeginning
 empty_is_a_beginning loads =
@@ -40,7 +40,7 @@ pub contents_parts : (front more : List Record) (rest : List Entry) → contents
 contents_parts front more rest =
     ap (λ (z : List Entry). z ++ rest) (map-append content front more) ∙ append_assoc (contents front) (contents more) rest
 
-pub fronts_are_beginnings : FrontsAreBeginnings
+pub fronts_are_beginnings : PrefixesAreBeginnings
 fronts_are_beginnings loads front more h =
     record {
       numbered = NumberedFrom-front 1 front more h.numbered;
@@ -48,7 +48,7 @@ fronts_are_beginnings loads front more h =
       text = record { order = h.text.order; once = h.text.once; is = sym (contents_parts front more h.rest) ∙ h.text.is };
     }
 
-pub fronts_are_nested : FrontsAreNested
+pub fronts_are_nested : PrefixesAreNested
 fronts_are_nested xs ys more_xs more_ys e =
     elim (overlap xs more_xs ys more_ys e) [
       | inl b ↦ inr (b.more, b.is)

@@ -1,4 +1,4 @@
--- Two fronts of one list, and where a list stands in one that is put together of pieces.
+-- Two prefixes of one list, and where a list stands in one that is put together of pieces.
 use Rattle.std.proofs.Common.{◌≡◌, List, [], ◌∷◌, ◌++◌, ◌⊎◌, inl, inr, refl}
 
 -- the list goes on beyond p

@@ -18,7 +18,7 @@ use Rattle.mrp_record.specs.Text.{Load, block, IsText}
 use Rattle.mrp_record.specs.Lengths.{block_length}
 use Rattle.mrp_record.proofs.Own.{AllOf-block, none_closing, list_any-append, list_any-front}
 use Rattle.mrp_record.proofs.Running.{length-block}
-use Rattle.mrp_rows.proofs.Lists.{any_right}
+use Rattle.mrp_table_rows.proofs.Lists.{any_right}
 use Rattle.mrp_record.specs.Cursor.{OutFigures, Goods, goods_load, blocks}
 use Rattle.mrp_record.specs.CursorLaws.{Agrees, ShownBegin, ClosedIsShown, ClosedShowsWhole, ShownAreShort, SmallAreBounded, QueuedArePlaces}
 use Rattle.mrp_record.specs.Shows.{ShowsSent, left_from, figure_at, reset_at}
@@ -104,7 +104,7 @@ blocks_agree goods f (place ∷ places) h =
 abbrev pub later_blocks : Load → List Load → List ℕ → List Entry
 later_blocks d loads later = flat_map block (map (load_at d loads) later)
 
--- what makes the queued blocks is the front of a text
+-- what makes the queued blocks is a prefix of a text
 pub text_goes_on : (goods : ℕ → Goods) (o : OutFigures) (loads : List Load) (later : List ℕ) (entries : List Entry) → Agrees goods o loads
     → IsPermutation (range_with_len 0 o.size) (o.queue ++ later)
     → entries ≡ blocks goods o.queue → IsText loads (entries ++ (later_blocks (goods_load (goods 0)) loads later ++ Closing ∷ []))

@@ -20,20 +20,20 @@ is_same_load a b = a.item == b.item
 abbrev pub AreLoads : List Load → Type 0
 AreLoads loads = IsDistinct is_same_load loads
 
--- ---- fronts
+-- ---- prefixes
 
 -- before the first record the list is a legal beginning
 abbrev pub EmptyIsABeginning : Type 0
 EmptyIsABeginning = (loads : List Load) → IsBeginning loads []
 
--- each front of a legal beginning is one
-abbrev pub FrontsAreBeginnings : Type 0
-FrontsAreBeginnings = (loads : List Load) (front more : List Record) → IsBeginning loads (front ++ more)
+-- each prefix of a legal beginning is one
+abbrev pub PrefixesAreBeginnings : Type 0
+PrefixesAreBeginnings = (loads : List Load) (front more : List Record) → IsBeginning loads (front ++ more)
     → IsBeginning loads front
 
--- of two fronts of one list one is a front of the other
-abbrev pub FrontsAreNested : Type 0
-FrontsAreNested =
+-- of two prefixes of one list one is a prefix of the other
+abbrev pub PrefixesAreNested : Type 0
+PrefixesAreNested =
     (xs ys more_xs more_ys : List Entry) → xs ++ more_xs ≡ ys ++ more_ys
     → ((more : List Entry) × (ys ≡ xs ++ more)) ⊎ ((more : List Entry) × (xs ≡ ys ++ more))
 

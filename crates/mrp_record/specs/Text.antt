@@ -67,7 +67,7 @@ pub record IsWhole (loads : List Load) (records : List Record) : Type 0 where
   pub numbered : NumberedFrom 1 records
   pub text : IsText loads (contents records)
 
--- a legal beginning: the front of a text
+-- a legal beginning: a prefix of a text
 pub record IsBeginning (loads : List Load) (records : List Record) : Type 0 where
   pub numbered : NumberedFrom 1 records
   pub rest : List Entry

@@ -1,6 +1,6 @@
 //! Laws of the texts of lanes. Each is the contract of a function that does nothing.
 
-ghost use Rattle.mrp_record.specs.Laws.{EmptyIsABeginning, FrontsAreBeginnings, FrontsAreNested, NothingFollowsClosing};
+ghost use Rattle.mrp_record.specs.Laws.{EmptyIsABeginning, PrefixesAreBeginnings, PrefixesAreNested, NothingFollowsClosing};
 ghost use Rattle.mrp_record.specs.Laws.{ClosedIsWhole, TextsHaveOneLength};
 ghost use Rattle.mrp_record.specs.Laws.{BeginningsAreNoLonger};
 ghost use Rattle.mrp_record.specs.Laws.{EndedBlocksAreWhole, EndedBlocksBringDeliveries, EndedBlocksBringPeriods};
@@ -8,12 +8,12 @@ ghost use Rattle.mrp_record.specs.Laws.{EndedBlocksBringTotals, EndedItemsAreDon
 ghost use Rattle.mrp_record.specs.Laws.{CumIsOpeningAndMoved, BeginningsAreInForm, FiguresAreSmall, CumsAreSmall};
 ghost use Rattle.mrp_record.specs.Laws.{ListsInFormAreBeginnings};
 
-/// The list without records is a legal beginning, and so is each front of a legal beginning. Of two
-/// fronts of one text one is a front of the other.
+/// The list without records is a legal beginning, and so is each prefix of a legal beginning. Of two
+/// prefixes of one text one is a prefix of the other.
 pub fn fronts_are_beginnings()
     ensures empty { EmptyIsABeginning }
-    ensures fronts { FrontsAreBeginnings }
-    ensures nested { FrontsAreNested }
+    ensures fronts { PrefixesAreBeginnings }
+    ensures nested { PrefixesAreNested }
 {}
 
 /// Nothing follows the closing record, and a legal beginning that ends with it is a whole text.

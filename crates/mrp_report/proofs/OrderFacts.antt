@@ -3,20 +3,20 @@ use Rattle.std.proofs.Common.{◌≡◌, ◌∙◌, ℕ, Bool, cond, List, [], O
 use Rattle.std.specs.List.{filter, flat_map, range_with_len}
 use Rattle.std.proofs.lemmas.Bool.{cases_Bool}
 use Rattle.std.proofs.lemmas.List.FromFn.{length-map-range_with_len}
-use Rattle.mrp_rows.proofs.Sorting.{filter-no, filter-yes}
+use Rattle.mrp_table_rows.proofs.Sorting.{filter-no, filter-yes}
 use Rattle.mrp_lot.specs.One.{PlanRows}
 use Rattle.mrp_plan.specs.Orders.{has_order, is_released_by, planned_order}
 use Rattle.mrp_plan.specs.declared.orders.PlannedOrder.{PlannedOrder}
 use Rattle.mrp_report.specs.declared.orders.OrderLine.{OrderLine}
 use Rattle.mrp_lot.proofs.OneLaws.{length-one-order}
-use Rattle.mrp_rows.specs.Table.{horizon, IsPair, Table}
+use Rattle.mrp_table_rows.specs.Table.{horizon, IsPair, Table}
 use Rattle.mrp_net.specs.Plan.{gross, rows_at}
 use Rattle.mrp_net.specs.PlanLaws.{Fits}
 use Rattle.mrp_net.specs.Sums.{incoming, params_at, row_of}
-use Rattle.mrp_sheet.specs.Dates.{dates_of, period_date}
+use Rattle.mrp_csv_out.specs.Dates.{dates_of, period_date}
 use Rattle.mrp_report.specs.OrderLines.{IsOrderLine, due_text, order_line_row, order_line_text}
 use Rattle.mrp_report.specs.Orders.{planned_order_row, pair_orders_text, spelled_supply}
-use Rattle.mrp_sheet.specs.Names.{item_of, plant_of}
+use Rattle.mrp_csv_out.specs.Names.{item_of, plant_of}
 
 -- the rows of the periods are those of the orders
 pub dues_are : (line : OrderLine) (rows : PlanRows) (ts : List ℕ)

@@ -2,9 +2,9 @@
 use Rattle.std.proofs.Common.{◌≡◌, ℕ, List, length, refl, append_assoc}
 use Rattle.std.specs.List.{flat_map, range_with_len}
 use Rattle.mrp_lot.specs.One.{PlanRows}
-use Rattle.mrp_sheet.specs.Rows.{row}
+use Rattle.mrp_csv_out.specs.Rows.{row}
 use Rattle.mrp_report.specs.Parts.{pair_part, parts_row, parts_text, period_at}
-use Rattle.mrp_sheet.specs.DateLists.{date_in}
+use Rattle.mrp_csv_out.specs.DateLists.{date_in}
 use Rattle.mrp_report.specs.Report.{pair_text, plan_fields}
 
 -- the row of the parts is the row of the fields

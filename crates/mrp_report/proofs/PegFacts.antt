@@ -4,15 +4,15 @@ use Rattle.std.specs.List.{filter, flat_map}
 use Rattle.std.proofs.lemmas.Bool.{ne_eqb}
 use Rattle.std.proofs.lemmas.List.Folds.{flat_map-map}
 use Rattle.mrp_lot.specs.One.{PlanRows}
-use Rattle.mrp_rows.specs.Table.{Table}
+use Rattle.mrp_table_rows.specs.Table.{Table}
 use Rattle.mrp_net.specs.Edges.{demanders}
 use Rattle.mrp_net.specs.declared.edge.Edge.{Edge}
 use Rattle.mrp_plan.specs.Peg.{demand_term, edge_term, is_asked}
 use Rattle.mrp_plan.specs.declared.terms.PegTerm.{PegTerm}
 use Rattle.mrp_plan.specs.declared.terms.PegSource.{PegSource}
 use Rattle.mrp_plan.specs.declared.terms.PegSource.TheVariants.{Demand, Bill, Plant}
-use Rattle.mrp_sheet.specs.Names.{item_of, plant_of}
-use Rattle.mrp_sheet.specs.Rows.{row}
+use Rattle.mrp_csv_out.specs.Names.{item_of, plant_of}
+use Rattle.mrp_csv_out.specs.Rows.{row}
 use Rattle.mrp_report.specs.Pegs.{pegs_row, period_pegs_text}
 use Rattle.mrp_report.specs.PegParts.{edges_text, pegs_part, term_part, term_text}
 use Rattle.mrp_report.specs.Terms.{source_word}

@@ -5,11 +5,11 @@ use Rattle.std.proofs.lemmas.Grind.{flat_map-append}
 use Rattle.std.specs.Io.KnownBytes.{Appends}
 use Rattle.csv.proofs.WriteFacts.{appends-none}
 use Rattle.mrp_lot.specs.One.{PlanRows}
-use Rattle.mrp_rows.specs.Table.{Table}
+use Rattle.mrp_table_rows.specs.Table.{Table}
 use Rattle.mrp_report.specs.Report.{plan_text}
 use Rattle.mrp_report.specs.Parts.{pairs_text}
-use Rattle.mrp_sheet.specs.Sending.{AppendsFront}
-use Rattle.mrp_sheet.proofs.Fronts.{front-after, front-longer, whole-after}
+use Rattle.mrp_csv_out.specs.Sending.{AppendsPrefix}
+use Rattle.mrp_csv_out.proofs.Fronts.{front-after, front-longer, whole-after}
 
 -- numbers from one on, in two parts
 pub range-split : (a m n : ℕ) → range_with_len a (m + n) ≡ range_with_len a m ++ range_with_len (a + m) n
@@ -53,13 +53,13 @@ pub pieces_more : (N : Table) (table : List PlanRows) (a b c : Option (List ℕ)
 pieces_more N table a b c m n next here sent more =
     subst (λ text. Appends a c text) (sym (pairs-split N table m n) ∙ ap (pairs_text N table 0) here) (whole-after a b c _ _ sent more)
 
--- a front of those was sent
+-- a prefix of those was sent
 pub pieces_cut : (N : Table) (table : List PlanRows) (a b c : Option (List ℕ)) (m n : ℕ) → m + n ≤ length N.pairs
-    → Appends a b (pairs_text N table 0 m) → AppendsFront b c (pairs_text N table m n) → AppendsFront a c (plan_text N table)
+    → Appends a b (pairs_text N table 0 m) → AppendsPrefix b c (pairs_text N table m n) → AppendsPrefix a c (plan_text N table)
 pieces_cut N table a b c m n within sent front =
-    let cut : AppendsFront a c (pairs_text N table 0 (m + n)) =
-    subst (λ text. AppendsFront a c text) (sym (pairs-split N table m n)) (front-after a b c _ _ sent front) in
-    subst (λ text. AppendsFront a c text) (sym (report-split N table (m + n) within))
+    let cut : AppendsPrefix a c (pairs_text N table 0 (m + n)) =
+    subst (λ text. AppendsPrefix a c text) (sym (pairs-split N table m n)) (front-after a b c _ _ sent front) in
+    subst (λ text. AppendsPrefix a c text) (sym (report-split N table (m + n) within))
     (front-longer a c _ (pairs_text N table (m + n) (length N.pairs - (m + n))) cut)
 
 -- the rows of all pairs are the report

@@ -3,12 +3,12 @@ use Rattle.std.proofs.Common.{◌≡◌, ◌≤◌, ◌<◌, ◌+◌, ◌-◌, �
 use Rattle.std.specs.List.{list_all}
 use Rattle.std.proofs.lemmas.Bool.Decides.{nat_tests}
 use Rattle.std.proofs.Math.Nat.{mul-le-mul_left}
-use Rattle.mrp_rows.specs.Spelling.{is_name_byte}
-use Rattle.mrp_rows.specs.Table.{IsName, IsTable, Table}
+use Rattle.mrp_table_rows.specs.Spelling.{is_name_byte}
+use Rattle.mrp_table_rows.specs.Table.{IsName, IsTable, Table}
 use Rattle.mrp_net.specs.Names.{IsNamed}
 use Rattle.mrp_net.specs.Sums.{no_pair, pair_at}
-use Rattle.mrp_sheet.proofs.RowFacts.{item_is, plant_is}
-use Rattle.mrp_sheet.proofs.PlainFacts.{both_true}
+use Rattle.mrp_csv_out.proofs.RowFacts.{item_is, plant_is}
+use Rattle.mrp_csv_out.proofs.PlainFacts.{both_true}
 
 -- as many pairs as go at once have room, and so have fewer
 pub room-fewer : (n most size room : ℕ) → n ≤ most → most * size ≤ room → n * size ≤ room

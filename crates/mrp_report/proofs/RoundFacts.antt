@@ -6,9 +6,9 @@ use Rattle.std.specs.Io.KnownBytes.{Appends}
 use Rattle.std.proofs.lemmas.List.{take_all, take_more, take-append-drop, take-append-le}
 use Rattle.std.proofs.lemmas.List.Folds.{concat-append}
 use Rattle.mrp_lot.specs.One.{PlanRows}
-use Rattle.mrp_rows.specs.Table.{Table}
-use Rattle.mrp_sheet.specs.Sending.{AppendsFront}
-use Rattle.mrp_sheet.proofs.Fronts.{front-after, front-longer, whole-after}
+use Rattle.mrp_table_rows.specs.Table.{Table}
+use Rattle.mrp_csv_out.specs.Sending.{AppendsPrefix}
+use Rattle.mrp_csv_out.proofs.Fronts.{front-after, front-longer, whole-after}
 use Rattle.mrp_report.specs.Report.{plan_text}
 use Rattle.mrp_report.specs.Parts.{pairs_text}
 use Rattle.mrp_report.specs.Rounds.{piece_text}
@@ -86,15 +86,15 @@ pub sent_more : (a b c : Option (List ℕ)) (pieces : List (List ℕ)) (i : ℕ)
 sent_more a b c pieces i d piece lt is so_far here =
     subst (λ t. Appends a c t) (ap (λ t. concat (take i pieces) ++ t) is ∙ sym (concat-more pieces i d lt)) (whole-after a b c _ piece so_far here)
 
--- or a front of it
+-- or a prefix of it
 pub sent_cut : (a b c : Option (List ℕ)) (pieces : List (List ℕ)) (i : ℕ) (d piece : List ℕ) → i < length pieces → piece ≡ get_or pieces i d
-    → Appends a b (concat (take i pieces)) → AppendsFront b c piece → AppendsFront a c (concat pieces)
+    → Appends a b (concat (take i pieces)) → AppendsPrefix b c piece → AppendsPrefix a c (concat pieces)
 sent_cut a b c pieces i d piece lt is so_far front =
     let rest = concat (drop (i + 1) pieces) in
     let split : concat pieces ≡ concat (take (i + 1) pieces) ++ rest =
     sym (ap concat (take-append-drop (i + 1) pieces)) ∙ concat-append (take (i + 1) pieces) (drop (i + 1) pieces) in
     let more : concat (take (i + 1) pieces) ≡ concat (take i pieces) ++ piece = concat-more pieces i d lt ∙ ap (λ t. concat (take i pieces) ++ t) (sym is) in
-    subst (λ t. AppendsFront a c t) (sym (split ∙ ap (λ t. t ++ rest) more))
+    subst (λ t. AppendsPrefix a c t) (sym (split ∙ ap (λ t. t ++ rest) more))
     (front-longer a c (concat (take i pieces) ++ piece) rest (front-after a b c _ piece so_far front))
 
 -- the rows of the next pairs were sent by a round
@@ -102,7 +102,7 @@ pub round_more : (N : Table) (table : List PlanRows) (a b c : Option (List ℕ))
     → Appends a b (pairs_text N table 0 m) → Appends b c text → Appends a c (pairs_text N table 0 next)
 round_more N table a b c m n next text here is sent more = pieces_more N table a b c m n next here sent (subst (λ t. Appends b c t) is more)
 
--- or a front of them
+-- or a prefix of them
 pub round_cut : (N : Table) (table : List PlanRows) (a b c : Option (List ℕ)) (m n : ℕ) (text : List ℕ) → m + n ≤ length N.pairs → text ≡ pairs_text N table m n
-    → Appends a b (pairs_text N table 0 m) → AppendsFront b c text → AppendsFront a c (plan_text N table)
-round_cut N table a b c m n text within is sent front = pieces_cut N table a b c m n within sent (subst (λ t. AppendsFront b c t) is front)
+    → Appends a b (pairs_text N table 0 m) → AppendsPrefix b c text → AppendsPrefix a c (plan_text N table)
+round_cut N table a b c m n text within is sent front = pieces_cut N table a b c m n within sent (subst (λ t. AppendsPrefix b c t) is front)

@@ -7,7 +7,7 @@ use Rattle.std.proofs.lemmas.Grind.{flat_map-append}
 use Rattle.csv.specs.Reading.{strip_bom}
 use Rattle.mrp_lot.specs.One.{PlanRows}
 use Rattle.mrp_lot.specs.declared.params.Late.{Late}
-use Rattle.mrp_rows.specs.Table.{IsTable, Table, horizon}
+use Rattle.mrp_table_rows.specs.Table.{IsTable, Table, horizon}
 use Rattle.mrp_net.specs.Lanes.{lane_at}
 use Rattle.mrp_net.specs.Plan.{rows_at}
 use Rattle.mrp_net.specs.Sums.{pair_at}
@@ -21,7 +21,7 @@ use Rattle.mrp_plan.specs.declared.terms.PegTerm.{PegTerm}
 use Rattle.mrp_plan.specs.declared.terms.PegSource.{PegSource}
 use Rattle.mrp_plan.specs.declared.terms.PegSource.TheVariants.{Demand, Bill, Plant}
 use Rattle.mrp_book.specs.declared.figure.LaneFigure.{LaneFigure}
-use Rattle.mrp_sheet.specs.Dates.{dates_of}
+use Rattle.mrp_csv_out.specs.Dates.{dates_of}
 use Rattle.mrp_report.specs.Headings.{code_names, lane_names, order_names, peg_names, pegs_names}
 use Rattle.mrp_report.specs.Lanes.{figure_fields, figure_row, lane_kind_word, lane_text}
 use Rattle.mrp_report.specs.Laws.{CodesAreReadBack, FiguresAreReadBack, LateOrdersAreReadBack, OrdersAreReadBack, PegsAreReadBack, PlanIsReadBack}
@@ -31,16 +31,16 @@ use Rattle.mrp_report.specs.Pegs.{pair_pegs_text, pegs_fields, pegs_row, pegs_te
 use Rattle.mrp_report.specs.Report.{late_fields, late_text, pair_text, plan_fields, plan_text}
 use Rattle.mrp_report.specs.Codes.{code_fields, code_row, code_text}
 use Rattle.mrp_report.specs.Terms.{peg_fields, peg_row, peg_text, source_word}
-use Rattle.mrp_sheet.specs.DateLists.{date_in}
-use Rattle.mrp_sheet.specs.Names.{item_of, pairs_of, plant_of}
-use Rattle.mrp_sheet.specs.Rows.{row}
-use Rattle.mrp_sheet.specs.Sheets.{IsPlain}
+use Rattle.mrp_csv_out.specs.DateLists.{date_in}
+use Rattle.mrp_csv_out.specs.Names.{item_of, pairs_of, plant_of}
+use Rattle.mrp_csv_out.specs.Rows.{row}
+use Rattle.mrp_csv_out.specs.Sheets.{IsPlain}
 use Rattle.mrp_report.specs.Sheets.{code_sheet, lane_sheet, late_sheet, pair_orders_sheet, pair_pegs_sheet, pair_sheet, peg_sheet, pegs_sheet}
 use Rattle.mrp_report.specs.Sheets.{period_pegs_sheet, plan_sheet}
-use Rattle.mrp_sheet.proofs.FieldFacts.{ArePlain, headed_read, more, none, number}
-use Rattle.mrp_sheet.proofs.PlainFacts.{dates_plain, item_plain, plant_plain}
+use Rattle.mrp_csv_out.proofs.FieldFacts.{ArePlain, headed_read, more, none, number}
+use Rattle.mrp_csv_out.proofs.PlainFacts.{dates_plain, item_plain, plant_plain}
 use Rattle.mrp_report.proofs.SupplyTexts.{supply_plain}
-use Rattle.mrp_sheet.proofs.ReadBack.{IsRow, all_each, all_map, row_each, rows_each, sheet_read}
+use Rattle.mrp_csv_out.proofs.ReadBack.{IsRow, all_each, all_map, row_each, rows_each, sheet_read}
 
 -- ---- the plan
 

@@ -1,9 +1,9 @@
 -- The rows of low-level codes.
 use Rattle.std.specs.Prelude.{ℕ, List, [], ◌∷◌, slice_index, decimal, codes as text_bytes}
 use Rattle.std.specs.List.{flat_map}
-use Rattle.mrp_rows.specs.Table.{Table}
-use Rattle.mrp_sheet.specs.Rows.{row}
-use Rattle.mrp_sheet.specs.Names.{item_of, pairs_of, plant_of}
+use Rattle.mrp_table_rows.specs.Table.{Table}
+use Rattle.mrp_csv_out.specs.Rows.{row}
+use Rattle.mrp_csv_out.specs.Names.{item_of, pairs_of, plant_of}
 
 -- the fields of the row of a pair's low-level code
 abbrev pub code_fields : List ℕ → List ℕ → ℕ → List (List ℕ)

@@ -2,19 +2,19 @@
 -- their rows are made of.
 use Rattle.std.specs.Prelude.{ℕ, List, ◌++◌, Option}
 use Rattle.mrp_lot.specs.One.{PlanRows}
-use Rattle.mrp_rows.specs.Table.{IsTable, Table}
-use Rattle.mrp_choice.specs.declared.choice.Heading.{Heading}
+use Rattle.mrp_table_rows.specs.Table.{IsTable, Table}
+use Rattle.mrp_commands.specs.declared.choice.Heading.{Heading}
 use Rattle.mrp_plan.specs.declared.terms.PegTerm.{PegTerm}
 use Rattle.mrp_book.specs.declared.figure.LaneFigure.{LaneFigure}
 use Rattle.mrp_report.specs.Headings.{code_names, lane_names, peg_names, pegs_names}
-use Rattle.mrp_sheet.specs.Headings.{header_row}
+use Rattle.mrp_csv_out.specs.Headings.{header_row}
 use Rattle.mrp_report.specs.Lanes.{lane_text}
 use Rattle.mrp_report.specs.Orders.{order_text}
 use Rattle.mrp_report.specs.Pegs.{pegs_text}
 use Rattle.mrp_report.specs.Report.{late_text, plan_text}
 use Rattle.mrp_report.specs.Codes.{code_text}
 use Rattle.mrp_report.specs.Terms.{peg_text}
-use Rattle.mrp_sheet.specs.Sheets.{IsReadAs, header_sheet}
+use Rattle.mrp_csv_out.specs.Sheets.{IsReadAs, header_sheet}
 use Rattle.mrp_report.specs.Sheets.{code_sheet, lane_sheet, late_sheet, order_sheet, peg_sheet, pegs_sheet, plan_sheet}
 
 abbrev pub PlanIsReadBack : Type 0

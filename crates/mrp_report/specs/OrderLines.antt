@@ -2,14 +2,14 @@
 use Rattle.std.specs.Prelude.{◌≡◌, ℕ, if◌then◌else◌, List, [], length, Option}
 use Rattle.std.specs.List.{flat_map, range_with_len}
 use Rattle.mrp_lot.specs.One.{PlanRows}
-use Rattle.mrp_rows.specs.Table.{Table}
+use Rattle.mrp_table_rows.specs.Table.{Table}
 use Rattle.mrp_net.specs.Sums.{params_at}
 use Rattle.mrp_plan.specs.Orders.{has_order, is_released_by, planned_order}
 use Rattle.mrp_plan.specs.declared.orders.PlannedOrder.{PlannedOrder}
 use Rattle.mrp_report.specs.declared.orders.OrderLine.{OrderLine}
-use Rattle.mrp_sheet.specs.Dates.{dates_of}
+use Rattle.mrp_csv_out.specs.Dates.{dates_of}
 use Rattle.mrp_report.specs.Orders.{planned_order_row, spelled_supply}
-use Rattle.mrp_sheet.specs.Names.{item_of, plant_of}
+use Rattle.mrp_csv_out.specs.Names.{item_of, plant_of}
 
 -- what the rows of a pair's orders have in common
 pub record IsOrderLine (N : Table) (x : ℕ) (until : Option ℕ) (line : OrderLine) : Type 0 where

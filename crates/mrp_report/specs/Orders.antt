@@ -2,20 +2,20 @@
 use Rattle.std.specs.Prelude.{ℕ, ◌==◌, if◌then◌else◌, List, [], ◌∷◌, ◌++◌, decimal, codes as text_bytes, Option}
 use Rattle.std.specs.List.{flat_map}
 use Rattle.mrp_qty.specs.declared.limits.TheConstants.{MOST_SHARE}
-use Rattle.mrp_rows.specs.Supplies.{supply_text}
+use Rattle.mrp_table_rows.specs.Supplies.{supply_text}
 use Rattle.mrp_lot.specs.One.{PlanRows}
-use Rattle.mrp_rows.specs.Table.{Table}
-use Rattle.mrp_rows.specs.Said.{supply_said}
-use Rattle.mrp_choice.specs.declared.choice.Heading.{Heading}
+use Rattle.mrp_table_rows.specs.Table.{Table}
+use Rattle.mrp_table_rows.specs.Said.{supply_said}
+use Rattle.mrp_commands.specs.declared.choice.Heading.{Heading}
 use Rattle.mrp_net.specs.Sums.{pair_at}
 use Rattle.mrp_plan.specs.Orders.{orders_by}
 use Rattle.mrp_plan.specs.declared.orders.PlannedOrder.{PlannedOrder}
-use Rattle.mrp_sheet.specs.Dates.{dates_of}
-use Rattle.mrp_sheet.specs.Headings.{header_row}
+use Rattle.mrp_csv_out.specs.Dates.{dates_of}
+use Rattle.mrp_csv_out.specs.Headings.{header_row}
 use Rattle.mrp_report.specs.Headings.{order_names}
-use Rattle.mrp_sheet.specs.DateLists.{date_in}
-use Rattle.mrp_sheet.specs.Names.{item_of, pairs_of, plant_of}
-use Rattle.mrp_sheet.specs.Rows.{row}
+use Rattle.mrp_csv_out.specs.DateLists.{date_in}
+use Rattle.mrp_csv_out.specs.Names.{item_of, pairs_of, plant_of}
+use Rattle.mrp_csv_out.specs.Rows.{row}
 
 -- where a pair comes from, spelled as in its row of the table
 abbrev pub spelled_supply : Table → ℕ → List ℕ

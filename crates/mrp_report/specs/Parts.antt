@@ -3,13 +3,13 @@ use Rattle.std.specs.Prelude.{ℕ, ◌<◌, List, [], ◌∷◌, length, slice_i
 use Rattle.std.specs.List.{flat_map, range_with_len}
 use Rattle.mrp_lot.specs.One.{PlanRows}
 use Rattle.mrp_lot.specs.declared.params.Late.{Late}
-use Rattle.mrp_rows.specs.Table.{Table}
+use Rattle.mrp_table_rows.specs.Table.{Table}
 use Rattle.mrp_net.specs.Plan.{rows_at}
-use Rattle.mrp_sheet.specs.DateLists.{date_in}
-use Rattle.mrp_sheet.specs.Dates.{dates_of}
-use Rattle.mrp_sheet.specs.Names.{item_of, plant_of}
-use Rattle.mrp_sheet.specs.Rows.{row}
-use Rattle.mrp_sheet.specs.Writing.{joined}
+use Rattle.mrp_csv_out.specs.DateLists.{date_in}
+use Rattle.mrp_csv_out.specs.Dates.{dates_of}
+use Rattle.mrp_csv_out.specs.Names.{item_of, plant_of}
+use Rattle.mrp_csv_out.specs.Rows.{row}
+use Rattle.mrp_csv_out.specs.Writing.{joined}
 use Rattle.mrp_report.specs.declared.plan.Period.{Period}
 use Rattle.mrp_report.specs.Report.{late_fields, pair_text}
 

@@ -2,13 +2,13 @@
 use Rattle.std.specs.Prelude.{◌≡◌, ◌≤◌, ℕ, if◌then◌else◌, List, [], ◌∷◌, length, decimal, codes as text_bytes}
 use Rattle.std.specs.List.{flat_map}
 use Rattle.mrp_lot.specs.One.{PlanRows}
-use Rattle.mrp_rows.specs.Table.{IsPair, IsTable, Table}
+use Rattle.mrp_table_rows.specs.Table.{IsPair, IsTable, Table}
 use Rattle.mrp_net.specs.PlanLaws.{Fits}
 use Rattle.mrp_net.specs.declared.edge.Edge.{Edge}
 use Rattle.mrp_plan.specs.Peg.{edge_term, is_asked}
 use Rattle.mrp_plan.specs.declared.terms.PegTerm.{PegTerm}
-use Rattle.mrp_sheet.specs.Names.{item_of, plant_of}
-use Rattle.mrp_sheet.specs.Writing.{joined}
+use Rattle.mrp_csv_out.specs.Names.{item_of, plant_of}
+use Rattle.mrp_csv_out.specs.Writing.{joined}
 use Rattle.mrp_report.specs.declared.pegging.PegLine.{PegLine}
 use Rattle.mrp_report.specs.declared.room.TheConstants.{LONGEST_PAIR}
 use Rattle.mrp_report.specs.Pegs.{pegs_row}

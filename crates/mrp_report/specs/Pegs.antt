@@ -2,11 +2,11 @@
 use Rattle.std.specs.Prelude.{ℕ, List, [], ◌∷◌, decimal, codes as text_bytes}
 use Rattle.std.specs.List.{flat_map, range_with_len}
 use Rattle.mrp_lot.specs.One.{PlanRows}
-use Rattle.mrp_rows.specs.Table.{Table, horizon}
+use Rattle.mrp_table_rows.specs.Table.{Table, horizon}
 use Rattle.mrp_plan.specs.Peg.{peg_terms}
 use Rattle.mrp_plan.specs.declared.terms.PegTerm.{PegTerm}
-use Rattle.mrp_sheet.specs.Names.{item_of, pairs_of, plant_of}
-use Rattle.mrp_sheet.specs.Rows.{row}
+use Rattle.mrp_csv_out.specs.Names.{item_of, pairs_of, plant_of}
+use Rattle.mrp_csv_out.specs.Rows.{row}
 use Rattle.mrp_report.specs.Terms.{source_word}
 
 -- the fields of the row of a term of a pair's gross requirement in a period: the pair and the period, where the

@@ -3,11 +3,11 @@ use Rattle.std.specs.Prelude.{ℕ, List, [], ◌∷◌, length, slice_index, sli
 use Rattle.std.specs.List.{flat_map, range_with_len}
 use Rattle.mrp_lot.specs.One.{PlanRows}
 use Rattle.mrp_lot.specs.declared.params.Late.{Late}
-use Rattle.mrp_rows.specs.Table.{Table}
+use Rattle.mrp_table_rows.specs.Table.{Table}
 use Rattle.mrp_net.specs.Plan.{rows_at}
-use Rattle.mrp_sheet.specs.Rows.{row}
-use Rattle.mrp_sheet.specs.Dates.{dates_of}
-use Rattle.mrp_sheet.specs.Names.{item_of, pairs_of, plant_of}
+use Rattle.mrp_csv_out.specs.Rows.{row}
+use Rattle.mrp_csv_out.specs.Dates.{dates_of}
+use Rattle.mrp_csv_out.specs.Names.{item_of, pairs_of, plant_of}
 
 -- the row of a pair in a period: its number and first day, gross requirement, scheduled receipts, planned order
 -- receipt, planned order release and projected available

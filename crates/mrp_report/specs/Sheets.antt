@@ -2,15 +2,15 @@
 use Rattle.std.specs.Prelude.{ℕ, List, ◌++◌, length, map, slice_index, Option}
 use Rattle.std.specs.List.{flat_map, range_with_len}
 use Rattle.mrp_lot.specs.One.{PlanRows}
-use Rattle.mrp_rows.specs.Table.{Table, horizon}
-use Rattle.mrp_choice.specs.declared.choice.Heading.{Heading}
+use Rattle.mrp_table_rows.specs.Table.{Table, horizon}
+use Rattle.mrp_commands.specs.declared.choice.Heading.{Heading}
 use Rattle.mrp_net.specs.Lanes.{lane_at}
 use Rattle.mrp_net.specs.Plan.{rows_at}
 use Rattle.mrp_plan.specs.Orders.{orders_by}
 use Rattle.mrp_plan.specs.Peg.{peg_terms}
 use Rattle.mrp_plan.specs.declared.terms.PegTerm.{PegTerm}
 use Rattle.mrp_book.specs.declared.figure.LaneFigure.{LaneFigure}
-use Rattle.mrp_sheet.specs.Dates.{dates_of}
+use Rattle.mrp_csv_out.specs.Dates.{dates_of}
 use Rattle.mrp_report.specs.Headings.{order_names}
 use Rattle.mrp_report.specs.Lanes.{figure_fields}
 use Rattle.mrp_report.specs.Orders.{order_fields, spelled_supply}
@@ -18,9 +18,9 @@ use Rattle.mrp_report.specs.Pegs.{pegs_fields}
 use Rattle.mrp_report.specs.Report.{late_fields, plan_fields}
 use Rattle.mrp_report.specs.Codes.{code_fields}
 use Rattle.mrp_report.specs.Terms.{peg_fields}
-use Rattle.mrp_sheet.specs.DateLists.{date_in}
-use Rattle.mrp_sheet.specs.Names.{item_of, pairs_of, plant_of}
-use Rattle.mrp_sheet.specs.Sheets.{Sheet, header_sheet}
+use Rattle.mrp_csv_out.specs.DateLists.{date_in}
+use Rattle.mrp_csv_out.specs.Names.{item_of, pairs_of, plant_of}
+use Rattle.mrp_csv_out.specs.Sheets.{Sheet, header_sheet}
 
 -- the plan: a row for each pair in table order and each period in rising order
 abbrev pub pair_sheet : List ℕ → List ℕ → List (List ℕ) → PlanRows → Sheet

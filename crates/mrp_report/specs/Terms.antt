@@ -1,12 +1,12 @@
 -- The rows of the terms of a gross requirement.
 use Rattle.std.specs.Prelude.{ℕ, List, [], ◌∷◌, decimal, codes as text_bytes}
 use Rattle.std.specs.List.{flat_map}
-use Rattle.mrp_rows.specs.Table.{Table}
+use Rattle.mrp_table_rows.specs.Table.{Table}
 use Rattle.mrp_plan.specs.declared.terms.PegTerm.{PegTerm}
 use Rattle.mrp_plan.specs.declared.terms.PegSource.{PegSource}
 use Rattle.mrp_plan.specs.declared.terms.PegSource.TheVariants.{Demand, Bill, Plant}
-use Rattle.mrp_sheet.specs.Rows.{row}
-use Rattle.mrp_sheet.specs.Names.{item_of, plant_of}
+use Rattle.mrp_csv_out.specs.Rows.{row}
+use Rattle.mrp_csv_out.specs.Names.{item_of, plant_of}
 
 -- what the row of a term calls its source
 abbrev pub source_word : PegSource → List ℕ

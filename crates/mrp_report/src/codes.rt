@@ -1,20 +1,20 @@
 //! The code rows: the low-level code of each pair.
 
 ghost use Rattle.std.specs.Prelude.{◌≡◌, ◌++◌, Err, OnOk, IfOk, IfErr};
-ghost use Rattle.mrp_rows.specs.Table.{IsPair};
+ghost use Rattle.mrp_table_rows.specs.Table.{IsPair};
 ghost use Rattle.mrp_loops.specs.Codes.{AreCodes};
 ghost use Rattle.mrp_report.specs.Headings.{code_names};
-ghost use Rattle.mrp_sheet.specs.Headings.{header_row};
-ghost use Rattle.mrp_sheet.specs.Writing.{IsBetweenRows, written};
-ghost use Rattle.mrp_sheet.specs.Sent.{SendsReport};
+ghost use Rattle.mrp_csv_out.specs.Headings.{header_row};
+ghost use Rattle.mrp_csv_out.specs.Writing.{IsBetweenRows, written};
+ghost use Rattle.mrp_csv_out.specs.Sent.{SendsReport};
 ghost use Rattle.mrp_report.specs.Codes.{code_row, code_text};
 
 use csv::Writer;
 use itoa::Buffer;
-use mrp_choice::Heading;
+use mrp_commands::Heading;
+use mrp_csv_out::{ReportFault, put_names, put_row, room_for, send, text_of};
 use mrp_loops::Levels;
 use mrp_net::{Network, PairNo};
-use mrp_sheet::{ReportFault, put_names, put_row, room_for, send, text_of};
 use std::alloc::Global;
 use std::io::Write;
 
@@ -27,7 +27,7 @@ const LONGEST_ROW: usize = 53;
 ///
 /// # Errors
 ///
-/// - [`ReportFault::WriteFault`] where a write fails or takes nothing; a front of the report is
+/// - [`ReportFault::WriteFault`] where a write fails or takes nothing; a prefix of the report is
 ///   written.
 /// - [`ReportFault::Memory`] where the room for the report is refused; nothing is written.
 pub fn code_rows<W: Write>(

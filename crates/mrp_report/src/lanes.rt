@@ -2,19 +2,19 @@
 
 ghost use Rattle.std.specs.Prelude.{◌≡◌, ◌++◌, ◌<◌, Err, OnOk, IfOk, IfErr, All, length};
 ghost use Rattle.mrp_net.specs.Lanes.{lanes};
-ghost use Rattle.mrp_sheet.specs.Headings.{header_row};
+ghost use Rattle.mrp_csv_out.specs.Headings.{header_row};
 ghost use Rattle.mrp_report.specs.Headings.{lane_names};
 ghost use Rattle.mrp_book.specs.LaneFigures.{IsLaneFigure};
 ghost use Rattle.mrp_report.specs.Lanes.{lane_kind_word, lane_row, lane_text};
-ghost use Rattle.mrp_sheet.specs.Writing.{IsBetweenRows, written};
-ghost use Rattle.mrp_sheet.specs.Sent.{SendsReport};
+ghost use Rattle.mrp_csv_out.specs.Writing.{IsBetweenRows, written};
+ghost use Rattle.mrp_csv_out.specs.Sent.{SendsReport};
 
 use csv::Writer;
 use itoa::Buffer;
 use mrp_book::LaneFigure;
-use mrp_choice::Heading;
+use mrp_commands::Heading;
+use mrp_csv_out::{ReportFault, put_names, put_row, room_for, send, text_of};
 use mrp_net::{LaneKind, Network};
-use mrp_sheet::{ReportFault, put_names, put_row, room_for, send, text_of};
 use std::alloc::Global;
 use std::io::Write;
 
@@ -31,7 +31,7 @@ const LONGEST_ROW: usize = 145;
 ///
 /// # Errors
 ///
-/// - [`ReportFault::WriteFault`] where a write fails or takes nothing; a front of the report is
+/// - [`ReportFault::WriteFault`] where a write fails or takes nothing; a prefix of the report is
 ///   written.
 /// - [`ReportFault::Memory`] where the room for the report is refused; nothing is written.
 pub fn lane_rows<W: Write>(

@@ -3,18 +3,18 @@
 ghost use Rattle.std.specs.Prelude.{◌≡◌, ◌++◌, Err, OnOk, IfOk, IfErr};
 ghost use Rattle.std.specs.List.{flat_map};
 ghost use Rattle.mrp_net.specs.PlanLaws.{Fits};
-ghost use Rattle.mrp_sheet.specs.Writing.{IsBetweenRows, written};
-ghost use Rattle.mrp_sheet.specs.Sent.{SendsReport};
+ghost use Rattle.mrp_csv_out.specs.Writing.{IsBetweenRows, written};
+ghost use Rattle.mrp_csv_out.specs.Sent.{SendsReport};
 ghost use Rattle.mrp_report.specs.Report.{late_text};
 ghost use Rattle.mrp_report.specs.Parts.{late_row};
 
 use csv::Writer;
 use itoa::Buffer;
+use mrp_csv_out::{ReportFault, put_row, room_for, send, text_of};
 use mrp_loops::SizedNet;
 use mrp_net::PairNo;
 use mrp_netting::{Late, PairPlan};
 use mrp_plan::Plan;
-use mrp_sheet::{ReportFault, put_row, room_for, send, text_of};
 use std::alloc::Global;
 use std::io::Write;
 
@@ -27,7 +27,7 @@ const LONGEST_ROW: usize = 72;
 ///
 /// # Errors
 ///
-/// - [`ReportFault::WriteFault`] where a write fails or takes nothing; a front of the report is
+/// - [`ReportFault::WriteFault`] where a write fails or takes nothing; a prefix of the report is
 ///   written.
 /// - [`ReportFault::Memory`] where the room for the report is refused; nothing is written.
 pub fn late_rows<W: Write>(

@@ -24,7 +24,7 @@ pub use codes::code_rows;
 pub use lanes::lane_rows;
 pub use late::late_rows;
 pub use laws::reports_are_read_back;
-pub use mrp_sheet::{ReportFault, send};
+pub use mrp_csv_out::{ReportFault, send};
 pub use orders::order_rows;
 pub use pegging::pegs_rows;
 pub use pegs::peg_rows;

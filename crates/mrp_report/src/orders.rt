@@ -1,25 +1,25 @@
 //! The order rows: each planned order, with where its pair comes from and when it is released and due.
 
 ghost use Rattle.std.specs.Prelude.{◌≡◌, ◌<◌, ◌++◌, Err, OnOk, IfOk, IfErr, length};
-ghost use Rattle.mrp_rows.specs.Table.{IsPair};
+ghost use Rattle.mrp_table_rows.specs.Table.{IsPair};
 ghost use Rattle.mrp_net.specs.PlanLaws.{Fits};
-ghost use Rattle.mrp_sheet.specs.Dates.{dates_of};
-ghost use Rattle.mrp_sheet.specs.Headings.{header_row};
+ghost use Rattle.mrp_csv_out.specs.Dates.{dates_of};
+ghost use Rattle.mrp_csv_out.specs.Headings.{header_row};
 ghost use Rattle.mrp_report.specs.Headings.{order_names};
 ghost use Rattle.mrp_report.specs.Orders.{order_text, orders_text, pair_orders_text, spelled_supply};
 ghost use Rattle.mrp_report.specs.OrderLines.{IsOrderLine, due_text, order_line_row, order_line_text};
-ghost use Rattle.mrp_sheet.specs.Writing.{IsBetweenRows, written};
-ghost use Rattle.mrp_sheet.specs.Sent.{SendsReport};
+ghost use Rattle.mrp_csv_out.specs.Writing.{IsBetweenRows, written};
+ghost use Rattle.mrp_csv_out.specs.Sent.{SendsReport};
 
 use crate::supply::put_supply;
 use csv::Writer;
 use itoa::Buffer;
-use mrp_choice::Heading;
+use mrp_commands::Heading;
+use mrp_csv_out::{ReportFault, date_of, date_texts, put_names, put_row, room_for, send, text_of};
 use mrp_loops::SizedNet;
 use mrp_net::{Network, PairNo};
 use mrp_netting::PairPlan;
 use mrp_plan::{Plan, PlannedOrder, planned_order};
-use mrp_sheet::{ReportFault, date_of, date_texts, put_names, put_row, room_for, send, text_of};
 use std::alloc::Global;
 use std::io::Write;
 
@@ -60,7 +60,7 @@ pub(crate) struct OrderLine<'a> {
 ///
 /// # Errors
 ///
-/// - [`ReportFault::WriteFault`] where a write fails or takes nothing; a front of the report is
+/// - [`ReportFault::WriteFault`] where a write fails or takes nothing; a prefix of the report is
 ///   written.
 /// - [`ReportFault::Memory`] where the room for the report is refused; nothing is written.
 pub fn order_rows<W: Write>(

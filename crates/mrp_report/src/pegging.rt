@@ -2,12 +2,12 @@
 
 ghost use Rattle.std.specs.Prelude.{◌≡◌, ◌≤◌, ◌<◌, ◌++◌, drop, length, All, Err, OnOk};
 ghost use Rattle.std.specs.Prelude.{IfErr, OnErr};
-ghost use Rattle.mrp_rows.specs.Table.{IsPair, IsTable, horizon};
+ghost use Rattle.mrp_table_rows.specs.Table.{IsPair, IsTable, horizon};
 ghost use Rattle.mrp_net.specs.PlanLaws.{Fits};
 ghost use Rattle.mrp_plan.specs.Peg.{IsPeggable};
-ghost use Rattle.mrp_sheet.specs.Headings.{header_row};
-ghost use Rattle.mrp_sheet.specs.Sending.{AppendsFront};
-ghost use Rattle.mrp_sheet.specs.Sent.{SendsReport};
+ghost use Rattle.mrp_csv_out.specs.Headings.{header_row};
+ghost use Rattle.mrp_csv_out.specs.Sending.{AppendsPrefix};
+ghost use Rattle.mrp_csv_out.specs.Sent.{SendsReport};
 ghost use Rattle.mrp_report.specs.Gathering.{Gathers};
 ghost use Rattle.mrp_report.specs.Headings.{pegs_names};
 ghost use Rattle.mrp_report.specs.Pegs.{pair_pegs_text, pegs_text, period_pegs_text};
@@ -17,11 +17,11 @@ use crate::before::{number_before, text_before};
 use crate::pegs::source_word;
 use crate::room::{LONGEST_PAIR, LONGEST_ROW, Room, name_pair};
 use itoa::write_digits;
-use mrp_choice::Heading;
+use mrp_commands::Heading;
+use mrp_csv_out::ReportFault;
 use mrp_loops::SizedNet;
 use mrp_net::{Edge, Network, PairNo};
 use mrp_plan::{PegTerm, Plan, asking_edges, demand_term, edge_term};
-use mrp_sheet::ReportFault;
 use std::alloc::Global;
 use std::io::Write;
 
@@ -109,7 +109,7 @@ fn put_pegs<W: Write>(
     requires fits { Fits network.now plan.now }
     ensures rows { OnOk result (Gathers (W.contents out.old) (W.contents out.new) room.old room.new
         (pegs_text network.now plan.now)) }
-    ensures front { OnErr result (AppendsFront (W.contents out.old) (W.contents out.new)
+    ensures front { OnErr result (AppendsPrefix (W.contents out.old) (W.contents out.new)
         (room.old ++ pegs_text network.now plan.now)) }
     ensures fault { IfErr result (λ fault. fault ≡ ReportFault.WriteFault) }
 {
@@ -137,7 +137,7 @@ fn put_pair_pegs<W: Write>(
     requires { IsPegLine line.now }
     ensures rows { OnOk result (Gathers (W.contents out.old) (W.contents out.new) room.old room.new
         (pair_pegs_text line.now.network.now line.now.plan.now line.now.x.0)) }
-    ensures front { OnErr result (AppendsFront (W.contents out.old) (W.contents out.new)
+    ensures front { OnErr result (AppendsPrefix (W.contents out.old) (W.contents out.new)
         (room.old ++ pair_pegs_text line.now.network.now line.now.plan.now line.now.x.0)) }
     ensures fault { IfErr result (λ fault. fault ≡ ReportFault.WriteFault) }
 {
@@ -159,7 +159,7 @@ fn put_period_pegs<W: Write>(
     requires period { t < horizon line.now.network.now }
     ensures rows { OnOk result (Gathers (W.contents out.old) (W.contents out.new) room.old room.new
         (period_pegs_text line.now.network.now line.now.plan.now line.now.x.0 t)) }
-    ensures front { OnErr result (AppendsFront (W.contents out.old) (W.contents out.new)
+    ensures front { OnErr result (AppendsPrefix (W.contents out.old) (W.contents out.new)
         (room.old ++ period_pegs_text line.now.network.now line.now.plan.now line.now.x.0 t)) }
     ensures fault { IfErr result (λ fault. fault ≡ ReportFault.WriteFault) }
 {
@@ -181,7 +181,7 @@ fn put_edge_pegs<W: Write>(
     requires edges { All (IsPeggable line.now.network.now line.now.plan.now t) edges.now }
     ensures rows { OnOk result (Gathers (W.contents out.old) (W.contents out.new) room.old room.new
         (edges_text line.now.network.now line.now.plan.now line.now.x.0 t edges.now)) }
-    ensures front { OnErr result (AppendsFront (W.contents out.old) (W.contents out.new)
+    ensures front { OnErr result (AppendsPrefix (W.contents out.old) (W.contents out.new)
         (room.old ++ edges_text line.now.network.now line.now.plan.now line.now.x.0 t edges.now)) }
     ensures fault { IfErr result (λ fault. fault ≡ ReportFault.WriteFault) }
 {
@@ -204,7 +204,7 @@ fn put_peg<W: Write>(
     requires pair { IsPair line.now.network.now term.pair.0 }
     ensures rows { OnOk result (Gathers (W.contents out.old) (W.contents out.new) room.old room.new
         (term_text line.now.network.now line.now.x.0 t term)) }
-    ensures front { OnErr result (AppendsFront (W.contents out.old) (W.contents out.new)
+    ensures front { OnErr result (AppendsPrefix (W.contents out.old) (W.contents out.new)
         (room.old ++ term_text line.now.network.now line.now.x.0 t term)) }
     ensures fault { IfErr result (λ fault. fault ≡ ReportFault.WriteFault) }
 {

@@ -1,20 +1,20 @@
 //! The peg rows: the terms of a gross requirement.
 
 ghost use Rattle.std.specs.Prelude.{◌≡◌, ◌++◌, Err, OnOk, IfOk, IfErr, All};
-ghost use Rattle.mrp_rows.specs.Table.{IsPair};
-ghost use Rattle.mrp_sheet.specs.Headings.{header_row};
+ghost use Rattle.mrp_table_rows.specs.Table.{IsPair};
+ghost use Rattle.mrp_csv_out.specs.Headings.{header_row};
 ghost use Rattle.mrp_report.specs.Headings.{peg_names};
-ghost use Rattle.mrp_sheet.specs.Writing.{IsBetweenRows, written};
-ghost use Rattle.mrp_sheet.specs.Sent.{SendsReport};
+ghost use Rattle.mrp_csv_out.specs.Writing.{IsBetweenRows, written};
+ghost use Rattle.mrp_csv_out.specs.Sent.{SendsReport};
 ghost use Rattle.mrp_report.specs.Terms.{peg_row, peg_text, source_word};
 
 use csv::Writer;
 use itoa::Buffer;
-use mrp_choice::Heading;
+use mrp_commands::Heading;
+use mrp_csv_out::{ReportFault, put_names, put_row, room_for, send, text_of};
 use mrp_loops::SizedNet;
 use mrp_net::Network;
 use mrp_plan::{PegSource, PegTerm};
-use mrp_sheet::{ReportFault, put_names, put_row, room_for, send, text_of};
 use std::alloc::Global;
 use std::io::Write;
 
@@ -30,7 +30,7 @@ const LONGEST_ROW: usize = 95;
 ///
 /// # Errors
 ///
-/// - [`ReportFault::WriteFault`] where a write fails or takes nothing; a front of the report is
+/// - [`ReportFault::WriteFault`] where a write fails or takes nothing; a prefix of the report is
 ///   written.
 /// - [`ReportFault::Memory`] where the room for the report is refused; nothing is written.
 pub fn peg_rows<W: Write>(

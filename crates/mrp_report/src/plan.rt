@@ -3,13 +3,13 @@
 ghost use Rattle.std.specs.Prelude.{◌≡◌, ◌+◌, ◌-◌, ◌*◌, ◌++◌, ◌∷◌, [], ◌≤◌, drop, take, length, decimal, Err};
 ghost use Rattle.std.specs.Prelude.{OnOk, IfErr, OnErr};
 ghost use Rattle.csv.specs.Writing.{comma};
-ghost use Rattle.mrp_rows.specs.Table.{IsTable};
+ghost use Rattle.mrp_table_rows.specs.Table.{IsTable};
 ghost use Rattle.mrp_net.specs.PlanLaws.{Fits};
-ghost use Rattle.mrp_sheet.specs.Rows.{row};
+ghost use Rattle.mrp_csv_out.specs.Rows.{row};
 ghost use Rattle.std.specs.Io.KnownBytes.{Appends};
-ghost use Rattle.mrp_sheet.specs.Sending.{AppendsFront};
-ghost use Rattle.mrp_sheet.specs.Sent.{SendsReport};
-ghost use Rattle.mrp_sheet.specs.Dates.{dates_of};
+ghost use Rattle.mrp_csv_out.specs.Sending.{AppendsPrefix};
+ghost use Rattle.mrp_csv_out.specs.Sent.{SendsReport};
+ghost use Rattle.mrp_csv_out.specs.Dates.{dates_of};
 ghost use Rattle.mrp_report.specs.Parts.{parts_text, period_part};
 ghost use Rattle.mrp_report.specs.Report.{plan_text};
 ghost use Rattle.mrp_report.specs.Parts.{HasPeriod, HasPeriods, pairs_text, period_at};
@@ -17,12 +17,12 @@ ghost use Rattle.mrp_report.specs.Parts.{HasPeriod, HasPeriods, pairs_text, peri
 use crate::before::{number_before, text_before};
 use crate::room::{LONGEST_PAIR, name_pair, put_parts};
 use itoa::write_digits;
+use mrp_csv_out::{ReportFault, date_texts, send};
 use mrp_loops::SizedNet;
 use mrp_net::{Network, PairNo};
 use mrp_netting::PairPlan;
 use mrp_plan::Plan;
 use mrp_qty::Qty;
-use mrp_sheet::{ReportFault, date_texts, send};
 use std::alloc::Global;
 use std::io::Write;
 
@@ -62,7 +62,7 @@ pub(crate) struct PlanReport<'a> {
 ///
 /// # Errors
 ///
-/// - [`ReportFault::WriteFault`] where a write fails or takes nothing; a front of the report is
+/// - [`ReportFault::WriteFault`] where a write fails or takes nothing; a prefix of the report is
 ///   written. The rows go by pieces of some pairs, and what builds and sends a piece is handed enough
 ///   room for it, no allocator, and nothing that gives one, so it is never for want of memory.
 /// - [`ReportFault::Memory`] where the room for the dates or for a piece is refused; nothing is
@@ -130,7 +130,7 @@ fn send_piece<W: Write>(
     requires room { PAIRS_AT_ONCE * (length report.now.dates.now * LONGEST_ROW) ≤ length room.old }
     ensures whole { OnOk result (Appends (W.contents out.old) (W.contents out.new)
         (pairs_text report.now.network.now report.now.plan.now first (end - first))) }
-    ensures front { OnErr result (AppendsFront (W.contents out.old) (W.contents out.new)
+    ensures front { OnErr result (AppendsPrefix (W.contents out.old) (W.contents out.new)
         (pairs_text report.now.network.now report.now.plan.now first (end - first))) }
     ensures fault { IfErr result (λ fault. fault ≡ ReportFault.WriteFault) }
     ensures room { length room.new ≡ length room.old }

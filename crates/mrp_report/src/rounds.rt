@@ -5,16 +5,16 @@ ghost use Rattle.std.specs.Prelude.{IfOk, OnOk, IfErr, OnErr};
 ghost use Rattle.std.specs.List.{concat};
 ghost use Rattle.std.specs.Io.KnownBytes.{Appends};
 ghost use Rattle.mrp_net.specs.PlanLaws.{Fits};
-ghost use Rattle.mrp_sheet.specs.Sending.{AppendsFront};
-ghost use Rattle.mrp_sheet.specs.Sent.{SendsReport};
+ghost use Rattle.mrp_csv_out.specs.Sending.{AppendsPrefix};
+ghost use Rattle.mrp_csv_out.specs.Sent.{SendsReport};
 ghost use Rattle.mrp_report.specs.Parts.{pairs_text};
 ghost use Rattle.mrp_report.specs.Report.{plan_text};
 ghost use Rattle.mrp_report.specs.Rounds.{IsRound, piece_text};
 
 use crate::plan::{LONGEST_ROW, PlanReport, pairs_text, plan_rows};
+use mrp_csv_out::{ReportFault, date_texts, send};
 use mrp_loops::SizedNet;
 use mrp_plan::Plan;
-use mrp_sheet::{ReportFault, date_texts, send};
 use std::alloc::Global;
 use std::io::Write;
 use std::marker::Model;
@@ -126,7 +126,7 @@ impl Piece {
     /// Sends the rows.
     fn send<W: Write>(&self, out: &mut W) -> Result<(), ReportFault>
         ensures whole { OnOk result (Appends (W.contents out.old) (W.contents out.new) self.now) }
-        ensures front { OnErr result (AppendsFront (W.contents out.old) (W.contents out.new) self.now) }
+        ensures front { OnErr result (AppendsPrefix (W.contents out.old) (W.contents out.new) self.now) }
         ensures fault { IfErr result (λ fault. fault ≡ ReportFault.WriteFault) }
     {
         send(&self.room[..self.used], out)
@@ -185,7 +185,7 @@ fn write_round<R: Threads + Sync>(
 /// Sends the pieces of a round in order.
 fn send_round<W: Write>(pieces: &[Piece], out: &mut W) -> Result<(), ReportFault>
     ensures whole { OnOk result (Appends (W.contents out.old) (W.contents out.new) (concat pieces.now)) }
-    ensures front { OnErr result (AppendsFront (W.contents out.old) (W.contents out.new) (concat pieces.now)) }
+    ensures front { OnErr result (AppendsPrefix (W.contents out.old) (W.contents out.new) (concat pieces.now)) }
     ensures fault { IfErr result (λ fault. fault ≡ ReportFault.WriteFault) }
 {
     'pieces: for piece in pieces {

@@ -2,16 +2,16 @@
 
 ghost use Rattle.std.specs.Prelude.{◌≡◌, ◌<◌, ◌-◌, ◌++◌, ◌==◌, [], OnOk, IfErr};
 ghost use Rattle.std.specs.List.{find};
-ghost use Rattle.mrp_rows.specs.declared.rows.Supply.TheVariants.{From};
-ghost use Rattle.mrp_rows.specs.Table.{IsPair};
+ghost use Rattle.mrp_table_rows.specs.declared.rows.Supply.TheVariants.{From};
+ghost use Rattle.mrp_table_rows.specs.Table.{IsPair};
 ghost use Rattle.mrp_net.specs.Sums.{pair_at};
-ghost use Rattle.mrp_sheet.specs.Names.{plant_of};
+ghost use Rattle.mrp_csv_out.specs.Names.{plant_of};
 ghost use Rattle.mrp_report.specs.Orders.{share_part, source_part, spelled_supply};
 
 use itoa::Buffer;
+use mrp_csv_out::ReportFault;
 use mrp_net::{Edge, Network, PairNo, Supply};
 use mrp_qty::MOST_SHARE;
-use mrp_sheet::ReportFault;
 
 /// Writes into the text where the pair comes from, in place of what it held.
 pub(crate) fn put_supply(

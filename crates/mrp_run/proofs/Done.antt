@@ -1,12 +1,12 @@
 -- A plant that is done has finished.
 use Rattle.std.proofs.Common.{◌≡◌, ◌↔◌, ℕ, Bool, true, List, get_or, sym, ◌∙◌, subst, Contains}
 use Rattle.std.specs.Bool.{IsTrue}
-use Rattle.mrp_rows.specs.Table.{Table}
+use Rattle.mrp_table_rows.specs.Table.{Table}
 use Rattle.mrp_net.proofs.Members.{Contains-from_in}
-use Rattle.mrp_view.specs.View.{PlantRows, incoming_lane, outgoing_lane, plant_pair, plant_pairs}
+use Rattle.mrp_plant_view.specs.View.{PlantRows, incoming_lane, outgoing_lane, plant_pair, plant_pairs}
 use Rattle.mrp_record.specs.declared.record.Record.{Record}
 use Rattle.mrp_record.specs.Entries.{contents, is_closed}
-use Rattle.mrp_events.proofs.Seeing.{sees_pair}
+use Rattle.mrp_protocol.proofs.Seeing.{sees_pair}
 use Rattle.mrp_lane.specs.Ends.{End}
 use Rattle.mrp_agent.specs.Reading.{HasDone}
 use Rattle.mrp_agent.specs.Shows.{ShowsHistory, is_done}

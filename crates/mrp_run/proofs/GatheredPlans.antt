@@ -5,15 +5,15 @@ use Rattle.std.specs.List.{All, range_with_len, filter}
 use Rattle.std.proofs.lemmas.Bool.{eq-eqb}
 use Rattle.std.proofs.lemmas.List.{ext_get_or, get_or_append_left, get_or_at, get_or-map, length-map}
 use Rattle.mrp_netting.specs.declared.plan.PairPlan.{PairPlan}
-use Rattle.mrp_rows.specs.Table.{Table}
+use Rattle.mrp_table_rows.specs.Table.{Table}
 use Rattle.mrp_net.specs.Plan.{no_rows}
-use Rattle.mrp_view.specs.Seen.{pairs_of_number}
-use Rattle.mrp_view.specs.View.{PlantRows, is_of_plant, plant_pair}
-use Rattle.mrp_view.specs.declared.view.PlantPair.{PlantPair}
-use Rattle.mrp_view.proofs.Seeing.{numbers_stand_once}
+use Rattle.mrp_plant_view.specs.Seen.{pairs_of_number}
+use Rattle.mrp_plant_view.specs.View.{PlantRows, is_of_plant, plant_pair}
+use Rattle.mrp_plant_view.specs.declared.view.PlantPair.{PlantPair}
+use Rattle.mrp_plant_view.proofs.Seeing.{numbers_stand_once}
 use Rattle.mrp_loops.specs.Within.{plan_at}
-use Rattle.mrp_events.specs.LocalLaws.{IsPairAt}
-use Rattle.mrp_events.proofs.Seeing.{pairs_are_at}
+use Rattle.mrp_protocol.specs.LocalLaws.{IsPairAt}
+use Rattle.mrp_protocol.proofs.Seeing.{pairs_are_at}
 use Rattle.mrp_agent.specs.State.{AgentState, no_plant_pair, pair_place}
 use Rattle.mrp_agent.proofs.Looking.{place_is_only}
 use Rattle.mrp_run.specs.declared.plant.Plant.{Plant}

@@ -5,31 +5,31 @@ use Rattle.std.proofs.lemmas.Bool.{eqb-true, false≢true}
 use Rattle.std.proofs.lemmas.List.{get_or-map, length-map}
 use Rattle.std.proofs.lemmas.List.Elements.{Contains-get_or}
 use Rattle.std.proofs.lemmas.Option.{slice_get-get_or}
-use Rattle.mrp_rows.specs.declared.numbers.ItemNo.{ItemNo}
-use Rattle.mrp_rows.specs.Table.{Table, IsTable}
+use Rattle.mrp_table_rows.specs.declared.numbers.ItemNo.{ItemNo}
+use Rattle.mrp_table_rows.specs.Table.{Table, IsTable}
 use Rattle.mrp_net.specs.declared.lane.Lane.{Lane}
 use Rattle.mrp_net.specs.declared.lane.LaneKind.TheVariants.{Schedule}
 use Rattle.mrp_net.specs.Lanes.{lane_at, lane_items, pair_on}
 use Rattle.mrp_net.proofs.Behind.{items_have_sources}
-use Rattle.mrp_view.specs.declared.view.Call.{Call}
-use Rattle.mrp_view.specs.declared.view.OutgoingLane.{OutgoingLane}
-use Rattle.mrp_view.specs.Loads as view
-use Rattle.mrp_view.specs.View.{PlantRows, outgoing_item, outgoing_lane}
-use Rattle.mrp_view.proofs.Calling.{call_seen}
+use Rattle.mrp_plant_view.specs.declared.view.Call.{Call}
+use Rattle.mrp_plant_view.specs.declared.view.OutgoingLane.{OutgoingLane}
+use Rattle.mrp_plant_view.specs.Loads as view
+use Rattle.mrp_plant_view.specs.View.{PlantRows, outgoing_item, outgoing_lane}
+use Rattle.mrp_plant_view.proofs.Calling.{call_seen}
 use Rattle.mrp_loops.specs.Sized.{IsSized}
 use Rattle.mrp_record.specs.declared.record.Record.{Record}
 use Rattle.mrp_record.specs.Entries.{Entry, LineOf, EndOf, ResetOf, Closing, content, is_of}
 use Rattle.mrp_record.specs.Text.{Load}
-use Rattle.mrp_events.specs.Loads.{load_of, loads}
-use Rattle.mrp_events.specs.State.{State, IsDecided}
-use Rattle.mrp_events.specs.History.{PlannedAreReady}
+use Rattle.mrp_protocol.specs.Loads.{load_of, loads}
+use Rattle.mrp_protocol.specs.State.{State, IsDecided}
+use Rattle.mrp_protocol.specs.History.{PlannedAreReady}
 use Rattle.mrp_record.specs.Cursor as cursor
 use Rattle.mrp_record.specs.Cursor.{Goods, OutFigures}
 use Rattle.mrp_record.specs.CursorLaws.{IsQueued, MaySend}
-use Rattle.mrp_events.specs.Goods.{IsSendable}
-use Rattle.mrp_events.specs.LocalLaws.{HasGoods, IsPairAt}
-use Rattle.mrp_events.proofs.LocalPlanned.{own}
-use Rattle.mrp_events.proofs.Seeing.{ready_over_network}
+use Rattle.mrp_protocol.specs.Goods.{IsSendable}
+use Rattle.mrp_protocol.specs.LocalLaws.{HasGoods, IsPairAt}
+use Rattle.mrp_protocol.proofs.LocalPlanned.{own}
+use Rattle.mrp_protocol.proofs.Seeing.{ready_over_network}
 use Rattle.mrp_agent.specs.InNetwork.{WorksIn}
 use Rattle.mrp_agent.specs.Sending.{ContinuesSent, goods_at}
 use Rattle.mrp_agent.specs.State.{AgentState, outgoing_at, out_at, plans_of, no_outgoing}

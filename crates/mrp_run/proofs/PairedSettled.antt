@@ -2,15 +2,15 @@
 use Rattle.std.proofs.Common.{◌≡◌, ℕ, ◌+◌, ◌-◌, true, List, [], ◌∷◌, ◌++◌, length, reverse, refl, sym, ap, subst, ◌∙◌, arith, append_assoc, take, drop, Result}
 use Rattle.std.proofs.Common.{Ok, Err, IfOk}
 use Rattle.std.proofs.lemmas.List.{length-map, length-reverse, length_push, take_at}
-use Rattle.mrp_rows.specs.Table.{Table}
+use Rattle.mrp_table_rows.specs.Table.{Table}
 use Rattle.mrp_net.specs.Lanes.{lanes, lane_at}
 use Rattle.mrp_record.specs.declared.record.Record.{Record}
 use Rattle.mrp_record.specs.Entries.{content, contents, is_closed}
 use Rattle.mrp_record.specs.Text.{Load, IsBeginning, IsWhole}
 use Rattle.mrp_record.specs.Lengths.{length_of_text}
 use Rattle.mrp_record.proofs.Beginnings.{closed_is_whole, nothing_follows_closing, texts_have_one_length}
-use Rattle.mrp_events.specs.Loads.{loads}
-use Rattle.mrp_events.proofs.Ordering.{has_closing}
+use Rattle.mrp_protocol.specs.Loads.{loads}
+use Rattle.mrp_protocol.proofs.Ordering.{has_closing}
 use Rattle.mrp_lane.specs.Ends.{End, Name, HasLegalList}
 use Rattle.mrp_lane.specs.Reconciled.{Carried, figures_on}
 use Rattle.mrp_lane.specs.Views.{IsLegal}

@@ -1,8 +1,8 @@
 -- The lanes of a plant have a place in what it sees.
 use Rattle.std.proofs.Common.{ℕ, Contains}
-use Rattle.mrp_rows.specs.Table.{Table}
+use Rattle.mrp_table_rows.specs.Table.{Table}
 use Rattle.mrp_net.proofs.Members.{Contains-from_in, In-from_contains, In-map}
-use Rattle.mrp_view.specs.View.{incoming_lane, incoming_lanes, outgoing_lane, outgoing_lanes}
+use Rattle.mrp_plant_view.specs.View.{incoming_lane, incoming_lanes, outgoing_lane, outgoing_lanes}
 use Rattle.mrp_run.specs.Plant.{lanes_from, lanes_to}
 
 pub out_there : (N : Table) (p l : ℕ) → Contains (lanes_from N p) l → Contains (outgoing_lanes N p) (outgoing_lane N l)

@@ -1,11 +1,11 @@
 -- Laws of what a run comes to.
 use Rattle.std.specs.Prelude.{◌≡◌, ℕ, List, length}
-use Rattle.mrp_rows.specs.Table.{Table}
+use Rattle.mrp_table_rows.specs.Table.{Table}
 use Rattle.mrp_net.specs.Lanes.{lane_at}
 use Rattle.mrp_record.specs.declared.record.Record.{Record}
 use Rattle.mrp_record.specs.Text.{IsWhole}
 use Rattle.mrp_record.specs.Lengths.{length_of_text}
-use Rattle.mrp_events.specs.Loads.{loads}
+use Rattle.mrp_protocol.specs.Loads.{loads}
 use Rattle.mrp_lane.specs.Reconciled.{Carried, figures_on}
 use Rattle.mrp_run.specs.Outcome.{IsSettled}
 

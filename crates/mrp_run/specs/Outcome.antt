@@ -1,11 +1,11 @@
 -- What a run of a network comes to: the plan of the network, and what went over its lanes, as in a run of the events.
 use Rattle.std.specs.Prelude.{◌≡◌, ℕ, ◌≤◌, List, [], length}
-use Rattle.mrp_rows.specs.Table.{Table}
+use Rattle.mrp_table_rows.specs.Table.{Table}
 use Rattle.mrp_net.specs.Lanes.{lanes, lane_at}
 use Rattle.mrp_net.specs.Plan.{plan_of}
 use Rattle.mrp_record.specs.Text.{IsWhole}
-use Rattle.mrp_events.specs.Loads.{loads}
-use Rattle.mrp_events.specs.State.{State, IsFinished, IsReached}
+use Rattle.mrp_protocol.specs.Loads.{loads}
+use Rattle.mrp_protocol.specs.State.{State, IsFinished, IsReached}
 use Rattle.mrp_lane.specs.Reconciled.{Carried, figures_on}
 use Rattle.mrp_run.specs.declared.network.Outcome.{Outcome}
 use Rattle.mrp_run.specs.Ends.{EachAt}

@@ -1,6 +1,6 @@
 //! How the plants of a network are made, and the ends of its lanes dealt to them.
 ghost use Rattle.std.specs.Prelude.{◌≡◌, ◌+◌, ◌≤◌, ◌<◌, [], ◌∷◌, ◌++◌, List, All, IfOk, OnOk, Ok, length, map};
-ghost use Rattle.mrp_rows.specs.Table.{Table};
+ghost use Rattle.mrp_table_rows.specs.Table.{Table};
 ghost use Rattle.mrp_net.specs.Lanes.{lanes, lane_at};
 ghost use Rattle.mrp_loops.specs.Sized.{IsSized};
 ghost use Rattle.mrp_qty.specs.declared.limits.TheConstants.{MOST_ROOM};
@@ -12,8 +12,8 @@ use mrp_agent::Agent;
 use mrp_lane::{SendEnd, TakeEnd, lane};
 use mrp_loops::SizedNet;
 use mrp_net::{LaneNo, Network, PlantNo};
+use mrp_plant_view::PlantView;
 use mrp_qty::Memory;
-use mrp_view::PlantView;
 use std::alloc::Global;
 use std::thread;
 use std::thread::Threads;

@@ -4,10 +4,10 @@ use Rattle.std.proofs.Common.{ap, sym, subst, arith}
 use Rattle.std.specs.List.{All}
 use Rattle.std.proofs.lemmas.Bool.Decides.{nat_tests}
 use Rattle.std.proofs.lemmas.List.Elements.{All-cons, All-nil}
-use Rattle.mrp_rows.specs.Growing.{lacks_pair}
-use Rattle.mrp_rows.specs.Table.{Table, IsTable}
-use Rattle.mrp_rows.specs.declared.rows.SourceRow.{SourceRow}
-use Rattle.mrp_rows.proofs.Keys.{All-from_position}
+use Rattle.mrp_table_rows.specs.Growing.{lacks_pair}
+use Rattle.mrp_table_rows.specs.Table.{Table, IsTable}
+use Rattle.mrp_table_rows.specs.declared.rows.SourceRow.{SourceRow}
+use Rattle.mrp_table_rows.proofs.Keys.{All-from_position}
 use Rattle.mrp_tables.specs.declared.fault.TableFault.{TableFault}
 use Rattle.mrp_tables.specs.declared.fault.TableFaultKind.{TableFaultKind}
 use Rattle.mrp_tables.specs.declared.kind.Kind.{Kind}

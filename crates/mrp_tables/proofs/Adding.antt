@@ -6,7 +6,7 @@ use Rattle.mrp_tables.specs.declared.fault.TableFault.{TableFault}
 use Rattle.mrp_tables.specs.declared.fault.TableFaultKind.{TableFaultKind}
 use Rattle.mrp_tables.specs.declared.fault.TableFaultKind.TheVariants as fault
 use Rattle.mrp_tables.specs.declared.kind.Kind.{Kind}
-use Rattle.mrp_rows.specs.Table.{Table}
+use Rattle.mrp_table_rows.specs.Table.{Table}
 use Rattle.mrp_tables.specs.Left.{OfLeft, TakesRow}
 use Rattle.mrp_tables.specs.Reading.{OfRows, row_after, rows_after}
 use Rattle.mrp_tables.proofs.Listed.{later_no_read_fault}

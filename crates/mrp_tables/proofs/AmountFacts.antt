@@ -6,10 +6,10 @@ use Rattle.std.specs.Str.{bytes_eq}
 use Rattle.std.proofs.lemmas.Bool.Decides.{nat_tests}
 use Rattle.std.proofs.lemmas.List.Quantifiers.{position-Some}
 use Rattle.std.proofs.lemmas.Slice.Eq.{bytes_eq-Decides}
-use Rattle.mrp_rows.specs.declared.numbers.PairNo.{PairNo}
-use Rattle.mrp_rows.specs.declared.numbers.PlantNo.{PlantNo}
-use Rattle.mrp_rows.specs.Names.{pair_named, pair_of_item, plant_no}
-use Rattle.mrp_rows.specs.Table.{horizon, IsName, Table}
+use Rattle.mrp_table_rows.specs.declared.numbers.PairNo.{PairNo}
+use Rattle.mrp_table_rows.specs.declared.numbers.PlantNo.{PlantNo}
+use Rattle.mrp_table_rows.specs.Names.{pair_named, pair_of_item, plant_no}
+use Rattle.mrp_table_rows.specs.Table.{horizon, IsName, Table}
 use Rattle.mrp_tables.specs.Amounts.{known_amount}
 use Rattle.mrp_tables.specs.Grammar.{◌>>=◌, amount_row, amount_terms, AmountTerms, check, known_pair}
 use Rattle.mrp_tables.specs.Keys.{Knows}

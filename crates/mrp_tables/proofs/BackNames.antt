@@ -10,11 +10,11 @@ use Rattle.std.proofs.lemmas.List.Folds.{list_any_none}
 use Rattle.std.proofs.lemmas.Map.Keys.{apart_from_distinct}
 use Rattle.std.proofs.lemmas.Option.{slice_get-get_or}
 use Rattle.std.proofs.lemmas.Slice.Eq.{bytes_eq-Decides}
-use Rattle.mrp_rows.specs.declared.rows.PairRow.{PairRow}
-use Rattle.mrp_rows.specs.Names.{found_pair, pair_named, pair_of_item, plant_no}
-use Rattle.mrp_rows.specs.Table.{IsPair, IsPairRow, IsTable, is_same_pair, item_at, plant_at, Table}
-use Rattle.mrp_rows.proofs.Keys.{position_is}
-use Rattle.mrp_rows.specs.Said.{pair_item, pair_plant, plant_name}
+use Rattle.mrp_table_rows.specs.declared.rows.PairRow.{PairRow}
+use Rattle.mrp_table_rows.specs.Names.{found_pair, pair_named, pair_of_item, plant_no}
+use Rattle.mrp_table_rows.specs.Table.{IsPair, IsPairRow, IsTable, is_same_pair, item_at, plant_at, Table}
+use Rattle.mrp_table_rows.proofs.Keys.{position_is}
+use Rattle.mrp_table_rows.specs.Said.{pair_item, pair_plant, plant_name}
 use Rattle.mrp_tables.proofs.KeepingLists.{bytes_flip}
 
 -- ---- an element between others

@@ -14,35 +14,36 @@ use Rattle.std.proofs.lemmas.Slice.Eq.{bytes_eq-Decides}
 use Rattle.csv.specs.Records.{field_at}
 use Rattle.mrp_lot.specs.declared.rule.Rule.{Rule}
 use Rattle.mrp_lot.specs.declared.rule.TheConstants.{LONGEST_LEAD}
-use Rattle.mrp_rows.specs.Spelling.{is_name, number_text, rule_text}
-use Rattle.mrp_rows.specs.Parsing.{number_within, rule_of}
-use Rattle.mrp_rows.specs.Supplies.{supply_text, SupplyTerms}
-use Rattle.mrp_rows.specs.SupplyParsing.{HasName, is_same_plant, IsShare, IsWholeSupply, named_sources, names_plant, ShareFrom, supply_of}
+use Rattle.mrp_table_rows.specs.Spelling.{is_name, number_text, rule_text}
+use Rattle.mrp_table_rows.specs.Parsing.{number_within, rule_of}
+use Rattle.mrp_table_rows.specs.Supplies.{supply_text, SupplyTerms}
+use Rattle.mrp_table_rows.specs.SupplyParsing.{HasName, is_same_plant, IsShare, IsWholeSupply, named_sources, names_plant, ShareFrom, supply_of}
 use Rattle.mrp_qty.specs.declared.limits.TheConstants.{MOST_SHARE}
-use Rattle.mrp_rows.proofs.SpelledLists.{IsDistinct-nil}
-use Rattle.mrp_rows.proofs.Ranges.{number_written}
-use Rattle.mrp_rows.proofs.RuleTexts.{rule_written}
-use Rattle.mrp_rows.proofs.Written.{supply_written}
-use Rattle.mrp_rows.specs.declared.rows.PairRow.{PairRow}
-use Rattle.mrp_rows.specs.declared.rows.SourceRow.{SourceRow}
-use Rattle.mrp_rows.specs.declared.rows.Supply.{Supply}
-use Rattle.mrp_rows.specs.declared.rows.Supply.TheVariants as supply
+use Rattle.mrp_table_rows.proofs.SpelledLists.{IsDistinct-nil}
+use Rattle.mrp_table_rows.proofs.Ranges.{number_written}
+use Rattle.mrp_table_rows.proofs.RuleTexts.{rule_written}
+use Rattle.mrp_table_rows.proofs.Written.{supply_written}
+use Rattle.mrp_table_rows.specs.declared.rows.PairRow.{PairRow}
+use Rattle.mrp_table_rows.specs.declared.rows.SourceRow.{SourceRow}
+use Rattle.mrp_table_rows.specs.declared.rows.Supply.{Supply}
+use Rattle.mrp_table_rows.specs.declared.rows.Supply.TheVariants as supply
 use Rattle.mrp_qty.specs.declared.limits.TheConstants.{MOST_IN_ROW, MOST_PAIRS}
-use Rattle.mrp_rows.specs.Growing.{add_item}
-use Rattle.mrp_rows.specs.Names.{has_plant, pair_named, pair_of_item, plant_no}
-use Rattle.mrp_rows.specs.Table.{AreShares, HasSupply, is_same_pair, is_same_source, IsName, IsPair, IsPairRow, IsSourceRow, IsTable, plant_at, sources_of_pair}
-use Rattle.mrp_rows.specs.Table.{Table}
+use Rattle.mrp_table_rows.specs.Growing.{add_item}
+use Rattle.mrp_table_rows.specs.Names.{has_plant, pair_named, pair_of_item, plant_no}
+use Rattle.mrp_table_rows.specs.Table.{AreShares, HasSupply, is_same_pair, is_same_source, IsName, IsPair}
+use Rattle.mrp_table_rows.specs.Table.{IsPairRow, IsSourceRow, IsTable, plant_at, sources_of_pair}
+use Rattle.mrp_table_rows.specs.Table.{Table}
 use Rattle.mrp_tables.specs.declared.kind.Kind.{Kind}
 use Rattle.mrp_tables.specs.declared.kind.Kind.TheVariants as kind
 use Rattle.mrp_tables.specs.Grammar.{knows_sources, pair_fits, pair_row, pair_terms, PairTerms, pair_with, kind_place, source_row, supply_kind}
 use Rattle.mrp_tables.specs.Grammar.{with_pair_terms}
 use Rattle.mrp_tables.specs.Reading.{row_after, row_of_kind}
 use Rattle.mrp_tables.specs.Written.{AreNumbered, pair_fields, pair_rows}
-use Rattle.mrp_rows.specs.Said.{item_name, plant_name, source_said, supply_said}
+use Rattle.mrp_table_rows.specs.Said.{item_name, plant_name, source_said, supply_said}
 use Rattle.mrp_tables.proofs.BackNames.{at_place, name_at, none_before, plant_at_place}
 use Rattle.mrp_tables.proofs.BackRows.{Ends, ends_after, has_room, kind_read, may_stand, plant_is_name, Row, row_read, with_bills}
 use Rattle.mrp_tables.proofs.BackTexts.{name_is_text, number_is_text, rule_is_text, supply_is_text, word_is_text}
-use Rattle.mrp_rows.proofs.Keys.{any-from_position}
+use Rattle.mrp_table_rows.proofs.Keys.{any-from_position}
 use Rattle.mrp_tables.proofs.KeepingLists.{any_agree, bytes_flip, filter_everything, filter_nothing, position_last}
 use Rattle.mrp_tables.proofs.KeepingPair.{no_place}
 

@@ -10,23 +10,24 @@ use Rattle.std.proofs.lemmas.List.Elements.{All-get_or}
 use Rattle.csv.specs.Records.{field_at}
 use Rattle.mrp_qty.specs.declared.horizon.TheConstants.{LONGEST}
 use Rattle.mrp_qty.specs.declared.quantity.TheConstants.{MOST}
-use Rattle.mrp_rows.specs.Spelling.{is_name, number_text}
-use Rattle.mrp_rows.specs.Parsing.{number_within}
-use Rattle.mrp_rows.proofs.Ranges.{number_written}
-use Rattle.mrp_rows.specs.declared.numbers.PairNo.{PairNo}
-use Rattle.mrp_rows.specs.declared.rows.BillRow.{BillRow}
-use Rattle.mrp_rows.specs.declared.rows.CumRow.{CumRow}
-use Rattle.mrp_rows.specs.declared.rows.DemandRow.{DemandRow}
-use Rattle.mrp_rows.specs.declared.rows.PairRow.{PairRow}
-use Rattle.mrp_rows.specs.declared.rows.ReceiptRow.{ReceiptRow}
-use Rattle.mrp_rows.specs.declared.rows.ResetRow.{ResetRow}
-use Rattle.mrp_rows.specs.declared.rows.ShipRow.{ShipRow}
-use Rattle.mrp_rows.specs.declared.rows.Supply.TheVariants as supply
+use Rattle.mrp_table_rows.specs.Spelling.{is_name, number_text}
+use Rattle.mrp_table_rows.specs.Parsing.{number_within}
+use Rattle.mrp_table_rows.proofs.Ranges.{number_written}
+use Rattle.mrp_table_rows.specs.declared.numbers.PairNo.{PairNo}
+use Rattle.mrp_table_rows.specs.declared.rows.BillRow.{BillRow}
+use Rattle.mrp_table_rows.specs.declared.rows.CumRow.{CumRow}
+use Rattle.mrp_table_rows.specs.declared.rows.DemandRow.{DemandRow}
+use Rattle.mrp_table_rows.specs.declared.rows.PairRow.{PairRow}
+use Rattle.mrp_table_rows.specs.declared.rows.ReceiptRow.{ReceiptRow}
+use Rattle.mrp_table_rows.specs.declared.rows.ResetRow.{ResetRow}
+use Rattle.mrp_table_rows.specs.declared.rows.ShipRow.{ShipRow}
+use Rattle.mrp_table_rows.specs.declared.rows.Supply.TheVariants as supply
 use Rattle.mrp_qty.specs.declared.limits.TheConstants.{MOST_BILLS, MOST_IN_ROW, MOST_OF_A_KIND, MOST_PER}
-use Rattle.mrp_rows.specs.Growing.{with_bill, with_cum, with_demand, with_receipt, with_reset, with_ship}
-use Rattle.mrp_rows.specs.Names.{pair_named, plant_no}
-use Rattle.mrp_rows.specs.Table.{arrivals, horizon, is_same_bill, is_same_cum, is_same_reset, is_taken_from, IsBillRow, IsCumRow, IsDemandRow, IsName, IsPair}
-use Rattle.mrp_rows.specs.Table.{IsReceiptRow, IsResetRow, IsShipRow, IsTable, plant_at, rises_from, supply_at, Table}
+use Rattle.mrp_table_rows.specs.Growing.{with_bill, with_cum, with_demand, with_receipt, with_reset, with_ship}
+use Rattle.mrp_table_rows.specs.Names.{pair_named, plant_no}
+use Rattle.mrp_table_rows.specs.Table.{arrivals, horizon, is_same_bill, is_same_cum, is_same_reset, is_taken_from}
+use Rattle.mrp_table_rows.specs.Table.{IsBillRow, IsCumRow, IsDemandRow, IsName, IsPair}
+use Rattle.mrp_table_rows.specs.Table.{IsReceiptRow, IsResetRow, IsShipRow, IsTable, plant_at, rises_from, supply_at, Table}
 use Rattle.mrp_tables.specs.declared.kind.Kind.{Kind}
 use Rattle.mrp_tables.specs.declared.kind.Kind.TheVariants as kind
 use Rattle.mrp_tables.specs.Grammar.{◌>>=◌, amount_row, amount_terms, bill_fits, bill_row, bill_terms, cum_between, cum_of, cum_row, lane_number, demand_made}
@@ -35,7 +36,7 @@ use Rattle.mrp_tables.specs.Grammar.{kind_place, receipt_made, receipt_of, reset
 use Rattle.mrp_tables.specs.Grammar.{ship_terms, used}
 use Rattle.mrp_tables.specs.Reading.{at_row, go_on, kind_of_row, row_after, row_of_kind, rows_after}
 use Rattle.mrp_tables.specs.Written.{bill_fields, cum_fields, demand_fields, receipt_fields, reset_fields, ship_fields}
-use Rattle.mrp_rows.specs.Said.{pair_item, pair_plant, plant_name}
+use Rattle.mrp_table_rows.specs.Said.{pair_item, pair_plant, plant_name}
 use Rattle.mrp_tables.proofs.BackNames.{at_place, none_before, pair_by_names, plant_at_place, plant_of_pair, stands}
 use Rattle.mrp_tables.proofs.BackTexts.{name_is_text, number_is_text, word_is_text}
 

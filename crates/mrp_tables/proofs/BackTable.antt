@@ -10,13 +10,13 @@ use Rattle.mrp_cal.specs.Days.{day_text}
 use Rattle.mrp_cal.proofs.Days.{spells_day}
 use Rattle.mrp_qty.specs.declared.horizon.TheConstants.{LONGEST}
 use Rattle.mrp_qty.specs.declared.limits.TheConstants.{MOST_PLANTS}
-use Rattle.mrp_rows.specs.Growing.{with_plant}
-use Rattle.mrp_rows.specs.Table.{IsName, IsTable, Table}
-use Rattle.mrp_rows.specs.Growing.{empty_table}
-use Rattle.mrp_rows.specs.Spelling.{is_name, number_text}
-use Rattle.mrp_rows.specs.Parsing.{spelled_number, number_within}
-use Rattle.mrp_rows.proofs.Decimals.{number-written}
-use Rattle.mrp_rows.proofs.Ranges.{number_written}
+use Rattle.mrp_table_rows.specs.Growing.{with_plant}
+use Rattle.mrp_table_rows.specs.Table.{IsName, IsTable, Table}
+use Rattle.mrp_table_rows.specs.Growing.{empty_table}
+use Rattle.mrp_table_rows.specs.Spelling.{is_name, number_text}
+use Rattle.mrp_table_rows.specs.Parsing.{spelled_number, number_within}
+use Rattle.mrp_table_rows.proofs.Decimals.{number-written}
+use Rattle.mrp_table_rows.proofs.Ranges.{number_written}
 use Rattle.mrp_tables.specs.declared.kind.Kind.{Kind}
 use Rattle.mrp_tables.specs.declared.kind.Kind.TheVariants as kind
 use Rattle.mrp_tables.specs.Grammar.{kind_place, plant_in_row, plant_row, run_terms, RunTerms}

@@ -13,11 +13,11 @@ use Rattle.mrp_cal.specs.Days.{date_text}
 use Rattle.mrp_lot.specs.Lot.{IsRule}
 use Rattle.mrp_lot.specs.declared.rule.Rule.{Rule}
 use Rattle.mrp_lot.specs.declared.rule.Rule.TheVariants.{LotForLot, Fixed, Periods, MinMultiple}
-use Rattle.mrp_rows.specs.Spelling.{is_name, is_name_byte, number_text, rule_text}
-use Rattle.mrp_rows.specs.Parsing.{IsShort}
-use Rattle.mrp_rows.specs.Supplies.{BuyTerms, FromTerms, MakeTerms, source_fields, sources_text, SourceTerms, supply_text, SupplyTerms}
-use Rattle.mrp_rows.specs.SupplyParsing.{HasName, IsShare, IsWholeSupply}
-use Rattle.mrp_rows.proofs.Decimals.{decimal_digits}
+use Rattle.mrp_table_rows.specs.Spelling.{is_name, is_name_byte, number_text, rule_text}
+use Rattle.mrp_table_rows.specs.Parsing.{IsShort}
+use Rattle.mrp_table_rows.specs.Supplies.{BuyTerms, FromTerms, MakeTerms, source_fields, sources_text, SourceTerms, supply_text, SupplyTerms}
+use Rattle.mrp_table_rows.specs.SupplyParsing.{HasName, IsShare, IsWholeSupply}
+use Rattle.mrp_table_rows.proofs.Decimals.{decimal_digits}
 
 more : (b : ℕ) (bs : List ℕ) → b < 128 → IsAscii bs → IsAscii (b ∷ bs)
 more b bs here rest zero = here

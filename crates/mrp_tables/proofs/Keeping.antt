@@ -3,25 +3,26 @@ use Rattle.std.proofs.Common.{◌≡◌, ◌≤◌, ℕ, ltb, leb, true, List, R
 use Rattle.std.proofs.lemmas.Bool.{and_parts}
 use Rattle.std.proofs.lemmas.Bool.Decides.{nat_tests}
 use Rattle.std.proofs.lemmas.List.Elements.{All-nil}
-use Rattle.mrp_rows.specs.declared.rows.BillRow.{BillRow}
-use Rattle.mrp_rows.specs.declared.rows.CumRow.{CumRow}
-use Rattle.mrp_rows.specs.declared.rows.DemandRow.{DemandRow}
-use Rattle.mrp_rows.specs.declared.rows.ReceiptRow.{ReceiptRow}
-use Rattle.mrp_rows.specs.declared.rows.ResetRow.{ResetRow}
-use Rattle.mrp_rows.specs.declared.rows.ShipRow.{ShipRow}
+use Rattle.mrp_table_rows.specs.declared.rows.BillRow.{BillRow}
+use Rattle.mrp_table_rows.specs.declared.rows.CumRow.{CumRow}
+use Rattle.mrp_table_rows.specs.declared.rows.DemandRow.{DemandRow}
+use Rattle.mrp_table_rows.specs.declared.rows.ReceiptRow.{ReceiptRow}
+use Rattle.mrp_table_rows.specs.declared.rows.ResetRow.{ResetRow}
+use Rattle.mrp_table_rows.specs.declared.rows.ShipRow.{ShipRow}
 use Rattle.std.specs.Str.{bytes_eq}
 use Rattle.mrp_cal.specs.Calendar.{CalendarTerms, IsCalendar}
 use Rattle.mrp_tables.specs.declared.fault.TableFaultKind.{TableFaultKind}
 use Rattle.mrp_tables.specs.declared.kind.Kind.{Kind}
 use Rattle.mrp_tables.specs.declared.kind.Kind.TheVariants as kind
 use Rattle.mrp_tables.specs.Grammar.{◌>>=◌, bill_of, cum_of, demand_of, may_follow, kind_place, plant_in_row, receipt_of, reset_in_row, ship_of}
-use Rattle.mrp_rows.specs.Growing.{with_plant, with_bill, with_demand, with_receipt, with_ship, with_cum, with_reset}
+use Rattle.mrp_table_rows.specs.Growing.{with_plant, with_bill, with_demand, with_receipt, with_ship, with_cum, with_reset}
 use Rattle.mrp_tables.specs.Reading.{IsReadSoFar, kind_of_row, row_after, row_of_kind}
-use Rattle.mrp_rows.specs.Table.{Table, IsBillRow, IsCumRow, IsDemandRow, IsName, IsPairRow, IsReceiptRow, IsResetRow, IsShipRow, IsSourceRow, is_same_pair}
-use Rattle.mrp_rows.specs.Table.{is_same_source, is_same_bill, is_same_cum, is_same_reset}
-use Rattle.mrp_rows.specs.Growing.{empty_table}
+use Rattle.mrp_table_rows.specs.Table.{Table, IsBillRow, IsCumRow, IsDemandRow, IsName, IsPairRow}
+use Rattle.mrp_table_rows.specs.Table.{IsReceiptRow, IsResetRow, IsShipRow, IsSourceRow, is_same_pair}
+use Rattle.mrp_table_rows.specs.Table.{is_same_source, is_same_bill, is_same_cum, is_same_reset}
+use Rattle.mrp_table_rows.specs.Growing.{empty_table}
 use Rattle.mrp_tables.proofs.KeepingBill.{bill_keeps}
-use Rattle.mrp_rows.proofs.SpelledLists.{IsDistinct-nil}
+use Rattle.mrp_table_rows.proofs.SpelledLists.{IsDistinct-nil}
 use Rattle.mrp_tables.proofs.KeepingPair.{pair_keeps}
 use Rattle.mrp_tables.proofs.KeepingRead.{bill_read, cum_read, demand_read, plant_read, receipt_read, reset_read, ship_read}
 use Rattle.mrp_tables.proofs.KeepingRows.{plant_keeps, demand_keeps, receipt_keeps, ship_keeps, cum_keeps, reset_keeps}

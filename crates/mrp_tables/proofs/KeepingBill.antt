@@ -5,15 +5,15 @@ use Rattle.std.specs.List.{list_any}
 use Rattle.std.specs.Str.{bytes_eq}
 use Rattle.std.proofs.lemmas.Bool.{and_parts, eqb-true}
 use Rattle.std.proofs.lemmas.List.Elements.{All-push}
-use Rattle.mrp_rows.specs.declared.rows.BillRow.{BillRow}
-use Rattle.mrp_rows.specs.declared.rows.PairRow.{PairRow}
-use Rattle.mrp_rows.specs.declared.rows.Supply.{Supply}
-use Rattle.mrp_rows.specs.declared.rows.Supply.TheVariants as supply
-use Rattle.mrp_rows.specs.Table.{Table, IsOnce, IsSourced, is_same_bill, plant_at, supply_at}
-use Rattle.mrp_rows.specs.Growing.{with_bill}
+use Rattle.mrp_table_rows.specs.declared.rows.BillRow.{BillRow}
+use Rattle.mrp_table_rows.specs.declared.rows.PairRow.{PairRow}
+use Rattle.mrp_table_rows.specs.declared.rows.Supply.{Supply}
+use Rattle.mrp_table_rows.specs.declared.rows.Supply.TheVariants as supply
+use Rattle.mrp_table_rows.specs.Table.{Table, IsOnce, IsSourced, is_same_bill, plant_at, supply_at}
+use Rattle.mrp_table_rows.specs.Growing.{with_bill}
 use Rattle.mrp_tables.specs.Grammar.{BillTerms, bill_fits, bill_of, bill_terms, has_bill, is_make}
-use Rattle.mrp_rows.specs.Names.{pair_named, plant_no}
-use Rattle.mrp_rows.proofs.SpelledLists.{distinct_push}
+use Rattle.mrp_table_rows.specs.Names.{pair_named, plant_no}
+use Rattle.mrp_table_rows.proofs.SpelledLists.{distinct_push}
 use Rattle.mrp_tables.proofs.KeepingLists.{position_there}
 use Rattle.mrp_tables.proofs.KeepingParts.{bill_parts}
 use Rattle.mrp_tables.proofs.KeepingSame.{stays_once, stays_sourced}
@@ -32,7 +32,7 @@ pair_at_plant N (Some p) item x is = by (position (bytes_eq item) N.items) is
         let same : q.plant.0 ≡ p = eqb-true q.plant.0 p (and_parts (q.plant.0 == p) (q.item.0 == i) t).0 in
         ap (λ n. Some n) (sym same ∙ ap (λ (z : PairRow). z.plant.0) (sym s))
 
-    by : (o : Option ℕ) → Rattle.mrp_rows.specs.Names.pair_of_item N p o ≡ Some x → Some p ≡ Some (plant_at N x)
+    by : (o : Option ℕ) → Rattle.mrp_table_rows.specs.Names.pair_of_item N p o ≡ Some x → Some p ≡ Some (plant_at N x)
     by None e = absurd (cc)
     by (Some i) e =
         let there = position_there (λ q. (q.plant.0 == p) && (q.item.0 == i)) N.pairs x e in

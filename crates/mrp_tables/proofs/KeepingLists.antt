@@ -11,7 +11,7 @@ use Rattle.std.proofs.lemmas.List.Elements.{All-append, All-head, All-tail, All-
 use Rattle.std.proofs.lemmas.List.Quantifiers.{position-Some}
 use Rattle.std.proofs.lemmas.Option.{slice_get-get_or}
 use Rattle.std.proofs.lemmas.Slice.Eq.{bytes_eq-Decides}
-use Rattle.mrp_rows.proofs.Keys.{All-from_position, any-from_no_position, position_is}
+use Rattle.mrp_table_rows.proofs.Keys.{All-from_position, any-from_no_position, position_is}
 
 -- ---- names
 

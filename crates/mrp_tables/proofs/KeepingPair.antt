@@ -10,31 +10,31 @@ use Rattle.std.proofs.lemmas.List.Elements.{recursion_from_All}
 use Rattle.std.proofs.lemmas.List.Folds.{list_any-append, list_any_none}
 use Rattle.std.proofs.lemmas.Map.Keys.{IsDistinct-cons, IsDistinct-head, IsDistinct-tail}
 use Rattle.std.proofs.lemmas.Slice.Eq.{bytes_eq-Decides}
-use Rattle.mrp_rows.specs.declared.numbers.PlantNo.{PlantNo}
+use Rattle.mrp_table_rows.specs.declared.numbers.PlantNo.{PlantNo}
 use Rattle.mrp_qty.specs.declared.limits.TheConstants.{MOST_PAIRS, MOST_SOURCES}
-use Rattle.mrp_rows.specs.declared.rows.PairRow.{PairRow}
-use Rattle.mrp_rows.specs.declared.rows.SourceRow.{SourceRow}
-use Rattle.mrp_rows.specs.declared.rows.Supply.{Supply}
-use Rattle.mrp_rows.specs.declared.rows.Supply.TheVariants as supply
-use Rattle.mrp_rows.specs.Supplies.{SourceTerms, SupplyTerms, MakeTerms, BuyTerms, FromTerms}
-use Rattle.mrp_rows.specs.SupplyParsing.{names_plant}
-use Rattle.mrp_rows.specs.Growing.{add_item}
-use Rattle.mrp_rows.specs.Names.{has_plant, pair_named, pair_of_item, plant_no}
-use Rattle.mrp_rows.proofs.Lists.{any_left, slice_get-append, slice_get-push}
+use Rattle.mrp_table_rows.specs.declared.rows.PairRow.{PairRow}
+use Rattle.mrp_table_rows.specs.declared.rows.SourceRow.{SourceRow}
+use Rattle.mrp_table_rows.specs.declared.rows.Supply.{Supply}
+use Rattle.mrp_table_rows.specs.declared.rows.Supply.TheVariants as supply
+use Rattle.mrp_table_rows.specs.Supplies.{SourceTerms, SupplyTerms, MakeTerms, BuyTerms, FromTerms}
+use Rattle.mrp_table_rows.specs.SupplyParsing.{names_plant}
+use Rattle.mrp_table_rows.specs.Growing.{add_item}
+use Rattle.mrp_table_rows.specs.Names.{has_plant, pair_named, pair_of_item, plant_no}
+use Rattle.mrp_table_rows.proofs.Lists.{any_left, slice_get-append, slice_get-push}
 use Rattle.mrp_tables.specs.Grammar.{knows_sources, PairTerms, pair_fits, pair_row, pair_terms, pair_with, kind_place, source_row, supply_kind}
 use Rattle.mrp_tables.specs.Grammar.{with_pair_terms}
-use Rattle.mrp_rows.specs.SupplyParsing.{is_same_plant, IsShare, IsWholeSupply, named_sources}
+use Rattle.mrp_table_rows.specs.SupplyParsing.{is_same_plant, IsShare, IsWholeSupply, named_sources}
 use Rattle.mrp_qty.specs.declared.limits.TheConstants.{MOST_SOURCES_OF_PAIR}
-use Rattle.mrp_rows.specs.Table.{Table, HasSupply, is_item_of_pair, IsName, IsRead, IsOnce, IsPair, IsPairRow, IsSourced, IsSourceRow, is_same_pair}
-use Rattle.mrp_rows.specs.Table.{is_same_source, plant_at, sources_of_pair, supply_at}
+use Rattle.mrp_table_rows.specs.Table.{Table, HasSupply, is_item_of_pair, IsName, IsRead, IsOnce, IsPair, IsPairRow, IsSourced, IsSourceRow, is_same_pair}
+use Rattle.mrp_table_rows.specs.Table.{is_same_source, plant_at, sources_of_pair, supply_at}
 use Rattle.mrp_tables.specs.declared.kind.Kind.{Kind}
 use Rattle.mrp_tables.specs.declared.kind.Kind.TheVariants as kind
 use Rattle.mrp_tables.specs.Reading.{IsReadSoFar}
-use Rattle.mrp_rows.proofs.SpelledLists.{All-from_any, distinct_append, distinct_push, IsDistinct-nil}
-use Rattle.mrp_rows.proofs.Keys.{any-from_no_position, any-from_position}
-use Rattle.mrp_rows.proofs.Naming.{distinct_name}
+use Rattle.mrp_table_rows.proofs.SpelledLists.{All-from_any, distinct_append, distinct_push, IsDistinct-nil}
+use Rattle.mrp_table_rows.proofs.Keys.{any-from_no_position, any-from_position}
+use Rattle.mrp_table_rows.proofs.Naming.{distinct_name}
 use Rattle.mrp_tables.proofs.KeepingLists.{filter_everything, filter_nothing, names_at, ordered_append, position-from_any, position_last, position_there}
-use Rattle.mrp_rows.proofs.Grow.{Changes, Grows, length-add_item-le, name_added, one_more, read_grows, same_rows}
+use Rattle.mrp_table_rows.proofs.Grow.{Changes, Grows, length-add_item-le, name_added, one_more, read_grows, same_rows}
 use Rattle.mrp_tables.proofs.KeepingRead.{lt_test, plant_within}
 use Rattle.mrp_tables.proofs.KeepingShares.{named_few, named_shares, pair_terms_are, shares_are, SpellsPair}
 use Rattle.mrp_tables.proofs.KeepingSteps.{after, after_check, after_some, same_Ok}

@@ -2,16 +2,16 @@
 use Rattle.std.proofs.Common.{◌-◌, ◌≡◌, ℕ, Bool, true, false, not, ltb, List, length, Some, is_some, Ok}
 use Rattle.std.proofs.lemmas.Bool.{not-true}
 use Rattle.mrp_qty.specs.declared.limits.TheConstants.{MOST_BILLS, MOST_OF_A_KIND}
-use Rattle.mrp_rows.specs.declared.rows.BillRow.{BillRow}
-use Rattle.mrp_rows.specs.declared.rows.CumRow.{CumRow}
-use Rattle.mrp_rows.specs.declared.rows.DemandRow.{DemandRow}
-use Rattle.mrp_rows.specs.declared.rows.ReceiptRow.{ReceiptRow}
-use Rattle.mrp_rows.specs.declared.rows.ResetRow.{ResetRow}
-use Rattle.mrp_rows.specs.declared.rows.ShipRow.{ShipRow}
-use Rattle.mrp_rows.specs.Names.{pair_named, plant_no}
-use Rattle.mrp_rows.specs.Table.{Table, arrivals, horizon, rises_from}
-use Rattle.mrp_rows.specs.declared.numbers.PlantNo.{PlantNo}
-use Rattle.mrp_rows.specs.declared.numbers.PairNo.{PairNo}
+use Rattle.mrp_table_rows.specs.declared.rows.BillRow.{BillRow}
+use Rattle.mrp_table_rows.specs.declared.rows.CumRow.{CumRow}
+use Rattle.mrp_table_rows.specs.declared.rows.DemandRow.{DemandRow}
+use Rattle.mrp_table_rows.specs.declared.rows.ReceiptRow.{ReceiptRow}
+use Rattle.mrp_table_rows.specs.declared.rows.ResetRow.{ResetRow}
+use Rattle.mrp_table_rows.specs.declared.rows.ShipRow.{ShipRow}
+use Rattle.mrp_table_rows.specs.Names.{pair_named, plant_no}
+use Rattle.mrp_table_rows.specs.Table.{Table, arrivals, horizon, rises_from}
+use Rattle.mrp_table_rows.specs.declared.numbers.PlantNo.{PlantNo}
+use Rattle.mrp_table_rows.specs.declared.numbers.PairNo.{PairNo}
 use Rattle.mrp_qty.specs.declared.quantity.TheConstants.{MOST}
 use Rattle.mrp_tables.specs.Grammar.{AmountTerms, BillTerms, LaneTerms, amount_row, amount_terms, bill_fits, cum_of, lane_number, demand_made, demand_of}
 use Rattle.mrp_tables.specs.Grammar.{has_bill, has_cum, has_reset, is_made, known_lane, known_pair, receipt_made, receipt_of, reset_in_row}

@@ -10,26 +10,26 @@ use Rattle.std.proofs.lemmas.List.{length-map, length_push}
 use Rattle.std.proofs.lemmas.List.Elements.{All-head, All-tail}
 use Rattle.std.proofs.lemmas.Map.Made.{length-le_from_is_member}
 use Rattle.mrp_qty.specs.declared.quantity.TheConstants.{MOST}
-use Rattle.mrp_rows.specs.declared.numbers.PlantNo.{PlantNo}
-use Rattle.mrp_rows.specs.declared.numbers.PairNo.{PairNo}
+use Rattle.mrp_table_rows.specs.declared.numbers.PlantNo.{PlantNo}
+use Rattle.mrp_table_rows.specs.declared.numbers.PairNo.{PairNo}
 use Rattle.mrp_qty.specs.declared.limits.TheConstants.{MOST_BILLS, MOST_IN_ROW, MOST_OF_A_KIND, MOST_PER, MOST_PLANTS}
-use Rattle.mrp_rows.specs.declared.rows.BillRow.{BillRow}
-use Rattle.mrp_rows.specs.declared.rows.CumRow.{CumRow}
-use Rattle.mrp_rows.specs.declared.rows.DemandRow.{DemandRow}
-use Rattle.mrp_rows.specs.declared.rows.ReceiptRow.{ReceiptRow}
-use Rattle.mrp_rows.specs.declared.rows.ResetRow.{ResetRow}
-use Rattle.mrp_rows.specs.declared.rows.ShipRow.{ShipRow}
-use Rattle.mrp_rows.specs.declared.rows.SourceRow.{SourceRow}
-use Rattle.mrp_rows.specs.Growing.{with_bill, with_cum, with_demand, with_plant, with_receipt, with_reset, with_ship}
-use Rattle.mrp_rows.specs.Names.{has_plant, pair_named, pair_of_item, plant_no}
-use Rattle.mrp_rows.specs.Table.{horizon, IsBillRow, IsCumRow, IsDemandRow, IsName, IsOnce, IsRead, IsReceiptRow, IsResetRow, IsShipRow, is_same_reset}
-use Rattle.mrp_rows.specs.Table.{IsSourced, Table}
-use Rattle.mrp_rows.proofs.Keys.{same_test}
-use Rattle.mrp_rows.proofs.Grow.{read-with_bill, read-with_cum, read-with_demand, read-with_plant, read-with_receipt, read-with_reset, read-with_ship}
-use Rattle.mrp_rows.specs.Spelling.{is_name}
-use Rattle.mrp_rows.specs.Parsing.{number_within}
-use Rattle.mrp_rows.proofs.Mapped.{list_any_keys}
-use Rattle.mrp_rows.proofs.Ranges.{within_range}
+use Rattle.mrp_table_rows.specs.declared.rows.BillRow.{BillRow}
+use Rattle.mrp_table_rows.specs.declared.rows.CumRow.{CumRow}
+use Rattle.mrp_table_rows.specs.declared.rows.DemandRow.{DemandRow}
+use Rattle.mrp_table_rows.specs.declared.rows.ReceiptRow.{ReceiptRow}
+use Rattle.mrp_table_rows.specs.declared.rows.ResetRow.{ResetRow}
+use Rattle.mrp_table_rows.specs.declared.rows.ShipRow.{ShipRow}
+use Rattle.mrp_table_rows.specs.declared.rows.SourceRow.{SourceRow}
+use Rattle.mrp_table_rows.specs.Growing.{with_bill, with_cum, with_demand, with_plant, with_receipt, with_reset, with_ship}
+use Rattle.mrp_table_rows.specs.Names.{has_plant, pair_named, pair_of_item, plant_no}
+use Rattle.mrp_table_rows.specs.Table.{horizon, IsBillRow, IsCumRow, IsDemandRow, IsName, IsOnce, IsRead, IsReceiptRow, IsResetRow, IsShipRow, is_same_reset}
+use Rattle.mrp_table_rows.specs.Table.{IsSourced, Table}
+use Rattle.mrp_table_rows.proofs.Keys.{same_test}
+use Rattle.mrp_table_rows.proofs.Grow.{read-with_bill, read-with_cum, read-with_demand, read-with_plant, read-with_receipt, read-with_reset, read-with_ship}
+use Rattle.mrp_table_rows.specs.Spelling.{is_name}
+use Rattle.mrp_table_rows.specs.Parsing.{number_within}
+use Rattle.mrp_table_rows.proofs.Mapped.{list_any_keys}
+use Rattle.mrp_table_rows.proofs.Ranges.{within_range}
 use Rattle.mrp_tables.specs.declared.fault.TableFaultKind.{TableFaultKind}
 use Rattle.mrp_tables.specs.declared.fault.TableFaultKind.TheVariants as fault
 use Rattle.mrp_tables.specs.Grammar.{◌>>=◌, amount_terms, AmountTerms, bill_fits, bill_of, bill_terms, BillTerms, cum_of, lane_number, demand_made, demand_of}

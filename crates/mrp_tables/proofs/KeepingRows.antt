@@ -3,21 +3,21 @@ use Rattle.std.proofs.Common.{◌≡◌, ℕ, true, false, not, List, [], Option
 use Rattle.std.specs.List.{list_any}
 use Rattle.std.proofs.lemmas.Bool.{not-true}
 use Rattle.std.proofs.lemmas.List.Elements.{All-push}
-use Rattle.mrp_rows.specs.declared.numbers.PlantNo.{PlantNo}
-use Rattle.mrp_rows.specs.declared.numbers.PairNo.{PairNo}
+use Rattle.mrp_table_rows.specs.declared.numbers.PlantNo.{PlantNo}
+use Rattle.mrp_table_rows.specs.declared.numbers.PairNo.{PairNo}
 use Rattle.mrp_qty.specs.declared.limits.TheConstants.{MOST_PLANTS}
-use Rattle.mrp_rows.specs.declared.rows.CumRow.{CumRow}
-use Rattle.mrp_rows.specs.declared.rows.DemandRow.{DemandRow}
-use Rattle.mrp_rows.specs.declared.rows.ReceiptRow.{ReceiptRow}
-use Rattle.mrp_rows.specs.declared.rows.ResetRow.{ResetRow}
-use Rattle.mrp_rows.specs.declared.rows.ShipRow.{ShipRow}
-use Rattle.mrp_rows.specs.Table.{Table, IsOnce, IsSourced, is_taken_from, is_same_cum, is_same_reset}
-use Rattle.mrp_rows.specs.Growing.{with_plant, with_demand, with_receipt, with_ship, with_cum, with_reset}
+use Rattle.mrp_table_rows.specs.declared.rows.CumRow.{CumRow}
+use Rattle.mrp_table_rows.specs.declared.rows.DemandRow.{DemandRow}
+use Rattle.mrp_table_rows.specs.declared.rows.ReceiptRow.{ReceiptRow}
+use Rattle.mrp_table_rows.specs.declared.rows.ResetRow.{ResetRow}
+use Rattle.mrp_table_rows.specs.declared.rows.ShipRow.{ShipRow}
+use Rattle.mrp_table_rows.specs.Table.{Table, IsOnce, IsSourced, is_taken_from, is_same_cum, is_same_reset}
+use Rattle.mrp_table_rows.specs.Growing.{with_plant, with_demand, with_receipt, with_ship, with_cum, with_reset}
 use Rattle.mrp_tables.specs.Grammar.{LaneTerms, cum_between, cum_of, known_lane, plant_in_row, plant_terms, reset_between, reset_in_row, ship_of}
-use Rattle.mrp_rows.specs.Names.{has_plant, pair_named, plant_no}
-use Rattle.mrp_rows.specs.Table.{rises_from, arrivals}
-use Rattle.mrp_rows.proofs.SpelledLists.{distinct_push}
-use Rattle.mrp_rows.proofs.Naming.{distinct_name}
+use Rattle.mrp_table_rows.specs.Names.{has_plant, pair_named, plant_no}
+use Rattle.mrp_table_rows.specs.Table.{rises_from, arrivals}
+use Rattle.mrp_table_rows.proofs.SpelledLists.{distinct_push}
+use Rattle.mrp_table_rows.proofs.Naming.{distinct_name}
 use Rattle.mrp_tables.proofs.KeepingParts.{cum_parts, reset_parts, ship_parts}
 use Rattle.mrp_tables.proofs.KeepingSame.{stays_once, stays_sourced}
 use Rattle.mrp_tables.proofs.KeepingSteps.{after, after_check, after_some, same_Ok}

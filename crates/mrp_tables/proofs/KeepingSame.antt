@@ -2,8 +2,9 @@
 use Rattle.std.proofs.Common.{◌≡◌, true, sym, subst}
 use Rattle.std.specs.List.{All, IsDistinct}
 use Rattle.std.specs.Str.{bytes_eq}
-use Rattle.mrp_rows.specs.declared.rows.Supply.TheVariants as supply
-use Rattle.mrp_rows.specs.Table.{Table, IsOnce, IsSourced, arrivals, is_same_bill, is_same_cum, is_same_reset, is_taken_from, plant_at, rises_from, supply_at}
+use Rattle.mrp_table_rows.specs.declared.rows.Supply.TheVariants as supply
+use Rattle.mrp_table_rows.specs.Table.{Table, IsOnce, IsSourced, arrivals, is_same_bill, is_same_cum}
+use Rattle.mrp_table_rows.specs.Table.{is_same_reset, is_taken_from, plant_at, rises_from, supply_at}
 
 -- the plants and the rows of `M` beside the items, pairs and sources of `N`
 abbrev pub with_rows : Table → Table → Table

@@ -6,13 +6,13 @@ use Rattle.std.proofs.lemmas.List.Elements.{All-nil}
 use Rattle.mrp_lot.specs.Lot.{IsRule}
 use Rattle.mrp_lot.specs.declared.rule.TheConstants.{LONGEST_LEAD}
 use Rattle.mrp_qty.specs.declared.limits.TheConstants.{MOST_SHARE, MOST_SOURCES_OF_PAIR}
-use Rattle.mrp_rows.specs.Parsing.{rule_of}
-use Rattle.mrp_rows.specs.Supplies.{BuyTerms, FromTerms, MakeTerms, SourceTerms, SupplyTerms}
-use Rattle.mrp_rows.specs.SupplyParsing.{IsShare, IsWholeSupply, named_sources, ShareFrom, supply_of}
-use Rattle.mrp_rows.proofs.Ranges.{rule_is}
-use Rattle.mrp_rows.proofs.Wholes.{supply_is}
+use Rattle.mrp_table_rows.specs.Parsing.{rule_of}
+use Rattle.mrp_table_rows.specs.Supplies.{BuyTerms, FromTerms, MakeTerms, SourceTerms, SupplyTerms}
+use Rattle.mrp_table_rows.specs.SupplyParsing.{IsShare, IsWholeSupply, named_sources, ShareFrom, supply_of}
+use Rattle.mrp_table_rows.proofs.Ranges.{rule_is}
+use Rattle.mrp_table_rows.proofs.Wholes.{supply_is}
 use Rattle.mrp_qty.specs.declared.limits.TheConstants.{MOST_IN_ROW}
-use Rattle.mrp_rows.specs.Table.{Table, AreShares, IsAmount, IsName}
+use Rattle.mrp_table_rows.specs.Table.{Table, AreShares, IsAmount, IsName}
 use Rattle.mrp_tables.specs.Grammar.{field, name_field, PairTerms, pair_terms, ranged, source_row}
 use Rattle.mrp_tables.proofs.KeepingRead.{named_is, ranged_is, two_names_read}
 use Rattle.mrp_tables.proofs.KeepingSteps.{after, after_some, same_Ok}

@@ -11,13 +11,13 @@ use Rattle.mrp_cal.specs.declared.fault.CalFault.TheVariants as cal
 use Rattle.mrp_lot.specs.declared.rule.TheConstants.{LONGEST_LEAD}
 use Rattle.mrp_qty.specs.declared.quantity.TheConstants.{MOST}
 use Rattle.mrp_qty.specs.declared.horizon.TheConstants.{LONGEST}
-use Rattle.mrp_rows.specs.declared.numbers.PairNo.{PairNo}
+use Rattle.mrp_table_rows.specs.declared.numbers.PairNo.{PairNo}
 use Rattle.mrp_qty.specs.declared.limits.TheConstants.{MOST_BILLS, MOST_IN_ROW, MOST_OF_A_KIND, MOST_PAIRS, MOST_PER, MOST_PLANTS}
-use Rattle.mrp_rows.specs.Names.{has_plant, pair_named, plant_no}
-use Rattle.mrp_rows.specs.Table.{arrivals, horizon, is_taken_from, rises_from, Table}
-use Rattle.mrp_rows.specs.Spelling.{is_name}
-use Rattle.mrp_rows.specs.Parsing.{spelled_number, number_within, rule_of}
-use Rattle.mrp_rows.specs.SupplyParsing.{named_sources, names_plant, supply_of}
+use Rattle.mrp_table_rows.specs.Names.{has_plant, pair_named, plant_no}
+use Rattle.mrp_table_rows.specs.Table.{arrivals, horizon, is_taken_from, rises_from, Table}
+use Rattle.mrp_table_rows.specs.Spelling.{is_name}
+use Rattle.mrp_table_rows.specs.Parsing.{spelled_number, number_within, rule_of}
+use Rattle.mrp_table_rows.specs.SupplyParsing.{named_sources, names_plant, supply_of}
 use Rattle.mrp_tables.specs.declared.fault.TableFaultKind.{TableFaultKind}
 use Rattle.mrp_tables.specs.declared.fault.TableFaultKind.TheVariants as fault
 use Rattle.mrp_tables.specs.declared.kind.Kind.{Kind}

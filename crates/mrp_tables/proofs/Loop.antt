@@ -9,7 +9,7 @@ use Rattle.mrp_tables.specs.declared.fault.TableFault.{TableFault}
 use Rattle.mrp_tables.specs.declared.fault.TableFaultKind.{TableFaultKind}
 use Rattle.mrp_tables.specs.declared.fault.TableFaultKind.TheVariants as fault
 use Rattle.mrp_tables.specs.declared.kind.Kind.{Kind}
-use Rattle.mrp_rows.specs.Table.{Table}
+use Rattle.mrp_table_rows.specs.Table.{Table}
 use Rattle.mrp_tables.specs.Left.{ReadsOn, HasReadOn, IsSoundTo, OfLeft, StartsBadly, TakesRow, TellsNext, TellsTaken}
 use Rattle.mrp_tables.specs.Reading.{kind_of_row, OfRows, row_after, rows_after, UnlessMemory}
 

@@ -3,9 +3,9 @@ use Rattle.std.proofs.Common.{◌≡◌, true, false, not, List, [], ◌∷◌, 
 use Rattle.std.specs.List.{All}
 use Rattle.std.proofs.lemmas.Bool.{lt-ltb, le-ltb}
 use Rattle.std.proofs.lemmas.List.Elements.{All-head, All-tail}
-use Rattle.mrp_rows.specs.Growing.{lacks_pair}
-use Rattle.mrp_rows.specs.Table.{source_pair, Table}
-use Rattle.mrp_rows.specs.declared.rows.SourceRow.{SourceRow}
+use Rattle.mrp_table_rows.specs.Growing.{lacks_pair}
+use Rattle.mrp_table_rows.specs.Table.{source_pair, Table}
+use Rattle.mrp_table_rows.specs.declared.rows.SourceRow.{SourceRow}
 use Rattle.mrp_tables.specs.Missing.{HasPair, TellsMissing}
 use Rattle.mrp_tables.specs.Reading.{first_lacking}
 

@@ -6,7 +6,7 @@ use Rattle.mrp_cal.specs.Calendar.{CalendarTerms, IsCalendar, IsPeriodLength, la
 use Rattle.mrp_cal.specs.Made.{IsCalendarFrom, IsPastEnd}
 use Rattle.mrp_cal.specs.declared.fault.CalFault.{CalFault}
 use Rattle.mrp_cal.specs.declared.fault.CalFault.TheVariants as cal
-use Rattle.mrp_rows.specs.Table.{Table}
+use Rattle.mrp_table_rows.specs.Table.{Table}
 use Rattle.mrp_tables.specs.declared.fault.TableFault.{TableFault}
 use Rattle.mrp_tables.specs.declared.fault.TableFaultKind.{TableFaultKind}
 use Rattle.mrp_tables.specs.Grammar.{RunTerms}

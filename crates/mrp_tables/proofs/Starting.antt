@@ -10,7 +10,7 @@ use denote.Enum.Bare.{sameb}
 use Rattle.mrp_tables.specs.contracts.kind.Kind.{the_type as kind_type}
 use Rattle.mrp_tables.specs.declared.kind.Kind.{Kind}
 use Rattle.mrp_tables.specs.declared.kind.Kind.TheVariants as kind
-use Rattle.mrp_rows.specs.Table.{Table}
+use Rattle.mrp_table_rows.specs.Table.{Table}
 use Rattle.mrp_tables.specs.Grammar.{◌>>=◌, may_follow, row_kind, run_terms, RunTerms, TellsFault}
 use Rattle.mrp_tables.specs.Reading.{first_terms, is_run, kind_of_row, row_after, row_of_kind, Starts, StartsWith, UnlessMemory}
 

@@ -12,8 +12,8 @@ use Rattle.mrp_tables.specs.declared.fault.TableFaultKind.{TableFaultKind}
 use Rattle.mrp_tables.specs.declared.fault.TableFaultKind.TheVariants as fault
 use Rattle.mrp_tables.specs.declared.kind.Kind.{Kind}
 use Rattle.mrp_tables.specs.declared.kind.Kind.TheVariants as kind
-use Rattle.mrp_rows.specs.Table.{Table}
-use Rattle.mrp_rows.specs.Growing.{empty_table}
+use Rattle.mrp_table_rows.specs.Table.{Table}
+use Rattle.mrp_table_rows.specs.Growing.{empty_table}
 use Rattle.mrp_tables.specs.Grammar.{RunTerms}
 use Rattle.mrp_tables.specs.Left.{IsSoundTo, OfLeft, records_in, StartsBadly, TakesRow}
 use Rattle.mrp_tables.specs.Reading.{first_lacking, first_terms, go_on, IsCalendarOf, IsReadSoFar, IsSoundAbove, pair_row_number, OfRows, read_from, Reads}

@@ -7,19 +7,19 @@ use Rattle.std.proofs.lemmas.Bool.{and_parts, eqb-true}
 use Rattle.std.proofs.lemmas.Option.{get_or_from_slice_get}
 use Rattle.std.proofs.lemmas.Slice.Eq.{bytes_eq-Decides}
 use Rattle.csv.specs.Records.{field_at}
-use Rattle.mrp_rows.specs.Spelling.{is_name, number_text}
-use Rattle.mrp_rows.specs.Parsing.{spelled_number, number_within}
-use Rattle.mrp_rows.proofs.Decimals.{number-spelled}
-use Rattle.mrp_rows.proofs.Ranges.{number_is}
-use Rattle.mrp_rows.specs.Names.{found_pair, pair_named, pair_of_item, plant_no}
-use Rattle.mrp_rows.specs.Table.{item_at, plant_at, Table}
+use Rattle.mrp_table_rows.specs.Spelling.{is_name, number_text}
+use Rattle.mrp_table_rows.specs.Parsing.{spelled_number, number_within}
+use Rattle.mrp_table_rows.proofs.Decimals.{number-spelled}
+use Rattle.mrp_table_rows.proofs.Ranges.{number_is}
+use Rattle.mrp_table_rows.specs.Names.{found_pair, pair_named, pair_of_item, plant_no}
+use Rattle.mrp_table_rows.specs.Table.{item_at, plant_at, Table}
 use Rattle.mrp_tables.specs.declared.fault.TableFaultKind.{TableFaultKind}
 use Rattle.mrp_tables.specs.declared.fault.TableFaultKind.TheVariants as fault
 use Rattle.mrp_tables.specs.declared.kind.Kind.{Kind}
 use Rattle.mrp_tables.specs.declared.kind.Kind.TheVariants as kind
 use Rattle.mrp_tables.specs.Grammar.{field, is_empty, is_empty_from, is_free, kind_of, name_field, ranged, row_kind, used}
 use Rattle.mrp_tables.specs.Reading.{kind_of_row}
-use Rattle.mrp_rows.specs.Said.{item_name, pair_item, pair_plant, plant_name}
+use Rattle.mrp_table_rows.specs.Said.{item_name, pair_item, pair_plant, plant_name}
 use Rattle.mrp_tables.proofs.KeepingLists.{position_there}
 use Rattle.mrp_tables.proofs.KeepingSteps.{after_check, after_some, same_Ok}
 

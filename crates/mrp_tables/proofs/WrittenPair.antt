@@ -8,24 +8,24 @@ use Rattle.std.proofs.lemmas.List.{get_or_append_left, length_push}
 use Rattle.std.proofs.lemmas.List.Elements.{All-head, All-tail}
 use Rattle.std.proofs.lemmas.Slice.Eq.{bytes_eq-Decides}
 use Rattle.mrp_lot.specs.declared.rule.TheConstants.{LONGEST_LEAD}
-use Rattle.mrp_rows.specs.Spelling.{number_text, rule_text}
-use Rattle.mrp_rows.specs.Supplies.{BuyTerms, FromTerms, MakeTerms, SourceTerms, supply_text, SupplyTerms}
-use Rattle.mrp_rows.specs.SupplyParsing.{named_sources}
-use Rattle.mrp_rows.proofs.RuleTexts.{rule_is_text}
-use Rattle.mrp_rows.proofs.Written.{supply_is_text}
-use Rattle.mrp_rows.specs.declared.numbers.PlantNo.{PlantNo}
+use Rattle.mrp_table_rows.specs.Spelling.{number_text, rule_text}
+use Rattle.mrp_table_rows.specs.Supplies.{BuyTerms, FromTerms, MakeTerms, SourceTerms, supply_text, SupplyTerms}
+use Rattle.mrp_table_rows.specs.SupplyParsing.{named_sources}
+use Rattle.mrp_table_rows.proofs.RuleTexts.{rule_is_text}
+use Rattle.mrp_table_rows.proofs.Written.{supply_is_text}
+use Rattle.mrp_table_rows.specs.declared.numbers.PlantNo.{PlantNo}
 use Rattle.mrp_qty.specs.declared.limits.TheConstants.{MOST_IN_ROW}
-use Rattle.mrp_rows.specs.declared.rows.PairRow.{PairRow}
-use Rattle.mrp_rows.specs.declared.rows.SourceRow.{SourceRow}
-use Rattle.mrp_rows.specs.declared.rows.Supply.{Supply}
-use Rattle.mrp_rows.specs.declared.rows.Supply.TheVariants as supply
-use Rattle.mrp_rows.specs.Growing.{add_item}
-use Rattle.mrp_rows.specs.Names.{has_plant}
-use Rattle.mrp_rows.specs.Table.{IsOnce, IsRead, IsSourced, sources_of_pair, Table}
+use Rattle.mrp_table_rows.specs.declared.rows.PairRow.{PairRow}
+use Rattle.mrp_table_rows.specs.declared.rows.SourceRow.{SourceRow}
+use Rattle.mrp_table_rows.specs.declared.rows.Supply.{Supply}
+use Rattle.mrp_table_rows.specs.declared.rows.Supply.TheVariants as supply
+use Rattle.mrp_table_rows.specs.Growing.{add_item}
+use Rattle.mrp_table_rows.specs.Names.{has_plant}
+use Rattle.mrp_table_rows.specs.Table.{IsOnce, IsRead, IsSourced, sources_of_pair, Table}
 use Rattle.mrp_tables.specs.declared.kind.Kind.TheVariants as kind
 use Rattle.mrp_tables.specs.Grammar.{field, pair_terms, PairTerms, pair_with, source_row, supply_kind, with_pair_terms}
 use Rattle.mrp_tables.specs.Written.{AreNumbered, pair_fields, pair_rows}
-use Rattle.mrp_rows.specs.Said.{item_name, plant_name, source_said, supply_said}
+use Rattle.mrp_table_rows.specs.Said.{item_name, plant_name, source_said, supply_said}
 use Rattle.mrp_tables.proofs.KeepingLists.{position_last, position-from_any}
 use Rattle.mrp_tables.proofs.KeepingPair.{Fitting, item_added, new_kept, no_place, old_kept, place_within}
 use Rattle.mrp_tables.proofs.KeepingShares.{pair_terms_read, SpellsPair}

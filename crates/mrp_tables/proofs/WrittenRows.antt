@@ -5,19 +5,19 @@ use Rattle.mrp_cal.specs.Made.{IsCalendarFrom}
 use Rattle.mrp_cal.specs.Days.{day_text}
 use Rattle.mrp_qty.specs.declared.horizon.TheConstants.{LONGEST}
 use Rattle.mrp_qty.specs.declared.quantity.TheConstants.{MOST}
-use Rattle.mrp_rows.specs.Spelling.{number_text}
-use Rattle.mrp_rows.specs.Parsing.{spelled_number}
-use Rattle.mrp_rows.specs.declared.numbers.PairNo.{PairNo}
-use Rattle.mrp_rows.specs.declared.numbers.PlantNo.{PlantNo}
+use Rattle.mrp_table_rows.specs.Spelling.{number_text}
+use Rattle.mrp_table_rows.specs.Parsing.{spelled_number}
+use Rattle.mrp_table_rows.specs.declared.numbers.PairNo.{PairNo}
+use Rattle.mrp_table_rows.specs.declared.numbers.PlantNo.{PlantNo}
 use Rattle.mrp_qty.specs.declared.limits.TheConstants.{MOST_IN_ROW, MOST_PER, MOST_PLANTS}
-use Rattle.mrp_rows.specs.declared.rows.BillRow.{BillRow}
-use Rattle.mrp_rows.specs.declared.rows.CumRow.{CumRow}
-use Rattle.mrp_rows.specs.declared.rows.DemandRow.{DemandRow}
-use Rattle.mrp_rows.specs.declared.rows.ReceiptRow.{ReceiptRow}
-use Rattle.mrp_rows.specs.declared.rows.ResetRow.{ResetRow}
-use Rattle.mrp_rows.specs.declared.rows.ShipRow.{ShipRow}
-use Rattle.mrp_rows.specs.Names.{has_plant, pair_named, plant_no}
-use Rattle.mrp_rows.specs.Table.{horizon, Table}
+use Rattle.mrp_table_rows.specs.declared.rows.BillRow.{BillRow}
+use Rattle.mrp_table_rows.specs.declared.rows.CumRow.{CumRow}
+use Rattle.mrp_table_rows.specs.declared.rows.DemandRow.{DemandRow}
+use Rattle.mrp_table_rows.specs.declared.rows.ReceiptRow.{ReceiptRow}
+use Rattle.mrp_table_rows.specs.declared.rows.ResetRow.{ResetRow}
+use Rattle.mrp_table_rows.specs.declared.rows.ShipRow.{ShipRow}
+use Rattle.mrp_table_rows.specs.Names.{has_plant, pair_named, plant_no}
+use Rattle.mrp_table_rows.specs.Table.{horizon, Table}
 use Rattle.mrp_tables.specs.declared.kind.Kind.{Kind}
 use Rattle.mrp_tables.specs.declared.kind.Kind.TheVariants as kind
 use Rattle.mrp_tables.specs.Grammar.{amount_terms, AmountTerms, bill_fits, bill_of, bill_terms, BillTerms, cum_of, lane_number, demand_made, demand_of, field}
@@ -26,7 +26,7 @@ use Rattle.mrp_tables.specs.Grammar.{plant_in_row, plant_terms, ranged, receipt_
 use Rattle.mrp_tables.specs.Grammar.{ship_terms}
 use Rattle.mrp_tables.specs.Reading.{first_terms, is_run, kind_of_row}
 use Rattle.mrp_tables.specs.Written.{bill_fields, cum_fields, demand_fields, plant_fields, receipt_fields, reset_fields}
-use Rattle.mrp_rows.specs.Said.{pair_item, pair_plant, plant_name}
+use Rattle.mrp_table_rows.specs.Said.{pair_item, pair_plant, plant_name}
 use Rattle.mrp_tables.specs.Written.{run_fields, ship_fields}
 use Rattle.mrp_tables.proofs.KeepingParts.{AmountParts, bill_parts, cum_parts, demand_parts, receipt_parts, reset_parts, ship_parts}
 use Rattle.mrp_tables.proofs.KeepingRead.{amount_terms_read, bill_terms_read, lane_number_read, ship_terms_read, two_names_read}

@@ -3,16 +3,16 @@ use Rattle.std.proofs.Common.{◌≡◌, ◌≤◌, ◌<◌, ℕ, ◌+◌, List,
 use Rattle.std.proofs.Common.{arith}
 use Rattle.mrp_cal.specs.Calendar.{CalendarTerms}
 use Rattle.mrp_cal.specs.declared.fault.CalFault.{CalFault}
-use Rattle.mrp_rows.specs.declared.numbers.PlantNo.{PlantNo}
-use Rattle.mrp_rows.specs.declared.rows.BillRow.{BillRow}
-use Rattle.mrp_rows.specs.declared.rows.CumRow.{CumRow}
-use Rattle.mrp_rows.specs.declared.rows.DemandRow.{DemandRow}
-use Rattle.mrp_rows.specs.declared.rows.ReceiptRow.{ReceiptRow}
-use Rattle.mrp_rows.specs.declared.rows.ResetRow.{ResetRow}
-use Rattle.mrp_rows.specs.declared.rows.ShipRow.{ShipRow}
-use Rattle.mrp_rows.specs.Growing.{with_bill, with_cum, with_demand, with_plant, with_receipt, with_reset, with_ship}
-use Rattle.mrp_rows.specs.Table.{Table}
-use Rattle.mrp_rows.specs.Growing.{empty_table}
+use Rattle.mrp_table_rows.specs.declared.numbers.PlantNo.{PlantNo}
+use Rattle.mrp_table_rows.specs.declared.rows.BillRow.{BillRow}
+use Rattle.mrp_table_rows.specs.declared.rows.CumRow.{CumRow}
+use Rattle.mrp_table_rows.specs.declared.rows.DemandRow.{DemandRow}
+use Rattle.mrp_table_rows.specs.declared.rows.ReceiptRow.{ReceiptRow}
+use Rattle.mrp_table_rows.specs.declared.rows.ResetRow.{ResetRow}
+use Rattle.mrp_table_rows.specs.declared.rows.ShipRow.{ShipRow}
+use Rattle.mrp_table_rows.specs.Growing.{with_bill, with_cum, with_demand, with_plant, with_receipt, with_reset, with_ship}
+use Rattle.mrp_table_rows.specs.Table.{Table}
+use Rattle.mrp_table_rows.specs.Growing.{empty_table}
 use Rattle.mrp_tables.specs.declared.fault.TableFaultKind.{TableFaultKind}
 use Rattle.mrp_tables.specs.declared.kind.Kind.{Kind}
 use Rattle.mrp_tables.specs.declared.kind.Kind.TheVariants as kind

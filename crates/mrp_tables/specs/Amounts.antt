@@ -1,7 +1,7 @@
 -- What a demand or a receipt row says of a pair.
 use Rattle.std.specs.Prelude.{ℕ, List, Result, Ok}
-use Rattle.mrp_rows.specs.declared.numbers.PairNo.{PairNo}
-use Rattle.mrp_rows.specs.Table.{Table, horizon}
+use Rattle.mrp_table_rows.specs.declared.numbers.PairNo.{PairNo}
+use Rattle.mrp_table_rows.specs.Table.{Table, horizon}
 use Rattle.mrp_tables.specs.declared.fault.TableFaultKind.{TableFaultKind}
 use Rattle.mrp_tables.specs.Grammar.{◌>>=◌, amount_terms, known_pair}
 

@@ -10,35 +10,36 @@ use Rattle.mrp_qty.specs.declared.quantity.TheConstants.{MOST}
 use Rattle.mrp_qty.specs.declared.horizon.TheConstants.{LONGEST}
 use Rattle.mrp_lot.specs.declared.rule.Rule.{Rule}
 use Rattle.mrp_lot.specs.declared.rule.TheConstants.{LONGEST_LEAD}
-use Rattle.mrp_rows.specs.declared.spelled_supplies.SupplyFault.{SupplyFault}
-use Rattle.mrp_rows.specs.declared.spelled_supplies.SupplyFault.TheVariants as refused
-use Rattle.mrp_rows.specs.Supplies.{SourceTerms, SupplyTerms, MakeTerms, BuyTerms, FromTerms}
-use Rattle.mrp_rows.specs.SupplyParsing.{named_sources, names_plant, supply_of}
-use Rattle.mrp_rows.specs.Names.{has_plant, pair_named, plant_no}
+use Rattle.mrp_table_rows.specs.declared.spelled_supplies.SupplyFault.{SupplyFault}
+use Rattle.mrp_table_rows.specs.declared.spelled_supplies.SupplyFault.TheVariants as refused
+use Rattle.mrp_table_rows.specs.Supplies.{SourceTerms, SupplyTerms, MakeTerms, BuyTerms, FromTerms}
+use Rattle.mrp_table_rows.specs.SupplyParsing.{named_sources, names_plant, supply_of}
+use Rattle.mrp_table_rows.specs.Names.{has_plant, pair_named, plant_no}
 use Rattle.mrp_tables.specs.declared.fault.TableFaultKind.{TableFaultKind}
 use Rattle.mrp_tables.specs.declared.fault.TableFaultKind.TheVariants as fault
 use Rattle.mrp_tables.specs.declared.kind.Kind.{Kind}
 use Rattle.mrp_tables.specs.declared.kind.Kind.TheVariants as kind
 use Rattle.mrp_qty.specs.declared.limits.TheConstants.{MOST_BILLS, MOST_IN_ROW, MOST_OF_A_KIND, MOST_PAIRS, MOST_PER}
 use Rattle.mrp_qty.specs.declared.limits.TheConstants.{MOST_PLANTS}
-use Rattle.mrp_rows.specs.declared.rows.Supply.{Supply}
-use Rattle.mrp_rows.specs.declared.rows.Supply.TheVariants as supply
-use Rattle.mrp_rows.specs.declared.rows.BillRow.{BillRow}
-use Rattle.mrp_rows.specs.declared.rows.ResetRow.{ResetRow}
-use Rattle.mrp_rows.specs.declared.rows.CumRow.{CumRow}
-use Rattle.mrp_rows.specs.declared.rows.ShipRow.{ShipRow}
-use Rattle.mrp_rows.specs.declared.rows.ReceiptRow.{ReceiptRow}
-use Rattle.mrp_rows.specs.declared.rows.DemandRow.{DemandRow}
-use Rattle.mrp_rows.specs.declared.numbers.PlantNo.{PlantNo}
-use Rattle.mrp_rows.specs.declared.numbers.PairNo.{PairNo}
-use Rattle.mrp_rows.specs.Table.{Table, horizon}
-use Rattle.mrp_rows.specs.declared.rows.PairRow.{PairRow}
-use Rattle.mrp_rows.specs.declared.rows.SourceRow.{SourceRow}
-use Rattle.mrp_rows.specs.Table.{arrivals, is_taken_from, rises_from}
-use Rattle.mrp_rows.specs.Growing.{add_item, with_plant, with_bill, with_demand, with_receipt, with_ship, with_cum}
-use Rattle.mrp_rows.specs.Growing.{with_reset}
-use Rattle.mrp_rows.specs.Spelling.{is_name}
-use Rattle.mrp_rows.specs.Parsing.{spelled_number, number_within, rule_of}
+use Rattle.mrp_table_rows.specs.declared.rows.Supply.{Supply}
+use Rattle.mrp_table_rows.specs.declared.rows.Supply.TheVariants as supply
+use Rattle.mrp_table_rows.specs.declared.rows.BillRow.{BillRow}
+use Rattle.mrp_table_rows.specs.declared.rows.ResetRow.{ResetRow}
+use Rattle.mrp_table_rows.specs.declared.rows.CumRow.{CumRow}
+use Rattle.mrp_table_rows.specs.declared.rows.ShipRow.{ShipRow}
+use Rattle.mrp_table_rows.specs.declared.rows.ReceiptRow.{ReceiptRow}
+use Rattle.mrp_table_rows.specs.declared.rows.DemandRow.{DemandRow}
+use Rattle.mrp_table_rows.specs.declared.numbers.PlantNo.{PlantNo}
+use Rattle.mrp_table_rows.specs.declared.numbers.PairNo.{PairNo}
+use Rattle.mrp_table_rows.specs.Table.{Table, horizon}
+use Rattle.mrp_table_rows.specs.declared.rows.PairRow.{PairRow}
+use Rattle.mrp_table_rows.specs.declared.rows.SourceRow.{SourceRow}
+use Rattle.mrp_table_rows.specs.Table.{arrivals, is_taken_from, rises_from}
+use Rattle.mrp_table_rows.specs.Growing.{add_item, with_plant, with_bill, with_demand}
+use Rattle.mrp_table_rows.specs.Growing.{with_receipt, with_ship, with_cum}
+use Rattle.mrp_table_rows.specs.Growing.{with_reset}
+use Rattle.mrp_table_rows.specs.Spelling.{is_name}
+use Rattle.mrp_table_rows.specs.Parsing.{spelled_number, number_within, rule_of}
 
 -- the answer of a test, or the first fault, whatever the faults are
 infixl 10 ◌>>=◌

@@ -14,7 +14,7 @@ use Rattle.mrp_tables.specs.declared.fault.TableFault.{TableFault}
 use Rattle.mrp_tables.specs.declared.fault.TableFaultKind.{TableFaultKind}
 use Rattle.mrp_tables.specs.declared.fault.TableFaultKind.TheVariants as fault
 use Rattle.mrp_tables.specs.declared.kind.Kind.{Kind}
-use Rattle.mrp_rows.specs.Table.{Table}
+use Rattle.mrp_table_rows.specs.Table.{Table}
 use Rattle.mrp_tables.specs.Reading.{OfRows, rows_after}
 
 -- the records of a text from a state on

@@ -3,17 +3,17 @@ use Rattle.std.specs.Prelude.{◌≡◌, ℕ, ◌+◌, ◌*◌, ◌≤◌, ◌<�
 use Rattle.std.specs.Prelude.{Bool, true, not, nat_lt}
 use Rattle.std.specs.Prelude.{Option, Some, None, is_some, option_map, position, ok_or, Result, Ok}
 use Rattle.std.specs.List.{IsDistinct, list_all, list_any}
-use Rattle.mrp_rows.specs.Names.{pair_named, plant_no}
-use Rattle.mrp_rows.specs.Table.{Table, IsRead, arrivals_of, rises_from}
-use Rattle.mrp_rows.specs.Turns.{row_count}
+use Rattle.mrp_table_rows.specs.Names.{pair_named, plant_no}
+use Rattle.mrp_table_rows.specs.Table.{Table, IsRead, arrivals_of, rises_from}
+use Rattle.mrp_table_rows.specs.Turns.{row_count}
 use Rattle.mrp_qty.specs.declared.limits.TheConstants.{MOST_SOURCES_OF_PAIR}
-use Rattle.mrp_rows.specs.declared.numbers.PairNo.{PairNo}
-use Rattle.mrp_rows.specs.declared.numbers.PlantNo.{PlantNo}
-use Rattle.mrp_rows.specs.declared.rows.SourceRow.{SourceRow}
-use Rattle.mrp_rows.specs.declared.rows.BillRow.{BillRow}
-use Rattle.mrp_rows.specs.declared.rows.ShipRow.{ShipRow}
-use Rattle.mrp_rows.specs.declared.rows.CumRow.{CumRow}
-use Rattle.mrp_rows.specs.declared.rows.ResetRow.{ResetRow}
+use Rattle.mrp_table_rows.specs.declared.numbers.PairNo.{PairNo}
+use Rattle.mrp_table_rows.specs.declared.numbers.PlantNo.{PlantNo}
+use Rattle.mrp_table_rows.specs.declared.rows.SourceRow.{SourceRow}
+use Rattle.mrp_table_rows.specs.declared.rows.BillRow.{BillRow}
+use Rattle.mrp_table_rows.specs.declared.rows.ShipRow.{ShipRow}
+use Rattle.mrp_table_rows.specs.declared.rows.CumRow.{CumRow}
+use Rattle.mrp_table_rows.specs.declared.rows.ResetRow.{ResetRow}
 use Rattle.mrp_tables.specs.declared.fault.TableFaultKind.{TableFaultKind}
 use Rattle.mrp_tables.specs.declared.fault.TableFaultKind.TheVariants as fault
 use Rattle.mrp_tables.specs.Keys.{Knows}

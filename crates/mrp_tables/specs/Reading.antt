@@ -12,11 +12,11 @@ use Rattle.mrp_tables.specs.declared.fault.TableFaultKind.{TableFaultKind}
 use Rattle.mrp_tables.specs.declared.fault.TableFaultKind.TheVariants as fault
 use Rattle.mrp_tables.specs.declared.kind.Kind.{Kind}
 use Rattle.mrp_tables.specs.declared.kind.Kind.TheVariants as kind
-use Rattle.mrp_rows.specs.declared.rows.SourceRow.{SourceRow}
-use Rattle.mrp_rows.specs.Table.{IsOnce, IsRead, IsSourced, Table}
-use Rattle.mrp_rows.specs.Growing.{empty_table}
+use Rattle.mrp_table_rows.specs.declared.rows.SourceRow.{SourceRow}
+use Rattle.mrp_table_rows.specs.Table.{IsOnce, IsRead, IsSourced, Table}
+use Rattle.mrp_table_rows.specs.Growing.{empty_table}
 use Rattle.mrp_qty.specs.declared.limits.TheConstants.{MOST_SOURCES_OF_PAIR}
-use Rattle.mrp_rows.specs.Growing.{lacks_pair}
+use Rattle.mrp_table_rows.specs.Growing.{lacks_pair}
 use Rattle.mrp_tables.specs.Grammar.{◌>>=◌, bill_row, check, cum_row, demand_row, may_follow, pair_row, kind_place}
 use Rattle.mrp_tables.specs.Grammar.{plant_row, receipt_row, reset_row}
 use Rattle.mrp_tables.specs.Grammar.{row_kind, run_terms, RunTerms, ship_row}

@@ -4,17 +4,17 @@ use Rattle.std.specs.Prelude.{◌≡◌, ◌≤◌, ℕ, ◌+◌, max, List, [],
 use Rattle.std.specs.Prelude.{None}
 use Rattle.mrp_cal.specs.Calendar.{CalendarTerms}
 use Rattle.mrp_cal.specs.Days.{day_text}
-use Rattle.mrp_rows.specs.Said.{item_name, pair_item, pair_plant, plant_name, supply_said}
-use Rattle.mrp_rows.specs.Spelling.{number_text, rule_text}
-use Rattle.mrp_rows.specs.Supplies.{supply_text}
-use Rattle.mrp_rows.specs.Table.{Table}
-use Rattle.mrp_rows.specs.declared.rows.BillRow.{BillRow}
-use Rattle.mrp_rows.specs.declared.rows.CumRow.{CumRow}
-use Rattle.mrp_rows.specs.declared.rows.DemandRow.{DemandRow}
-use Rattle.mrp_rows.specs.declared.rows.PairRow.{PairRow}
-use Rattle.mrp_rows.specs.declared.rows.ReceiptRow.{ReceiptRow}
-use Rattle.mrp_rows.specs.declared.rows.ResetRow.{ResetRow}
-use Rattle.mrp_rows.specs.declared.rows.ShipRow.{ShipRow}
+use Rattle.mrp_table_rows.specs.Said.{item_name, pair_item, pair_plant, plant_name, supply_said}
+use Rattle.mrp_table_rows.specs.Spelling.{number_text, rule_text}
+use Rattle.mrp_table_rows.specs.Supplies.{supply_text}
+use Rattle.mrp_table_rows.specs.Table.{Table}
+use Rattle.mrp_table_rows.specs.declared.rows.BillRow.{BillRow}
+use Rattle.mrp_table_rows.specs.declared.rows.CumRow.{CumRow}
+use Rattle.mrp_table_rows.specs.declared.rows.DemandRow.{DemandRow}
+use Rattle.mrp_table_rows.specs.declared.rows.PairRow.{PairRow}
+use Rattle.mrp_table_rows.specs.declared.rows.ReceiptRow.{ReceiptRow}
+use Rattle.mrp_table_rows.specs.declared.rows.ResetRow.{ResetRow}
+use Rattle.mrp_table_rows.specs.declared.rows.ShipRow.{ShipRow}
 use Rattle.csv.specs.Reading.{default_config, records}
 
 -- ---- the eight fields of each kind of row; those that it doesn't use are empty

@@ -7,7 +7,7 @@ use crate::fields::field;
 use crate::spelled::{spelled_amount, spelled_bill};
 use csv::StringRecord;
 use mrp_qty::Qty;
-use mrp_rows::{BillRow, DemandRow, MOST_BILLS, MOST_OF_A_KIND, PairNo, ReceiptRow, Supply};
+use mrp_table_rows::{BillRow, DemandRow, MOST_BILLS, MOST_OF_A_KIND, PairNo, ReceiptRow, Supply};
 
 /// What a demand or a receipt row says of a pair that is there: a period, counted from 0, and so many pieces.
 #[derive(Clone, Copy)]
@@ -26,10 +26,10 @@ impl Draft {
     ghost use Rattle.mrp_tables.specs.Grammar.{is_made, receipt_of, receipt_row, seen, TellsMade};
     ghost use Rattle.mrp_tables.specs.Amounts.{known_amount};
     ghost use Rattle.mrp_tables.specs.Spelled.{terms_of_bill};
-    ghost use Rattle.mrp_rows.specs.Table.{IsBillRow, IsDemandRow, IsReceiptRow};
+    ghost use Rattle.mrp_table_rows.specs.Table.{IsBillRow, IsDemandRow, IsReceiptRow};
     ghost use Rattle.mrp_tables.specs.Keys.{Knows};
     ghost use Rattle.mrp_tables.specs.Lists.{AddsRow, FindsBill, IsDraft};
-    ghost use Rattle.mrp_rows.specs.Table.{IsRead, horizon};
+    ghost use Rattle.mrp_table_rows.specs.Table.{IsRead, horizon};
 
     /// Adds a bill row.
     pub(crate) fn add_bill(&mut self, row: &StringRecord) -> Result<(), TableFaultKind>

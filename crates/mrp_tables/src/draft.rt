@@ -8,7 +8,7 @@ use crate::spelled::{row_kind, spelled_run};
 use crate::{Kind, TableFaultKind};
 use csv::StringRecord;
 use indexmap::IndexSet;
-use mrp_rows::{PairNo, PlantNo, RowLists};
+use mrp_table_rows::{PairNo, PlantNo, RowLists};
 use std::alloc::Global;
 
 /// A source of a pair by its plant and the pair.

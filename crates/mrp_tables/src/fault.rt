@@ -4,7 +4,7 @@ ghost use Rattle.mrp_tables.specs.declared.fault.TableFaultKind.TheVariants.{Mem
 ghost use Rattle.std.specs.Prelude.{◌≡◌};
 
 use mrp_cal::CalFault;
-use mrp_rows::SupplyFault;
+use mrp_table_rows::SupplyFault;
 use std::alloc::{AllocError, AllocFailed};
 use thiserror::Error;
 

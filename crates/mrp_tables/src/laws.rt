@@ -12,7 +12,7 @@ ghost use Rattle.mrp_tables.specs.Missing.{TellsMissing};
 ghost use Rattle.mrp_tables.specs.Reading.{IsCalendarOf, Reads};
 ghost use Rattle.mrp_tables.specs.Tests.{HasFirstFault};
 ghost use Rattle.mrp_tables.specs.Written.{AreNumbered, rows_of};
-ghost use Rattle.mrp_rows.specs.Table.{IsTable, Table};
+ghost use Rattle.mrp_table_rows.specs.Table.{IsTable, Table};
 
 /// What is read is a table: rows that the grammar reads say all that an accepted table says.
 pub fn what_is_read_is_a_table()

@@ -2,7 +2,7 @@
 //!
 //! A table is comma-separated text of eight fields a row: the run, plants, pairs, bills, demands,
 //! receipts, shipments between plants, cumulative figures and where those start anew. What is
-//! accepted are the [`Tables`](mrp_rows::Tables) of its rows. The grammar is in `specs/`: what each row says,
+//! accepted are the [`Tables`](mrp_table_rows::Tables) of its rows. The grammar is in `specs/`: what each row says,
 //! which rows make which table, and which fault a text has first. Its laws are functions that do nothing.
 #![tactic(auto)]
 

@@ -9,7 +9,7 @@ ghost use Rattle.mrp_tables.specs.Grammar.{kind_of, lane_number, lane_terms, nam
 ghost use Rattle.mrp_tables.specs.Grammar.{row_kind, run_terms, seen, ship_terms, TellsSeen};
 ghost use Rattle.mrp_tables.specs.Spelled.{terms_of_amount, terms_of_bill, terms_of_lane, pair_view, run_view};
 ghost use Rattle.mrp_tables.specs.Spelled.{HasThreeNames, HasTwoNames, IsSpelledPair};
-ghost use Rattle.mrp_rows.specs.Table.{IsName};
+ghost use Rattle.mrp_table_rows.specs.Table.{IsName};
 ghost use Rattle.mrp_tables.specs.Drafts.{TellsRun};
 
 use crate::fields::{field, is_free};
@@ -20,7 +20,7 @@ use csv::StringRecord;
 use mrp_cal::Calendar;
 use mrp_lot::{LONGEST_LEAD, Rule};
 use mrp_qty::{Horizon, LONGEST};
-use mrp_rows::{MOST_IN_ROW, MOST_PER, SpelledSupply, is_same_text, number, rule, supply};
+use mrp_table_rows::{MOST_IN_ROW, MOST_PER, SpelledSupply, is_same_text, number, rule, supply};
 use std::alloc::Global;
 
 /// How many fields a row has.

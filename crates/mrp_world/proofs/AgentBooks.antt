@@ -1,12 +1,12 @@
 -- An agent books what continues a lane's form, so the first record of a mailbox, and nothing else.
 use Rattle.std.proofs.Common.{◌≡◌, ℕ, ◌<◌, Bool, Result, Ok, Err, Some, List, [], ◌∷◌, ◌++◌, length, refl, sym, ap, ◌∙◌, subst, append_assoc}
 use Rattle.std.specs.Prelude.{IfErr, OnOk, OnErr}
-use Rattle.mrp_rows.specs.Table.{Table}
+use Rattle.mrp_table_rows.specs.Table.{Table}
 use Rattle.mrp_net.specs.declared.lane.Lane.{Lane}
 use Rattle.mrp_net.specs.Lanes.{lane_at}
-use Rattle.mrp_view.specs.declared.view.IncomingLane.{IncomingLane}
-use Rattle.mrp_view.specs.Seen.{IsView}
-use Rattle.mrp_view.specs.View.{plant_rows}
+use Rattle.mrp_plant_view.specs.declared.view.IncomingLane.{IncomingLane}
+use Rattle.mrp_plant_view.specs.Seen.{IsView}
+use Rattle.mrp_plant_view.specs.View.{plant_rows}
 use Rattle.mrp_record.specs.declared.record.Record.{Record}
 use Rattle.mrp_record.specs.Form.{IsInForm, LaneForm}
 use Rattle.mrp_record.specs.Text.{IsBeginning}
@@ -17,10 +17,10 @@ use Rattle.mrp_book.specs.Figures as book
 use Rattle.mrp_book.specs.Figures.{figures}
 use Rattle.mrp_book.specs.Meanings.{first_had}
 use Rattle.mrp_book.proofs.Meaning.{faults_are_first}
-use Rattle.mrp_events.specs.LoadLaws.{lane_form}
-use Rattle.mrp_events.specs.Loads.{loads}
-use Rattle.mrp_events.specs.State.{CanTake, after_take, changed}
-use Rattle.mrp_events.proofs.Ordering.{lanes_keep_order}
+use Rattle.mrp_protocol.specs.LoadLaws.{lane_form}
+use Rattle.mrp_protocol.specs.Loads.{loads}
+use Rattle.mrp_protocol.specs.State.{CanTake, after_take, changed}
+use Rattle.mrp_protocol.proofs.Ordering.{lanes_keep_order}
 use Rattle.mrp_agent.specs.Shows.{ShowsHistory, BooksShow, form_of}
 use Rattle.mrp_agent.specs.State.{AgentState, book_at, incoming_at, incoming_place}
 use Rattle.mrp_agent.proofs.Formed.{form_same, legal_in_form}

@@ -3,16 +3,16 @@ use Rattle.std.proofs.Common.{◌≡◌, ℕ, ◌<◌, ◌==◌, List, length, g
 use Rattle.std.specs.List.{All, filter, range_with_len}
 use Rattle.std.proofs.lemmas.Bool.{eq-eqb}
 use Rattle.std.proofs.lemmas.List.{ext_get_or, get_or-map, length-map}
-use Rattle.mrp_rows.specs.Table.{Table}
+use Rattle.mrp_table_rows.specs.Table.{Table}
 use Rattle.mrp_net.specs.Plan.{plan_of, rows_at, no_rows}
-use Rattle.mrp_view.specs.declared.view.PlantPair.{PlantPair}
-use Rattle.mrp_view.specs.View.{PlantRows, is_of_plant, plant_pair}
+use Rattle.mrp_plant_view.specs.declared.view.PlantPair.{PlantPair}
+use Rattle.mrp_plant_view.specs.View.{PlantRows, is_of_plant, plant_pair}
 use Rattle.mrp_agent.specs.State.{AgentState, no_plant_pair, pair_place, plans_of}
 use Rattle.mrp_agent.proofs.Looking.{place_is_only}
 use Rattle.mrp_agent.proofs.Network.{planned_pairs_have_the_plan}
 use Rattle.mrp_agent.specs.InNetwork.{ShowsAgent}
 use Rattle.mrp_world.specs.Gathering.{HasPlannedAll, own_plans}
-use Rattle.mrp_events.proofs.Seeing.{pairs_are_at}
+use Rattle.mrp_protocol.proofs.Seeing.{pairs_are_at}
 use Rattle.mrp_world.specs.Moments.{Moment, IsAt}
 use Rattle.mrp_agent.specs.OwnPart.{IsOwn}
 use Rattle.mrp_world.proofs.AgentWorks.{works_in}

@@ -1,13 +1,13 @@
 -- The lanes and pairs of a plant stand in what it sees, and no others do.
 use Rattle.std.proofs.Common.{◌≡◌, ℕ, length, sym, subst, Contains}
 use Rattle.std.specs.List.{filter}
-use Rattle.mrp_rows.specs.Table.{Table}
-use Rattle.mrp_rows.specs.declared.numbers.PairNo.{PairNo}
+use Rattle.mrp_table_rows.specs.Table.{Table}
+use Rattle.mrp_table_rows.specs.declared.numbers.PairNo.{PairNo}
 use Rattle.mrp_net.specs.Lanes.{lanes, lane_at}
 use Rattle.mrp_net.proofs.Members.{Contains-from_in, In-map}
-use Rattle.mrp_view.specs.Seen as seen
-use Rattle.mrp_view.specs.View.{PlantRows, comes_to, goes_from, lane_numbers, incoming_lane, incoming_lanes, outgoing_lane, outgoing_lanes, plant_rows}
-use Rattle.mrp_view.proofs.Seeing.{is_own, owned_there}
+use Rattle.mrp_plant_view.specs.Seen as seen
+use Rattle.mrp_plant_view.specs.View.{PlantRows, comes_to, goes_from, lane_numbers, incoming_lane, incoming_lanes, outgoing_lane, outgoing_lanes, plant_rows}
+use Rattle.mrp_plant_view.proofs.Seeing.{is_own, owned_there}
 use Rattle.mrp_agent.specs.OwnPart.{IsIn, IsOut, IsOwn}
 
 -- ---- its lanes are seen

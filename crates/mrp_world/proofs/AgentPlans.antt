@@ -4,15 +4,15 @@ use Rattle.std.specs.Prelude.{IfSome, IfNone, IsTrue}
 use Rattle.std.specs.Bool.{OnTrue}
 use Rattle.std.proofs.lemmas.Bool.{false≢true}
 use Rattle.mrp_lot.specs.Bound.{IsWithin}
-use Rattle.mrp_rows.specs.declared.numbers.PairNo.{PairNo}
-use Rattle.mrp_view.specs.declared.view.PlantPair.{PlantPair}
-use Rattle.mrp_view.specs.Seen as seen
-use Rattle.mrp_view.specs.View.{PlantRows, plant_pair, plant_rows}
+use Rattle.mrp_table_rows.specs.declared.numbers.PairNo.{PairNo}
+use Rattle.mrp_plant_view.specs.declared.view.PlantPair.{PlantPair}
+use Rattle.mrp_plant_view.specs.Seen as seen
+use Rattle.mrp_plant_view.specs.View.{PlantRows, plant_pair, plant_rows}
 use Rattle.mrp_record.specs.declared.record.Record.{Record}
-use Rattle.mrp_events.specs.State.{CanPlan, after_plan, changed}
-use Rattle.mrp_events.specs.LocalPlans.{CanBePlanned}
-use Rattle.mrp_events.proofs.LocalPlanned.{plannable_is_local}
-use Rattle.mrp_events.proofs.Seeing.{own_at, seen_there}
+use Rattle.mrp_protocol.specs.State.{CanPlan, after_plan, changed}
+use Rattle.mrp_protocol.specs.LocalPlans.{CanBePlanned}
+use Rattle.mrp_protocol.proofs.LocalPlanned.{plannable_is_local}
+use Rattle.mrp_protocol.proofs.Seeing.{own_at, seen_there}
 use Rattle.mrp_agent.specs.Drafts.{drafted_gross, drafted_incoming}
 use Rattle.mrp_agent.specs.Shows.{ShowsHistory}
 use Rattle.mrp_agent.specs.State.{AgentState, pair_owned}

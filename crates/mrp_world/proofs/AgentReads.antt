@@ -3,16 +3,16 @@ use Rattle.std.proofs.Common.{◌≡◌, ◌↔◌, ℕ, inl, inr, Bool, true, f
 use Rattle.std.specs.Prelude.{IfSome, IfNone, IsSome, IsTrue}
 use Rattle.std.proofs.lemmas.Bool.{cases_Bool}
 use Rattle.mrp_lot.specs.One.{PlanRows}
-use Rattle.mrp_rows.specs.declared.numbers.ItemNo.{ItemNo}
-use Rattle.mrp_rows.specs.declared.numbers.PairNo.{PairNo}
-use Rattle.mrp_rows.specs.Table.{Table}
+use Rattle.mrp_table_rows.specs.declared.numbers.ItemNo.{ItemNo}
+use Rattle.mrp_table_rows.specs.declared.numbers.PairNo.{PairNo}
+use Rattle.mrp_table_rows.specs.Table.{Table}
 use Rattle.mrp_net.specs.declared.lane.LaneNo.{LaneNo}
 use Rattle.mrp_net.specs.Lanes.{lane_at, lane_items}
 use Rattle.mrp_net.specs.Plan.{plan_of, rows_at}
 use Rattle.mrp_net.proofs.Members.{Contains-from_in, In-from_contains, In-map}
-use Rattle.mrp_view.specs.View.{PlantRows, incoming_item, incoming_lane, plant_pair}
-use Rattle.mrp_view.specs.declared.view.IncomingLane.{IncomingLane}
-use Rattle.mrp_events.specs.LaneOrder.{cum_on}
+use Rattle.mrp_plant_view.specs.View.{PlantRows, incoming_item, incoming_lane, plant_pair}
+use Rattle.mrp_plant_view.specs.declared.view.IncomingLane.{IncomingLane}
+use Rattle.mrp_protocol.specs.LaneOrder.{cum_on}
 use Rattle.mrp_agent.specs.Progress.{is_planned}
 use Rattle.mrp_agent.specs.Reading.{received_over}
 use Rattle.mrp_agent.specs.State.{AgentState, pair_place, plans_of}
@@ -21,7 +21,7 @@ use Rattle.mrp_agent.proofs.Reading.{received_figures_are_cumulative}
 use Rattle.mrp_agent.specs.InNetwork.{ShowsAgent}
 use Rattle.mrp_world.specs.Moments.{Moment, IsAt}
 use Rattle.mrp_agent.specs.OwnPart.{IsIn, IsOwn}
-use Rattle.mrp_events.proofs.Seeing.{seen_there}
+use Rattle.mrp_protocol.proofs.Seeing.{seen_there}
 use Rattle.mrp_world.proofs.AgentPlaces.{in_there}
 use Rattle.mrp_world.proofs.AgentWorks.{works_in}
 

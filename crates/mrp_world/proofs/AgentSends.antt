@@ -4,26 +4,26 @@ use Rattle.std.specs.Prelude.{IfSome, IfNone}
 use Rattle.std.proofs.lemmas.Bool.{eqb-true, false≢true}
 use Rattle.std.proofs.lemmas.List.{get_or-map, length-map}
 use Rattle.mrp_lot.specs.One.{PlanRows}
-use Rattle.mrp_rows.specs.declared.numbers.ItemNo.{ItemNo}
-use Rattle.mrp_rows.specs.Table.{Table, IsTable}
+use Rattle.mrp_table_rows.specs.declared.numbers.ItemNo.{ItemNo}
+use Rattle.mrp_table_rows.specs.Table.{Table, IsTable}
 use Rattle.mrp_net.specs.declared.lane.Lane.{Lane}
 use Rattle.mrp_net.specs.declared.lane.LaneKind.{LaneKind}
 use Rattle.mrp_net.specs.declared.lane.LaneKind.TheVariants.{Despatch, Schedule}
 use Rattle.mrp_net.specs.Lanes.{lane_at, lane_items, pair_on}
 use Rattle.mrp_net.proofs.Behind.{items_have_sources}
-use Rattle.mrp_view.specs.declared.view.Call.{Call}
-use Rattle.mrp_view.specs.declared.view.OutgoingLane.{OutgoingLane}
-use Rattle.mrp_view.specs.Loads as view
-use Rattle.mrp_view.specs.Seen.{IsView}
-use Rattle.mrp_view.specs.View.{PlantRows, outgoing_item, outgoing_lane}
-use Rattle.mrp_view.proofs.Calling.{call_seen}
+use Rattle.mrp_plant_view.specs.declared.view.Call.{Call}
+use Rattle.mrp_plant_view.specs.declared.view.OutgoingLane.{OutgoingLane}
+use Rattle.mrp_plant_view.specs.Loads as view
+use Rattle.mrp_plant_view.specs.Seen.{IsView}
+use Rattle.mrp_plant_view.specs.View.{PlantRows, outgoing_item, outgoing_lane}
+use Rattle.mrp_plant_view.proofs.Calling.{call_seen}
 use Rattle.mrp_record.specs.declared.record.Record.{Record}
 use Rattle.mrp_record.specs.Entries.{Entry, LineOf, EndOf, ResetOf, Closing, content}
 use Rattle.mrp_record.specs.Text.{IsBeginning}
-use Rattle.mrp_events.specs.Loads.{loads}
-use Rattle.mrp_events.specs.State.{State, IsDecided, after_send, changed}
+use Rattle.mrp_protocol.specs.Loads.{loads}
+use Rattle.mrp_protocol.specs.State.{State, IsDecided, after_send, changed}
 use Rattle.mrp_record.specs.CursorLaws.{IsQueued, MaySend}
-use Rattle.mrp_events.specs.Goods.{goods_by, IsSendable}
+use Rattle.mrp_protocol.specs.Goods.{goods_by, IsSendable}
 use Rattle.mrp_agent.specs.Sending.{ContinuesSent, goods_at}
 use Rattle.mrp_agent.specs.Sent.{GivenIsLegal, NoneCanBeSent, IsAppended}
 use Rattle.mrp_agent.specs.Shows.{ShowsHistory}

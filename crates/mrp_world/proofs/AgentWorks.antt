@@ -1,8 +1,8 @@
 -- At each moment of a run an agent works in the network.
 use Rattle.std.proofs.Common.{ℕ, sym, subst}
-use Rattle.mrp_view.specs.Seen.{IsView}
-use Rattle.mrp_view.specs.View.{PlantRows}
-use Rattle.mrp_events.proofs.Ordering.{lanes_keep_order}
+use Rattle.mrp_plant_view.specs.Seen.{IsView}
+use Rattle.mrp_plant_view.specs.View.{PlantRows}
+use Rattle.mrp_protocol.proofs.Ordering.{lanes_keep_order}
 use Rattle.mrp_agent.specs.Kept.{HasSmallOpenings}
 use Rattle.mrp_agent.specs.State.{AgentState}
 use Rattle.mrp_agent.proofs.Viewing.{views_can_be_planned}

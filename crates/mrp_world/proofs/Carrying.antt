@@ -3,8 +3,8 @@ use Rattle.std.proofs.Common.{◌≡◌, ℕ, suc, ◌+◌, ◌-◌, ◌<◌, �
 use Rattle.std.specs.List.{range_with_len, sum_by}
 use Rattle.std.proofs.lemmas.List.Sums.{sum_by-cons}
 use Rattle.mrp_qty.specs.declared.quantity.TheConstants.{MOST}
-use Rattle.mrp_rows.specs.declared.numbers.ItemNo.{ItemNo}
-use Rattle.mrp_rows.specs.Table.{Table, IsTable}
+use Rattle.mrp_table_rows.specs.declared.numbers.ItemNo.{ItemNo}
+use Rattle.mrp_table_rows.specs.Table.{Table, IsTable}
 use Rattle.mrp_net.specs.declared.lane.Lane.{Lane}
 use Rattle.mrp_net.specs.declared.lane.LaneKind.{LaneKind}
 use Rattle.mrp_net.specs.declared.lane.LaneKind.TheVariants.{Despatch}
@@ -13,9 +13,9 @@ use Rattle.mrp_net.proofs.Members.{flat_map_only, map_only, range_only, All-in, 
 use Rattle.mrp_net.proofs.Routing.{lane_items_within}
 use Rattle.mrp_loops.specs.Sized.{IsSized}
 use Rattle.mrp_record.specs.Text.{total}
-use Rattle.mrp_events.specs.Loads.{by_period, lines_by, load_of}
-use Rattle.mrp_events.proofs.Delivered.{by_period_total}
-use Rattle.mrp_events.proofs.Small.{load_is_small, shipped_total}
+use Rattle.mrp_protocol.specs.Loads.{by_period, lines_by, load_of}
+use Rattle.mrp_protocol.proofs.Delivered.{by_period_total}
+use Rattle.mrp_protocol.proofs.Small.{load_is_small, shipped_total}
 use Rattle.mrp_world.specs.Figures.{carried, last_figures, last_on, settled_figure}
 use Rattle.mrp_book.specs.LaneFigures.{IsLaneFigure}
 use Rattle.mrp_world.proofs.Lasting.{all_by}

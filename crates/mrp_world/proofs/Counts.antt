@@ -8,15 +8,15 @@ use Rattle.std.specs.Prelude.{if◌then◌else◌, is_some}
 use Rattle.std.specs.List.{sum_by}
 use Rattle.mrp_lot.specs.One as rule
 use Rattle.mrp_lot.specs.One.{PlanRows}
-use Rattle.mrp_rows.specs.declared.numbers.ItemNo.{ItemNo}
-use Rattle.mrp_rows.specs.Table.{Table, IsTable, IsPair, IsSourceRow, horizon}
+use Rattle.mrp_table_rows.specs.declared.numbers.ItemNo.{ItemNo}
+use Rattle.mrp_table_rows.specs.Table.{Table, IsTable, IsPair, IsSourceRow, horizon}
 use Rattle.mrp_net.specs.declared.lane.Lane.{Lane}
 use Rattle.mrp_net.specs.declared.lane.LaneKind.TheVariants.{Despatch}
 use Rattle.mrp_net.specs.Lanes.{lanes, lane_at, lane_items}
 use Rattle.mrp_net.specs.Plan.{rows_at, gross, plan_of}
 use Rattle.mrp_net.specs.PlanLaws.{Fits}
 use Rattle.mrp_netting.specs.Plan.{AreRows}
-use Rattle.mrp_rows.specs.declared.rows.SourceRow.{SourceRow}
+use Rattle.mrp_table_rows.specs.declared.rows.SourceRow.{SourceRow}
 use Rattle.mrp_net.specs.Shares.{share_of}
 use Rattle.mrp_net.specs.Sources.{source_on}
 use Rattle.mrp_net.proofs.Behind.{items_have_sources}
@@ -25,8 +25,8 @@ use Rattle.mrp_net.proofs.Sharing.{sum_map}
 use Rattle.mrp_record.specs.Entries.{Delivery}
 use Rattle.mrp_record.specs.Text.{Load}
 use Rattle.mrp_record.specs.Lengths.{block_length, length_of_text}
-use Rattle.mrp_events.specs.Loads.{by_period, called_in, delivery_in, has_pieces, load_of, loads}
-use Rattle.mrp_events.proofs.Small.{steps_are_few}
+use Rattle.mrp_protocol.specs.Loads.{by_period, called_in, delivery_in, has_pieces, load_of, loads}
+use Rattle.mrp_protocol.proofs.Small.{steps_are_few}
 
 -- ---- periods with pieces
 

@@ -1,14 +1,14 @@
 -- How plants and mailboxes are driven until nothing moves.
 use Rattle.std.proofs.Common.{◌≡◌, ℕ, ◌+◌, ◌≤◌, Bool, true, false, List, [], ◌∷◌, ◌++◌, inl, inr, refl, sym, ap, subst, arith}
-use Rattle.mrp_rows.specs.Table.{Table}
+use Rattle.mrp_table_rows.specs.Table.{Table}
 use Rattle.mrp_loops.specs.Sized.{IsSized}
-use Rattle.mrp_events.specs.declared.event.Event.{Event}
-use Rattle.mrp_events.specs.Steps.{steps}
-use Rattle.mrp_events.specs.Progress.{steps_left}
-use Rattle.mrp_events.specs.State.{State, opening_state, Run, IsReached, IsFinished}
-use Rattle.mrp_events.proofs.Counting.{runs_begin_with_steps, events_are_steps, none_is_left_at_the_end}
-use Rattle.mrp_events.proofs.Finishing.{no_schedule_sticks}
-use Rattle.mrp_events.proofs.Keeping.{opening_is_reached, reached_goes_on, runs_go_on}
+use Rattle.mrp_protocol.specs.declared.event.Event.{Event}
+use Rattle.mrp_protocol.specs.Steps.{steps}
+use Rattle.mrp_protocol.specs.Progress.{steps_left}
+use Rattle.mrp_protocol.specs.State.{State, opening_state, Run, IsReached, IsFinished}
+use Rattle.mrp_protocol.proofs.Counting.{runs_begin_with_steps, events_are_steps, none_is_left_at_the_end}
+use Rattle.mrp_protocol.proofs.Finishing.{no_schedule_sticks}
+use Rattle.mrp_protocol.proofs.Keeping.{opening_is_reached, reached_goes_on, runs_go_on}
 use Rattle.mrp_world.specs.Driving.{LeadOn, LeadOneAndOn}
 use Rattle.mrp_world.specs.Showing.{Showing}
 use Rattle.mrp_world.specs.Mailbox.{Held}

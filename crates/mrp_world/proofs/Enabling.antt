@@ -1,11 +1,11 @@
 -- How many events of a run are enabled: as many as its steps become fewer.
 use Rattle.std.proofs.Common.{◌≡◌, ℕ, ◌+◌, ◌-◌, ◌≤◌, inl, inr, List, [], ◌∷◌, refl, ap, arith}
-use Rattle.mrp_rows.specs.Table.{Table}
-use Rattle.mrp_events.specs.declared.event.Event.{Event}
-use Rattle.mrp_events.specs.Progress.{steps_left}
-use Rattle.mrp_events.specs.State.{State, Run, IsReached}
-use Rattle.mrp_events.proofs.Counting.{events_are_steps}
-use Rattle.mrp_events.proofs.Keeping.{reached_goes_on}
+use Rattle.mrp_table_rows.specs.Table.{Table}
+use Rattle.mrp_protocol.specs.declared.event.Event.{Event}
+use Rattle.mrp_protocol.specs.Progress.{steps_left}
+use Rattle.mrp_protocol.specs.State.{State, Run, IsReached}
+use Rattle.mrp_protocol.proofs.Counting.{events_are_steps}
+use Rattle.mrp_protocol.proofs.Keeping.{reached_goes_on}
 use Rattle.mrp_world.specs.Enabled.{CountsEnabled}
 use Rattle.mrp_world.proofs.Drives.{run_leaves_no_more}
 

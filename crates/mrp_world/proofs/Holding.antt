@@ -2,20 +2,20 @@
 use Rattle.std.proofs.Common.{◌≡◌, ℕ, ◌<◌, inl, inr, List, length, refl, sym, subst, arith}
 use Rattle.std.specs.Prelude.{slice_get, Option, IsSomeAnd}
 use Rattle.std.proofs.lemmas.Option.{slice_get_cases}
-use Rattle.mrp_rows.specs.Table.{Table}
+use Rattle.mrp_table_rows.specs.Table.{Table}
 use Rattle.mrp_net.specs.Plan.{rows_at, plan_of}
 use Rattle.mrp_net.specs.Sums.{pair_at}
-use Rattle.mrp_view.specs.View.{plant_rows}
-use Rattle.mrp_events.specs.State.{State, IsFinished}
-use Rattle.mrp_events.proofs.Ordering.{lanes_keep_order, closed_lanes_are_whole}
-use Rattle.mrp_events.specs.LocalPlans.{IsLocal}
-use Rattle.mrp_events.proofs.LocalPlanned.{local_plans_are_the_plan}
+use Rattle.mrp_plant_view.specs.View.{plant_rows}
+use Rattle.mrp_protocol.specs.State.{State, IsFinished}
+use Rattle.mrp_protocol.proofs.Ordering.{lanes_keep_order, closed_lanes_are_whole}
+use Rattle.mrp_protocol.specs.LocalPlans.{IsLocal}
+use Rattle.mrp_protocol.proofs.LocalPlanned.{local_plans_are_the_plan}
 use Rattle.mrp_world.specs.Showing.{Showing}
 use Rattle.mrp_world.specs.Headline.{Keeping, OrderIsKept, NothingIsLost, ClosedLanesAreWhole, PlansAreThePlan, IsComplete}
 use Rattle.mrp_world.specs.PlansLocal.{PlansAreLocal}
 use Rattle.mrp_world.specs.World.{PlantsShow, Shows, WorldState, box_at}
 use Rattle.mrp_world.specs.Moves.{WorldShows}
-use Rattle.mrp_events.proofs.Ordering as lost
+use Rattle.mrp_protocol.proofs.Ordering as lost
 use Rattle.mrp_world.proofs.Steps.{owner_within}
 
 -- what a world shows with its room and its steps it shows

@@ -2,8 +2,8 @@
 use Rattle.std.proofs.Common.{◌≡◌, ℕ, ◌+◌, ◌<◌, List, [], ◌∷◌, ◌++◌, inl, inr, length, map, refl, sym, ap, subst, ◌∙◌, arith, append-nil, All, Contains, zero}
 use Rattle.std.proofs.Common.{suc}
 use Rattle.std.specs.List.{flat_map, range_with_len, filter_map}
-use Rattle.mrp_rows.specs.declared.numbers.ItemNo.{ItemNo}
-use Rattle.mrp_rows.specs.Table.{Table, IsTable}
+use Rattle.mrp_table_rows.specs.declared.numbers.ItemNo.{ItemNo}
+use Rattle.mrp_table_rows.specs.Table.{Table, IsTable}
 use Rattle.mrp_net.specs.declared.lane.Lane.{Lane}
 use Rattle.mrp_net.specs.Lanes.{lanes, lane_at, lane_items, opening}
 use Rattle.mrp_net.proofs.Members.{In, In-from_contains, Contains-from_in, map_only, flat_map_only, range_only, All-in}
@@ -17,11 +17,11 @@ use Rattle.mrp_record.proofs.Beginnings.{own_block}
 use Rattle.mrp_record.proofs.Figures.{cum_is_opening_and_moved}
 use Rattle.mrp_record.proofs.Running.{block_delivers, moved_is_delivered}
 use Rattle.mrp_book.specs.declared.figure.LaneFigure.{LaneFigure}
-use Rattle.mrp_events.specs.LaneOrder.{cum_on}
-use Rattle.mrp_events.specs.Loads.{load_of, loads}
-use Rattle.mrp_events.specs.State.{State, IsFinished, IsReached}
-use Rattle.mrp_events.proofs.Ordering.{lanes_keep_order, closed_lanes_are_whole, nothing_is_lost}
-use Rattle.mrp_events.proofs.Small.{loads_stand_once, load_is_there}
+use Rattle.mrp_protocol.specs.LaneOrder.{cum_on}
+use Rattle.mrp_protocol.specs.Loads.{load_of, loads}
+use Rattle.mrp_protocol.specs.State.{State, IsFinished, IsReached}
+use Rattle.mrp_protocol.proofs.Ordering.{lanes_keep_order, closed_lanes_are_whole, nothing_is_lost}
+use Rattle.mrp_protocol.proofs.Small.{loads_stand_once, load_is_there}
 use Rattle.mrp_world.specs.Showing.{Showing}
 use Rattle.mrp_world.specs.World.{WorldState}
 use Rattle.mrp_world.specs.Moves.{WorldShows, IsWorld}

@@ -2,13 +2,13 @@
 use Rattle.std.proofs.Common.{◌≡◌, ℕ, ◌+◌, ◌<◌, ◌≤◌, Bool, true, false, List, ◌∷◌, ◌⊎◌, inl, inr, length, get_or, drop, slice_get, Option, None, Some, refl}
 use Rattle.std.proofs.Common.{sym, ap, subst, ◌∙◌, arith}
 use Rattle.std.specs.Prelude.{IfNone}
-use Rattle.mrp_rows.specs.Table.{Table}
+use Rattle.mrp_table_rows.specs.Table.{Table}
 use Rattle.mrp_net.specs.Lanes.{lanes, lane_at}
 use Rattle.mrp_net.specs.Sums.{pair_at}
 use Rattle.mrp_record.specs.declared.record.Record.{Record}
-use Rattle.mrp_events.specs.declared.event.Event.{Event}
-use Rattle.mrp_events.specs.declared.event.Event.TheVariants.{Send, Receive, Plan}
-use Rattle.mrp_events.specs.State.{State, CanPlan, after_send, after_take, after_plan}
+use Rattle.mrp_protocol.specs.declared.event.Event.{Event}
+use Rattle.mrp_protocol.specs.declared.event.Event.TheVariants.{Send, Receive, Plan}
+use Rattle.mrp_protocol.specs.State.{State, CanPlan, after_send, after_take, after_plan}
 use Rattle.mrp_world.specs.Moments.{Moment, IsAt, IsNext, SendsLane}
 use Rattle.mrp_agent.specs.OwnPart.{IsOut, IsOwn}
 use Rattle.mrp_world.specs.Showing.{Showing}

@@ -1,14 +1,14 @@
 -- How the plants and mailboxes of a world are made one by one.
 use Rattle.std.proofs.Common.{◌≡◌, ℕ, ◌<◌, ◌≤◌, min, List, [], ◌∷◌, ◌++◌, ◌⊎◌, inl, inr, length, get_or, refl, sym, ap, subst, ◌∙◌, arith, length-append}
 use Rattle.std.proofs.lemmas.List.{get_or_append_left, get_or_at}
-use Rattle.mrp_rows.specs.Table.{Table}
+use Rattle.mrp_table_rows.specs.Table.{Table}
 use Rattle.mrp_net.specs.Lanes.{lanes, lane_at}
 use Rattle.mrp_net.specs.Texts.{longest_text}
 use Rattle.mrp_loops.specs.Sized.{IsSized}
-use Rattle.mrp_events.specs.State.{opening_state}
-use Rattle.mrp_events.proofs.Counting.{runs_begin_with_steps}
-use Rattle.mrp_events.proofs.Keeping.{opening_is_reached}
-use Rattle.mrp_events.specs.Steps.{steps}
+use Rattle.mrp_protocol.specs.State.{opening_state}
+use Rattle.mrp_protocol.proofs.Counting.{runs_begin_with_steps}
+use Rattle.mrp_protocol.proofs.Keeping.{opening_is_reached}
+use Rattle.mrp_protocol.specs.Steps.{steps}
 use Rattle.mrp_world.specs.Showing.{Showing}
 use Rattle.mrp_world.specs.Mailbox.{Held}
 use Rattle.mrp_world.specs.World.{nothing_held, PlantsShow}

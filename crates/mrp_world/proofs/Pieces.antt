@@ -3,17 +3,17 @@ use Rattle.std.proofs.Common.{◌≡◌, ℕ, ◌+◌, ◌<◌, ◌≤◌, List,
 use Rattle.std.specs.List.{flat_map, range_with_len}
 use Rattle.mrp_net.proofs.Routing.{flat_map-range-more}
 use Rattle.std.proofs.lemmas.List.{map_more}
-use Rattle.mrp_rows.specs.declared.numbers.ItemNo.{ItemNo}
-use Rattle.mrp_rows.specs.Table.{Table}
+use Rattle.mrp_table_rows.specs.declared.numbers.ItemNo.{ItemNo}
+use Rattle.mrp_table_rows.specs.Table.{Table}
 use Rattle.mrp_net.specs.declared.lane.Lane.{Lane}
 use Rattle.mrp_net.specs.Lanes.{lanes, lane_at, lane_items, opening}
 use Rattle.mrp_net.specs.Routes.{IsLane}
 use Rattle.mrp_record.specs.Entries.{contents, moved}
 use Rattle.mrp_book.specs.declared.figure.LaneFigure.{LaneFigure}
-use Rattle.mrp_events.specs.LaneOrder.{cum_on}
-use Rattle.mrp_events.specs.State.{State}
-use Rattle.mrp_events.proofs.Ordering.{lanes_keep_order, nothing_is_lost}
-use Rattle.mrp_events.proofs.Small.{legal_cums_are_small}
+use Rattle.mrp_protocol.specs.LaneOrder.{cum_on}
+use Rattle.mrp_protocol.specs.State.{State}
+use Rattle.mrp_protocol.proofs.Ordering.{lanes_keep_order, nothing_is_lost}
+use Rattle.mrp_protocol.proofs.Small.{legal_cums_are_small}
 use Rattle.mrp_world.specs.Figures.{lane_figure_at}
 use Rattle.mrp_world.specs.Moments.{Moment, IsAt, Receives}
 use Rattle.mrp_agent.specs.OwnPart.{IsIn}

@@ -3,7 +3,7 @@ use Rattle.std.proofs.Common.{◌≡◌, ℕ, ◌+◌, ◌<◌, ◌≤◌, ◌==
 use Rattle.std.proofs.Common.{refl, sym, ap, subst, ◌∙◌, arith, append_assoc, length-append}
 use Rattle.std.proofs.lemmas.Bool.{cases_Bool, eqb-true, eq-eqb, false≢true}
 use Rattle.std.proofs.lemmas.List.{length-set, get_or-set_same, get_or-set_other, get_or_default}
-use Rattle.mrp_rows.specs.Table.{Table, IsPair}
+use Rattle.mrp_table_rows.specs.Table.{Table, IsPair}
 use Rattle.mrp_net.specs.declared.lane.Lane.{Lane}
 use Rattle.mrp_net.specs.declared.lane.LaneKind.{LaneKind}
 use Rattle.mrp_net.specs.declared.lane.LaneKind.TheVariants.{Despatch, Schedule}
@@ -13,10 +13,10 @@ use Rattle.mrp_net.specs.Sums.{pair_at, no_pair}
 use Rattle.mrp_net.specs.Texts.{longest_text}
 use Rattle.mrp_loops.specs.Sized.{IsSized}
 use Rattle.mrp_record.specs.declared.record.Record.{Record}
-use Rattle.mrp_events.specs.declared.event.Event.TheVariants.{Send, Receive, Plan}
-use Rattle.mrp_events.specs.State.{State, CanSend, CanTake, CanPlan, changed, after_send, after_take, after_plan}
-use Rattle.mrp_events.proofs.Keeping.{reached_goes_on}
-use Rattle.mrp_events.proofs.Small.{beginnings_are_no_longer}
+use Rattle.mrp_protocol.specs.declared.event.Event.TheVariants.{Send, Receive, Plan}
+use Rattle.mrp_protocol.specs.State.{State, CanSend, CanTake, CanPlan, changed, after_send, after_take, after_plan}
+use Rattle.mrp_protocol.proofs.Keeping.{reached_goes_on}
+use Rattle.mrp_protocol.proofs.Small.{beginnings_are_no_longer}
 use Rattle.mrp_world.specs.Moments.{Moment, IsAt, IsNext, SendsLane, Receives, Has}
 use Rattle.mrp_agent.specs.OwnPart.{IsOut, IsIn, IsOwn, AgreeAt}
 use Rattle.mrp_world.specs.Showing.{Showing}

@@ -5,13 +5,13 @@ use Rattle.std.specs.Prelude.{slice_get, MatchBool, IfSome, IfNone, IsSome, IsSo
 use Rattle.std.proofs.lemmas.Bool.{cases_Bool, eqb-true, eq-eqb, false≢true}
 use Rattle.std.proofs.lemmas.List.{take_more}
 use Rattle.std.proofs.lemmas.Option.{slice_get_read}
-use Rattle.mrp_rows.specs.Table.{Table, IsPair}
+use Rattle.mrp_table_rows.specs.Table.{Table, IsPair}
 use Rattle.mrp_net.specs.Sums.{pair_at}
-use Rattle.mrp_events.specs.declared.event.Event.{Event}
-use Rattle.mrp_events.specs.State.{State, Step, Run, IsEnabled, IsFinished}
-use Rattle.mrp_events.specs.Progress.{steps_left}
-use Rattle.mrp_events.proofs.Counting.{events_are_steps, none_is_left_at_the_end}
-use Rattle.mrp_events.proofs.Finishing.{no_schedule_sticks}
+use Rattle.mrp_protocol.specs.declared.event.Event.{Event}
+use Rattle.mrp_protocol.specs.State.{State, Step, Run, IsEnabled, IsFinished}
+use Rattle.mrp_protocol.specs.Progress.{steps_left}
+use Rattle.mrp_protocol.proofs.Counting.{events_are_steps, none_is_left_at_the_end}
+use Rattle.mrp_protocol.proofs.Finishing.{no_schedule_sticks}
 use Rattle.mrp_world.specs.Moments.{Moment, IsAt, Has}
 use Rattle.mrp_agent.specs.OwnPart.{IsOwn}
 use Rattle.mrp_world.specs.Showing.{Showing}

@@ -1,8 +1,8 @@
 -- Where plants and mailboxes are driven to.
 use Rattle.std.specs.Prelude.{ℕ, List}
-use Rattle.mrp_rows.specs.Table.{Table}
-use Rattle.mrp_events.specs.declared.event.Event.{Event}
-use Rattle.mrp_events.specs.State.{State, Run}
+use Rattle.mrp_table_rows.specs.Table.{Table}
+use Rattle.mrp_protocol.specs.declared.event.Event.{Event}
+use Rattle.mrp_protocol.specs.State.{State, Run}
 use Rattle.mrp_world.specs.Showing.{Showing}
 use Rattle.mrp_world.specs.Mailbox.{Held}
 use Rattle.mrp_world.specs.Moves.{AreAt, Lead}

@@ -1,8 +1,8 @@
 -- How many events of a list are enabled, each in its turn.
 use Rattle.std.specs.Prelude.{◌≡◌, ℕ, ◌+◌, List, [], ◌∷◌, ◌⊎◌}
-use Rattle.mrp_rows.specs.Table.{Table}
-use Rattle.mrp_events.specs.declared.event.Event.{Event}
-use Rattle.mrp_events.specs.State.{State, Step, IsEnabled}
+use Rattle.mrp_table_rows.specs.Table.{Table}
+use Rattle.mrp_protocol.specs.declared.event.Event.{Event}
+use Rattle.mrp_protocol.specs.State.{State, Step, IsEnabled}
 
 -- an event that is enabled counts one; one that isn't changes nothing and counts none
 abbrev pub CountsOne : Table → ℕ → State → Event → ℕ → State → Type 0

@@ -1,16 +1,16 @@
 -- The cumulative figures of all lanes in a state.
 use Rattle.std.specs.Prelude.{◌≡◌, ℕ, ◌+◌, List, length, map, All}
 use Rattle.std.specs.List.{flat_map, range_with_len}
-use Rattle.mrp_rows.specs.declared.numbers.ItemNo.{ItemNo}
-use Rattle.mrp_rows.specs.Table.{Table, IsTable}
+use Rattle.mrp_table_rows.specs.declared.numbers.ItemNo.{ItemNo}
+use Rattle.mrp_table_rows.specs.Table.{Table, IsTable}
 use Rattle.mrp_net.specs.declared.lane.Lane.{Lane}
 use Rattle.mrp_net.specs.Lanes.{lanes, lane_at, lane_items, opening}
 use Rattle.mrp_record.specs.Text.{total}
 use Rattle.mrp_book.specs.declared.figure.LaneFigure.{LaneFigure}
 use Rattle.mrp_book.specs.LaneFigures.{IsLaneFigure}
-use Rattle.mrp_events.specs.LaneOrder.{cum_on}
-use Rattle.mrp_events.specs.Loads.{load_of}
-use Rattle.mrp_events.specs.State.{State, IsFinished, IsReached}
+use Rattle.mrp_protocol.specs.LaneOrder.{cum_on}
+use Rattle.mrp_protocol.specs.Loads.{load_of}
+use Rattle.mrp_protocol.specs.State.{State, IsFinished, IsReached}
 
 -- the figures of an item of a lane: where they begin, and what has been shipped and what has been received,
 -- closed years added

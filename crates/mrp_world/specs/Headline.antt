@@ -1,16 +1,16 @@
 -- What holds in each state that a world shows.
 use Rattle.std.specs.Prelude.{◌≡◌, ℕ, ◌+◌, ◌<◌, true, length, slice_get, Contains, IsSomeAnd}
 use Rattle.mrp_lot.specs.One.{PlanRows}
-use Rattle.mrp_rows.specs.declared.numbers.ItemNo.{ItemNo}
-use Rattle.mrp_rows.specs.Table.{IsPair}
+use Rattle.mrp_table_rows.specs.declared.numbers.ItemNo.{ItemNo}
+use Rattle.mrp_table_rows.specs.Table.{IsPair}
 use Rattle.mrp_net.specs.Lanes.{lanes, lane_at, lane_items}
 use Rattle.mrp_net.specs.Plan.{rows_at, plan_of}
 use Rattle.mrp_net.specs.Sums.{pair_at}
 use Rattle.mrp_record.specs.Entries.{contents, is_closed, moved}
 use Rattle.mrp_record.specs.Text.{IsWhole}
-use Rattle.mrp_events.specs.LaneOrder.{KeepsOrder, cum_on}
-use Rattle.mrp_events.specs.Loads.{loads}
-use Rattle.mrp_events.specs.State.{State}
+use Rattle.mrp_protocol.specs.LaneOrder.{KeepsOrder, cum_on}
+use Rattle.mrp_protocol.specs.Loads.{loads}
+use Rattle.mrp_protocol.specs.State.{State}
 use Rattle.mrp_world.specs.World.{WorldState, box_at}
 
 -- each lane has booked its sender's records in order and at most once, and nothing follows its closing record

@@ -1,14 +1,14 @@
 -- What a plant shows of a run over a network, and what it can do at a moment of the run.
 use Rattle.std.specs.Prelude.{◌≡◌, ℕ, ◌<◌, [], ◌∷◌, ◌++◌, length}
-use Rattle.mrp_rows.specs.Table.{Table}
+use Rattle.mrp_table_rows.specs.Table.{Table}
 use Rattle.mrp_net.specs.Lanes.{lane_at}
-use Rattle.mrp_view.specs.View.{PlantRows, plant_rows}
+use Rattle.mrp_plant_view.specs.View.{PlantRows, plant_rows}
 use Rattle.mrp_loops.specs.Sized.{IsSized}
 use Rattle.mrp_record.specs.declared.record.Record.{Record}
 use Rattle.mrp_record.specs.Entries.{content}
 use Rattle.mrp_record.specs.Text.{IsBeginning}
-use Rattle.mrp_events.specs.Loads.{loads}
-use Rattle.mrp_events.specs.State.{State, IsDecided, IsReached}
+use Rattle.mrp_protocol.specs.Loads.{loads}
+use Rattle.mrp_protocol.specs.State.{State, IsDecided, IsReached}
 use Rattle.mrp_world.specs.Showing.{Showing}
 use Rattle.mrp_agent.specs.OwnPart.{IsOut, IsIn, IsOwn}
 

@@ -1,14 +1,14 @@
 -- What calls over plants and mailboxes answer, and what follows for a world.
 use Rattle.std.specs.Prelude.{◌≡◌, ℕ, ◌<◌, ◌≤◌, min, Bool, List, ◌++◌, length, MatchBool}
-use Rattle.mrp_rows.specs.Table.{Table}
+use Rattle.mrp_table_rows.specs.Table.{Table}
 use Rattle.mrp_net.specs.Lanes.{lanes, lane_at}
 use Rattle.mrp_net.specs.Texts.{longest_text}
 use Rattle.mrp_loops.specs.Sized.{IsSized}
 use Rattle.mrp_world.specs.Mailbox.{Held}
-use Rattle.mrp_events.specs.declared.event.Event.{Event}
-use Rattle.mrp_events.specs.declared.event.Event.TheVariants.{Send, Receive, Plan}
-use Rattle.mrp_events.specs.Progress.{steps_left}
-use Rattle.mrp_events.specs.State.{State, Step, Run, IsEnabled, IsReached}
+use Rattle.mrp_protocol.specs.declared.event.Event.{Event}
+use Rattle.mrp_protocol.specs.declared.event.Event.TheVariants.{Send, Receive, Plan}
+use Rattle.mrp_protocol.specs.Progress.{steps_left}
+use Rattle.mrp_protocol.specs.State.{State, Step, Run, IsEnabled, IsReached}
 use Rattle.mrp_agent.specs.OwnPart.{IsOwn}
 use Rattle.mrp_world.specs.Showing.{Showing}
 use Rattle.mrp_world.specs.World.{WorldState, PlantsShow, box_at}

@@ -1,8 +1,8 @@
 -- What the plans that plants keep are made of.
 use Rattle.std.specs.Prelude.{ℕ, ◌<◌, length, slice_get, IsSomeAnd}
-use Rattle.mrp_view.specs.View.{plant_rows}
-use Rattle.mrp_events.specs.State.{State}
-use Rattle.mrp_events.specs.LocalPlans.{IsLocal}
+use Rattle.mrp_plant_view.specs.View.{plant_rows}
+use Rattle.mrp_protocol.specs.State.{State}
+use Rattle.mrp_protocol.specs.LocalPlans.{IsLocal}
 use Rattle.mrp_world.specs.Headline.{Keeping}
 use Rattle.mrp_world.specs.World.{WorldState}
 

@@ -1,7 +1,7 @@
 -- Which states of a network a plant shows.
 use Rattle.std.specs.Prelude.{ℕ}
-use Rattle.mrp_rows.specs.Table.{Table}
-use Rattle.mrp_events.specs.State.{State}
+use Rattle.mrp_table_rows.specs.Table.{Table}
+use Rattle.mrp_protocol.specs.State.{State}
 
 -- which states of a network a plant with a number shows
 abbrev pub Showing : Type 0 → Type 1

@@ -1,10 +1,10 @@
 -- A world, and what it shows of a run.
 use Rattle.std.specs.Prelude.{◌≡◌, ℕ, ◌<◌, List, [], ◌++◌, length, slice_index_or}
-use Rattle.mrp_rows.specs.Table.{Table}
+use Rattle.mrp_table_rows.specs.Table.{Table}
 use Rattle.mrp_net.specs.Lanes.{lanes}
 use Rattle.mrp_loops.specs.Sized.{IsSized}
 use Rattle.mrp_world.specs.Mailbox.{Held}
-use Rattle.mrp_events.specs.State.{State, IsReached}
+use Rattle.mrp_protocol.specs.State.{State, IsReached}
 use Rattle.mrp_world.specs.Showing.{Showing}
 
 abbrev pub nothing_held : Held

@@ -1,14 +1,14 @@
 //! One event over plants and mailboxes.
 ghost use Rattle.std.specs.Prelude.{◌≡◌, ◌<◌, List, true, false, length};
-ghost use Rattle.mrp_rows.specs.Table.{IsPair};
+ghost use Rattle.mrp_table_rows.specs.Table.{IsPair};
 ghost use Rattle.mrp_net.specs.Lanes.{lanes};
-ghost use Rattle.mrp_events.specs.declared.event.Event.TheVariants.{Send, Receive, Plan};
+ghost use Rattle.mrp_protocol.specs.declared.event.Event.TheVariants.{Send, Receive, Plan};
 ghost use Rattle.mrp_world.specs.Mailbox.{Held};
 ghost use Rattle.mrp_world.specs.Moves.{Acts, AreSomewhere, Lead, LeadNowhere};
 
 use crate::{Mailbox, Plant};
-use mrp_events::Event;
 use mrp_net::{LaneNo, Network, PairNo};
+use mrp_protocol::Event;
 
 /// Sends the next record of a lane, if there is one and the mailbox has room.
 pub(crate) fn send<P: Plant>(

@@ -5,9 +5,9 @@ use mrp_agent::Agent;
 use mrp_book::BookFault;
 use mrp_net::{ItemNo, LaneNo, PairNo};
 use mrp_netting::PairPlan;
+use mrp_plant_view::PlantView;
 use mrp_qty::{Memory, Qty};
 use mrp_record::Record;
-use mrp_view::PlantView;
 use std::alloc::Global;
 
 impl Plant for Agent {

@@ -1,14 +1,14 @@
 //! What a lane carries of an item, by the plan of the network.
 ghost use Rattle.std.specs.Prelude.{◌≡◌, ◌<◌, ◌≤◌, Contains, length, slice_index};
 ghost use Rattle.mrp_qty.specs.declared.quantity.TheConstants.{MOST};
-ghost use Rattle.mrp_rows.specs.Table.{IsPair, horizon};
+ghost use Rattle.mrp_table_rows.specs.Table.{IsPair, horizon};
 ghost use Rattle.mrp_net.specs.Lanes.{lanes, lane_at, lane_items};
 ghost use Rattle.mrp_net.specs.Plan.{plan_of};
 ghost use Rattle.mrp_net.specs.PlanLaws.{Fits};
 ghost use Rattle.mrp_net.specs.Shares.{share_of};
 ghost use Rattle.mrp_loops.specs.Sized.{IsSized};
 ghost use Rattle.mrp_record.specs.Text.{total};
-ghost use Rattle.mrp_events.specs.Loads.{by_period, called_in, load_of};
+ghost use Rattle.mrp_protocol.specs.Loads.{by_period, called_in, load_of};
 
 use mrp_net::{ItemNo, LaneKind, LaneNo, Network, SourceRow, share_of};
 use mrp_plan::Plan;

@@ -5,8 +5,8 @@ ghost use Rattle.mrp_net.specs.Plan.{plan_of};
 ghost use Rattle.mrp_net.specs.PlanLaws.{Fits};
 ghost use Rattle.mrp_loops.specs.Sized.{IsSized};
 ghost use Rattle.mrp_record.specs.Lengths.{block_length, length_of_text};
-ghost use Rattle.mrp_events.specs.Loads.{load_of, loads};
-ghost use Rattle.mrp_events.specs.Steps.{steps};
+ghost use Rattle.mrp_protocol.specs.Loads.{load_of, loads};
+ghost use Rattle.mrp_protocol.specs.Steps.{steps};
 
 use crate::carried::{Carried, carried_on};
 use mrp_loops::SizedNet;

@@ -1,15 +1,15 @@
 //! Plants and mailboxes, driven until nothing moves.
 ghost use Rattle.std.specs.Prelude.{◌≡◌, ◌<◌, true, false, length, List};
 ghost use Rattle.mrp_net.specs.Lanes.{lanes};
-ghost use Rattle.mrp_events.specs.declared.event.Event.{Event};
+ghost use Rattle.mrp_protocol.specs.declared.event.Event.{Event};
 ghost use Rattle.mrp_world.specs.Moves.{AreSomewhere, Lead, AllRests};
 ghost use Rattle.mrp_world.specs.Driving.{LeadOn, LeadOneAndOn};
 
 use crate::acting::{act_on, receive, send};
 use crate::looking::{look, ready_at};
 use crate::{Mailbox, Plant};
-use mrp_events::Event;
 use mrp_net::{LaneNo, Network};
+use mrp_protocol::Event;
 
 /// Where the last event happened: the next one is looked for from there on.
 #[derive(Clone, Copy)]

@@ -1,7 +1,7 @@
 //! The cumulative figures of the lanes, read off plants and mailboxes.
 ghost use Rattle.std.specs.Prelude.{◌≡◌, ◌<◌, ◌++◌, ℕ, Contains, IfOk, OnOk, length};
 ghost use Rattle.mrp_net.specs.Lanes.{lanes, lane_at, lane_items};
-ghost use Rattle.mrp_events.specs.State.{State};
+ghost use Rattle.mrp_protocol.specs.State.{State};
 ghost use Rattle.mrp_world.specs.Figures.{lane_figure_at, figures_in_lane, figures_in};
 ghost use Rattle.mrp_world.specs.Moves.{AreAt, AreSomewhere};
 

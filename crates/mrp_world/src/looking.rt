@@ -1,13 +1,13 @@
 //! Which event is enabled, looked for from a place on.
 ghost use Rattle.std.specs.Prelude.{◌≡◌, ℕ, ◌<◌, ◌≤◌, List, length, IfSome, IfNone};
 ghost use Rattle.mrp_net.specs.Lanes.{lanes};
-ghost use Rattle.mrp_events.specs.declared.event.Event.TheVariants.{Plan};
+ghost use Rattle.mrp_protocol.specs.declared.event.Event.TheVariants.{Plan};
 ghost use Rattle.mrp_world.specs.Mailbox.{Held};
 ghost use Rattle.mrp_world.specs.Moves.{AreSomewhere, MayLead, LaneRests, PlantRests, AllRests};
 
 use crate::{Mailbox, Plant};
-use mrp_events::Event;
 use mrp_net::{LaneNo, Network};
+use mrp_protocol::Event;
 
 /// An event over a lane that is enabled: its receiver takes what waits before its sender sends more.
 fn moving<P: Plant>(

@@ -1,14 +1,14 @@
 //! How the plants and the mailboxes of a world are made.
 ghost use Rattle.std.specs.Prelude.{◌≡◌, ◌≤◌, IfOk};
-ghost use Rattle.mrp_events.specs.State.{opening_state};
+ghost use Rattle.mrp_protocol.specs.State.{opening_state};
 ghost use Rattle.mrp_world.specs.World.{PlantsShow};
 ghost use Rattle.mrp_world.specs.Moves.{BoxesHold};
 
 use crate::{Mailbox, Plant};
 use mrp_loops::SizedNet;
 use mrp_net::{LaneNo, PlantNo};
+use mrp_plant_view::PlantView;
 use mrp_qty::Memory;
-use mrp_view::PlantView;
 use std::alloc::Global;
 
 /// The plants of a network before the first event.

@@ -3,9 +3,9 @@
 use mrp_book::BookFault;
 use mrp_net::{ItemNo, LaneNo, PairNo};
 use mrp_netting::PairPlan;
+use mrp_plant_view::PlantView;
 use mrp_qty::{Memory, Qty};
 use mrp_record::Record;
-use mrp_view::PlantView;
 use std::alloc::Global;
 
 /// A plant of a network, which plans from what it sees and from the records that come to it.
@@ -17,19 +17,19 @@ pub trait Plant: Drop {
     ghost use Rattle.std.specs.Prelude.{◌≡◌, ◌<◌, ◌++◌, ◌∷◌, [], ℕ, false, true, length, Contains, Some, IfOk, IfErr};
     ghost use Rattle.std.specs.Prelude.{IfSome, IfNone, OnOk, OnErr};
     ghost use Rattle.mrp_lot.specs.One.{PlanRows};
-    ghost use Rattle.mrp_rows.specs.Table.{Table};
+    ghost use Rattle.mrp_table_rows.specs.Table.{Table};
     ghost use Rattle.mrp_net.specs.Lanes.{lane_at, lane_items};
     ghost use Rattle.mrp_net.specs.Plan.{plan_of, rows_at};
-    ghost use Rattle.mrp_view.specs.View.{plant_rows};
+    ghost use Rattle.mrp_plant_view.specs.View.{plant_rows};
     ghost use Rattle.mrp_loops.specs.Sized.{IsSized};
     ghost use Rattle.mrp_record.specs.declared.record.Record.{Record};
     ghost use Rattle.mrp_record.specs.Form.{IsInForm};
     ghost use Rattle.mrp_book.specs.Meanings.{first_had};
-    ghost use Rattle.mrp_events.specs.LocalPlans.{IsLocal};
-    ghost use Rattle.mrp_events.specs.LaneOrder.{cum_on};
-    ghost use Rattle.mrp_events.specs.LoadLaws.{lane_form};
-    ghost use Rattle.mrp_events.specs.State.{State, opening_state, CanTake, CanPlan, after_send, after_take};
-    ghost use Rattle.mrp_events.specs.State.{after_plan};
+    ghost use Rattle.mrp_protocol.specs.LocalPlans.{IsLocal};
+    ghost use Rattle.mrp_protocol.specs.LaneOrder.{cum_on};
+    ghost use Rattle.mrp_protocol.specs.LoadLaws.{lane_form};
+    ghost use Rattle.mrp_protocol.specs.State.{State, opening_state, CanTake, CanPlan, after_send, after_take};
+    ghost use Rattle.mrp_protocol.specs.State.{after_plan};
     ghost use Rattle.mrp_world.specs.Gathering.{HasPlannedAll, own_plans};
     ghost use Rattle.mrp_world.specs.Moments.{Moment, IsAt, IsNext, IsSeen, SendsLane, Receives, Has};
     ghost use Rattle.mrp_agent.specs.OwnPart.{IsOut, IsIn, IsOwn, AgreeAt};

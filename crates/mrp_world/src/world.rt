@@ -2,7 +2,7 @@
 
 ghost use Rattle.std.specs.Prelude.{◌≡◌, ◌+◌, ℕ, ◌-◌, ◌≤◌, true, false, slice_get, All, List, IfOk, IfSome, IfNone};
 ghost use Rattle.std.specs.Prelude.{IsSome, IsSomeAnd, MatchBool, IsTrue, ◌↔◌};
-ghost use Rattle.mrp_rows.specs.Table.{IsPair};
+ghost use Rattle.mrp_table_rows.specs.Table.{IsPair};
 ghost use Rattle.mrp_qty.specs.declared.limits.TheConstants.{MOST_ROOM};
 
 use crate::acting::act_on;
@@ -14,11 +14,11 @@ use crate::looking::look;
 use crate::making::{new_boxes, new_plants};
 use crate::{Agent, Mailbox, Plant};
 use mrp_book::LaneFigure;
-use mrp_events::Event;
 use mrp_loops::SizedNet;
 use mrp_net::{Network, PairNo};
 use mrp_netting::PairPlan;
 use mrp_plan::Plan;
+use mrp_protocol::Event;
 use mrp_qty::Memory;
 use std::alloc::Global;
 use std::marker::Model;
@@ -66,10 +66,10 @@ impl<'a, P: Plant> Model for World<'a, P> {
 
 impl<'a, P: Plant> World<'a, P> {
     ghost use Rattle.mrp_net.specs.Plan.{plan_of, rows_at};
-    ghost use Rattle.mrp_events.specs.declared.event.Event.{Event};
-    ghost use Rattle.mrp_events.specs.Steps.{steps as network_steps};
-    ghost use Rattle.mrp_events.specs.Progress.{steps_left};
-    ghost use Rattle.mrp_events.specs.State.{State, Step, IsEnabled, IsFinished, opening_state};
+    ghost use Rattle.mrp_protocol.specs.declared.event.Event.{Event};
+    ghost use Rattle.mrp_protocol.specs.Steps.{steps as network_steps};
+    ghost use Rattle.mrp_protocol.specs.Progress.{steps_left};
+    ghost use Rattle.mrp_protocol.specs.State.{State, Step, IsEnabled, IsFinished, opening_state};
     ghost use Rattle.mrp_net.specs.Sums.{pair_at};
     ghost use Rattle.mrp_world.specs.Enabled.{CountsEnabled};
     ghost use Rattle.mrp_world.specs.Figures.{figures_in, last_figures};

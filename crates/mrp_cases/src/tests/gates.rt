@@ -4,7 +4,7 @@ use super::is_report;
 use super::outcomes::outcome;
 use super::reports::TWO_PLANTS_PLAN;
 use mrp_firm_cases::TWO_PLANTS;
-use mrp_text::{Gate, Settings, plan_text};
+use mrp_planner::{Gate, Settings, plan_text};
 use std::alloc::{AllocError, Global};
 use std::process::Abort;
 use std::sync::Wait;

@@ -1,22 +1,22 @@
-//! Texts where memory is refused: what is written is the right text, or a front of it.
+//! Texts where memory is refused: what is written is the right text, or a prefix of it.
 
 use super::reports::{
     EARLY, EARLY_ADVICE, TWO_PLANTS_CUMS, TWO_PLANTS_ORDERS, TWO_PLANTS_PEGS, TWO_PLANTS_PLAN,
     TWO_PLANTS_SCHEDULE,
 };
-use mrp_choice::Heading;
+use mrp_commands::Heading;
 use mrp_firm_cases::TWO_PLANTS;
-use mrp_tables::TableFaultKind;
-use mrp_text::{
+use mrp_planner::{
     TextFault, advice_text, cums_text, drive_text, orders_text, pegs_text, schedule_text,
 };
+use mrp_tables::TableFaultKind;
 use std::alloc::Global;
 use std::test::Fail;
 
 /// More bytes than either text has, so that its writer grows no more.
 const ROOM: usize = 512;
 
-/// Whether the text is written, or memory was refused after a front of it.
+/// Whether the text is written, or memory was refused after a prefix of it.
 fn is_written_or_refused(answer: &Result<(), TextFault>, written: &[u8], text: &str) -> bool {
     match answer {
         Ok(()) => written == text.as_bytes(),

@@ -1,6 +1,6 @@
 //! What a text function leaves of a table, as one text.
 
-use mrp_text::{TextFault, status, write_fault};
+use mrp_planner::{TextFault, status, write_fault};
 use std::alloc::{AllocError, Global};
 
 /// What a text function left: the bytes that the writer has, or the line of the fault and its status

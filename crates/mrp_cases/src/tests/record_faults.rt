@@ -4,7 +4,7 @@ use crate::tests::network_of;
 use crate::tests::records::DESPATCHES;
 use mrp_firm_cases::TWO_PLANTS;
 use mrp_net::Network;
-use mrp_stream::{RecordFault, RecordFaultKind, read_records};
+use mrp_record_csv::{RecordFault, RecordFaultKind, read_records};
 use std::alloc::Global;
 use std::io;
 use std::io::{ErrorKind, Read};

@@ -1,7 +1,7 @@
 //! Records of lanes: their texts, read, booked and written again, whole and damaged.
 
 ghost use Rattle.std.specs.Prelude.{◌≡◌, All};
-ghost use Rattle.mrp_stream.specs.Rows.{HasRow};
+ghost use Rattle.mrp_record_csv.specs.Rows.{HasRow};
 
 use crate::tests::network_of;
 use mrp_book::{Book, BookFault, BookItem};
@@ -9,7 +9,7 @@ use mrp_firm_cases::{RING, SHARED_AFTER_SHIPMENT, TWO_PLANTS};
 use mrp_net::{ItemNo, LaneKind, Network};
 use mrp_qty::{Horizon, Qty};
 use mrp_record::Record;
-use mrp_stream::{read_records, write_record};
+use mrp_record_csv::{read_records, write_record};
 use std::alloc::Global;
 
 /// What B has sent to A of the firm.

@@ -1,16 +1,16 @@
 //! Readers and writers that give little, fail or end early.
 
-ghost use Rattle.mrp_choice.specs.Range.{IsInRange};
+ghost use Rattle.mrp_commands.specs.Range.{IsInRange};
 
 use super::is_report;
 use super::outcomes::outcome;
 use super::reports::{
     BICYCLE_PLAN, EARLY, EARLY_ADVICE, TWO_PLANTS_CUMS, TWO_PLANTS_PEGS, TWO_PLANTS_SCHEDULE,
 };
-use mrp_choice::{Choice, Heading};
+use mrp_commands::{Choice, Heading};
 use mrp_firm_cases::{BICYCLE, TWO_PLANTS};
+use mrp_planner::{TextFault, answer, check_text, drive_text, status};
 use mrp_tables::TableFaultKind;
-use mrp_text::{TextFault, answer, check_text, drive_text, status};
 use std::alloc::{AllocError, Global};
 use std::io;
 use std::io::{ErrorKind, Read, Write};
@@ -197,7 +197,7 @@ fn ending(alloc: Global, ends: usize, takes_nothing: bool) -> Sink {
     }
 }
 
-/// Whether the writer ended at its call number `ends` with the front of the text that it took.
+/// Whether the writer ended at its call number `ends` with the prefix of the text that it took.
 fn ended_in_front(answer: &Result<(), TextFault>, sink: &Sink, text: &[u8]) -> bool {
     let front = &text[..sink.ends.saturating_mul(10).min(text.len())];
     matches!(answer, Err(TextFault::WriteFault)) && sink.taken.as_slice() == front

@@ -2,12 +2,12 @@
 //! refused, a test in one thread passes or ends in an error for want of memory; its assertion never fails.
 
 ghost use Rattle.std.specs.Prelude.{◌≡◌, ◌<◌, ◌≤◌, ◌-◌, ◌*◌, ◌/◌, length, Contains, IfOk};
-ghost use Rattle.mrp_rows.specs.Table.{IsTable, horizon};
+ghost use Rattle.mrp_table_rows.specs.Table.{IsTable, horizon};
 ghost use Rattle.mrp_net.specs.Lanes.{lanes, lane_at, lane_items};
 ghost use Rattle.mrp_net.specs.Plan.{plan_of};
 ghost use Rattle.mrp_net.specs.PlanLaws.{Fits};
 ghost use Rattle.mrp_net.specs.Sources.{source_on};
-ghost use Rattle.mrp_events.specs.Loads.{called_in};
+ghost use Rattle.mrp_protocol.specs.Loads.{called_in};
 ghost use Rattle.mrp_record.specs.Next.{IsWhatIsLeft, IsNextLine, IsRemainder};
 ghost use Rattle.mrp_firm_cases.specs.Feeding.{despatches_from, calls_from, item_goods, goods, IsOver, Feeds};
 
@@ -19,8 +19,8 @@ use mrp_net::{ItemNo, LaneKind, Network};
 use mrp_plan::{Plan, plan_all};
 use mrp_qty::Qty;
 use mrp_record::{NextLine, OutCursor, Remainder};
-use mrp_rows::SourceRow;
 use mrp_run::NoGate;
+use mrp_table_rows::SourceRow;
 use std::alloc::{AllocError, Global};
 use std::marker::Brand;
 use std::sync::Wait;

@@ -1,5 +1,5 @@
 use Rattle.std.proofs.Common.{◌∙◌, ap, ◌==◌, ℕ, Option, unwrap_or, length}
-use Rattle.mrp_view.specs.declared.view.IncomingLane.{IncomingLane}
+use Rattle.mrp_plant_view.specs.declared.view.IncomingLane.{IncomingLane}
 use Rattle.mrp_agent.proofs.Looking.{place_or_len}
 use Rattle.mrp_agent.proofs.booking.incoming_place.Goals as goal
 

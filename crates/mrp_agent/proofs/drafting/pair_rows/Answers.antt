@@ -1,10 +1,10 @@
 use Rattle.std.proofs.Common.{ℕ, ◌+◌, ◌<◌, ◌≤◌, List, length, map, slice_index, ◌∙◌, ap, subst, sym}
-use Rattle.mrp_rows.specs.Starts.{IsGrouped}
-use Rattle.mrp_rows.proofs.Sorting.{IsGrouped-within}
-use Rattle.mrp_view.specs.View.{PlantRows}
+use Rattle.mrp_table_rows.specs.Starts.{IsGrouped}
+use Rattle.mrp_table_rows.proofs.Sorting.{IsGrouped-within}
+use Rattle.mrp_plant_view.specs.View.{PlantRows}
 use Rattle.mrp_agent.specs.declared.edges.ParentEdge.{ParentEdge}
 use Rattle.mrp_agent.specs.Kept.{parent_edge}
-use Rattle.mrp_view.specs.declared.view.PlantPair.{PlantPair}
+use Rattle.mrp_plant_view.specs.declared.view.PlantPair.{PlantPair}
 use Rattle.mrp_agent.specs.Rows.{part_at}
 use Rattle.mrp_agent.proofs.drafting.pair_rows.Goals as goal
 

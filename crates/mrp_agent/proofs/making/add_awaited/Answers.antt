@@ -3,7 +3,7 @@ use Rattle.mrp_agent.specs.Making.{place_awaited}
 use Rattle.mrp_agent.proofs.Made.{map_more_after}
 use Rattle.mrp_agent.proofs.Owning.{own_known, own_of_item, own_place_is}
 use Rattle.std.proofs.lemmas.List.{append-nil, take_all}
-use Rattle.mrp_view.specs.declared.view.IncomingItem.{IncomingItem}
+use Rattle.mrp_plant_view.specs.declared.view.IncomingItem.{IncomingItem}
 use Rattle.mrp_agent.proofs.making.add_awaited.Goals as goal
 
 pub unwrap-requires : goal.unwrap-requires

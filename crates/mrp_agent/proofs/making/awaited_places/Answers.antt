@@ -1,9 +1,9 @@
 use Rattle.std.proofs.Common.{◌++◌, ◌∙◌, List, map, ap, sym, subst}
 use Rattle.std.specs.List.{All, flat_map}
 use Rattle.std.proofs.lemmas.List.{take_all}
-use Rattle.mrp_view.specs.declared.view.IncomingItem.{IncomingItem}
-use Rattle.mrp_view.specs.declared.view.IncomingLane.{IncomingLane}
-use Rattle.mrp_view.specs.Seen.{IsIncomingItem, IsIncomingLane}
+use Rattle.mrp_plant_view.specs.declared.view.IncomingItem.{IncomingItem}
+use Rattle.mrp_plant_view.specs.declared.view.IncomingLane.{IncomingLane}
+use Rattle.mrp_plant_view.specs.Seen.{IsIncomingItem, IsIncomingLane}
 use Rattle.mrp_agent.specs.Making.{place_awaited}
 use Rattle.mrp_agent.proofs.Made.{flat_more}
 use Rattle.mrp_agent.proofs.making.awaited_places.Goals as goal

@@ -2,7 +2,7 @@ use Rattle.std.proofs.Common.{ℕ, subst, List, [], arith, refl, sym}
 use Rattle.mrp_agent.specs.Making.{IsIdleOut, AreIdleOuts}
 use Rattle.mrp_agent.proofs.Made.{idle_more}
 use Rattle.std.proofs.lemmas.List.{take_all}
-use Rattle.mrp_view.specs.declared.view.OutgoingLane.{OutgoingLane}
+use Rattle.mrp_plant_view.specs.declared.view.OutgoingLane.{OutgoingLane}
 use Rattle.mrp_record.specs.Cursor.{OutFigures}
 use Rattle.mrp_agent.proofs.making.idle_outs.Goals as goal
 

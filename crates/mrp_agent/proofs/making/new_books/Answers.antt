@@ -1,6 +1,6 @@
 use Rattle.std.proofs.Common.{◌∙◌, map, ap, sym, subst}
 use Rattle.std.proofs.lemmas.List.{take_all}
-use Rattle.mrp_view.specs.Seen.{IsIncomingLane}
+use Rattle.mrp_plant_view.specs.Seen.{IsIncomingLane}
 use Rattle.mrp_agent.specs.Kept.{HasSmallItems}
 use Rattle.mrp_agent.specs.Making.{new_figures}
 use Rattle.mrp_agent.proofs.Made.{map_more}

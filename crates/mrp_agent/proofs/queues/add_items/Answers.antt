@@ -1,6 +1,6 @@
 use Rattle.std.proofs.Common.{◌≡◌, ℕ, ◌++◌, Option, ap, ◌∙◌}
-use Rattle.mrp_view.specs.declared.view.OutgoingItem.{OutgoingItem}
-use Rattle.mrp_view.specs.Loads.{load_at}
+use Rattle.mrp_plant_view.specs.declared.view.OutgoingItem.{OutgoingItem}
+use Rattle.mrp_plant_view.specs.Loads.{load_at}
 use Rattle.mrp_agent.specs.After.{place_of}
 use Rattle.mrp_agent.specs.Queues.{queue_place}
 use Rattle.mrp_agent.proofs.Queueing.{range_more}

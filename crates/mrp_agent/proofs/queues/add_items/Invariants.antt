@@ -1,6 +1,6 @@
 use Rattle.std.proofs.Common.{◌≡◌, ◌++◌}
 use Rattle.std.specs.List.{flat_map, range_with_len}
-use Rattle.mrp_view.specs.Loads.{load_at}
+use Rattle.mrp_plant_view.specs.Loads.{load_at}
 use Rattle.mrp_agent.specs.After.{place_of}
 use Rattle.mrp_agent.specs.Queues.{queue_place}
 use Rattle.mrp_agent.proofs.queues.add_items.Given as goal

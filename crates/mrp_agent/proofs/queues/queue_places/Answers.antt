@@ -1,5 +1,5 @@
 use Rattle.std.proofs.Common.{◌≡◌, ℕ, [], ◌++◌, get_or, ap, ◌∙◌}
-use Rattle.mrp_view.specs.declared.view.OutgoingLane.{OutgoingLane}
+use Rattle.mrp_plant_view.specs.declared.view.OutgoingLane.{OutgoingLane}
 use Rattle.mrp_agent.specs.Queues.{lane_queues, lane_queues_at}
 use Rattle.mrp_agent.specs.State.{no_outgoing}
 use Rattle.mrp_agent.proofs.Calls.{read_is}

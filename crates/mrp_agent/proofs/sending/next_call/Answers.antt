@@ -1,5 +1,5 @@
 use Rattle.std.proofs.Common.{◌≡◌, ℕ, sym, ap, ◌∙◌, arith, refl}
-use Rattle.mrp_events.specs.Goods.{share}
+use Rattle.mrp_protocol.specs.Goods.{share}
 use Rattle.mrp_agent.specs.Sending.{called_by}
 use Rattle.mrp_agent.proofs.Calling.{call_later}
 use Rattle.mrp_agent.proofs.sending.next_call.Goals as goal

@@ -1,7 +1,7 @@
 use Rattle.std.proofs.Common.{◌==◌, Bool, sym, ap, ◌∙◌}
 use Rattle.std.proofs.lemmas.Bool.{eq-eqb}
-use Rattle.mrp_view.specs.declared.view.OutgoingLane.{OutgoingLane}
-use Rattle.mrp_view.proofs.Placing.{is_below}
+use Rattle.mrp_plant_view.specs.declared.view.OutgoingLane.{OutgoingLane}
+use Rattle.mrp_plant_view.proofs.Placing.{is_below}
 use Rattle.mrp_agent.proofs.Looking.{place_is_only}
 use Rattle.mrp_agent.proofs.sending.outgoing_near.Goals as goal
 

@@ -1,5 +1,5 @@
 use Rattle.std.proofs.Common.{◌∙◌, ap, ◌==◌, ℕ, Option, unwrap_or, length}
-use Rattle.mrp_view.specs.declared.view.OutgoingLane.{OutgoingLane}
+use Rattle.mrp_plant_view.specs.declared.view.OutgoingLane.{OutgoingLane}
 use Rattle.mrp_agent.proofs.Looking.{place_or_len}
 use Rattle.mrp_agent.proofs.sending.outgoing_place.Goals as goal
 

@@ -1,15 +1,15 @@
 //! The agents of a network, each alone: what one sends is handed to the agent of the other plant.
 
 ghost use Rattle.std.specs.Prelude.{◌≡◌, ◌<◌, true, length, IfOk, IfSome, IfNone};
-ghost use Rattle.mrp_rows.specs.Table.{IsPair};
+ghost use Rattle.mrp_table_rows.specs.Table.{IsPair};
 ghost use Rattle.mrp_net.specs.Lanes.{lanes};
 ghost use Rattle.mrp_firm_cases.specs.Hands.{AreAlone, IsHanded};
 
 use mrp_agent::Agent;
 use mrp_loops::SizedNet;
 use mrp_net::{LaneNo, Network, PairNo, PlantNo};
+use mrp_plant_view::PlantView;
 use mrp_record::Record;
-use mrp_view::PlantView;
 use mrp_world::Plant;
 use std::alloc::Global;
 use std::test::Fail;

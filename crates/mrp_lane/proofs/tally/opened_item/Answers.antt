@@ -1,7 +1,7 @@
 use Rattle.std.proofs.Common.{ℕ, ◌≤◌, sym, subst}
 use Rattle.mrp_qty.specs.declared.quantity.TheConstants.{MOST}
 use Rattle.mrp_net.specs.Lanes.{lane_at}
-use Rattle.mrp_events.proofs.Small.{openings_are_small}
+use Rattle.mrp_protocol.proofs.Small.{openings_are_small}
 use Rattle.mrp_lane.proofs.tally.opened_item.Goals as goal
 
 pub of-requires : goal.of-requires

@@ -3,7 +3,7 @@ use Rattle.std.proofs.lemmas.Bool.{false≢true}
 use Rattle.mrp_lot.specs.One.{PlanRows, one}
 use Rattle.mrp_lot.specs.Bound.{IsWithin}
 use Rattle.mrp_lot.specs.declared.params.PairParams.{PairParams}
-use Rattle.mrp_rows.specs.Rows.{params_of}
+use Rattle.mrp_table_rows.specs.Rows.{params_of}
 use Rattle.mrp_net.specs.Sums.{incoming, params_at, row_of}
 use Rattle.mrp_net.specs.Plan.{gross, pair_plan}
 use Rattle.mrp_plan.proofs.Planning.{one-gross, one-incoming, pair_within}

@@ -4,8 +4,8 @@ use Rattle.std.specs.List.{All}
 use Rattle.mrp_lot.specs.One.{PlanRows, one}
 use Rattle.mrp_lot.specs.Bound.{IsWithin}
 use Rattle.mrp_lot.specs.declared.params.PairParams.{PairParams}
-use Rattle.mrp_rows.specs.Rows.{params_of}
-use Rattle.mrp_rows.specs.Table.{horizon}
+use Rattle.mrp_table_rows.specs.Rows.{params_of}
+use Rattle.mrp_table_rows.specs.Table.{horizon}
 use Rattle.mrp_net.specs.Edges.{demanders}
 use Rattle.mrp_net.specs.declared.edge.Edge.{Edge}
 use Rattle.mrp_net.specs.Sums.{demand, demand_total, incoming, params_at, row_of}

@@ -1,8 +1,8 @@
 use Rattle.std.proofs.Common.{◌≡◌, length, arith}
 use Rattle.std.specs.Prelude.{slice_index}
 use Rattle.mrp_report.specs.Codes.{code_row, code_text}
-use Rattle.mrp_sheet.specs.Names.{plant_of, item_of}
-use Rattle.mrp_sheet.proofs.RowFacts.{rows-more, plant_is, item_is, headed_rows}
+use Rattle.mrp_csv_out.specs.Names.{plant_of, item_of}
+use Rattle.mrp_csv_out.proofs.RowFacts.{rows-more, plant_is, item_is, headed_rows}
 use Rattle.mrp_report.proofs.codes.code_text.Goals as goal
 
 pub pairs-preserved : goal.pairs-preserved

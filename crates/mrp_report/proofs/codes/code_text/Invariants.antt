@@ -1,9 +1,9 @@
 use Rattle.std.proofs.Common.{◌≡◌, ◌++◌}
 use Rattle.std.specs.Prelude.{slice_index}
 use Rattle.std.specs.List.{flat_map, range_with_len}
-use Rattle.mrp_sheet.specs.Writing.{IsBetweenRows, written}
+use Rattle.mrp_csv_out.specs.Writing.{IsBetweenRows, written}
 use Rattle.mrp_report.specs.Codes.{code_row}
-use Rattle.mrp_sheet.specs.Names.{plant_of, item_of}
+use Rattle.mrp_csv_out.specs.Names.{plant_of, item_of}
 use Rattle.mrp_report.proofs.codes.code_text.Given as goal
 
 -- the rows of the pairs before x are there

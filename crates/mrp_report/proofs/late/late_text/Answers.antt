@@ -3,8 +3,8 @@ use Rattle.std.specs.List.{flat_map}
 use Rattle.mrp_net.specs.Plan.{rows_at}
 use Rattle.mrp_report.specs.Report.{late_text}
 use Rattle.mrp_report.specs.Parts.{late_row}
-use Rattle.mrp_sheet.specs.Names.{plant_of, item_of}
-use Rattle.mrp_sheet.proofs.RowFacts.{rows-more, plant_is, item_is, all_rows}
+use Rattle.mrp_csv_out.specs.Names.{plant_of, item_of}
+use Rattle.mrp_csv_out.proofs.RowFacts.{rows-more, plant_is, item_is, all_rows}
 use Rattle.mrp_report.proofs.late.late_text.Goals as goal
 
 pub pairs-preserved : goal.pairs-preserved

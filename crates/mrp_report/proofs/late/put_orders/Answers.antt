@@ -1,7 +1,7 @@
 use Rattle.std.proofs.Common.{◌≡◌, arith, get_or}
 use Rattle.std.proofs.lemmas.Option.{get_or_from_slice_get}
 use Rattle.mrp_report.specs.Parts.{late_row}
-use Rattle.mrp_sheet.proofs.RowFacts.{rows_of-more}
+use Rattle.mrp_csv_out.proofs.RowFacts.{rows_of-more}
 use Rattle.mrp_report.proofs.late.put_orders.Goals as goal
 
 pub orders-preserved : goal.orders-preserved

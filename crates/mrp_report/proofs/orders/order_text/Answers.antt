@@ -1,5 +1,5 @@
 use Rattle.mrp_report.specs.Orders.{order_text}
-use Rattle.mrp_sheet.proofs.RowFacts.{headed_rows}
+use Rattle.mrp_csv_out.proofs.RowFacts.{headed_rows}
 use Rattle.mrp_report.proofs.orders.order_text.Goals as goal
 
 pub returns-clause-text : goal.returns-clause-text

@@ -1,6 +1,6 @@
 use Rattle.std.proofs.Common.{◌≡◌, length, arith}
 use Rattle.mrp_report.specs.Orders.{orders_text, pair_orders_text}
-use Rattle.mrp_sheet.proofs.RowFacts.{rows-more}
+use Rattle.mrp_csv_out.proofs.RowFacts.{rows-more}
 use Rattle.mrp_report.proofs.orders.put_all_orders.Goals as goal
 
 pub pairs-preserved : goal.pairs-preserved

@@ -1,5 +1,5 @@
 use Rattle.mrp_report.specs.OrderLines.{due_text}
-use Rattle.mrp_sheet.proofs.RowFacts.{rows-more}
+use Rattle.mrp_csv_out.proofs.RowFacts.{rows-more}
 use Rattle.mrp_report.proofs.orders.put_orders.Goals as goal
 
 pub periods-preserved : goal.periods-preserved

@@ -1,7 +1,7 @@
 use Rattle.std.proofs.Common.{◌≡◌, ◌++◌}
 use Rattle.std.specs.List.{flat_map, range_with_len}
 use Rattle.mrp_report.specs.OrderLines.{due_text}
-use Rattle.mrp_sheet.specs.Writing.{IsBetweenRows, written}
+use Rattle.mrp_csv_out.specs.Writing.{IsBetweenRows, written}
 use Rattle.mrp_report.proofs.orders.put_orders.Given as goal
 
 -- the rows of the periods before t are there

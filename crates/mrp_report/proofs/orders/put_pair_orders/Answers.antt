@@ -1,6 +1,6 @@
 use Rattle.std.proofs.Common.{◌∙◌, ◌++◌, ap}
 use Rattle.std.proofs.lemmas.Result.{on_ok_weaker}
-use Rattle.mrp_sheet.specs.Writing.{written}
+use Rattle.mrp_csv_out.specs.Writing.{written}
 use Rattle.mrp_report.proofs.OrderFacts.{line_is_pair, order_has_dates}
 use Rattle.mrp_report.proofs.orders.put_pair_orders.Goals as goal
 

@@ -1,5 +1,5 @@
 use Rattle.std.proofs.Common.{refl}
-use Rattle.mrp_sheet.specs.Rows.{row}
+use Rattle.mrp_csv_out.specs.Rows.{row}
 use Rattle.mrp_report.proofs.pegging.heading_text.Goals as goal
 
 pub returns-in-Names-clause-text : goal.returns-in-Names-clause-text

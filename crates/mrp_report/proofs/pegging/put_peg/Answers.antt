@@ -1,7 +1,7 @@
 use Rattle.std.proofs.Common.{◌≡◌, ◌∙◌, ◌-◌, ◌∷◌, [], drop, length-drop, take, arith}
 use Rattle.std.proofs.lemmas.List.{take_all}
 use Rattle.std.proofs.lemmas.Result.{on_err_weaker, on_ok_weaker}
-use Rattle.mrp_sheet.specs.Rows.{row}
+use Rattle.mrp_csv_out.specs.Rows.{row}
 use Rattle.mrp_report.specs.PegParts.{term_part, term_text}
 use Rattle.mrp_report.proofs.GatherFacts.{cut-as, gathers-as, gathers-none}
 use Rattle.mrp_report.proofs.PegFacts.{none_asked, pegs_parts_row, row_asked}

@@ -1,6 +1,6 @@
 use Rattle.std.proofs.Common.{◌≡◌, length, drop, [], append-nil, arith, refl, ap}
 use Rattle.std.proofs.lemmas.List.{drop_all}
-use Rattle.mrp_sheet.proofs.RowFacts.{item_is, plant_is}
+use Rattle.mrp_csv_out.proofs.RowFacts.{item_is, plant_is}
 use Rattle.mrp_report.proofs.DigitFacts.{twenty}
 use Rattle.mrp_report.proofs.PegFacts.{source_short}
 use Rattle.mrp_report.proofs.RoomFacts.{item_short, plant_short}

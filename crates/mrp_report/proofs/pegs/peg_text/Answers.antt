@@ -1,7 +1,7 @@
 use Rattle.std.proofs.Common.{◌≡◌, arith, take}
 use Rattle.std.proofs.lemmas.List.{take_all}
 use Rattle.mrp_report.specs.Terms.{peg_text}
-use Rattle.mrp_sheet.proofs.RowFacts.{headed_rows}
+use Rattle.mrp_csv_out.proofs.RowFacts.{headed_rows}
 use Rattle.mrp_report.proofs.pegs.peg_text.Goals as goal
 
 pub returns-clause-text : goal.returns-clause-text

@@ -1,6 +1,6 @@
 use Rattle.std.proofs.Common.{◌≡◌, ◌++◌, take}
 use Rattle.std.specs.List.{flat_map}
-use Rattle.mrp_sheet.specs.Writing.{IsBetweenRows, written}
+use Rattle.mrp_csv_out.specs.Writing.{IsBetweenRows, written}
 use Rattle.mrp_report.specs.Terms.{peg_row}
 use Rattle.mrp_report.proofs.pegs.peg_text.Given as goal
 

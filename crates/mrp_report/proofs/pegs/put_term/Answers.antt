@@ -1,6 +1,6 @@
 use Rattle.std.proofs.Common.{rules}
 use Rattle.mrp_report.specs.Terms.{peg_row}
-use Rattle.mrp_sheet.proofs.RowFacts.{plant_is, item_is}
+use Rattle.mrp_csv_out.proofs.RowFacts.{plant_is, item_is}
 use Rattle.mrp_report.proofs.pegs.put_term.Goals as goal
 
 pub returns-clause-row : goal.returns-clause-row

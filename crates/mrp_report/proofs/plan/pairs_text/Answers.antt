@@ -1,12 +1,12 @@
 use Rattle.std.proofs.Common.{◌≡◌, ◌-◌, ◌+◌, ◌*◌, [], length, arith, ap, ◌∙◌}
 use Rattle.std.proofs.lemmas.List.FromFn.{length-map-range_with_len}
-use Rattle.mrp_rows.specs.Table.{horizon}
+use Rattle.mrp_table_rows.specs.Table.{horizon}
 use Rattle.mrp_net.specs.Plan.{rows_at}
-use Rattle.mrp_sheet.specs.Dates.{dates_of, period_date}
+use Rattle.mrp_csv_out.specs.Dates.{dates_of, period_date}
 use Rattle.mrp_report.specs.Report.{pair_text}
 use Rattle.mrp_report.specs.Parts.{pairs_text}
-use Rattle.mrp_sheet.specs.Names.{plant_of, item_of}
-use Rattle.mrp_sheet.proofs.RowFacts.{rows-more_from, plant_is, item_is}
+use Rattle.mrp_csv_out.specs.Names.{plant_of, item_of}
+use Rattle.mrp_csv_out.proofs.RowFacts.{rows-more_from, plant_is, item_is}
 use Rattle.mrp_report.proofs.RowFacts.{fits_has}
 use Rattle.mrp_report.proofs.RoomFacts.{item_short, plant_short, room-next, room-now}
 use Rattle.mrp_report.proofs.PartFacts.{parts_text_is}

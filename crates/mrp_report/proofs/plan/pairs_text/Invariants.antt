@@ -1,9 +1,9 @@
 use Rattle.std.proofs.Common.{◌≡◌, ◌≤◌, ◌-◌, ◌+◌, ◌*◌, length, take}
 use Rattle.std.specs.List.{flat_map, range_with_len}
 use Rattle.mrp_net.specs.Plan.{rows_at}
-use Rattle.mrp_sheet.specs.Dates.{dates_of}
+use Rattle.mrp_csv_out.specs.Dates.{dates_of}
 use Rattle.mrp_report.specs.Report.{pair_text}
-use Rattle.mrp_sheet.specs.Names.{plant_of, item_of}
+use Rattle.mrp_csv_out.specs.Names.{plant_of, item_of}
 use Rattle.mrp_report.proofs.plan.pairs_text.Given as goal
 
 -- the rows of the pairs before x are there, and there is room for those of the rest

@@ -1,6 +1,6 @@
 use Rattle.std.proofs.Common.{rules, ◌≡◌, ◌∙◌, length, ap, arith}
 use Rattle.std.proofs.lemmas.List.FromFn.{length-map-range_with_len}
-use Rattle.mrp_sheet.specs.Dates.{period_date}
+use Rattle.mrp_csv_out.specs.Dates.{period_date}
 use Rattle.mrp_report.proofs.plan.plan_rows.Goals as goal
 
 pub send_pieces-requires-clause-room : goal.send_pieces-requires-clause-room

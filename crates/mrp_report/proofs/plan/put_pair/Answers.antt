@@ -1,9 +1,9 @@
 use Rattle.std.proofs.Common.{◌≡◌, ◌≤◌, ◌-◌, drop, length, length-drop, take, arith, ap, ◌∙◌}
 use Rattle.std.proofs.lemmas.List.{length-take-le, take_all}
 use Rattle.mrp_report.specs.Parts.{parts_row, parts_text, period_part}
-use Rattle.mrp_sheet.specs.DateLists.{date_in}
+use Rattle.mrp_csv_out.specs.DateLists.{date_in}
 use Rattle.mrp_report.specs.Parts.{period_at}
-use Rattle.mrp_sheet.proofs.RowFacts.{rows-more}
+use Rattle.mrp_csv_out.proofs.RowFacts.{rows-more}
 use Rattle.mrp_report.proofs.plan.put_pair.Goals as goal
 
 pub periods-preserved : goal.periods-preserved

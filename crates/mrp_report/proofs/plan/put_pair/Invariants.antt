@@ -1,7 +1,7 @@
 use Rattle.std.proofs.Common.{◌≡◌, ◌≤◌, ◌+◌, ◌*◌, ◌++◌, length, take}
 use Rattle.std.specs.List.{flat_map, range_with_len}
 use Rattle.mrp_report.specs.Parts.{parts_row}
-use Rattle.mrp_sheet.specs.DateLists.{date_in}
+use Rattle.mrp_csv_out.specs.DateLists.{date_in}
 use Rattle.mrp_report.specs.Parts.{period_at}
 use Rattle.mrp_report.proofs.plan.put_pair.Given as goal
 

@@ -1,5 +1,5 @@
 use Rattle.std.proofs.Common.{append_assoc, refl}
-use Rattle.mrp_sheet.specs.Rows.{row}
+use Rattle.mrp_csv_out.specs.Rows.{row}
 use Rattle.mrp_report.proofs.room.put_parts.Goals as goal
 
 pub returns-clause-row : goal.returns-clause-row

@@ -1,5 +1,5 @@
 use Rattle.std.proofs.lemmas.Result.{on_ok_weaker}
-use Rattle.mrp_sheet.proofs.RowFacts.{plant_is}
+use Rattle.mrp_csv_out.proofs.RowFacts.{plant_is}
 use Rattle.mrp_report.proofs.SupplyTexts.{source_added}
 use Rattle.mrp_report.proofs.supply.put_source.Goals as goal
 

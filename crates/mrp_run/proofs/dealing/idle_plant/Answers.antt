@@ -1,7 +1,7 @@
 use Rattle.std.proofs.Common.{[], sym, ap, subst, ◌∙◌}
 use Rattle.std.proofs.lemmas.List.Elements.{All-nil, All-same}
 use Rattle.std.proofs.lemmas.Result.{IfOk-from_err}
-use Rattle.mrp_view.specs.Seen.{IsView}
+use Rattle.mrp_plant_view.specs.Seen.{IsView}
 use Rattle.mrp_agent.specs.Kept.{HasSmallOpenings}
 use Rattle.mrp_agent.proofs.Viewing.{views_can_be_planned}
 use Rattle.mrp_run.specs.Ends.{IsEmpty, IsIdle}

@@ -1,6 +1,6 @@
 use Rattle.std.proofs.Common.{sym, ap, ◌∙◌}
 use Rattle.std.proofs.lemmas.Result.{IfErr-at_err}
-use Rattle.mrp_view.specs.View.{PlantRows}
+use Rattle.mrp_plant_view.specs.View.{PlantRows}
 use Rattle.mrp_crew.specs.Shut.{WasShutToWorker as WasWorkerShut}
 use Rattle.mrp_run.specs.Faults.{IsOf, never_spent}
 use Rattle.mrp_run.proofs.Keeping.{keeps_on, works_on}

@@ -3,7 +3,7 @@ use Rattle.std.proofs.lemmas.Bool.{false≢true}
 use Rattle.std.proofs.lemmas.Result.{IfOk-from_err}
 use Rattle.mrp_crew.specs.Shut.{WasShutToWorker as WasWorkerShut}
 use Rattle.mrp_crew.specs.State.{CrewState}
-use Rattle.mrp_view.specs.View.{PlantRows}
+use Rattle.mrp_plant_view.specs.View.{PlantRows}
 use Rattle.mrp_run.specs.Faults.{HasTurned, IsOf, IsToldOrOf, WasShut, WasSpent, never_spent}
 use Rattle.mrp_run.specs.Steps.{Finishes}
 use Rattle.mrp_run.proofs.Done.{has_finished}

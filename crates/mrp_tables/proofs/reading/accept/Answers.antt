@@ -1,8 +1,8 @@
 use Rattle.std.proofs.Common.{◌≡◌, ◌∙◌, ◌<◌, ◌+◌, ap, get_or, length, List, ℕ, Ok, refl, sym, arith}
 use Rattle.std.proofs.lemmas.List.Quantifiers.{position-Some}
-use Rattle.mrp_rows.specs.Growing.{lacks_pair}
-use Rattle.mrp_rows.specs.declared.rows.SourceRow.{SourceRow}
-use Rattle.mrp_rows.specs.Table.{Table}
+use Rattle.mrp_table_rows.specs.Growing.{lacks_pair}
+use Rattle.mrp_table_rows.specs.declared.rows.SourceRow.{SourceRow}
+use Rattle.mrp_table_rows.specs.Table.{Table}
 use Rattle.mrp_tables.specs.Reading.{pair_row_number}
 use Rattle.mrp_tables.proofs.Accept.{table_is}
 use Rattle.mrp_tables.proofs.Waiting.{above_count, none_waits, waits_at}

@@ -3,9 +3,9 @@ use Rattle.csv.specs.Records.{fields_of}
 use Rattle.mrp_tables.specs.Left.{rows_left, OfLeft}
 use Rattle.mrp_tables.specs.declared.fault.TableFaultKind.TheVariants as fault
 use Rattle.mrp_tables.specs.Steps.{StepsTo}
-use Rattle.mrp_rows.specs.Table.{Table}
+use Rattle.mrp_table_rows.specs.Table.{Table}
 use Rattle.mrp_tables.specs.declared.fault.TableFault.{TableFault}
-use Rattle.mrp_rows.specs.Turns.{row_count}
+use Rattle.mrp_table_rows.specs.Turns.{row_count}
 use Rattle.mrp_qty.specs.declared.limits.TheConstants.{MAX_TURNS}
 use Rattle.mrp_tables.proofs.Listed.{first_no_read_fault}
 use Rattle.mrp_tables.proofs.Loop.{none_there, some_there}

@@ -1,6 +1,6 @@
 use Rattle.std.proofs.Common.{◌≡◌, ◌∙◌, ℕ, ap, arith, length, slice_index}
 use Rattle.mrp_net.specs.Shares.{share_of}
-use Rattle.mrp_events.proofs.Delivered.{by_period_length}
+use Rattle.mrp_protocol.proofs.Delivered.{by_period_length}
 use Rattle.mrp_world.proofs.Counts as count
 use Rattle.mrp_world.proofs.Carrying.{from_the_first, next_of, none_after}
 use Rattle.mrp_world.proofs.carried.called_by.Goals as goal

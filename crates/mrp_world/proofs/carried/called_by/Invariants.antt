@@ -1,7 +1,7 @@
 use Rattle.std.proofs.Common.{◌≡◌, ◌+◌, length, slice_index}
 use Rattle.mrp_net.specs.Shares.{share_of}
 use Rattle.mrp_record.specs.Text.{total}
-use Rattle.mrp_events.specs.Loads.{by_period}
+use Rattle.mrp_protocol.specs.Loads.{by_period}
 use Rattle.mrp_world.proofs.Carrying.{from_on}
 use Rattle.mrp_world.proofs.carried.called_by.Given as goal
 

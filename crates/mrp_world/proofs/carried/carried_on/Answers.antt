@@ -1,13 +1,13 @@
 use Rattle.std.proofs.Common.{◌≡◌, length, ap, subst, sym, ◌∙◌, arith}
 use Rattle.std.proofs.lemmas.List.{length-map}
-use Rattle.mrp_rows.specs.Table.{IsSourceRow, horizon}
-use Rattle.mrp_rows.specs.declared.rows.SourceRow.{SourceRow}
+use Rattle.mrp_table_rows.specs.Table.{IsSourceRow, horizon}
+use Rattle.mrp_table_rows.specs.declared.rows.SourceRow.{SourceRow}
 use Rattle.mrp_net.specs.Lanes.{lane_at, shipments}
 use Rattle.mrp_net.specs.declared.lane.Lane.{Lane}
 use Rattle.mrp_net.specs.declared.lane.LaneKind.{LaneKind}
 use Rattle.mrp_net.specs.declared.lane.LaneKind.TheVariants.{Despatch, Schedule}
 use Rattle.mrp_record.specs.Text.{total}
-use Rattle.mrp_events.specs.Loads.{by_period, called_in, lines_by, load_of}
+use Rattle.mrp_protocol.specs.Loads.{by_period, called_in, lines_by, load_of}
 use Rattle.mrp_world.proofs.Counts as count
 use Rattle.mrp_world.proofs.Carrying as carrying
 use Rattle.mrp_world.proofs.carried.carried_on.Goals as goal

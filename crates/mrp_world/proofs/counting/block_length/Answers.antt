@@ -1,7 +1,7 @@
 use Rattle.std.proofs.Common.{ap, sym, ◌∙◌, true, false, arith}
 use Rattle.std.specs.Prelude.{is_some}
 use Rattle.mrp_net.specs.Lanes.{lane_at}
-use Rattle.mrp_events.specs.Loads.{load_of}
+use Rattle.mrp_protocol.specs.Loads.{load_of}
 use Rattle.mrp_world.proofs.Counts as count
 use Rattle.mrp_world.proofs.counting.block_length.Goals as goal
 

@@ -2,7 +2,7 @@ use Rattle.std.proofs.Common.{◌≡◌, ◌+◌, take}
 use Rattle.std.specs.List.{sum_by}
 use Rattle.mrp_net.specs.Lanes.{lane_at}
 use Rattle.mrp_record.specs.Lengths.{block_length}
-use Rattle.mrp_events.specs.Loads.{load_of}
+use Rattle.mrp_protocol.specs.Loads.{load_of}
 use Rattle.mrp_world.proofs.counting.text_length.Given as goal
 
 -- the blocks so far and the closing record

@@ -1,4 +1,4 @@
-use Rattle.mrp_events.specs.declared.event.Event.TheVariants.{Send, Receive}
+use Rattle.mrp_protocol.specs.declared.event.Event.TheVariants.{Send, Receive}
 use Rattle.mrp_world.proofs.Drives as drive
 use Rattle.mrp_world.proofs.driving.move_one.Goals as goal
 

@@ -1,5 +1,5 @@
 use Rattle.std.proofs.Common.{◌≡◌, ◌++◌, ℕ, map, take}
-use Rattle.mrp_events.specs.State.{State}
+use Rattle.mrp_protocol.specs.State.{State}
 use Rattle.mrp_world.specs.Figures.{lane_figure_at}
 use Rattle.mrp_world.specs.Moves.{AreAt}
 use Rattle.mrp_world.proofs.figures.add_lane.Given as goal

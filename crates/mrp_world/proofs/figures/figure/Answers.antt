@@ -1,6 +1,6 @@
 use Rattle.std.proofs.Common.{◌+◌, ◌∙◌, ◌≤◌, ℕ, ap, arith}
 use Rattle.mrp_net.specs.Lanes.{lane_at}
-use Rattle.mrp_events.proofs.Small.{openings_are_small}
+use Rattle.mrp_protocol.proofs.Small.{openings_are_small}
 use Rattle.mrp_world.proofs.Pieces as piece
 use Rattle.mrp_world.proofs.figures.figure.Goals as goal
 use Rattle.mrp_world.proofs.figures.figure.Given.{Over}

@@ -1,6 +1,6 @@
 use Rattle.std.proofs.Common.{◌≡◌, ℕ}
 use Rattle.std.specs.List.{flat_map, range_with_len}
-use Rattle.mrp_events.specs.State.{State}
+use Rattle.mrp_protocol.specs.State.{State}
 use Rattle.mrp_world.specs.Figures.{figures_in_lane}
 use Rattle.mrp_world.specs.Moves.{AreAt}
 use Rattle.mrp_world.proofs.figures.figures.Given as goal

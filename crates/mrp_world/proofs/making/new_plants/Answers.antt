@@ -1,7 +1,7 @@
 use Rattle.std.proofs.Common.{◌≡◌, ◌+◌, ◌++◌, ◌∷◌, [], length, ap, subst, sym, ◌∙◌, arith, length-append}
 use Rattle.mrp_loops.specs.Sized.{IsSized}
-use Rattle.mrp_rows.specs.Table.{Table}
-use Rattle.mrp_events.specs.State.{opening_state}
+use Rattle.mrp_table_rows.specs.Table.{Table}
+use Rattle.mrp_protocol.specs.State.{opening_state}
 use Rattle.mrp_world.specs.World.{PlantsShow}
 use Rattle.mrp_world.proofs.Makes as make
 use Rattle.mrp_world.proofs.making.new_plants.Goals as goal

@@ -1,5 +1,5 @@
 use Rattle.std.proofs.Common.{◌≡◌, ℕ, ◌<◌, length, get_or}
-use Rattle.mrp_events.specs.State.{opening_state}
+use Rattle.mrp_protocol.specs.State.{opening_state}
 use Rattle.mrp_world.proofs.making.new_plants.Given as goal
 
 -- each plant so far shows the opening state

@@ -1,7 +1,7 @@
 use Rattle.std.proofs.Common.{◌≡◌, ℕ, ◌<◌, ◌≤◌, ◌==◌, ◌∙◌, Bool, List, None, length, ap, subst, arith}
 use Rattle.std.specs.List.{position_or_len}
 use Rattle.std.proofs.lemmas.List.{get_or_default}
-use Rattle.mrp_view.specs.declared.view.IncomingLane.{IncomingLane}
+use Rattle.mrp_plant_view.specs.declared.view.IncomingLane.{IncomingLane}
 use Rattle.mrp_record.specs.declared.record.Record.{Record}
 use Rattle.mrp_agent.specs.Reading.{received_over}
 use Rattle.mrp_agent.specs.Shows.{ShowsHistory}

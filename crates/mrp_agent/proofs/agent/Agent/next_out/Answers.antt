@@ -1,6 +1,6 @@
 use Rattle.std.proofs.Common.{◌≡◌, ℕ, ◌<◌, ◌==◌, IfSome, IfNone, List, length, sym, ap, ◌∙◌, subst, arith}
 use Rattle.std.specs.List.{position_or_len}
-use Rattle.mrp_view.specs.declared.view.OutgoingLane.{OutgoingLane}
+use Rattle.mrp_plant_view.specs.declared.view.OutgoingLane.{OutgoingLane}
 use Rattle.mrp_agent.specs.Sending.{left_at, next_out}
 use Rattle.mrp_agent.specs.Sent.{GivenIsLegal, NoneCanBeSent}
 use Rattle.mrp_agent.specs.State.{AgentState, outgoing_place}

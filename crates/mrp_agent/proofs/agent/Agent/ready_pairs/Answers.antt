@@ -1,10 +1,10 @@
 use Rattle.std.proofs.Common.{◌≢◌, ◌↔◌, ℕ, Bool, List, sym, subst}
 use Rattle.std.specs.List.{All, AllPairs, Contains}
-use Rattle.mrp_rows.specs.declared.numbers.PairNo.{PairNo}
-use Rattle.mrp_view.specs.declared.view.PlantPair.{PlantPair}
-use Rattle.mrp_view.specs.Seen.{IsOwnPair}
+use Rattle.mrp_table_rows.specs.declared.numbers.PairNo.{PairNo}
+use Rattle.mrp_plant_view.specs.declared.view.PlantPair.{PlantPair}
+use Rattle.mrp_plant_view.specs.Seen.{IsOwnPair}
 use Rattle.mrp_record.specs.declared.record.Record.{Record}
-use Rattle.mrp_events.specs.LocalPlans.{CanBePlanned}
+use Rattle.mrp_protocol.specs.LocalPlans.{CanBePlanned}
 use Rattle.mrp_agent.specs.Shows.{ShowsHistory}
 use Rattle.mrp_agent.specs.State.{AgentState}
 use Rattle.mrp_agent.specs.contracts.agent.Agent.{the_view}

@@ -1,6 +1,6 @@
 use Rattle.std.proofs.Common.{◌≡◌, ℕ, ◌<◌, ◌≤◌, ◌==◌, IfSome, IfNone, List, length, set, sym, ap, ◌∙◌, subst, arith}
 use Rattle.std.specs.List.{count_by, position_or_len}
-use Rattle.mrp_view.specs.declared.view.OutgoingLane.{OutgoingLane}
+use Rattle.mrp_plant_view.specs.declared.view.OutgoingLane.{OutgoingLane}
 use Rattle.mrp_agent.specs.Sending.{left_at, next_out}
 use Rattle.mrp_agent.specs.Sent.{GivenIsLegal, IsAppended, NoneCanBeSent}
 use Rattle.mrp_agent.specs.State.{AgentState, out_at, outgoing_place}

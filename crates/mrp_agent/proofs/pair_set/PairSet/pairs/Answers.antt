@@ -1,5 +1,5 @@
 use Rattle.std.proofs.Common.{List, slice_range, map, ap, ◌∙◌, subst}
-use Rattle.mrp_rows.specs.declared.numbers.PairNo.{PairNo}
+use Rattle.mrp_table_rows.specs.declared.numbers.PairNo.{PairNo}
 use Rattle.mrp_agent.specs.Chosen.{AreApart, Chosen, number_at}
 use Rattle.mrp_agent.proofs.ReadyPlacing.{apart_chosen, numbers_chosen}
 use Rattle.mrp_agent.proofs.pair_set.PairSet.pairs.Goals as goal

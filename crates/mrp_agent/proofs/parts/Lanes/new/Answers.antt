@@ -1,16 +1,16 @@
 use Rattle.std.proofs.Common.{ℕ, List, length, subst, sym, ◌∙◌, ap, arith, map}
 use Rattle.std.specs.List.{All}
 use Rattle.std.proofs.lemmas.List.{length-map}
-use Rattle.mrp_rows.specs.declared.numbers.ItemNo.{ItemNo}
-use Rattle.mrp_rows.specs.Starts.{IsGrouped}
-use Rattle.mrp_view.specs.declared.view.OutgoingLane.{OutgoingLane}
-use Rattle.mrp_view.specs.declared.view.PlantPair.{PlantPair}
+use Rattle.mrp_table_rows.specs.declared.numbers.ItemNo.{ItemNo}
+use Rattle.mrp_table_rows.specs.Starts.{IsGrouped}
+use Rattle.mrp_plant_view.specs.declared.view.OutgoingLane.{OutgoingLane}
+use Rattle.mrp_plant_view.specs.declared.view.PlantPair.{PlantPair}
 use Rattle.mrp_agent.specs.declared.queues.QueuePlace.{QueuePlace}
 use Rattle.mrp_agent.specs.After.{items_of}
 use Rattle.mrp_agent.specs.Kept.{HasSmallItems}
 use Rattle.mrp_agent.specs.Queues.{queue_places}
-use Rattle.mrp_view.specs.declared.view.IncomingLane.{IncomingLane}
-use Rattle.mrp_view.specs.Seen.{IsIncomingLane}
+use Rattle.mrp_plant_view.specs.declared.view.IncomingLane.{IncomingLane}
+use Rattle.mrp_plant_view.specs.Seen.{IsIncomingLane}
 use Rattle.mrp_agent.specs.Making.{AreIdleOuts, new_figures}
 use Rattle.mrp_agent.proofs.parts.Lanes.new.Goals as goal
 

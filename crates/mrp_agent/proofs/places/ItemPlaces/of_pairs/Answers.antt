@@ -1,6 +1,6 @@
 use Rattle.std.proofs.Common.{◌∙◌, ap, map, refl}
 use Rattle.std.proofs.lemmas.List.{take_all}
-use Rattle.mrp_view.specs.declared.view.PlantPair.{PlantPair}
+use Rattle.mrp_plant_view.specs.declared.view.PlantPair.{PlantPair}
 use Rattle.mrp_agent.proofs.Made.{item_is_new, map_more}
 use Rattle.mrp_agent.proofs.places.ItemPlaces.of_pairs.Goals as goal
 

@@ -1,7 +1,7 @@
 use Rattle.std.proofs.Common.{[], ◌++◌, refl, ap, ◌∙◌, sym, subst, arith}
 use Rattle.std.proofs.lemmas.Result.{err_from_is_err_and}
 use Rattle.mrp_agent.specs.Drafts.{ready_numbers}
-use Rattle.mrp_view.specs.View.{PlantRows}
+use Rattle.mrp_plant_view.specs.View.{PlantRows}
 use Rattle.mrp_crew.specs.Shut.{WasShutToWorker}
 use Rattle.mrp_crew.specs.State.{CrewState}
 use Rattle.mrp_crew.proofs.Keeping.{none_ready, some_ready}

@@ -1,8 +1,8 @@
 use Rattle.std.proofs.Common.{◌≡◌, ◌∙◌, sym, subst}
 use Rattle.mrp_loops.specs.Sized.{IsSized}
-use Rattle.mrp_rows.specs.Table.{Table}
-use Rattle.mrp_view.specs.Seen.{IsView}
-use Rattle.mrp_view.specs.View.{plant_rows}
+use Rattle.mrp_table_rows.specs.Table.{Table}
+use Rattle.mrp_plant_view.specs.Seen.{IsView}
+use Rattle.mrp_plant_view.specs.View.{plant_rows}
 use Rattle.mrp_agent.specs.Kept.{HasSmallOpenings}
 use Rattle.mrp_agent.proofs.Viewing.{views_can_be_planned}
 use Rattle.mrp_firm_cases.proofs.Opening.{opening_is_plannable}

@@ -1,8 +1,8 @@
 use Rattle.std.proofs.Common.{ℕ, ◌+◌, ◌∷◌, sym, ◌∙◌, arith}
-use Rattle.mrp_rows.specs.Table.{horizon}
+use Rattle.mrp_table_rows.specs.Table.{horizon}
 use Rattle.mrp_net.specs.Lanes.{lane_at}
 use Rattle.mrp_net.specs.Sources.{source_on}
-use Rattle.mrp_events.specs.Loads.{called_in}
+use Rattle.mrp_protocol.specs.Loads.{called_in}
 use Rattle.mrp_firm_cases.specs.Feeding.{calls_from}
 use Rattle.mrp_firm_cases.proofs.Feeding.{amount_there, amount_none}
 use Rattle.mrp_firm_cases.proofs.tests.lanes.next_call.Goals as goal

@@ -1,6 +1,6 @@
 use Rattle.std.proofs.Common.{Ok, refl, sym, ◌∙◌, subst, rules}
 use Rattle.csv.specs.Records.{fields_of}
-use Rattle.mrp_rows.specs.Table.{Table}
+use Rattle.mrp_table_rows.specs.Table.{Table}
 use Rattle.mrp_tables.specs.Reading.{Starts}
 use Rattle.mrp_tables.specs.Keys.{Knows}
 use Rattle.mrp_tables.proofs.Arrivals.{no_lanes}

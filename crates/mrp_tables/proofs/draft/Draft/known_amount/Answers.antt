@@ -1,9 +1,9 @@
 use Rattle.std.proofs.Common.{◌≡◌, ℕ, List, Result, Ok, true, false, is_some, option_map, ◌∙◌, ap, sym}
 use Rattle.csv.specs.Records.{fields_of}
 use Rattle.mrp_cal.specs.Calendar.{CalendarTerms}
-use Rattle.mrp_rows.specs.Names.{pair_named, plant_no}
-use Rattle.mrp_rows.specs.Table.{horizon}
-use Rattle.mrp_rows.specs.declared.numbers.PairNo.{PairNo}
+use Rattle.mrp_table_rows.specs.Names.{pair_named, plant_no}
+use Rattle.mrp_table_rows.specs.Table.{horizon}
+use Rattle.mrp_table_rows.specs.declared.numbers.PairNo.{PairNo}
 use Rattle.mrp_tables.specs.Grammar.{AmountTerms, amount_terms, field}
 use Rattle.mrp_tables.specs.Spelled.{terms_of_amount}
 use Rattle.mrp_tables.specs.declared.fault.TableFaultKind.{TableFaultKind}

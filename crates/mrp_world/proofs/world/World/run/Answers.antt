@@ -1,8 +1,8 @@
 use Rattle.std.proofs.Common.{◌≡◌, ◌-◌, ◌≤◌, ℕ, List, subst, sym, arith}
 use Rattle.std.proofs.lemmas.List.{take_all}
-use Rattle.mrp_rows.specs.Table.{Table}
-use Rattle.mrp_events.specs.declared.event.Event.{Event}
-use Rattle.mrp_events.specs.Progress.{steps_left}
+use Rattle.mrp_table_rows.specs.Table.{Table}
+use Rattle.mrp_protocol.specs.declared.event.Event.{Event}
+use Rattle.mrp_protocol.specs.Progress.{steps_left}
 use Rattle.mrp_world.specs.Enabled.{CountsEnabled}
 use Rattle.mrp_world.specs.Moves.{Runs}
 use Rattle.mrp_world.proofs.Enabling.{run_counts}

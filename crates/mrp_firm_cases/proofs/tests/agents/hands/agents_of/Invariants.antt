@@ -1,5 +1,5 @@
 use Rattle.std.proofs.Common.{◌≡◌, ℕ, ◌<◌, length, get_or}
-use Rattle.mrp_events.specs.State.{opening_state}
+use Rattle.mrp_protocol.specs.State.{opening_state}
 use Rattle.mrp_agent.specs.State.{AgentState}
 use Rattle.mrp_agent.specs.InNetwork.{ShowsAgent}
 use Rattle.mrp_firm_cases.proofs.tests.agents.hands.agents_of.Given as goal

@@ -1,5 +1,0 @@
-use Rattle.mrp_actions.proofs.AdviceSheetFacts as proved
-use Rattle.mrp_actions.proofs.advice_laws.advice_is_read_back.Goals as goal
-
-pub returns : goal.returns
-returns c = proved.advice_is_read

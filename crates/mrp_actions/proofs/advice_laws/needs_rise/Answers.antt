@@ -1,5 +1,0 @@
-use Rattle.mrp_actions.proofs.Needing as proved
-use Rattle.mrp_actions.proofs.advice_laws.needs_rise.Goals as goal
-
-pub returns : goal.returns
-returns c = proved.needs_rise

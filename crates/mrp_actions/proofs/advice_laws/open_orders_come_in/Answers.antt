@@ -1,8 +1,0 @@
-use Rattle.mrp_actions.proofs.Coming as proved
-use Rattle.mrp_actions.proofs.advice_laws.open_orders_come_in.Goals as goal
-
-pub returns-clause-kept : goal.returns-clause-kept
-returns-clause-kept c = proved.orders_are_kept
-
-pub returns-clause-sums : goal.returns-clause-sums
-returns-clause-sums c = proved.orders_come_in

@@ -1,0 +1,12 @@
+use Rattle.std.proofs.Common.{◌≡◌, ◌++◌}
+use Rattle.std.specs.List.{flat_map, range_with_len}
+use Rattle.mrp_csv_out.specs.Writing.{IsBetweenRows, written}
+use Rattle.mrp_advice.specs.AdviceRows.{pair_advice_text}
+use Rattle.mrp_advice.proofs.advice_report.put_all_messages.Given as goal
+
+-- the rows of the pairs before x are there
+abbrev pub invariant-pairs : goal.invariant-pairs
+invariant-pairs l = record {
+  between : IsBetweenRows l.rows;
+  so_far : written l.rows ≡ written l.initial.rows ++ flat_map (pair_advice_text l.report.network.now l.report.plan.now) (range_with_len 0 l.x);
+}

@@ -1,0 +1,52 @@
+-- Laws of open orders, of when they are needed, and of the report of their messages.
+use Rattle.std.specs.Prelude.{◌≡◌, ℕ, ◌+◌, ◌<◌, ◌≤◌, true, false, if◌then◌else◌, List, length, sum_by, IsPermutation}
+use Rattle.std.specs.List.{flat_map, range_with_len}
+use Rattle.mrp_lot.specs.One.{PlanRows}
+use Rattle.mrp_table_rows.specs.declared.rows.PairRow.{PairRow}
+use Rattle.mrp_table_rows.specs.Table.{Table, IsTable}
+use Rattle.mrp_commands.specs.declared.choice.Heading.{Heading}
+use Rattle.mrp_net.specs.Sums.{incoming}
+use Rattle.mrp_csv_out.specs.Sheets.{IsReadAs}
+use Rattle.mrp_advice.specs.declared.orders.OpenOrder.{OpenOrder}
+use Rattle.mrp_advice.specs.Advice.{open_order_at}
+use Rattle.mrp_advice.specs.Needed.{gross_to, is_needed_by, needed}
+use Rattle.mrp_advice.specs.OpenOrders.{all_orders, open_orders, orders_in}
+use Rattle.mrp_advice.specs.AdviceRows.{advice_text}
+use Rattle.mrp_advice.specs.AdviceSheets.{advice_sheet}
+
+-- what has come by a period if each open order of a pair comes when it is needed, and one that is needed in no period
+-- never
+abbrev pub timely : PairRow → List ℕ → List OpenOrder → ℕ → ℕ
+timely pair gross orders t =
+    sum_by (λ i. if is_needed_by t (needed pair gross orders i) then (open_order_at orders i).quantity else 0)
+    (range_with_len 0 (length orders))
+
+-- then the balance without any planned order is at safety stock or above in each period before one in which an order is
+-- needed, and in all periods of the horizon where an order is needed in none
+abbrev pub TimelyOrdersSuffice : Type 0
+TimelyOrdersSuffice =
+    (pair : PairRow) (gross : List ℕ) (orders : List OpenOrder) (t i : ℕ) → t < length gross → i < length orders
+    → is_needed_by t (needed pair gross orders i) ≡ false
+    → pair.safety + gross_to gross t ≤ pair.on_hand + timely pair gross orders t
+
+-- where an order is needed by a period, so are those before it
+abbrev pub NeedsRise : Type 0
+NeedsRise =
+    (pair : PairRow) (gross : List ℕ) (orders : List OpenOrder) (t i j : ℕ) → i ≤ j
+    → is_needed_by t (needed pair gross orders j) ≡ true → is_needed_by t (needed pair gross orders i) ≡ true
+
+-- each receipt and each shipment is an open order of one pair, once
+abbrev pub OrdersAreKept : Type 0
+OrdersAreKept = (N : Table) → IsTable N → IsPermutation (all_orders N)
+    (flat_map (open_orders N) (range_with_len 0 (length N.pairs)))
+
+-- the open orders of a pair in a period add up to what comes in for it
+abbrev pub OrdersComeIn : Type 0
+OrdersComeIn = (N : Table) (x t : ℕ) → sum_by (λ o. o.quantity) (orders_in N x t) ≡ incoming N x t
+
+-- the report of an accepted table is read back: what csv reads of it by its defaults is the fields that its rows are
+-- made of
+abbrev pub AdviceIsReadBack : Type 0
+AdviceIsReadBack =
+    (N : Table) → IsTable N → (heading : Heading) (table : List PlanRows)
+    → IsReadAs (advice_text heading N table) (advice_sheet heading N table)

@@ -1,0 +1,56 @@
+-- The rows of one pair's messages, open order by open order.
+use Rattle.std.specs.Prelude.{◌≡◌, ℕ, ◌+◌, ◌<◌, ◌≤◌, List, [], length, sum, sum_by, All, Option, Some, None, IfSome}
+use Rattle.std.specs.List.{flat_map}
+use Rattle.mrp_qty.specs.declared.quantity.TheConstants.{MOST}
+use Rattle.mrp_table_rows.specs.declared.rows.PairRow.{PairRow}
+use Rattle.mrp_table_rows.specs.Table.{Table, horizon}
+use Rattle.mrp_csv_out.specs.Dates.{dates_of}
+use Rattle.mrp_csv_out.specs.Names.{item_of, plant_of}
+use Rattle.mrp_advice.specs.declared.advice.Advice.{Advice}
+use Rattle.mrp_advice.specs.declared.orders.OpenOrder.{OpenOrder}
+use Rattle.mrp_advice.specs.declared.orders.OrderKind.{OrderKind}
+use Rattle.mrp_advice.specs.declared.orders.OrderKind.TheVariants.{Receipt, Ship}
+use Rattle.mrp_advice.specs.declared.advice_report.AdviceLine.{AdviceLine}
+use Rattle.mrp_advice.specs.Advice.{messages}
+use Rattle.mrp_advice.specs.AdviceRows.{advice_row}
+
+-- what the rows of a pair's messages have in common
+pub record IsAdviceLine (N : Table) (x : ℕ) (line : AdviceLine) : Type 0 where
+  pub network : line.network.now ≡ N
+  pub plant : line.plant.now ≡ plant_of N x
+  pub item : line.item.now ≡ item_of N x
+  pub dates : line.dates.now ≡ dates_of N.calendar
+
+-- the row of a message, and that of an open order where it has one
+abbrev pub advice_line_row : AdviceLine → Advice → List ℕ
+advice_line_row line advice = advice_row line.network.now line.plant.now line.item.now line.dates.now advice
+
+abbrev pub message_text : AdviceLine → Option Advice → List ℕ
+message_text line None = []
+message_text line (Some advice) = advice_line_row line advice
+
+-- those of all messages of a pair
+abbrev pub advice_line_text : AdviceLine → PairRow → List ℕ → List OpenOrder → List ℕ
+advice_line_text line pair gross orders = flat_map (advice_line_row line) (messages pair gross orders)
+
+-- a shipment comes from a plant of the table
+abbrev pub HasSender : Table → OrderKind → Type 0
+HasSender N Receipt = Unit {0}
+HasSender N (Ship from) = from.0 < length N.plants
+
+-- an open order of a table is due in its horizon
+pub record IsOpenOrder (N : Table) (o : OpenOrder) : Type 0 where
+  pub due : o.period < horizon N
+  pub sender : HasSender N o.kind
+
+-- a message for it names periods of the horizon
+pub record IsAdvice (N : Table) (advice : Advice) : Type 0 where
+  pub order : IsOpenOrder N advice.order
+  pub needed : IfSome advice.needed (λ t. t < horizon N)
+
+-- safety stock and gross requirements of a pair, and what it has on hand and of its open orders, are each within 10^15
+pub record IsAdvised (N : Table) (pair : PairRow) (gross : List ℕ) (orders : List OpenOrder) : Type 0 where
+  pub periods : length gross ≡ horizon N
+  pub required : pair.safety + sum gross ≤ MOST
+  pub had : pair.on_hand + sum_by (λ o. o.quantity) orders ≤ MOST
+  pub each : All (IsOpenOrder N) orders

@@ -1,0 +1,20 @@
+-- The report as a sheet: what a reader of comma-separated values has to find in it.
+use Rattle.std.specs.Prelude.{ℕ, List, ◌++◌, map}
+use Rattle.std.specs.List.{flat_map}
+use Rattle.mrp_lot.specs.One.{PlanRows}
+use Rattle.mrp_table_rows.specs.Table.{Table}
+use Rattle.mrp_commands.specs.declared.choice.Heading.{Heading}
+use Rattle.mrp_csv_out.specs.Dates.{dates_of}
+use Rattle.mrp_csv_out.specs.Names.{item_of, pairs_of, plant_of}
+use Rattle.mrp_csv_out.specs.Sheets.{Sheet, header_sheet}
+use Rattle.mrp_advice.specs.Advice.{pair_advice}
+use Rattle.mrp_advice.specs.AdviceRows.{advice_fields, advice_names}
+
+-- the messages of a pair, in the order of its open orders
+abbrev pub pair_advice_sheet : Table → List PlanRows → ℕ → Sheet
+pair_advice_sheet N table x = map (advice_fields N (plant_of N x) (item_of N x) (dates_of N.calendar))
+    (pair_advice N table x)
+
+-- those of each pair, in table order, below the names of their columns, where these are asked for
+abbrev pub advice_sheet : Heading → Table → List PlanRows → Sheet
+advice_sheet heading N table = header_sheet heading advice_names ++ flat_map (pair_advice_sheet N table) (pairs_of N)

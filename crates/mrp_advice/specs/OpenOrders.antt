@@ -1,0 +1,35 @@
+-- The open orders of a pair: the receipts and the shipments of the table, which are still to come in.
+use Rattle.std.specs.Prelude.{ℕ, ◌==◌, ◌&&◌, List, ◌++◌, map, filter}
+use Rattle.std.specs.List.{flat_map, range_with_len}
+use Rattle.mrp_table_rows.specs.declared.rows.ReceiptRow.{ReceiptRow}
+use Rattle.mrp_table_rows.specs.declared.rows.ShipRow.{ShipRow}
+use Rattle.mrp_table_rows.specs.Table.{Table, horizon}
+use Rattle.mrp_advice.specs.declared.orders.OpenOrder.{OpenOrder}
+use Rattle.mrp_advice.specs.declared.orders.OrderKind.TheVariants.{Receipt, Ship}
+
+-- a receipt and a shipment as open orders
+abbrev pub receipt_order : ReceiptRow → OpenOrder
+receipt_order r = record { kind = Receipt; pair = r.pair; period = r.period; quantity = r.quantity }
+
+abbrev pub ship_order : ShipRow → OpenOrder
+ship_order s = record { kind = Ship s.from; pair = s.pair; period = s.period; quantity = s.quantity }
+
+-- the receipts of a pair that are due in a period, in table order
+abbrev pub receipts_in : Table → ℕ → ℕ → List OpenOrder
+receipts_in N x t = map receipt_order (filter (λ r. (r.pair.0 == x) && (r.period == t)) N.receipts)
+
+-- the shipments to a pair that arrive in a period, in table order, whichever plant sends them
+abbrev pub ships_in : Table → ℕ → ℕ → List OpenOrder
+ships_in N x t = map ship_order (filter (λ s. (s.pair.0 == x) && (s.period == t)) N.ships)
+
+-- the open orders of a pair in a period: its receipts, and then the shipments to it
+abbrev pub orders_in : Table → ℕ → ℕ → List OpenOrder
+orders_in N x t = receipts_in N x t ++ ships_in N x t
+
+-- the open orders of a pair, period after period
+abbrev pub open_orders : Table → ℕ → List OpenOrder
+open_orders N x = flat_map (orders_in N x) (range_with_len 0 (horizon N))
+
+-- all open orders, as the table has them
+abbrev pub all_orders : Table → List OpenOrder
+all_orders N = map receipt_order N.receipts ++ map ship_order N.ships

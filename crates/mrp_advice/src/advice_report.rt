@@ -1,0 +1,336 @@
+//! The advice rows: each open order that isn't due in the period in which it is needed.
+
+ghost use Rattle.std.specs.Prelude.{◌≡◌, ◌+◌, ◌≤◌, ◌++◌, Err, OnOk, IfOk, IfErr, IfSome, length, sum};
+ghost use Rattle.mrp_qty.specs.declared.quantity.TheConstants.{MOST};
+ghost use Rattle.mrp_table_rows.specs.Table.{IsPair, horizon};
+ghost use Rattle.mrp_net.specs.PlanLaws.{Fits};
+ghost use Rattle.mrp_loops.specs.Sized.{IsSized};
+ghost use Rattle.mrp_csv_out.specs.Dates.{dates_of};
+ghost use Rattle.mrp_csv_out.specs.Writing.{IsBetweenRows, written};
+ghost use Rattle.mrp_csv_out.specs.Sent.{SendsReport};
+ghost use Rattle.mrp_advice.specs.Advice.{advice_for};
+ghost use Rattle.mrp_advice.specs.AdviceLines.{HasSender, IsAdvice, IsAdvised, IsAdviceLine, IsOpenOrder};
+ghost use Rattle.mrp_advice.specs.AdviceLines.{advice_line_row, advice_line_text, message_text};
+ghost use Rattle.mrp_advice.specs.Covered.{Covers};
+ghost use Rattle.mrp_advice.specs.Gathered.{AreOpenOrders};
+ghost use Rattle.mrp_advice.specs.Needed.{first_short};
+ghost use Rattle.mrp_advice.specs.AdviceRows.{action_word, advice_text, order_kind_word};
+ghost use Rattle.mrp_advice.specs.AdviceRows.{messages_text, pair_advice_text, sender_name};
+
+use crate::cover::{Cover, next_advice};
+use crate::fields::{date_if_any, number_if_any};
+use crate::gathering::open_orders;
+use crate::{Action, Advice, OpenOrder, OrderKind};
+use csv::Writer;
+use itoa::Buffer;
+use mrp_commands::Heading;
+use mrp_csv_out::{ReportFault, date_of, date_texts, put_names, put_row, room_for, send, text_of};
+use mrp_loops::SizedNet;
+use mrp_net::Network;
+use mrp_plan::Plan;
+use mrp_qty::{Qty, Row};
+use mrp_table_rows::{Groups, PairNo, PairRow};
+use std::alloc::Global;
+use std::io::Write;
+
+/// The most bytes of a row: three words of 21 together, three names of 20, two periods of 3 digits, two
+/// dates, a quantity of 13 digits, the commas and the line feed.
+const LONGEST_ROW: usize = 131;
+
+/// What the advice rows are of: a plan, its network, the open orders of all pairs, and the text of each
+/// period's date.
+#[derive(Clone, Copy)]
+struct AdviceReport<'a> {
+    network: &'a Network,
+    plan: &'a Plan,
+    orders: &'a Groups<OpenOrder>,
+    dates: &'a [[u8; 10]],
+}
+
+/// What the rows of a pair's messages have in common: the network, the names of the pair's plant and
+/// item, and the text of each period's date.
+#[derive(Clone, Copy)]
+pub(crate) struct AdviceLine<'a> {
+    pub(crate) network: &'a Network,
+    pub(crate) plant: &'a str,
+    pub(crate) item: &'a str,
+    pub(crate) dates: &'a [[u8; 10]],
+}
+
+/// Writes a row for each open order that isn't due in the period in which it is needed, pairs in table
+/// order and the open orders of a pair by rising period, in one period receipts before shipments and each
+/// in table order: `advice`, what to do (`expedite`, `defer` or `cancel`), `receipt` or `ship`, plant and
+/// item, the sender of a shipment, the period in which the order is due and its first day, its quantity in
+/// pieces, and the period in which it is needed and its first day, which are empty where it is to be
+/// cancelled. The names of the columns stand above them where `heading` says so.
+///
+/// An order is needed in the first period in which what is on hand and the open orders before it are less
+/// than safety stock and the gross requirements of the plan up to that period, that one included.
+///
+/// # Errors
+///
+/// - [`ReportFault::WriteFault`] where a write fails or takes nothing; a prefix of the report is
+///   written.
+/// - [`ReportFault::Memory`] where the room for the report is refused; nothing is written.
+pub fn advice_rows<W: Write>(
+    alloc: Global,
+    net: &SizedNet<'_>,
+    plan: &Plan,
+    heading: Heading,
+    out: &mut W,
+) -> Result<(), ReportFault>
+    requires fits { Fits net.now.network plan.now }
+    ensures text { SendsReport (W.contents out.old) (W.contents out.new) result
+        (advice_text heading net.now.network plan.now) }
+    ensures untouched { result ≡ Err ReportFault.Memory → out.new ≡ out.old }
+{
+    let network = net.network();
+    let dates = date_texts(alloc, network.calendar())?;
+    let orders = open_orders(alloc, network)?;
+    let report = AdviceReport {
+        network,
+        plan,
+        orders: &orders,
+        dates: dates.as_slice(),
+    };
+    let text = advice_text(alloc, &report, heading)?;
+    send(text.as_slice(), out)
+}
+
+/// The advice rows as bytes.
+fn advice_text(
+    alloc: Global,
+    report: &AdviceReport<'_>,
+    heading: Heading,
+) -> Result<Vec<u8>, ReportFault>
+    requires sized { IsSized report.now.network.now }
+    requires fits { Fits report.now.network.now report.now.plan.now }
+    requires orders { AreOpenOrders report.now.network.now report.now.orders.now.rows.items
+        report.now.orders.now.starts.items }
+    requires dates { report.now.dates.now ≡ dates_of report.now.network.now.calendar }
+    ensures text { IfOk result (λ text. text.items ≡ advice_text heading report.now.network.now report.now.plan.now) }
+    ensures fault { IfErr result (λ fault. fault ≡ ReportFault.Memory) }
+{
+    // Room to begin with, which grows where there are more messages than pairs.
+    let mut rows = room_for(alloc, report.network.pairs(), LONGEST_ROW)?;
+    put_names(
+        &mut rows,
+        heading,
+        &[
+            b"row",
+            b"action",
+            b"kind",
+            b"plant",
+            b"item",
+            b"supplier",
+            b"period",
+            b"date",
+            b"quantity",
+            b"needed",
+            b"needed_date",
+        ],
+    )?;
+    put_all_messages(&mut rows, report)?;
+    text_of(rows)
+}
+
+/// Adds the rows of all pairs.
+fn put_all_messages(
+    rows: &mut Writer<Vec<u8>>,
+    report: &AdviceReport<'_>,
+) -> Result<(), ReportFault>
+    requires between { IsBetweenRows rows.old }
+    requires sized { IsSized report.now.network.now }
+    requires fits { Fits report.now.network.now report.now.plan.now }
+    requires orders { AreOpenOrders report.now.network.now report.now.orders.now.rows.items
+        report.now.orders.now.starts.items }
+    requires dates { report.now.dates.now ≡ dates_of report.now.network.now.calendar }
+    ensures rows { OnOk result (written rows.new ≡ written rows.old
+        ++ messages_text report.now.network.now report.now.plan.now) }
+    ensures between { OnOk result (IsBetweenRows rows.new) }
+    ensures fault { IfErr result (λ fault. fault ≡ ReportFault.Memory) }
+{
+    'pairs: for x in 0..report.network.pairs() {
+        put_pair_messages(rows, report, PairNo(x))?;
+    }
+    Ok(())
+}
+
+/// Adds the rows of a pair.
+fn put_pair_messages(
+    rows: &mut Writer<Vec<u8>>,
+    report: &AdviceReport<'_>,
+    x: PairNo,
+) -> Result<(), ReportFault>
+    requires between { IsBetweenRows rows.old }
+    requires sized { IsSized report.now.network.now }
+    requires fits { Fits report.now.network.now report.now.plan.now }
+    requires orders { AreOpenOrders report.now.network.now report.now.orders.now.rows.items
+        report.now.orders.now.starts.items }
+    requires dates { report.now.dates.now ≡ dates_of report.now.network.now.calendar }
+    requires pair { IsPair report.now.network.now x.0 }
+    ensures rows { OnOk result (written rows.new ≡ written rows.old
+        ++ pair_advice_text report.now.network.now report.now.plan.now x.0) }
+    ensures between { OnOk result (IsBetweenRows rows.new) }
+    ensures fault { IfErr result (λ fault. fault ≡ ReportFault.Memory) }
+{
+    let line = line_of(report, x);
+    let pair = report.network.pair(x);
+    let gross = report.plan.pair(x).gross();
+    put_messages(rows, &line, pair, gross, report.orders.get(x.0))
+}
+
+/// What the rows of a pair's messages have in common.
+fn line_of<'a>(report: &AdviceReport<'a>, x: PairNo) -> AdviceLine<'a>
+    requires dates { report.now.dates.now ≡ dates_of report.now.network.now.calendar }
+    requires pair { IsPair report.now.network.now x.0 }
+    ensures { IsAdviceLine report.now.network.now x.0 result }
+{
+    let (plant, item) = report.network.pair_name(x);
+    AdviceLine {
+        network: report.network,
+        plant,
+        item,
+        dates: report.dates,
+    }
+}
+
+/// Adds the rows of a pair's open orders that have a message.
+fn put_messages<'a>(
+    rows: &mut Writer<Vec<u8>>,
+    line: &'a AdviceLine<'a>,
+    pair: PairRow,
+    gross: &Row,
+    orders: &[OpenOrder],
+) -> Result<(), ReportFault>
+    requires between { IsBetweenRows rows.old }
+    requires dates { length line.now.dates.now ≡ horizon line.now.network.now }
+    requires advised { IsAdvised line.now.network.now pair gross.now orders.now }
+    ensures rows { OnOk result (written rows.new ≡ written rows.old
+        ++ advice_line_text line.now pair gross.now orders.now) }
+    ensures between { OnOk result (IsBetweenRows rows.new) }
+    ensures fault { IfErr result (λ fault. fault ≡ ReportFault.Memory) }
+{
+    let mut cover = Cover {
+        had: pair.on_hand.get(),
+        period: 0,
+        required: 0,
+    };
+    'orders: for i in 0..orders.len() {
+        put_next(rows, line, pair.safety, gross, &mut cover, orders[i])?;
+    }
+    Ok(())
+}
+
+/// Adds the row of the next open order of a pair, where it has a message.
+fn put_next<'a>(
+    rows: &mut Writer<Vec<u8>>,
+    line: &'a AdviceLine<'a>,
+    safety: Qty,
+    gross: &Row,
+    cover: &mut Cover,
+    order: OpenOrder,
+) -> Result<(), ReportFault>
+    requires between { IsBetweenRows rows.old }
+    requires dates { length line.now.dates.now ≡ horizon line.now.network.now }
+    requires periods { length gross.now ≡ horizon line.now.network.now }
+    requires covers { Covers safety gross.now cover.old }
+    requires required { safety + sum gross.now ≤ MOST }
+    requires had { cover.old.had + order.quantity ≤ MOST }
+    requires order { IsOpenOrder line.now.network.now order }
+    ensures row { OnOk result (written rows.new ≡ written rows.old
+        ++ message_text line.now (advice_for order (first_short safety gross.now cover.old.had))) }
+    ensures between { OnOk result (IsBetweenRows rows.new) }
+    ensures fault { IfErr result (λ fault. fault ≡ ReportFault.Memory) }
+    ensures covers { Covers safety gross.now cover.new }
+    ensures had { cover.new.had ≡ cover.old.had + order.quantity }
+{
+    let advice = next_advice(safety, gross, cover, order);
+    put_message(rows, line, advice)
+}
+
+/// Adds the row of a message, where there is one.
+fn put_message<'a>(
+    rows: &mut Writer<Vec<u8>>,
+    line: &'a AdviceLine<'a>,
+    advice: Option<Advice>,
+) -> Result<(), ReportFault>
+    requires between { IsBetweenRows rows.old }
+    requires dates { length line.now.dates.now ≡ horizon line.now.network.now }
+    requires advice { IfSome advice (IsAdvice line.now.network.now) }
+    ensures rows { OnOk result (written rows.new ≡ written rows.old ++ message_text line.now advice) }
+    ensures between { OnOk result (IsBetweenRows rows.new) }
+    ensures fault { IfErr result (λ fault. fault ≡ ReportFault.Memory) }
+{
+    match advice {
+        None => Ok(()),
+        Some(advice) => put_advice(rows, line, advice),
+    }
+}
+
+/// Adds the row of a message.
+fn put_advice<'a>(
+    rows: &mut Writer<Vec<u8>>,
+    line: &'a AdviceLine<'a>,
+    advice: Advice,
+) -> Result<(), ReportFault>
+    requires between { IsBetweenRows rows.old }
+    requires dates { length line.now.dates.now ≡ horizon line.now.network.now }
+    requires advice { IsAdvice line.now.network.now advice }
+    ensures row { OnOk result (written rows.new ≡ written rows.old ++ advice_line_row line.now advice) }
+    ensures between { OnOk result (IsBetweenRows rows.new) }
+    ensures fault { IfErr result (λ fault. fault ≡ ReportFault.Memory) }
+{
+    let order = advice.order;
+    let mut period = Buffer::new();
+    let mut quantity = Buffer::new();
+    let mut needed = Buffer::new();
+    put_row(
+        rows,
+        &[
+            b"advice",
+            action_word(advice.action),
+            kind_word(order.kind),
+            line.plant.as_bytes(),
+            line.item.as_bytes(),
+            supplier_name(line.network, order.kind),
+            period.format(order.period).as_bytes(),
+            date_of(line.dates, order.period),
+            quantity.format(order.quantity.get()).as_bytes(),
+            number_if_any(&mut needed, advice.needed),
+            date_if_any(line.dates, advice.needed),
+        ],
+    )
+}
+
+/// What a row calls an action.
+fn action_word<'a>(action: Action) -> &'a [u8]
+    ensures { result.now ≡ action_word action }
+{
+    match action {
+        Action::Expedite => b"expedite",
+        Action::Defer => b"defer",
+        Action::Cancel => b"cancel",
+    }
+}
+
+/// What a row calls a kind of open order.
+fn kind_word<'a>(kind: OrderKind) -> &'a [u8]
+    ensures { result.now ≡ order_kind_word kind }
+{
+    match kind {
+        OrderKind::Receipt => b"receipt",
+        OrderKind::Ship(_) => b"ship",
+    }
+}
+
+/// The name of a shipment's sender, which a receipt has not.
+fn supplier_name(network: &Network, kind: OrderKind) -> &[u8]
+    requires { HasSender network.now kind }
+    ensures { result.now ≡ sender_name network.now kind }
+{
+    match kind {
+        OrderKind::Receipt => b"",
+        OrderKind::Ship(from) => network.plant_name(from).as_bytes(),
+    }
+}

@@ -1,5 +1,0 @@
-use Rattle.std.proofs.Common.{rules}
-use Rattle.mrp_arguments.proofs.meaning.means.Goals as goal
-
-pub returns-else-use_stderr : goal.returns-else-use_stderr
-returns-else-use_stderr c = search rules

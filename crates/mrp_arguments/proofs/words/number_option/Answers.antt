@@ -1,4 +1,0 @@
-use Rattle.mrp_arguments.proofs.words.number_option.Goals as goal
-
-pub numbers-requires : goal.numbers-requires
-numbers-requires c = c.requires

@@ -1,8 +1,0 @@
-use Rattle.mrp_text.specs.Answer.{IsAnswer, question_of}
-use Rattle.mrp_c.proofs.AnswerFacts.{answers-of}
-use Rattle.mrp_c.proofs.buffer.answer.Goals as goal
-
-pub returns : goal.returns
-returns c =
-    answers-of _ _ _ (question_of c.args.choice) (IsAnswer c.args.choice) c.report_text-done.result _ _ _ _
-    c.new-report.ensures.items c.report_text-done.ensures.text c.report_text-done.ensures.refusal c.tell.ensures

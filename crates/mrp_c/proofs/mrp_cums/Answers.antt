@@ -1,5 +1,0 @@
-use Rattle.std.proofs.Common.{sym}
-use Rattle.mrp_c.proofs.mrp_cums.Goals as goal
-
-pub returns : goal.returns
-returns c = rw (sym c.heading-heading.ensures) c.answer.ensures

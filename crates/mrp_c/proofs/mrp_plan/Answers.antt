@@ -1,4 +1,0 @@
-use Rattle.mrp_c.proofs.mrp_plan.Goals as goal
-
-pub returns : goal.returns
-returns c = c.answer.ensures

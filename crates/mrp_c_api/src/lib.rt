@@ -1,0 +1,158 @@
+//! The planner for C: the bytes of a table go in, and a report or the line of a fault comes out in the caller's buffer.
+//! `include/mrp.h` declares the calls, and [`mrp_planner`] is what they call, on one thread.
+//!
+//! **Text.** A call returns a status, as the program ends with one. At 0 the text is the report, to the byte what the
+//! program writes to standard output. At 1, where the table or the question is refused, and at 3, where memory was
+//! refused, it is the line that the program writes to standard error. [`mrp_schedule`] has 2 for names that aren't
+//! UTF-8. Where there is no memory for the line of a fault, the fault is that: 3, `mrp: Memory`.
+//!
+//! **Buffer.** `size` tells the length of the text in bytes. Where that is at most the length of the buffer, the buffer
+//! begins with the text and goes on as it was. Else the whole buffer is as it was, and the caller asks again with as
+//! much room. No byte behind the text and none outside the buffer is written.
+//!
+//! A call keeps nothing once it has returned: what it takes of memory, by `malloc`, it gives back. A caller hands in no
+//! null pointer, also where a length is 0, and a buffer and a size that nothing else reads or writes meanwhile.
+#![tactic(auto)]
+
+mod buffer;
+mod options;
+
+ghost use Rattle.mrp_c_api.specs.Answers.{Answers, AnswersNamed};
+ghost use Rattle.mrp_c_api.specs.Options.{heading_of, limit_of};
+ghost use Rattle.mrp_report.specs.Headings.{code_names, lane_names};
+ghost use Rattle.mrp_planner.specs.Refusals.{AskWhole};
+ghost use Rattle.mrp_planner.specs.Reports.{IsCodeReport, IsCumReport, IsHeaded, IsOrderReport};
+ghost use Rattle.mrp_planner.specs.Text.{IsPlanReport};
+
+use crate::buffer::{answer, refuse_name};
+use crate::options::{given, heading, limit};
+use mrp_commands::Choice;
+use std::alloc::Global;
+use std::str::from_utf8;
+
+/// Plans a table: a row for each pair and period, then a row for each late order.
+///
+/// `table` is the bytes of a table, of any length. The text is that of `mrp plan`.
+///
+/// # Errors
+///
+/// Status 1 where the table is refused, and 3 where memory was refused; the text is the line of the fault.
+#[unsafe(no_mangle)]
+pub extern "C" fn mrp_plan(alloc: Global, table: &[u8], buffer: &mut [u8], size: &mut usize) -> u32
+    ensures { Answers table.now AskWhole IsPlanReport result buffer.old buffer.new size.new }
+{
+    let choice = Choice::Plan {
+        workers: 1,
+        capacity: 64,
+        single: true,
+    };
+    answer(alloc, table, choice, buffer, size)
+}
+
+/// Writes the planned orders of a table: where `limited` is true those alone that are released in period `until` or
+/// before it.
+///
+/// `until` counts periods from 0, and is read only where `limited` is true; from the last period on no order is left
+/// out. Where `header` is true the names of the columns stand above the rows. The text is that of `mrp orders`.
+///
+/// # Errors
+///
+/// Status 1 where the table is refused, and 3 where memory was refused; the text is the line of the fault.
+#[unsafe(no_mangle)]
+pub extern "C" fn mrp_orders(
+    alloc: Global,
+    table: &[u8],
+    limited: bool,
+    until: u64,
+    header: bool,
+    buffer: &mut [u8],
+    size: &mut usize,
+) -> u32
+    ensures { Answers table.now AskWhole (IsOrderReport (limit_of limited until) (heading_of header))
+        result buffer.old buffer.new size.new }
+{
+    let until = limit(limited, until);
+    let heading = heading(header);
+    let choice = Choice::Orders { until, heading };
+    answer(alloc, table, choice, buffer, size)
+}
+
+/// Writes the delivery schedules of a table: those of the supplier plant `from` alone and to the customer plant `to`
+/// alone, where these are given.
+///
+/// `from` and `to` are names in UTF-8, and an empty one is none: then plants aren't chosen by it. Where `header` is
+/// true the names of the columns stand above the rows. The text is that of `mrp schedule`.
+///
+/// # Errors
+///
+/// Status 1 where the table is refused, or has no plant of a name that is given, and 3 where memory was refused; the
+/// text is the line of the fault. Status 2 where a name is no UTF-8, whatever the table; the text is
+/// `mrp: a name is not UTF-8`, a line.
+#[unsafe(no_mangle)]
+pub extern "C" fn mrp_schedule(
+    alloc: Global,
+    table: &[u8],
+    from: &[u8],
+    to: &[u8],
+    header: bool,
+    buffer: &mut [u8],
+    size: &mut usize,
+) -> u32
+    ensures { AnswersNamed table.now from.now to.now (heading_of header) result buffer.old buffer.new size.new }
+{
+    let Ok(supplier) = from_utf8(from) else {
+        return refuse_name(buffer, size);
+    };
+    let Ok(customer) = from_utf8(to) else {
+        return refuse_name(buffer, size);
+    };
+    let from = given(supplier);
+    let to = given(customer);
+    let heading = heading(header);
+    let choice = Choice::Schedule { from, to, heading };
+    answer(alloc, table, choice, buffer, size)
+}
+
+/// Writes the low-level code of each pair of a table.
+///
+/// Where `header` is true the names of the columns stand above the rows. The text is that of `mrp check`.
+///
+/// # Errors
+///
+/// Status 1 where the table is refused, and 3 where memory was refused; the text is the line of the fault.
+#[unsafe(no_mangle)]
+pub extern "C" fn mrp_check(
+    alloc: Global,
+    table: &[u8],
+    header: bool,
+    buffer: &mut [u8],
+    size: &mut usize,
+) -> u32
+    ensures { Answers table.now AskWhole (λ N. IsHeaded (heading_of header) code_names (IsCodeReport N))
+        result buffer.old buffer.new size.new }
+{
+    let heading = heading(header);
+    answer(alloc, table, Choice::Check { heading }, buffer, size)
+}
+
+/// Writes the cumulative figures of the lanes between the plants of a table, once all plants have planned.
+///
+/// Where `header` is true the names of the columns stand above the rows. The text is that of `mrp cums`.
+///
+/// # Errors
+///
+/// Status 1 where the table is refused, and 3 where memory was refused; the text is the line of the fault.
+#[unsafe(no_mangle)]
+pub extern "C" fn mrp_cums(
+    alloc: Global,
+    table: &[u8],
+    header: bool,
+    buffer: &mut [u8],
+    size: &mut usize,
+) -> u32
+    ensures { Answers table.now AskWhole (λ N. IsHeaded (heading_of header) lane_names (IsCumReport N))
+        result buffer.old buffer.new size.new }
+{
+    let heading = heading(header);
+    answer(alloc, table, Choice::Cums { heading }, buffer, size)
+}

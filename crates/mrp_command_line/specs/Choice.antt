@@ -1,0 +1,87 @@
+-- Which choice the words of a command line are.
+use Rattle.std.specs.Prelude.{◌≡◌, ℕ, Bool, false, true, List, Option, Some, None, codes}
+use Rattle.std.specs.Prelude.{map, option_map}
+use Rattle.std.specs.Borrow.{Bor}
+use Rattle.std.specs.Option.{option_map_or}
+use Rattle.std.specs.Str.{bytes_eq}
+use Rattle.std.specs.Str.Parse.{digits_value, without_leading_plus}
+use Rattle.clap.specs.Words.{HasKind, Row, Text, fault_of, first_of, kind_of, subcommand_of}
+use Rattle.clap.specs.declared.error.kind.ErrorKind.TheVariants.{OutOfMemory}
+use Rattle.mrp_command_line.specs.CommandLine.{mrp}
+use Rattle.mrp_commands.specs.declared.choice.Choice.{Choice}
+use Rattle.mrp_commands.specs.declared.choice.Choice.TheVariants.{Plan, Check, Peg, Cums}
+use Rattle.mrp_commands.specs.declared.choice.Choice.TheVariants.{Orders, Schedule, Pegs, Advice}
+use Rattle.mrp_commands.specs.declared.choice.Heading.{Heading}
+use Rattle.mrp_commands.specs.declared.choice.Heading.TheVariants.{Without, Names}
+use Rattle.mrp_command_line.specs.declared.words.ChooseFault.{ChooseFault}
+use Rattle.mrp_command_line.specs.declared.words.ChooseFault.TheVariants.{Words, Memory}
+
+-- the texts of the words
+abbrev pub texts_of : List (Bor Text) → List Text
+texts_of = map (λ word. word.now)
+
+-- the text of an argument is the first value that clap found for it
+abbrev pub text_at : Text → List Row → Option Text
+text_at = first_of
+
+-- the number of an argument is what its digits spell
+abbrev pub number_value : Text → List Row → Option ℕ
+number_value name rows =
+    option_map (λ text. digits_value 10 (without_leading_plus text)) (text_at name rows)
+
+-- the text of a word that may be left out
+abbrev pub word_text : Option (Bor Text) → Option Text
+word_text = option_map (λ word. word.now)
+
+-- a flag is given where its value is `true`
+abbrev pub flag_at : Text → List Row → Bool
+flag_at name rows = option_map_or (λ text. bytes_eq text (codes "true")) (text_at name rows) false
+
+-- the names of the columns are asked for where the flag is given
+abbrev pub has_names : Heading → Bool
+has_names Without = false
+has_names Names = true
+
+abbrev pub IsHeadedBy : List Row → Heading → Type 0
+IsHeadedBy rows heading = flag_at (codes "header") rows ≡ has_names heading
+
+-- the choice that a subcommand and its values are
+abbrev pub IsCommand : Text → List Row → Choice → Type 0
+IsCommand name rows (Plan workers capacity single) =
+    (name ≡ codes "plan") × (number_value (codes "workers") rows ≡ Some workers)
+    × (number_value (codes "capacity") rows ≡ Some capacity)
+    × (flag_at (codes "single") rows ≡ single)
+IsCommand name rows (Check heading) = (name ≡ codes "check") × IsHeadedBy rows heading
+IsCommand name rows (Peg plant item period heading) =
+    (name ≡ codes "peg") × (text_at (codes "plant") rows ≡ Some plant.now)
+    × (text_at (codes "item") rows ≡ Some item.now)
+    × (number_value (codes "period") rows ≡ Some period)
+    × IsHeadedBy rows heading
+IsCommand name rows (Cums heading) = (name ≡ codes "cums") × IsHeadedBy rows heading
+IsCommand name rows (Orders until heading) =
+    (name ≡ codes "orders") × (number_value (codes "until") rows ≡ until) × IsHeadedBy rows heading
+IsCommand name rows (Schedule from to heading) =
+    (name ≡ codes "schedule") × (text_at (codes "from") rows ≡ word_text from)
+    × (text_at (codes "to") rows ≡ word_text to)
+    × IsHeadedBy rows heading
+IsCommand name rows (Pegs heading) = (name ≡ codes "pegs") × IsHeadedBy rows heading
+IsCommand name rows (Advice heading) = (name ≡ codes "advice") × IsHeadedBy rows heading
+
+-- the same, where there is a subcommand
+abbrev pub IsMeantBy : Option (Text × List Row) → Choice → Type 0
+IsMeantBy None choice = ⊥
+IsMeantBy (Some command) choice = IsCommand command.0 command.1 choice
+
+-- the choice is the one that clap reads in the words
+abbrev pub IsChosenBy : List Text → Choice → Type 0
+IsChosenBy words = IsMeantBy (subcommand_of mrp words)
+
+-- a growth was refused, in clap or here
+abbrev pub IsMemory : ChooseFault → Type 0
+IsMemory (Words error) = kind_of error ≡ OutOfMemory
+IsMemory Memory = Unit {0}
+
+-- clap's refusal has a kind that these words have, or memory was refused
+abbrev pub IsRefusalOf : List Text → ChooseFault → Type 0
+IsRefusalOf words (Words error) = HasKind (fault_of mrp words) error
+IsRefusalOf words Memory = Unit {0}

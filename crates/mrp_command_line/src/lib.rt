@@ -1,0 +1,16 @@
+//! The command line of `mrp`: which words the program takes, and what each choice of words asks for.
+//!
+//! The command line is written out in `specs/CommandLine.antt`, and `specs/Choice.antt` says which
+//! choice a subcommand and its values are.
+#![tactic(auto)]
+
+mod laws;
+mod meaning;
+mod named;
+mod words;
+
+pub use laws::version_is_asked_for;
+pub use meaning::{Meaning, means};
+pub use mrp_commands::{Choice, Heading, LAST_PERIOD, MOST_CAPACITY, MOST_WORKERS};
+pub use named::named_words;
+pub use words::{ChooseFault, choose};

@@ -1,0 +1,581 @@
+//! The command line: what words choose.
+
+ghost use Rattle.std.specs.Prelude.{◌≡◌, ◌≤◌, Some, true, [], codes, IfOk, IfErr};
+ghost use Rattle.clap.specs.Words.{App, app_of, fault_of, found_of, new_app, rows_of, subcommand_rows_of, takes};
+ghost use Rattle.clap.specs.Words.{with_rule, with_subcommand};
+ghost use Rattle.clap.specs.declared.builder.value_parser.ValueParser.TheVariants.{Unsigned};
+ghost use Rattle.mrp_commands.specs.Range.{IsInRange};
+ghost use Rattle.mrp_command_line.specs.Choice.{IsChosenBy, IsCommand, IsHeadedBy, IsMeantBy, IsMemory};
+ghost use Rattle.mrp_command_line.specs.Choice.{IsRefusalOf, flag_at, number_value, text_at, word_text, texts_of};
+ghost use Rattle.mrp_command_line.specs.CommandLine.{IsRuled, IsWorded, mrp, orders_words, peg_words, plan_words};
+ghost use Rattle.mrp_command_line.specs.CommandLine.{program_words, schedule_words};
+ghost use Rattle.mrp_command_line.specs.CommandLine as rule;
+ghost use Rattle.mrp_commands.specs.declared.choice.TheConstants.{MOST_CAPACITY};
+ghost use Rattle.mrp_command_line.specs.Values.{HasFlag, HasNameValue, HasNumber, HasOrderValues};
+ghost use Rattle.mrp_command_line.specs.Values.{HasPegValues, HasPlanValues, IsWholeCommand};
+ghost use Rattle.mrp_command_line.specs.Values.{IsWholeReport, MayHaveNumber};
+
+use clap::builder::ValueParser;
+use clap::{Arg, ArgAction, ArgMatches, Command, value_parser};
+use mrp_commands::{Choice, Heading, LAST_PERIOD, MOST_CAPACITY, MOST_WORKERS};
+use std::alloc::{AllocError, Global};
+use thiserror::Error;
+
+/// Why no choice was made.
+#[derive(Debug, Drop, Error)]
+pub enum ChooseFault {
+    /// The words are refused, or ask for help or the version: `clap` has the text and says which.
+    #[error("{0}")]
+    Words(clap::Error),
+    /// A growth was refused.
+    #[error("out of memory")]
+    Memory,
+}
+
+/// The release, and the logic that its proofs are checked by (`rt version`), as `--version` prints them.
+const VERSION: &str = "0.1.0, proved with Rattle, logic dac8208d650f15bf";
+
+const ABOUT: &str = "Plans the material of all plants of a firm. The table is read from standard\n\
+input, and the report is written to standard output.";
+
+const AFTER: &str = "A table is comma-separated rows of eight fields, kind by kind:\n\n  \
+run,FIRST,DAYS,PERIODS,,,,\n  \
+plant,PLANT,,,,,,\n  \
+pair,PLANT,ITEM,SUPPLY,RULE,LEAD,ONHAND,SAFETY\n  \
+bill,PLANT,PARENT,COMPONENT,PER,,,\n  \
+demand,PLANT,ITEM,PERIOD,QUANTITY,,,\n  \
+receipt,PLANT,ITEM,PERIOD,QUANTITY,,,\n  \
+ship,FROM,TO,ITEM,PERIOD,QUANTITY,,\n  \
+cum,FROM,TO,ITEM,FIGURE,,,\n  \
+reset,FROM,TO,ITEM,PERIOD,,,\n\n\
+SUPPLY is make, buy, from:PLANT, or from: with two to four plants and their\n\
+shares in thousandths, as from:B:600:C:400. RULE is lot, fixed:Q, periods:K or\n\
+min:M:K. Periods count from 0.\n\n\
+Statuses: 0 done, 1 the table or the question is refused, 2 the words are\n\
+refused, 3 reading, writing, memory or a thread failed. After 1 and 3 one line\n\
+on standard error says why.";
+
+const PLAN: &str = "Write the plan of each pair, period by period, and the late orders";
+
+const PLAN_LONG: &str =
+    "Writes the plan: for each pair of a plant and an item, period by period, a row\n\n  \
+plan,PLANT,ITEM,PERIOD,DATE,GROSS,INCOMING,ORDER,RELEASE,AVAILABLE\n\n\
+and then, for each order that should have been released before period 0, a row\n\n  \
+late,PLANT,ITEM,PERIOD,QUANTITY,BY";
+
+const PLAN_EXAMPLE: &str = "Example: mrp plan < bicycle.csv > bicycle.plan.csv";
+
+const CHECK: &str = "Write the low-level code of each pair";
+
+const CHECK_LONG: &str =
+    "Writes the low-level code of each pair: the length of the longest chain of\n\
+demanders above it. Refuses a table with a loop, or with quantities above 10^15.\n\n  \
+code,PLANT,ITEM,CODE";
+
+const CHECK_EXAMPLE: &str = "Example: mrp check < bicycle.csv";
+
+const PEG: &str = "Write what the gross requirement of a pair in a period consists of";
+
+const PEG_LONG: &str =
+    "Writes what the gross requirement of a pair in a period consists of, a row for\n\
+each source: demand for its own demand rows, bill for a parent at its plant,\n\
+plant for the item at a plant that takes it from this one.\n\n  \
+peg,SOURCE,PLANT,ITEM,RELEASE,PER,QUANTITY";
+
+const PEG_EXAMPLE: &str = "Example: mrp peg P1 WHEEL 2 < bicycle.csv";
+
+const CUMS: &str = "Write the cumulative figures of the lanes between plants";
+
+const CUMS_LONG: &str =
+    "Writes the cumulative figures of each item on each lane between two plants, once\n\
+all plants have planned: a despatch lane carries what its sender ships, a\n\
+schedule lane what its sender calls for. TRANSIT is SHIPPED less RECEIVED.\n\n  \
+lane,KIND,SENDER,RECEIVER,ITEM,OPENING,SHIPPED,RECEIVED,TRANSIT";
+
+const CUMS_EXAMPLE: &str = "Example: mrp cums < firm.csv";
+
+const ORDERS: &str = "Write the planned orders, with their releases and their suppliers";
+
+const ORDERS_LONG: &str =
+    "Writes the planned orders of each pair, those alone that are released in PERIOD\n\
+or before it where it is given. SUPPLY is that of the pair's row of the table,\n\
+and LATE how many periods are missing.\n\n  \
+order,PLANT,ITEM,SUPPLY,QUANTITY,RELEASE,RELEASE_DATE,DUE,DUE_DATE,LATE";
+
+const ORDERS_EXAMPLE: &str = "Example: mrp orders --until 0 < bicycle.csv";
+
+const SCHEDULE: &str = "Write the delivery schedules between plants";
+
+const SCHEDULE_LONG: &str =
+    "Writes the delivery schedules, item by item: what is in transit (opening), then\n\
+each delivery that is called for (call), and where figures start anew (reset).\n\
+--from keeps the schedules of one supplier plant, --to those of one customer\n\
+plant, and both together those between the two. CUMULATIVE is the figure in\n\
+force, at a reset the one that it closes.\n\n  \
+schedule,KIND,SUPPLIER,CUSTOMER,ITEM,PERIOD,DATE,QUANTITY,CUMULATIVE";
+
+const SCHEDULE_EXAMPLE: &str = "Example: mrp schedule --from BRN --to HAM < firm.csv";
+
+const PEGS: &str = "Write what each gross requirement of the plan consists of";
+
+const PEGS_LONG: &str =
+    "Writes the pegging of the whole plan: what peg writes, for each pair and period.\n\n  \
+pegs,PLANT,ITEM,PERIOD,SOURCE,BY_PLANT,BY_ITEM,RELEASE,PER,QUANTITY";
+
+const PEGS_EXAMPLE: &str = "Example: mrp pegs --header < bicycle.csv";
+
+const ADVICE: &str = "Write which open orders to expedite, to defer and to cancel";
+
+const ADVICE_LONG: &str =
+    "Writes the open orders, receipts and shipments, that are needed in another\n\
+period than they come in: ACTION is expedite, defer, or cancel, the last where\n\
+what is there and comes before is enough in all periods. It changes no plan.\n\n  \
+advice,ACTION,KIND,PLANT,ITEM,SUPPLIER,PERIOD,DATE,QUANTITY,NEEDED,NEEDED_DATE";
+
+const ADVICE_EXAMPLE: &str = "Example: mrp advice < firm.csv";
+
+/// Reads the words of a command line, of which the first is the program's name: the choice is the
+/// subcommand that `clap` reads in them, with its values. It is made only of words in which `clap`
+/// finds no fault.
+///
+/// # Errors
+///
+/// [`ChooseFault::Words`] where `clap` refuses the words, was asked for help or the version, or ran out of
+/// memory: the error has one of the kinds that the words have, or `OutOfMemory`. [`ChooseFault::Memory`] where a
+/// growth was refused. Where `clap` takes the words, memory alone is missing.
+pub fn choose<'a>(alloc: Global, words: &'a [&'a str]) -> Result<Choice<'a>, ChooseFault>
+    ensures range { IfOk result IsInRange }
+    ensures choice { IfOk result (IsChosenBy (texts_of words.now)) }
+    ensures free { IfOk result (λ _. fault_of mrp (texts_of words.now) ≡ []) }
+    ensures taken { takes mrp (texts_of words.now) ≡ true → IfErr result IsMemory }
+    ensures refused { IfErr result (IsRefusalOf (texts_of words.now)) }
+{
+    let Ok(command) = program(alloc) else {
+        return Err(ChooseFault::Memory);
+    };
+    match command.try_get_matches_from(words) {
+        Ok(matches) => Ok(chosen(&matches)),
+        Err(error) => Err(ChooseFault::Words(error)),
+    }
+}
+
+// What makes a `Command` says `let .. else` where a `?` would do: its check takes half the time.
+
+/// The whole command line.
+fn program<'a>(alloc: Global) -> Result<Command<'a>, AllocError>
+    ensures { IfOk result (λ command. app_of command ≡ mrp) }
+{
+    let line = with(Ok(described(alloc)), plan_command(alloc));
+    let check = headed_command(alloc, "check", CHECK, CHECK_LONG, CHECK_EXAMPLE);
+    let line = with(line, check);
+    let line = with(line, peg_command(alloc));
+    let cums = headed_command(alloc, "cums", CUMS, CUMS_LONG, CUMS_EXAMPLE);
+    let line = with(line, cums);
+    let line = with(line, orders_command(alloc));
+    let line = with(line, schedule_command(alloc));
+    let pegs = headed_command(alloc, "pegs", PEGS, PEGS_LONG, PEGS_EXAMPLE);
+    let line = with(line, pegs);
+    let advice = headed_command(alloc, "advice", ADVICE, ADVICE_LONG, ADVICE_EXAMPLE);
+    with(line, advice)
+}
+
+/// The command line with one command more, where both were made.
+fn with<'a>(
+    line: Result<Command<'a>, AllocError>,
+    command: Result<Command<'a>, AllocError>,
+) -> Result<Command<'a>, AllocError>
+    ensures { (app sub : App) → IfOk line.entry (λ old. app_of old ≡ app) → IfOk command.entry (IsWorded sub)
+        → IfOk result (λ new. app_of new ≡ with_subcommand app sub.top) }
+{
+    let Ok(old) = line else {
+        drop(command);
+        return Err(AllocError);
+    };
+    let Ok(more) = command else {
+        drop(old);
+        return Err(AllocError);
+    };
+    old.subcommand(more)
+}
+
+/// What the command line says of itself, without a command.
+fn described<'a>(alloc: Global) -> Command<'a>
+    ensures { app_of result ≡ program_words (codes "mrp") }
+{
+    Command::new(alloc, "mrp")
+        .version(VERSION)
+        .about(ABOUT)
+        .after_help(AFTER)
+        .subcommand_required(true)
+}
+
+/// The command that is called `name`, with what help says of it, and without an argument.
+fn explained<'a>(
+    alloc: Global,
+    name: &'a str,
+    about: &'a str,
+    long_about: &'a str,
+    example: &'a str,
+) -> Command<'a>
+    ensures { IsWorded (new_app name.entry.now) result }
+{
+    Command::new(alloc, name)
+        .about(about)
+        .long_about(long_about)
+        .after_help(example)
+}
+
+/// The command that is called `name`, with what help says of it, and with `--header` alone.
+fn headed_command<'a>(
+    alloc: Global,
+    name: &'a str,
+    about: &'a str,
+    long_about: &'a str,
+    example: &'a str,
+) -> Result<Command<'a>, AllocError>
+    ensures { IfOk result (IsWorded (with_rule (new_app name.entry.now) rule.header)) }
+{
+    let headed = explained(alloc, name, about, long_about, example);
+    headed.arg(header_flag(alloc))
+}
+
+/// `--header`.
+fn header_flag<'a>(alloc: Global) -> Arg<'a>
+    ensures { IsRuled rule.header result }
+{
+    Arg::new(alloc, "header")
+        .long("header")
+        .action(ArgAction::SetTrue)
+        .help("Write the names of the columns above the rows")
+}
+
+/// `plan`.
+fn plan_command<'a>(alloc: Global) -> Result<Command<'a>, AllocError>
+    ensures { IfOk result (IsWorded plan_words) }
+{
+    let plan = explained(alloc, "plan", PLAN, PLAN_LONG, PLAN_EXAMPLE);
+    let Ok(with_workers) = plan.arg(workers_option(alloc)) else {
+        return Err(AllocError);
+    };
+    let Ok(with_both) = with_workers.arg(capacity_option(alloc)) else {
+        return Err(AllocError);
+    };
+    with_both.arg(single_flag(alloc))
+}
+
+/// `--workers`.
+fn workers_option<'a>(alloc: Global) -> Arg<'a>
+    ensures { IsRuled rule.workers result }
+{
+    let help =
+        "Workers of each plant, 1 to 64; more than one took longer on every table that was measured";
+    number_option(alloc, "workers", "W", MOST_WORKERS, "1", help)
+}
+
+/// `--capacity`.
+fn capacity_option<'a>(alloc: Global) -> Arg<'a>
+    ensures { IsRuled rule.capacity result }
+{
+    let help = "Records that wait between two plants at most, 1 to 65536";
+    number_option(alloc, "capacity", "C", MOST_CAPACITY, "64", help)
+}
+
+/// The option that is called `name`, with a number from 1 to `most`, and with the number
+/// `otherwise` where it is left out.
+fn number_option<'a>(
+    alloc: Global,
+    name: &'a str,
+    value_name: &'a str,
+    most: u64,
+    otherwise: &'a str,
+    help: &'a str,
+) -> Arg<'a>
+    requires { (1 ≤ most) × (most ≤ MOST_CAPACITY) }
+    ensures { IsRuled (rule.number_option name.entry.now 1 most otherwise.entry.now) result }
+{
+    Arg::new(alloc, name)
+        .long(name)
+        .value_name(value_name)
+        .value_parser(numbers(1, most))
+        .default_value(otherwise)
+        .help(help)
+}
+
+/// The numbers from `least` to `most`.
+fn numbers<'a>(least: u64, most: u64) -> ValueParser<'a>
+    requires { (least ≤ most) × (most ≤ MOST_CAPACITY) }
+    ensures { result ≡ Unsigned least most }
+{
+    value_parser!(u64).range(least as i64..most as i64 + 1)
+}
+
+/// `--single`.
+fn single_flag<'a>(alloc: Global) -> Arg<'a>
+    ensures { IsRuled rule.single result }
+{
+    Arg::new(alloc, "single")
+        .long("single")
+        .action(ArgAction::SetTrue)
+        .help("Plan all plants on one thread")
+}
+
+/// `orders`.
+fn orders_command<'a>(alloc: Global) -> Result<Command<'a>, AllocError>
+    ensures { IfOk result (IsWorded orders_words) }
+{
+    let orders = explained(alloc, "orders", ORDERS, ORDERS_LONG, ORDERS_EXAMPLE);
+    let Ok(with_until) = orders.arg(until_option(alloc)) else {
+        return Err(AllocError);
+    };
+    with_until.arg(header_flag(alloc))
+}
+
+/// `--until`.
+fn until_option<'a>(alloc: Global) -> Arg<'a>
+    ensures { IsRuled rule.until result }
+{
+    Arg::new(alloc, "until")
+        .long("until")
+        .value_name("PERIOD")
+        .value_parser(numbers(0, LAST_PERIOD))
+        .help("The last period of a release, 0 to 103; without it all orders")
+}
+
+/// `schedule`.
+fn schedule_command<'a>(alloc: Global) -> Result<Command<'a>, AllocError>
+    ensures { IfOk result (IsWorded schedule_words) }
+{
+    let schedule = explained(alloc, "schedule", SCHEDULE, SCHEDULE_LONG, SCHEDULE_EXAMPLE);
+    let Ok(with_from) = schedule.arg(from_option(alloc)) else {
+        return Err(AllocError);
+    };
+    let Ok(with_to) = with_from.arg(to_option(alloc)) else {
+        return Err(AllocError);
+    };
+    with_to.arg(header_flag(alloc))
+}
+
+/// `--from`.
+fn from_option<'a>(alloc: Global) -> Arg<'a>
+    ensures { IsRuled rule.from result }
+{
+    let help = "The supplier plant; without it all";
+    free_text_option(alloc, "from", "PLANT", help)
+}
+
+/// `--to`.
+fn to_option<'a>(alloc: Global) -> Arg<'a>
+    ensures { IsRuled rule.to result }
+{
+    let help = "The customer plant; without it all";
+    free_text_option(alloc, "to", "PLANT", help)
+}
+
+/// The option that is called `name`, with a text, which may be left out.
+fn free_text_option<'a>(alloc: Global, name: &'a str, value_name: &'a str, help: &'a str) -> Arg<'a>
+    ensures { IsRuled (rule.free_text_option name.entry.now) result }
+{
+    Arg::new(alloc, name)
+        .long(name)
+        .value_name(value_name)
+        .help(help)
+}
+
+/// `peg`.
+fn peg_command<'a>(alloc: Global) -> Result<Command<'a>, AllocError>
+    ensures { IfOk result (IsWorded peg_words) }
+{
+    let peg = explained(alloc, "peg", PEG, PEG_LONG, PEG_EXAMPLE);
+    let Ok(with_plant) = peg.arg(plant_argument(alloc)) else {
+        return Err(AllocError);
+    };
+    let Ok(with_item) = with_plant.arg(item_argument(alloc)) else {
+        return Err(AllocError);
+    };
+    let Ok(with_period) = with_item.arg(period_argument(alloc)) else {
+        return Err(AllocError);
+    };
+    with_period.arg(header_flag(alloc))
+}
+
+/// The plant of `peg`.
+fn plant_argument<'a>(alloc: Global) -> Arg<'a>
+    ensures { IsRuled rule.plant result }
+{
+    wanted_argument(alloc, "plant", "PLANT", "The name of the plant")
+}
+
+/// The item of `peg`.
+fn item_argument<'a>(alloc: Global) -> Arg<'a>
+    ensures { IsRuled rule.item result }
+{
+    wanted_argument(alloc, "item", "ITEM", "The name of the item")
+}
+
+/// The period of `peg`.
+fn period_argument<'a>(alloc: Global) -> Arg<'a>
+    ensures { IsRuled rule.period result }
+{
+    let parser = numbers(0, LAST_PERIOD);
+    wanted_argument(alloc, "period", "PERIOD", "The period, 0 to 103").value_parser(parser)
+}
+
+/// The argument that is called `name` and has to be there.
+fn wanted_argument<'a>(alloc: Global, name: &'a str, value_name: &'a str, help: &'a str) -> Arg<'a>
+    ensures { IsRuled (rule.wanted name.entry.now) result }
+{
+    Arg::new(alloc, name)
+        .value_name(value_name)
+        .required(true)
+        .help(help)
+}
+
+/// The choice that the matches name.
+fn chosen<'a>(matches: &ArgMatches<'a>) -> Choice<'a>
+    requires { IsWholeCommand (subcommand_rows_of matches.now) }
+    ensures range { IsInRange result }
+    ensures choice { IsMeantBy (subcommand_rows_of matches.now) result }
+{
+    let Some((name, values)) = matches.subcommand() else {
+        unreachable!()
+    };
+    if name == "plan" {
+        planning(values)
+    } else if name == "check" {
+        Choice::Check {
+            heading: heading(values),
+        }
+    } else if name == "peg" {
+        pegging(values)
+    } else if name == "cums" {
+        Choice::Cums {
+            heading: heading(values),
+        }
+    } else {
+        reporting(name, values)
+    }
+}
+
+/// The choice of a report on the whole plan: its orders, schedules, pegs or advice.
+fn reporting<'a>(name: &str, values: &ArgMatches<'a>) -> Choice<'a>
+    requires { IsWholeReport name.now (rows_of (found_of values.now)) }
+    ensures range { IsInRange result }
+    ensures choice { IsCommand name.now (rows_of (found_of values.now)) result }
+{
+    if name == "orders" {
+        ordering(values)
+    } else if name == "schedule" {
+        scheduling(values)
+    } else if name == "pegs" {
+        Choice::Pegs {
+            heading: heading(values),
+        }
+    } else {
+        Choice::Advice {
+            heading: heading(values),
+        }
+    }
+}
+
+/// The values of `plan`.
+fn planning<'a>(values: &ArgMatches<'a>) -> Choice<'a>
+    requires { HasPlanValues (rows_of (found_of values.now)) }
+    ensures range { IsInRange result }
+    ensures choice { IsCommand (codes "plan") (rows_of (found_of values.now)) result }
+{
+    Choice::Plan {
+        workers: number(values, "workers"),
+        capacity: number(values, "capacity"),
+        single: is_given(values, "single"),
+    }
+}
+
+/// The values of `peg`.
+fn pegging<'a>(values: &ArgMatches<'a>) -> Choice<'a>
+    requires { HasPegValues (rows_of (found_of values.now)) }
+    ensures range { IsInRange result }
+    ensures choice { IsCommand (codes "peg") (rows_of (found_of values.now)) result }
+{
+    Choice::Peg {
+        plant: text(values, "plant"),
+        item: text(values, "item"),
+        period: number(values, "period"),
+        heading: heading(values),
+    }
+}
+
+/// The values of `orders`.
+fn ordering<'a>(values: &ArgMatches<'a>) -> Choice<'a>
+    requires { HasOrderValues (rows_of (found_of values.now)) }
+    ensures range { IsInRange result }
+    ensures choice { IsCommand (codes "orders") (rows_of (found_of values.now)) result }
+{
+    Choice::Orders {
+        until: free_number(values, "until"),
+        heading: heading(values),
+    }
+}
+
+/// The values of `schedule`.
+fn scheduling<'a>(values: &ArgMatches<'a>) -> Choice<'a>
+    requires { HasFlag (codes "header") (rows_of (found_of values.now)) }
+    ensures range { IsInRange result }
+    ensures choice { IsCommand (codes "schedule") (rows_of (found_of values.now)) result }
+{
+    Choice::Schedule {
+        from: free_text(values, "from"),
+        to: free_text(values, "to"),
+        heading: heading(values),
+    }
+}
+
+/// Whether the names of the columns are asked for.
+fn heading(values: &ArgMatches<'_>) -> Heading
+    requires { HasFlag (codes "header") (rows_of (found_of values.now)) }
+    ensures { IsHeadedBy (rows_of (found_of values.now)) result }
+{
+    if is_given(values, "header") {
+        Heading::Names
+    } else {
+        Heading::Without
+    }
+}
+
+/// The number of an argument, if it has one.
+fn free_number(values: &ArgMatches<'_>, name: &str) -> Option<u64>
+    requires { MayHaveNumber name.now (rows_of (found_of values.now)) }
+    ensures { number_value name.now (rows_of (found_of values.now)) ≡ result }
+{
+    values.get_one::<u64>(name)
+}
+
+/// The text of an argument, if it has one.
+fn free_text<'a>(values: &ArgMatches<'a>, name: &str) -> Option<&'a str>
+    ensures { text_at name.now (rows_of (found_of values.now)) ≡ word_text result }
+{
+    values.get_str(name)
+}
+
+/// The number of an argument that has one.
+fn number(values: &ArgMatches<'_>, name: &str) -> u64
+    requires { HasNumber name.now (rows_of (found_of values.now)) }
+    ensures { number_value name.now (rows_of (found_of values.now)) ≡ Some result }
+{
+    values.get_one::<u64>(name).unwrap()
+}
+
+/// Whether a flag is given.
+fn is_given(values: &ArgMatches<'_>, name: &str) -> bool
+    requires { HasFlag name.now (rows_of (found_of values.now)) }
+    ensures { flag_at name.now (rows_of (found_of values.now)) ≡ result }
+{
+    values.get_flag(name)
+}
+
+/// The text of an argument that has one.
+fn text<'a>(values: &ArgMatches<'a>, name: &str) -> &'a str
+    requires { HasNameValue name.now (rows_of (found_of values.now)) }
+    ensures { text_at name.now (rows_of (found_of values.now)) ≡ Some result.now }
+{
+    values.get_str(name).unwrap()
+}

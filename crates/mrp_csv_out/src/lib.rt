@@ -1,0 +1,17 @@
+//! Sheets of comma-separated rows: what a report is made of. Rows are written into a room of their own and
+//! then sent whole to a writer, with the names of the columns above them where these are asked for.
+//!
+//! A row ends with a line feed. Names, numbers, dates and the words of a report need no quotes, so no field
+//! gets any. The room is taken before the first byte is sent: where it is refused, the writer is as it was.
+#![tactic(auto)]
+
+mod dates;
+mod fault;
+mod rows;
+mod writing;
+
+pub use dates::{date_of, date_texts};
+pub use fault::ReportFault;
+pub use mrp_commands::Heading;
+pub use rows::{put_names, put_row, room_for, rows_in, text_of};
+pub use writing::send;

@@ -1,5 +1,0 @@
-use Rattle.mrp_events.proofs.LocalSending as proved
-use Rattle.mrp_events.proofs.local_laws.local_goods_are_small.Goals as goal
-
-pub returns : goal.returns
-returns c = proved.local_goods_are_small

@@ -1,0 +1,47 @@
+//! **The theorem.** A table has one plan by the rules of material requirements planning, or it is refused.
+//! On success what a text function has written is exactly the report of that plan. A refusal is the first fault
+//! that holds, and nothing is written. After any other fault what was written is a prefix of the right report.
+//!
+//! The planner as a library: a table from any reader, a report to any writer.
+//! [`plan_text`] writes the plan, each plant planned in a thread of its own (by construction; no clause says so),
+//! and [`drive_text`] the same plan on one thread; [`check_text`] writes the low-level codes, [`peg_text`] what a gross
+//! requirement consists of, and [`pegs_text`] so of the whole plan, [`cums_text`] the cumulative figures of the lanes
+//! between plants, [`orders_text`] the planned orders, [`schedule_text`] the delivery schedules between plants,
+//! and [`advice_text`] which open orders to move. [`report_text`] writes the report that a `Choice` of `mrp_commands`
+//! asks for on one thread, and [`answer`] that and a plan by threads. A [`Heading`] says whether the names of the
+//! columns stand above the rows; for codes, terms and figures a `Choice` has one.
+//! Where a text was not written whole, a [`TextFault`] says why: [`write_fault`] writes the line that
+//! reports it, and [`status`] and [`exit_status`] are the statuses with which a program ends. [`ended`]
+//! does both after the work, [`after_help`] after help or the version, and [`unread`] where the arguments
+//! can't be read.
+//!
+//! No call ends the process: a growth that is refused is [`TextFault::Memory`], or while the table is read
+//! [`TextFault::Table`] with that kind.
+#![tactic(auto)]
+
+mod answers;
+mod ending;
+mod fault;
+mod firm;
+mod laws;
+mod lines;
+mod network;
+mod run;
+mod text;
+mod writing;
+
+pub use answers::{answer, exit_status};
+pub use ending::{Ending, REFUSED, after_help, ended, unread};
+pub use fault::{PairName, TextFault, status};
+pub use laws::{
+    bytes_make_one_table, figures_are_called_for, reports_are_one, reports_exclude_refusals,
+    tables_are_read,
+};
+pub use lines::write_fault;
+pub use mrp_commands::Heading;
+pub use mrp_report::ReportFault;
+pub use mrp_run::{Gate, NoGate, Settings};
+pub use text::{
+    advice_text, check_text, cums_text, drive_text, orders_text, peg_text, pegs_text, plan_text,
+    report_text, schedule_text,
+};

@@ -1,0 +1,111 @@
+-- The loops that make a plant's view: what passes a test is pushed, in order.
+use Rattle.std.proofs.Common.{◌≡◌, ◌≢◌, ◌==◌, ℕ, ◌+◌, ◌<◌, ◌≤◌, Bool, true, false, cond, List, [], ◌∷◌, ◌++◌, length, get_or, map, take, refl, sym, ap, subst}
+use Rattle.std.proofs.Common.{◌∙◌, add-one, arith}
+use Rattle.std.specs.List.{Contains, filter, flat_map, range_with_len}
+use Rattle.std.proofs.lemmas.Bool.{eq-eqb, ne_eqb}
+use Rattle.std.proofs.lemmas.Grind.{flat_map-append}
+use Rattle.std.proofs.lemmas.List.{append-nil, map-append, take_all, take_more}
+use Rattle.std.proofs.lemmas.List.Elements.{Contains-get_or, filter-append}
+use Rattle.mrp_table_rows.specs.Table.{Table, horizon}
+use Rattle.mrp_net.specs.declared.lane.Lane.{Lane}
+use Rattle.mrp_net.specs.Lanes.{lane_at, lane_items}
+use Rattle.mrp_plant_view.specs.Loads.{OutgoingLoad}
+use Rattle.mrp_plant_view.specs.declared.view.IncomingItem.{IncomingItem}
+use Rattle.mrp_plant_view.specs.declared.view.IncomingLane.{IncomingLane}
+use Rattle.mrp_plant_view.specs.declared.view.OutgoingLane.{OutgoingLane}
+use Rattle.mrp_plant_view.specs.declared.view.PlantEdge.{PlantEdge}
+use Rattle.mrp_plant_view.specs.declared.view.PlantPair.{PlantPair}
+use Rattle.mrp_net.specs.Sums.{row_of, demand, received}
+use Rattle.mrp_plant_view.specs.View.{PlantRows, plant_pairs, plant_edges, plant_amounts, edges_to, incoming_item, incoming_lane, incoming_lanes, outgoing_item}
+use Rattle.mrp_plant_view.specs.View.{outgoing_lane, outgoing_lanes, plant_rows}
+use Rattle.mrp_table_rows.proofs.Grouping.{range-suc}
+
+-- one number more of a range
+range_more : {Y : Type 0} (f : ℕ → Y) (p : ℕ → Bool) (k : ℕ) (b : Bool) → p k ≡ b
+    → map f (filter p (range_with_len 0 (k + 1))) ≡ map f (filter p (range_with_len 0 k)) ++ map f (cond b (k ∷ []) [])
+range_more {Y} f p k b h =
+    ap (λ (z : ℕ). map f (filter p (range_with_len 0 z))) (add-one k)
+    ∙ ap (λ (z : List ℕ). map f (filter p z)) (range-suc k)
+    ∙ ap (map f) (filter-append p (range_with_len 0 k) (k ∷ []))
+    ∙ map-append f (filter p (range_with_len 0 k)) (filter p (k ∷ []))
+    ∙ ap (λ (z : Bool). map f (filter p (range_with_len 0 k)) ++ map f (cond z (k ∷ []) [])) h
+
+range_pushed : {Y : Type 0} (f : ℕ → Y) (p : ℕ → Bool) (k : ℕ) (before : List Y) (y : Y) → p k ≡ true → before ≡ map f (filter p (range_with_len 0 k)) → y ≡ f k
+    → before ++ y ∷ [] ≡ map f (filter p (range_with_len 0 (k + 1)))
+range_pushed {Y} f p k before y passes was is =
+    ap (λ (z : List Y). z ++ y ∷ []) was ∙ ap (λ (z : Y). map f (filter p (range_with_len 0 k)) ++ z ∷ []) is ∙ sym (range_more f p k true passes)
+
+range_passed : {Y : Type 0} (f : ℕ → Y) (p : ℕ → Bool) (k : ℕ) (before : List Y) → p k ≡ false → before ≡ map f (filter p (range_with_len 0 k))
+    → before ≡ map f (filter p (range_with_len 0 (k + 1)))
+range_passed f p k before fails was = was ∙ sym (append-nil (map f (filter p (range_with_len 0 k)))) ∙ sym (range_more f p k false fails)
+
+-- one that stands at the plant is pushed, and any other is passed
+pub at_plant_pushed : {X Y : Type 0} (f : ℕ → Y) (at : ℕ → X) (plant_of : X → ℕ) (plant k : ℕ) (before after : List Y) (x : X) (y : Y) → x ≡ at k
+    → plant_of x ≡ plant
+    → before ≡ map f (filter (λ j. plant_of (at j) == plant) (range_with_len 0 k)) → after ≡ before ++ y ∷ [] → y ≡ f k
+    → after ≡ map f (filter (λ j. plant_of (at j) == plant) (range_with_len 0 (k + 1)))
+at_plant_pushed f at plant_of plant k before after x y read here was new is =
+    new ∙ range_pushed f (λ j. plant_of (at j) == plant) k before y (eq-eqb (plant_of (at k)) plant (ap plant_of (sym read) ∙ here)) was is
+
+pub at_plant_passed : {X Y : Type 0} (f : ℕ → Y) (at : ℕ → X) (plant_of : X → ℕ) (plant k : ℕ) (before after : List Y) (x : X) → x ≡ at k → plant_of x ≢ plant
+    → before ≡ map f (filter (λ j. plant_of (at j) == plant) (range_with_len 0 k)) → after ≡ before
+    → after ≡ map f (filter (λ j. plant_of (at j) == plant) (range_with_len 0 (k + 1)))
+at_plant_passed f at plant_of plant k before after x read apart was same =
+    same ∙ range_passed f (λ j. plant_of (at j) == plant) k before (ne_eqb (plant_of (at k)) plant (λ e. apart (ap plant_of read ∙ e))) was
+
+pub flat_pushed : {X Y : Type 0} (f : X → List Y) (xs : List X) (i : ℕ) (x : X) (now next : List Y) → i < length xs → x ≡ get_or xs i x
+    → now ≡ flat_map f (take i xs) → next ≡ now ++ f x → next ≡ flat_map f (take (i + 1) xs)
+flat_pushed {X} {Y} f xs i x now next lt read was new =
+    new
+    ∙ ap (λ (z : List Y). z ++ f x) was
+    ∙ ap (λ (z : List Y). flat_map f (take i xs) ++ z) (sym (append-nil (f x)) ∙ ap (λ (z : X). flat_map f (z ∷ [])) read)
+    ∙ sym (ap (flat_map f) (take_more xs i x lt) ∙ flat_map-append f (take i xs) (get_or xs i x ∷ []))
+
+-- and all of them
+pub taken_all : {X Y : Type 0} (f : List X → List Y) (xs : List X) (i : ℕ) (now : List Y) → length xs ≤ i → now ≡ f (take i xs) → now ≡ f xs
+taken_all f xs i now end was = was ∙ ap f (take_all i xs end)
+
+pub ended : (k end count : ℕ) → k ≤ end → end ≤ k → end ≡ count → k ≡ count
+ended k end count within over same = omega (arith, within, over, same)
+
+-- an element of a list that equals another
+pub at_index : {X : Type 0} (xs ys : List X) (i : ℕ) (d : X) → i < length ys → ys ≡ xs → Contains xs (get_or ys i d)
+at_index {X} xs ys i d lt same = subst (λ (zs : List X). Contains zs (get_or ys i d)) same (Contains-get_or ys i d lt)
+
+-- a lane of the view
+pub is_incoming : (N : Table) (l : ℕ) (lane : Lane) (items : List IncomingItem) → lane ≡ lane_at N l
+    → items ≡ map (incoming_item N (lane_at N l)) (lane_items N (lane_at N l))
+    → ◌≡◌ {A = IncomingLane} (record { number = record { 0 = l }; kind = lane.kind; items = items }) (incoming_lane N l)
+is_incoming N l lane items same its = rw (same, its) refl
+
+pub is_outgoing : (N : Table) (l : ℕ) (lane : Lane) (items : List OutgoingLoad) → lane ≡ lane_at N l
+    → items ≡ map (outgoing_item N (lane_at N l)) (lane_items N (lane_at N l))
+    → ◌≡◌ {A = OutgoingLane} (record { number = record { 0 = l }; kind = lane.kind; items = items }) (outgoing_lane N l)
+is_outgoing N l lane items same its = rw (same, its) refl
+
+-- all parts of the view
+abbrev rows : ℕ → List PlantPair → List PlantEdge → List ℕ → List ℕ → List IncomingLane → List OutgoingLane → PlantRows
+rows h pairs edges demands receipts ins outs =
+    record { horizon = h; pairs = pairs; edges = edges; demands = demands; receipts = receipts; incoming = ins; outgoing = outs }
+
+pub rows_are : (N : Table) (plant h : ℕ) (pairs : List PlantPair) (edges : List PlantEdge) (demands receipts : List ℕ) (ins : List IncomingLane)
+    (outs : List OutgoingLane)
+    → h ≡ horizon N → pairs ≡ plant_pairs N plant → edges ≡ flat_map (λ p. edges_to N p.number.0) pairs
+    → demands ≡ flat_map (λ p. row_of N (demand N p.number.0)) pairs → receipts ≡ flat_map (λ p. row_of N (received N p.number.0)) pairs
+    → ins ≡ incoming_lanes N plant → outs ≡ outgoing_lanes N plant
+    → rows h pairs edges demands receipts ins outs ≡ plant_rows N plant
+rows_are N plant h pairs edges demands receipts ins outs is_h is_pairs is_edges is_demands is_receipts is_ins is_outs =
+    let all = plant_pairs N plant in
+    let edges_are : edges ≡ plant_edges N plant = is_edges ∙ ap (flat_map (λ (p : PlantPair). edges_to N p.number.0)) is_pairs in
+    let demands_are : demands ≡ plant_amounts N (demand N) plant = is_demands ∙ ap (flat_map (λ (p : PlantPair). row_of N (demand N p.number.0))) is_pairs in
+    let receipts_are : receipts ≡ plant_amounts N (received N) plant =
+    is_receipts ∙ ap (flat_map (λ (p : PlantPair). row_of N (received N p.number.0))) is_pairs in
+    ap (λ (z : ℕ). rows z pairs edges demands receipts ins outs) is_h
+    ∙ ap (λ (z : List PlantPair). rows (horizon N) z edges demands receipts ins outs) is_pairs
+    ∙ ap (λ (z : List PlantEdge). rows (horizon N) all z demands receipts ins outs) edges_are
+    ∙ ap (λ (z : List ℕ). rows (horizon N) all (plant_edges N plant) z receipts ins outs) demands_are
+    ∙ ap (λ (z : List ℕ). rows (horizon N) all (plant_edges N plant) (plant_amounts N (demand N) plant) z ins outs) receipts_are
+    ∙ ap (λ (z : List IncomingLane). rows (horizon N) all (plant_edges N plant) (plant_amounts N (demand N) plant) (plant_amounts N (received N) plant) z outs)
+    is_ins
+    ∙ ap (λ (z : List OutgoingLane). rows (horizon N) all (plant_edges N plant) (plant_amounts N (demand N) plant) (plant_amounts N (received N) plant)
+    (incoming_lanes N plant) z) is_outs

@@ -1,0 +1,104 @@
+-- What a plant plans from its own view and from the records that have come to it. `taken` has the
+-- records of each lane by the lane's number, `planned` and `plans` say which pairs are planned and how,
+-- by the pair's number.
+use Rattle.std.specs.Prelude.{◌≡◌, ℕ, ◌+◌, ◌*◌, ◌==◌, if◌then◌else◌, not, Bool, true, false}
+use Rattle.std.specs.Prelude.{List, map, filter, sum_by, slice_index, All, Contains}
+use Rattle.std.specs.List.{position_or_len, range_with_len}
+use Rattle.mrp_lot.specs.One.{PlanRows, one}
+use Rattle.mrp_table_rows.specs.declared.numbers.ItemNo.{ItemNo}
+use Rattle.mrp_table_rows.specs.declared.numbers.PairNo.{PairNo}
+use Rattle.mrp_net.specs.declared.lane.LaneKind.{LaneKind}
+use Rattle.mrp_net.specs.declared.lane.LaneKind.TheVariants.{Despatch, Schedule}
+use Rattle.mrp_net.specs.LaneLaws.{is_despatch}
+use Rattle.mrp_plant_view.specs.declared.view.IncomingLane.{IncomingLane}
+use Rattle.mrp_plant_view.specs.declared.view.PlantPair.{PlantPair}
+use Rattle.mrp_plant_view.specs.View.{PlantRows}
+use Rattle.mrp_record.specs.declared.record.Record.{Record}
+use Rattle.mrp_record.specs.Entries.{Entry, contents, is_ended}
+use Rattle.mrp_record.specs.Blocks.{deliveries}
+use Rattle.mrp_record.specs.Laws.{quantity_in}
+
+-- ---- what has come
+
+-- the pieces of an item that are delivered in a period
+abbrev pub pieces_in : ℕ → ℕ → List Entry → ℕ
+pieces_in item period entries = quantity_in period (deliveries item entries)
+
+-- the lanes that come in, of one kind
+abbrev pub is_of_kind : LaneKind → LaneKind → Bool
+is_of_kind Despatch kind = is_despatch kind
+is_of_kind Schedule kind = not (is_despatch kind)
+
+abbrev pub lanes_in : LaneKind → PlantRows → List IncomingLane
+lanes_in kind V = filter (λ lane. is_of_kind kind lane.kind) V.incoming
+
+-- what lanes of one kind have brought of an item for a period: on despatch lanes what is to arrive, on
+-- schedule lanes what is called for
+abbrev pub booked_on : LaneKind → PlantRows → (ℕ → List Record) → ItemNo → ℕ → ℕ
+booked_on kind V taken item period =
+    sum_by (λ lane. pieces_in item.0 period (contents (taken lane.number.0))) (lanes_in kind V)
+
+-- ---- the plan of a pair
+
+-- the place of a pair among the plant's, and its amount of a period
+abbrev pub place_in : PlantRows → PairNo → ℕ
+place_in V x = position_or_len (λ p. p.number.0 == x.0) V.pairs
+
+abbrev pub amount_at : PlantRows → List ℕ → PairNo → ℕ → ℕ
+amount_at V amounts x period = slice_index amounts (place_in V x * V.horizon + period)
+
+-- what the releases of its parents ask of a pair
+abbrev pub asked_within : PlantRows → (ℕ → PlanRows) → PairNo → ℕ → ℕ
+asked_within V plans x period =
+    sum_by (λ e. if e.component.0 == x.0 then e.per * slice_index (plans e.parent.0).release period else 0) V.edges
+
+-- scheduled receipts: the receipt rows, and what has come on despatch lanes
+abbrev pub local_incoming : PlantRows → (ℕ → List Record) → PlantPair → ℕ → ℕ
+local_incoming V taken p period =
+    amount_at V V.receipts p.number period + booked_on Despatch V taken p.item period
+
+-- gross requirement: the demand rows, what the parents ask, and what is called for on schedule lanes
+abbrev pub local_gross : PlantRows → (ℕ → List Record) → (ℕ → PlanRows) → PlantPair → ℕ → ℕ
+local_gross V taken plans p period =
+    amount_at V V.demands p.number period + asked_within V plans p.number period
+    + booked_on Schedule V taken p.item period
+
+-- an amount for each period, as a row
+abbrev pub local_row : PlantRows → (ℕ → ℕ) → List ℕ
+local_row V amount = map amount (range_with_len 0 V.horizon)
+
+abbrev pub local_plan : PlantRows → (ℕ → List Record) → (ℕ → PlanRows) → PlantPair → PlanRows
+local_plan V taken plans p =
+    one p.params (local_row V (local_incoming V taken p)) (local_row V (local_gross V taken plans p))
+
+-- ---- which pairs can be planned
+
+-- a lane has the item
+abbrev pub Carries : IncomingLane → ItemNo → Type 0
+Carries lane item = Contains (map (λ i. i.item) lane.items) item
+
+-- the item's whole block has come, if the lane has one
+abbrev pub HasCome : (ℕ → List Record) → ItemNo → IncomingLane → Type 0
+HasCome taken item lane = Carries lane item → is_ended item.0 (contents (taken lane.number.0)) ≡ true
+
+-- nothing is missing for the plan of a pair: its parents are planned, and each lane that comes in has
+-- brought what it has of the item
+pub record AwaitsNothing (V : PlantRows) (taken : ℕ → List Record) (planned : ℕ → Bool) (p : PlantPair) : Type 0 where
+  pub parents : All (λ e. e.component.0 ≡ p.number.0 → planned e.parent.0 ≡ true) V.edges
+  pub brought : All (HasCome taken p.item) V.incoming
+
+pub record CanBePlanned (V : PlantRows) (taken : ℕ → List Record) (planned : ℕ → Bool) (p : PlantPair) : Type 0 where
+  pub unplanned : planned p.number.0 ≡ false
+  pub ready : AwaitsNothing V taken planned p
+
+-- ---- plans
+
+-- a pair was planned when nothing was missing for it, and by the rules
+pub record IsPlannedLocally (V : PlantRows) (taken : ℕ → List Record) (planned : ℕ → Bool) (plans : ℕ → PlanRows)
+    (p : PlantPair) : Type 0 where
+  pub ready : AwaitsNothing V taken planned p
+  pub plan : plans p.number.0 ≡ local_plan V taken plans p
+
+-- and so was each of the plant's pairs that is planned
+abbrev pub IsLocal : PlantRows → (ℕ → List Record) → (ℕ → Bool) → (ℕ → PlanRows) → Type 0
+IsLocal V taken planned plans = All (λ p. planned p.number.0 ≡ true → IsPlannedLocally V taken planned plans p) V.pairs

@@ -1,0 +1,206 @@
+-- The rows read one after the other.
+use Rattle.std.proofs.Common.{◌≡◌, ◌⊎◌, inl, inr, ◌<◌, ◌≤◌, ◌+◌, ℕ, nat_le, Bool, true, false, List, [], ◌∷◌, ◌++◌, length, map, Option, Some, None, Result, Ok}
+use Rattle.std.proofs.Common.{Err, refl, sym, ap, subst, ◌∙◌, arith, append_assoc, append-nil, length-append}
+use Rattle.std.specs.List.{All}
+use Rattle.std.proofs.lemmas.Bool.{true≢false}
+use Rattle.std.proofs.lemmas.Bool.Decides.{nat_tests}
+use Rattle.std.proofs.lemmas.List.{length-map, length_push, map-append}
+use Rattle.std.proofs.lemmas.List.Elements.{All-push}
+use Rattle.mrp_table_rows.specs.Table.{Table}
+use Rattle.mrp_record.specs.declared.record.Record.{Record}
+use Rattle.mrp_tables.specs.Left.{OfLeft, TakesRow}
+use Rattle.mrp_record_csv.specs.declared.fault.RecordFaultKind.{RecordFaultKind}
+use Rattle.mrp_record_csv.specs.declared.fault.RecordFaultKind.TheVariants as fault
+use Rattle.mrp_qty.specs.declared.limits.TheConstants.{MOST_RECORDS}
+use Rattle.mrp_record_csv.specs.Rows.{HasRow, record_fields}
+use Rattle.mrp_record_csv.specs.Grammar.{record_of, spelled_record}
+use Rattle.mrp_record_csv.proofs.Spelling.{spelled_is}
+use Rattle.mrp_record_csv.specs.Reading.{AreRowsOf, HasFault, StartsWithFault, StopsAfter}
+use Rattle.mrp_record_csv.specs.Left.{AddsRecord, AreRead, is_of_row, StopsReading, TellsBad, TellsRecordFault, TellsNextRecord, TellsTakenRecord}
+
+-- ---- what one turn answers
+
+room_left : (len : ℕ) → nat_le MOST_RECORDS len ≡ false → len < MOST_RECORDS
+room_left len e = grind (arith, nat_tests)
+
+-- an answer of a row says that there was room for its record
+pub room_for : (count len : ℕ) (answer : Result Bool RecordFaultKind) → len ≡ count → (nat_le MOST_RECORDS len ≡ true → is_of_row answer ≡ false)
+    → is_of_row answer ≡ true → count < MOST_RECORDS
+room_for count len answer same room row = by (nat_le MOST_RECORDS len) refl
+  where
+    by : (b : Bool) → nat_le MOST_RECORDS len ≡ b → count < MOST_RECORDS
+    by true e = absurd (true≢false (sym row ∙ room e))
+    by false e = let lt = room_left len e in omega (arith, same)
+
+-- a row that isn't text
+pub bad_told : (N : Table) (before : Option (List (List (List ℕ)))) (count : ℕ) (k : RecordFaultKind) → (is_of_row (Err k) ≡ true → count < MOST_RECORDS)
+    → TellsBad N before k → TellsRecordFault N before count k
+bad_told N before count fault.ReadFault room bad = tt
+bad_told N before count fault.Memory room bad = tt
+bad_told N before count k room bad = (room refl, bad)
+
+-- a row with a fault
+starts_with : (N : Table) (before after : Option (List (List (List ℕ)))) (row : List (List ℕ)) (k : RecordFaultKind) → TakesRow before after row
+    → record_of N row ≡ Err k → OfLeft before (λ rows. StartsWithFault N rows k)
+starts_with N None after row k takes e = tt
+starts_with N (Some rows) None row k takes e = absurd takes
+starts_with N (Some rows) (Some rest) row k takes e = (row, rest, takes, e)
+
+pub fault_told : (N : Table) (before after : Option (List (List (List ℕ)))) (row : List (List ℕ)) (count : ℕ) (k : RecordFaultKind) → count < MOST_RECORDS
+    → TakesRow before after row → record_of N row ≡ Err k
+    → TellsRecordFault N before count k
+fault_told N before after row count fault.ReadFault room takes e = tt
+fault_told N before after row count fault.Memory room takes e = tt
+fault_told N before after row count k room takes e = (room, starts_with N before after row k takes e)
+
+-- a row or none
+pub none_there : (N : Table) (found : Bool) (before after : Option (List (List (List ℕ)))) (row : List (List ℕ)) → found ≡ false
+    → TellsTakenRecord N before after row (Ok found) → OfLeft before (λ rows. rows ≡ [])
+none_there N true before after row e taken = absurd (true≢false e)
+none_there N false before after row e taken = taken
+
+pub some_there : (N : Table) (found : Bool) (before after : Option (List (List (List ℕ)))) (row : List (List ℕ)) → found ≡ true
+    → TellsTakenRecord N before after row (Ok found) → TakesRow before after row
+some_there N true before after row e taken = taken
+some_there N false before after row e taken = absurd (true≢false (sym e))
+
+-- a record
+takes_as : (before after : Option (List (List (List ℕ)))) (row fields : List (List ℕ)) → row ≡ fields → TakesRow before after row → TakesRow before after fields
+takes_as before after row fields same takes = subst (TakesRow before after) same takes
+
+pub adds_record : (N : Table) (before after : Option (List (List (List ℕ)))) (row : List (List ℕ)) (old new : List Record) (r : Record)
+    → length old < MOST_RECORDS → TakesRow before after row
+    → spelled_record N row ≡ Ok r → new ≡ old ++ r ∷ [] → AddsRecord N before after old new
+adds_record N before after row old new r room takes is added =
+    let spelled = spelled_is N row r is in
+    record {
+      added = r;
+      has_row = spelled.0;
+      takes = takes_as before after row (record_fields N r) spelled.1 takes;
+      records = added;
+      room = room;
+    }
+
+-- why a row's reading stops
+pub stops_full : (kind : RecordFaultKind) (failed : Bool) (count len : ℕ) (left : Option (List (List (List ℕ)))) → len ≡ count
+    → StopsReading kind failed (nat_le MOST_RECORDS len ≡ true) 0 left
+    → StopsReading kind failed (MOST_RECORDS ≤ count) 0 left
+stops_full kind failed count len left same stops is = by (stops is)
+  where
+    all_read : nat_le MOST_RECORDS len ≡ true → MOST_RECORDS ≤ count
+    all_read e = grind (arith, nat_tests)
+
+    by : (failed ≡ true) ⊎ ((nat_le MOST_RECORDS len ≡ true) × OfLeft left (λ rows. 0 < length rows))
+        → (failed ≡ true) ⊎ ((MOST_RECORDS ≤ count) × OfLeft left (λ rows. 0 < length rows))
+    by (inl fails) = inl fails
+    by (inr more) = inr (all_read more.0, more.1)
+
+-- the two good answers
+pub told_none : (N : Table) (found : Bool) (before after : Option (List (List (List ℕ)))) (old new : List Record) → found ≡ false
+    → TellsNextRecord N before after old new (Ok found)
+    → (new ≡ old) × OfLeft before (λ rows. rows ≡ [])
+told_none N true before after old new e told = absurd (true≢false e)
+told_none N false before after old new e told = told
+
+pub told_record : (N : Table) (found : Bool) (before after : Option (List (List (List ℕ)))) (old new : List Record) → found ≡ true
+    → TellsNextRecord N before after old new (Ok found)
+    → AddsRecord N before after old new
+told_record N true before after old new e told = told
+told_record N false before after old new e told = absurd (true≢false (sym e))
+
+-- ---- all turns
+
+-- after one record more
+read_on : (N : Table) (all before after : Option (List (List (List ℕ)))) (old : List Record) (r : Record) → AreRead N all before old
+    → TakesRow before after (record_fields N r) → AreRead N all after (old ++ r ∷ [])
+read_on N None before after old r so_far takes = tt
+read_on N (Some rows) None after old r so_far takes = absurd so_far
+read_on N (Some rows) (Some left) None old r so_far takes = absurd takes
+read_on N (Some rows) (Some left) (Some rest) old r so_far takes =
+    so_far ∙ ap (λ t. map (record_fields N) old ++ t) takes
+    ∙ sym (append_assoc (map (record_fields N) old) (record_fields N r ∷ []) rest)
+    ∙ ap (λ t. t ++ rest) (sym (map-append (record_fields N) old (r ∷ [])))
+
+-- what stands of the records read so far
+pub record IsReadSoFar (N : Table) (all left : Option (List (List (List ℕ)))) (records : List Record) : Type 0 where
+  pub rows : AreRead N all left records
+  pub have_rows : All (HasRow N) records
+
+pub next_so_far : (N : Table) (all before after : Option (List (List (List ℕ)))) (old new : List Record) → IsReadSoFar N all before old
+    → AddsRecord N before after old new → IsReadSoFar N all after new
+next_so_far N all before after old new so_far adds =
+    subst (IsReadSoFar N all after) (sym adds.records)
+    (record {
+      rows = read_on N all before after old adds.added so_far.rows adds.takes;
+      have_rows = All-push (HasRow N) old adds.added so_far.have_rows adds.has_row;
+    })
+
+pub count_next : (N : Table) (before after : Option (List (List (List ℕ)))) (old new : List Record) → AddsRecord N before after old new
+    → length new ≡ length old + 1
+count_next N before after old new adds = ap length adds.records ∙ length_push old adds.added
+
+pub few_next : (N : Table) (before after : Option (List (List (List ℕ)))) (old new : List Record) → AddsRecord N before after old new
+    → length new ≤ MOST_RECORDS
+few_next N before after old new adds = let more = count_next N before after old new adds in let room = adds.room in omega (arith, more, room)
+
+-- at the end
+pub whole : (N : Table) (all left : Option (List (List (List ℕ)))) (records : List Record) → IsReadSoFar N all left records → OfLeft left (λ rows. rows ≡ [])
+    → length records ≤ MOST_RECORDS
+    → OfLeft all (λ rows. AreRowsOf N rows records)
+whole N None left records so_far ends few = tt
+whole N (Some rows) None records so_far ends few = absurd so_far.rows
+whole N (Some rows) (Some left) records so_far ends few = record {
+  rows_are = so_far.rows ∙ ap (λ t. map (record_fields N) records ++ t) ends ∙ append-nil (map (record_fields N) records);
+  have_rows = so_far.have_rows;
+  few = few;
+}
+
+pub ended : (N : Table) (all left : Option (List (List (List ℕ)))) (old new : List Record) → IsReadSoFar N all left old → length old ≤ MOST_RECORDS
+    → (new ≡ old) × OfLeft left (λ rows. rows ≡ [])
+    → OfLeft all (λ rows. AreRowsOf N rows new)
+ended N all left old new so_far few ends =
+    subst (λ records. OfLeft all (λ rows. AreRowsOf N rows records)) (sym ends.0) (whole N all left old so_far ends.1 few)
+
+-- at a fault
+stops_there : (N : Table) (rows : List (List (List ℕ))) (count : ℕ) (k : RecordFaultKind) → TellsRecordFault N (Some rows) count k → StopsAfter count N rows k
+stops_there N rows count fault.ReadFault told = tt
+stops_there N rows count fault.Memory told = tt
+stops_there N rows count k told = told
+
+pub stopped : (N : Table) (all left : Option (List (List (List ℕ)))) (records : List Record) (number : ℕ) (k : RecordFaultKind) → IsReadSoFar N all left records
+    → number ≡ length records + 1
+    → length records ≤ MOST_RECORDS → TellsRecordFault N left (length records) k → OfLeft all (λ rows. HasFault N rows (record { row = number; kind = k }))
+stopped N None left records number k so_far count few told = tt
+stopped N (Some rows) None records number k so_far count few told = absurd so_far.rows
+stopped N (Some rows) (Some left) records number k so_far count few told = record {
+  before = records;
+  rest = left;
+  rows_are = so_far.rows;
+  have_rows = so_far.have_rows;
+  number = count;
+  few = few;
+  stops = stops_there N left (length records) k told;
+}
+
+-- why the reading stops
+more_rows : (N : Table) (all left : Option (List (List (List ℕ)))) (records : List Record) → AreRead N all left records → MOST_RECORDS ≤ length records
+    → OfLeft left (λ rows. 0 < length rows)
+    → OfLeft all (λ rows. MOST_RECORDS < length rows)
+more_rows N None left records so_far full more = tt
+more_rows N (Some rows) None records so_far full more = absurd so_far
+more_rows N (Some rows) (Some left) records so_far full more =
+    omega (arith, full, more, ap length so_far, length-append (map (record_fields N) records) left, length-map records (record_fields N))
+
+pub stops_all : (N : Table) (all left : Option (List (List (List ℕ)))) (records : List Record) (number : ℕ) (kind : RecordFaultKind) (failed : Bool)
+    → IsReadSoFar N all left records
+    → number ≡ length records + 1 → length records ≤ MOST_RECORDS → StopsReading kind failed (MOST_RECORDS ≤ length records) 0 left
+    → StopsReading kind failed (number ≡ MOST_RECORDS + 1) MOST_RECORDS all
+stops_all N all left records number kind failed so_far count few stops is = by (stops is)
+  where
+    last : MOST_RECORDS ≤ length records → number ≡ MOST_RECORDS + 1
+    last full = omega (arith, count, few, full)
+
+    by : (failed ≡ true) ⊎ ((MOST_RECORDS ≤ length records) × OfLeft left (λ rows. 0 < length rows))
+        → (failed ≡ true) ⊎ ((number ≡ MOST_RECORDS + 1) × OfLeft all (λ rows. MOST_RECORDS < length rows))
+    by (inl fails) = inl fails
+    by (inr more) = inr (last more.0, more_rows N all left records so_far.rows more.0 more.1)

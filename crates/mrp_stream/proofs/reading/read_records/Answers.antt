@@ -1,5 +1,0 @@
-use Rattle.std.proofs.Common.{rules}
-use Rattle.mrp_stream.proofs.reading.read_records.Goals as goal
-
-pub read_rows-requires-clause-gives : goal.read_rows-requires-clause-gives
-read_rows-requires-clause-gives g c = search rules

@@ -1,5 +1,0 @@
-use Rattle.std.proofs.Common.{rules}
-use Rattle.mrp_view.proofs.viewing.call_on.Goals as goal
-
-pub returns-in-Despatch : goal.returns-in-Despatch
-returns-in-Despatch c = search rules
