@@ -9,7 +9,8 @@ use Rattle.std.proofs.lemmas.List.Sorted.{IsPermutation-refl, sum_by-IsPermutati
 use Rattle.mrp_record.specs.declared.record.Record.{Record}
 use Rattle.mrp_record.specs.Entries.{Entry, EndOf, Closing, content, contents, number_of, is_of, is_end, entries_of}
 use Rattle.mrp_record.specs.Blocks.{entry_delivery}
-use Rattle.mrp_record.specs.Laws.{AreLoads, EmptyIsABeginning, PrefixesAreBeginnings, PrefixesAreNested, NothingFollowsClosing, ClosedIsWhole, TextsHaveOneLength}
+use Rattle.mrp_record.specs.Laws.{AreLoads, EmptyIsABeginning, PrefixesAreBeginnings, PrefixesAreNested}
+use Rattle.mrp_record.specs.Laws.{NothingFollowsClosing, ClosedIsWhole, TextsHaveOneLength}
 use Rattle.mrp_record.specs.Laws.{BeginningsAreNoLonger, EndedBlocksAreWhole, EndedBlocksBringDeliveries, EndedBlocksBringPeriods, EndedBlocksBringTotals}
 use Rattle.mrp_record.specs.Laws.{EndedItemsAreDone, quantity_in}
 use Rattle.mrp_record.specs.Text.{Load, body, block, last_figure, text_of, IsText, IsBeginning, NumberedFrom, total}

@@ -1,6 +1,7 @@
 //! Laws of the texts of lanes. Each is the contract of a function that does nothing.
 
-ghost use Rattle.mrp_record.specs.Laws.{EmptyIsABeginning, PrefixesAreBeginnings, PrefixesAreNested, NothingFollowsClosing};
+ghost use Rattle.mrp_record.specs.Laws.{EmptyIsABeginning, PrefixesAreBeginnings};
+ghost use Rattle.mrp_record.specs.Laws.{PrefixesAreNested, NothingFollowsClosing};
 ghost use Rattle.mrp_record.specs.Laws.{ClosedIsWhole, TextsHaveOneLength};
 ghost use Rattle.mrp_record.specs.Laws.{BeginningsAreNoLonger};
 ghost use Rattle.mrp_record.specs.Laws.{EndedBlocksAreWhole, EndedBlocksBringDeliveries, EndedBlocksBringPeriods};
