@@ -5,7 +5,8 @@
  *   0  the text is the report, byte by byte what mrp writes to standard output
  *   1  the table or a name is refused; the text is the line that mrp writes to standard error
  *   2  a name of mrp_schedule isn't UTF-8; the text is "mrp: a name is not UTF-8\n", whatever the table
- *   3  memory was refused; the text is "mrp: Memory\n"
+ *   3  out of memory; the text is "mrp: Memory\n". The contracts allow the line of a failed read too,
+ *      "mrp: row N: ReadFault\n": a table in memory can't fail to be read, but no clause says so
  *
  * *size is the length of the text in bytes; there is no 0 behind it. Where *size is at most buffer_size, the buffer
  * begins with the text, and the bytes behind the text are as they were. Else the whole buffer is as it was: call again
@@ -16,8 +17,8 @@
  * own. It takes memory by malloc and gives it back; it isn't for a signal handler, nor for the forked child of a
  * process with threads.
  *
- * With `header` the names of the columns stand above the rows. That the text is this is proved of the library that a
- * caller links (crates/mrp_c_api); that a caller keeps to this page isn't.
+ * With `header` the names of the columns stand above the rows. That status and text are these is proved of the library
+ * that a caller links (crates/mrp_c_api); that a caller keeps to this page isn't.
  */
 #ifndef MRP_H
 #define MRP_H

@@ -4,7 +4,8 @@
 //! **Text.** A call returns a status, as the program ends with one. At 0 the text is the report, to the byte what the
 //! program writes to standard output. At 1, where the table or the question is refused, and at 3, where memory was
 //! refused, it is the line that the program writes to standard error. [`mrp_schedule`] has 2 for names that aren't
-//! UTF-8. Where there is no memory for the line of a fault, the fault is that: 3, `mrp: Memory`.
+//! UTF-8. Where there is no memory for the line of a fault, the fault is that: 3, `mrp: Memory`. The contracts allow 3
+//! with the line of a failed read too, below rows without a fault: nothing that is read here fails.
 //!
 //! **Buffer.** `size` tells the length of the text in bytes. Where that is at most the length of the buffer, the buffer
 //! begins with the text and goes on as it was. Else the whole buffer is as it was, and the caller asks again with as
