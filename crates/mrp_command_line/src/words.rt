@@ -32,8 +32,9 @@ pub enum ChooseFault {
     Memory,
 }
 
-/// The release, and the logic that its proofs are checked by (`rt version`), as `--version` prints them.
-const VERSION: &str = "0.1.0, proved with Rattle, logic dac8208d650f15bf";
+/// The release, and the logic (`rt version`) that its proofs are for, as `--version` prints them. It is a constant,
+/// so it doesn't say that a build is proved.
+const VERSION: &str = "0.1.0, Rattle logic dac8208d650f15bf";
 
 const ABOUT: &str = "Plans the material of all plants of a firm. The table is read from standard\n\
 input, and the report is written to standard output.";
