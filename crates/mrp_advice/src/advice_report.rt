@@ -25,11 +25,12 @@ use csv::Writer;
 use itoa::Buffer;
 use mrp_commands::Heading;
 use mrp_csv_out::{ReportFault, date_of, date_texts, put_names, put_row, room_for, send, text_of};
+use mrp_grouping::Groups;
 use mrp_loops::SizedNet;
 use mrp_net::Network;
 use mrp_plan::Plan;
 use mrp_qty::{Qty, Row};
-use mrp_table_rows::{Groups, PairNo, PairRow};
+use mrp_table_rows::{PairNo, PairRow};
 use std::alloc::Global;
 use std::io::Write;
 

@@ -21,7 +21,7 @@ use Rattle.mrp_net.specs.EdgeLaws.{CrossingEdgesAreSources}
 use Rattle.mrp_net.specs.Sums.{pair_at, no_pair}
 use Rattle.mrp_net.proofs.Naming.{place_of}
 use Rattle.mrp_net.proofs.Sharing.{share-whole, zero_share}
-use Rattle.mrp_table_rows.proofs.Sorting.{filter_none, filter_whole, All-sorted_by}
+use Rattle.mrp_grouping.proofs.Sorting.{filter_none, filter_whole, All-sorted_by}
 
 pub plant_is : (N : Table) (x : ℕ) → IsPair N x → plant_at N x ≡ (pair_at N x).plant.0
 plant_is N x h = ap (λ o. unwrap_or (option_map (λ (p : PairRow). p.plant.0) o) 0) (slice_get-get_or N.pairs x no_pair h)

@@ -18,15 +18,15 @@ use Rattle.mrp_table_rows.specs.declared.rows.Supply.TheVariants.{Make, Buy, Fro
 use Rattle.mrp_table_rows.specs.Table.{Table, IsTable, IsPair, IsSourceRow, AreShares, HasSupply, is_same_pair, sources_of_pair, supply_at}
 use Rattle.mrp_net.specs.declared.edge.Edge.{Edge}
 use Rattle.mrp_net.specs.Edges.{part, edge_need, bill_edge, source_edge, edges}
-use Rattle.mrp_table_rows.specs.Groups.{sorted_by}
+use Rattle.mrp_grouping.specs.Groups.{sorted_by}
 use Rattle.mrp_net.specs.SupplyLaws.{PartsAreWhole, NeedsAreWhole, OthersHaveNoSources, OthersHaveComponents, BoughtHaveNoEdges, PairsAreFound}
 use Rattle.mrp_net.specs.Sums.{pair_at, no_pair}
-use Rattle.mrp_table_rows.proofs.Grouping.{sorted_by-suc}
-use Rattle.mrp_table_rows.proofs.Kept.{sum-sorted_by}
+use Rattle.mrp_grouping.proofs.Grouping.{sorted_by-suc}
+use Rattle.mrp_grouping.proofs.Kept.{sum-sorted_by}
 use Rattle.mrp_net.proofs.Joining.{edges_join}
 use Rattle.mrp_net.proofs.Naming.{place_of}
 use Rattle.mrp_net.proofs.Routing.{filter-map}
-use Rattle.mrp_table_rows.proofs.Sorting.{filter_none}
+use Rattle.mrp_grouping.proofs.Sorting.{filter_none}
 
 -- a running share of a release rises with the share, and the whole share is the release
 share-le : (release low high : ℕ) → low ≤ high → release * low / 1000 ≤ release * high / 1000
