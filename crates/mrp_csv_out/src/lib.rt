@@ -1,4 +1,4 @@
-//! Sheets of comma-separated rows: what a report is made of. Rows are written into a room of their own and
+//! Comma-separated rows: what a report is made of. Rows are written into a room of their own and
 //! then sent whole to a writer, with the names of the columns above them where these are asked for.
 //!
 //! A row ends with a line feed. Names, numbers, dates and the words of a report need no quotes, so no field
@@ -7,11 +7,13 @@
 
 mod dates;
 mod fault;
+mod fields;
 mod rows;
 mod writing;
 
 pub use dates::{date_of, date_texts};
 pub use fault::ReportFault;
+pub use fields::{date_if_any, number_if_any};
 pub use mrp_commands::Heading;
 pub use rows::{put_names, put_row, room_for, rows_in, text_of};
 pub use writing::send;
