@@ -24,7 +24,7 @@ use Rattle.mrp_net.specs.Sums.{pair_at, no_pair}
 use Rattle.mrp_grouping.proofs.Grouping.{sorted_by-suc}
 use Rattle.mrp_grouping.proofs.Kept.{sum-sorted_by}
 use Rattle.mrp_net.proofs.Joining.{edges_join}
-use Rattle.mrp_net.proofs.Naming.{place_of}
+use Rattle.mrp_net.proofs.Naming.{unwrap_or-position}
 use Rattle.mrp_net.proofs.Routing.{filter-map}
 use Rattle.mrp_grouping.proofs.Sorting.{filter_none}
 
@@ -162,7 +162,7 @@ pairs_are_found N table x h =
     let n : ℕ = position_or_len test N.pairs in
     let passes : test row ≡ true = and_from (eqb row.plant.0 row.plant.0) (eqb row.item.0 row.item.0) (eq-eqb row.plant.0 row.plant.0 refl)
     (eq-eqb row.item.0 row.item.0 refl) in
-    place_of test N.pairs
+    unwrap_or-position test N.pairs
     ∙ elim (cases_order n x) as (λ _. n ≡ x) [
       | inl e ↦ e
       | inr (inl lt) ↦

@@ -19,7 +19,7 @@ use Rattle.mrp_tables.proofs.Records.{none_left, one_left}
 use Rattle.mrp_table_rows.specs.Said.{item_name}
 use Rattle.mrp_record_csv.specs.Rows.{HasRow, record_fields, record_text, records_text, record_line}
 use Rattle.mrp_record_csv.specs.Grammar.{spelled_close, spelled_end, item_named, spelled_line, record_of, spelled_reset, record_row_kind, spelled_record}
-use Rattle.mrp_record_csv.proofs.Bytes.{IsPlain, name_plain, number_text_plain, plain_unquoted, plain_utf8}
+use Rattle.mrp_record_csv.proofs.Bytes.{IsPlain, name_plain, decimal_plain, plain_unquoted, plain_utf8}
 use Rattle.mrp_record_csv.proofs.Names.{item_of_name}
 
 -- ---- the record of its own row
@@ -50,21 +50,21 @@ record_plain N (Line number item period quantity cumulative) is has =
     let s = four_short number period quantity cumulative has.numbers in (
       refl,
       (
-        number_text_plain number s.0,
+        decimal_plain number s.0,
         (
           item_plain N item is has.item,
-          (number_text_plain period s.1, (number_text_plain quantity s.2, (number_text_plain cumulative s.3, tt))),
+          (decimal_plain period s.1, (decimal_plain quantity s.2, (decimal_plain cumulative s.3, tt))),
         ),
       ),
     )
 record_plain N (ItemEnd number item lines cumulative) is has =
     let s = three_short number lines cumulative has.numbers in
-    (refl, (number_text_plain number s.0, (item_plain N item is has.item, (number_text_plain lines s.1, (number_text_plain cumulative s.2, (refl, tt))))))
+    (refl, (decimal_plain number s.0, (item_plain N item is has.item, (decimal_plain lines s.1, (decimal_plain cumulative s.2, (refl, tt))))))
 record_plain N (Reset number item closed) is has =
     let s = two_short number closed has.numbers in
-    (refl, (number_text_plain number s.0, (item_plain N item is has.item, (number_text_plain closed s.1, (refl, (refl, tt))))))
+    (refl, (decimal_plain number s.0, (item_plain N item is has.item, (decimal_plain closed s.1, (refl, (refl, tt))))))
 record_plain N (Close number) is has =
-    (refl, (number_text_plain number (All-head IsShort number [] has.numbers), (refl, (refl, (refl, (refl, tt))))))
+    (refl, (decimal_plain number (All-head IsShort number [] has.numbers), (refl, (refl, (refl, (refl, tt))))))
 
 line_read : (N : Table) (a b c d e : List ℕ) (number : ℕ) (item : ItemNo) (period quantity cumulative : ℕ) → spelled_number a ≡ Some number
     → item_named N b ≡ Some item → spelled_number c ≡ Some period

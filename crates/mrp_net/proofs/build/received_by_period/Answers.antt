@@ -4,7 +4,7 @@ use Rattle.mrp_table_rows.specs.declared.rows.ReceiptRow.{ReceiptRow}
 use Rattle.mrp_grouping.specs.Added.{sum_in}
 use Rattle.mrp_net.specs.Built.{ArePeriods}
 use Rattle.mrp_net.proofs.Summing.{received_within}
-use Rattle.mrp_net.proofs.build.received_rows.Goals as goal
+use Rattle.mrp_net.proofs.build.received_by_period.Goals as goal
 
 pub sums_of-requires-clause-within : goal.sums_of-requires-clause-within
 sums_of-requires-clause-within c =

@@ -3,7 +3,7 @@ use Rattle.mrp_tables.specs.contracts.name_key.NameKeyPartialEq.TheImpl.{eq-valu
 use Rattle.mrp_tables.specs.declared.name_key.NameKey.{NameKey}
 use Rattle.mrp_tables.proofs.Found.{no_name, place_of_name}
 use Rattle.mrp_tables.proofs.Words.{all_bytes, has_no_key, key_is}
-use Rattle.mrp_tables.proofs.names.place_of.Goals as goal
+use Rattle.mrp_tables.proofs.names.place_by_key.Goals as goal
 
 pub returns-in_err-key : goal.returns-in_err-key
 returns-in_err-key c = record {

@@ -5,7 +5,7 @@ use Rattle.std.specs.Str.{bytes_eq}
 use Rattle.std.specs.String.{string_bytes}
 use Rattle.mrp_table_rows.proofs.Keys.{position_keys}
 use Rattle.mrp_table_rows.proofs.Naming.{place_within}
-use Rattle.mrp_table_rows.proofs.names.place_of.Goals as goal
+use Rattle.mrp_table_rows.proofs.names.place_of_name.Goals as goal
 
 pub returns-clause-place : goal.returns-clause-place
 returns-clause-place c =
