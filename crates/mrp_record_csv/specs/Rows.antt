@@ -1,9 +1,8 @@
 -- The row of a record: its fields, and its bytes.
 use Rattle.std.specs.Prelude.{◌≡◌, ℕ, ◌<◌, List, [], ◌∷◌, ◌++◌, length, codes, All, Option, Some, None, decimal}
 use Rattle.std.specs.Prelude.{IfSome}
-use Rattle.std.specs.List.{flat_map, join_with_byte}
-use Rattle.csv.specs.Machine.{line_feed}
-use Rattle.csv.specs.Writing.{comma}
+use Rattle.std.specs.List.{flat_map}
+use Rattle.mrp_csv_out.specs.Rows.{row}
 use Rattle.mrp_table_rows.specs.Parsing.{IsShort}
 use Rattle.mrp_table_rows.specs.declared.numbers.ItemNo.{ItemNo}
 use Rattle.mrp_table_rows.specs.Said.{item_name}
@@ -34,13 +33,9 @@ record_fields N (ItemEnd number item lines cumulative) = end_fields number (item
 record_fields N (Reset number item closed) = reset_record_fields number (item_name N item.0) closed
 record_fields N (Close number) = close_fields number
 
--- a row: fields with commas between them, and a line feed at the end
-unfoldable pub record_line : List (List ℕ) → List ℕ
-record_line fields = join_with_byte comma fields ++ line_feed ∷ []
-
 -- the row of a record
 abbrev pub record_text : Table → Record → List ℕ
-record_text N r = record_line (record_fields N r)
+record_text N r = row (record_fields N r)
 
 -- the text of records, a row each
 abbrev pub records_text : Table → List Record → List ℕ

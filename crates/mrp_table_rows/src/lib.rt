@@ -3,6 +3,9 @@
 //!
 //! [`RowLists`] grows row by row while a table is read; [`Tables`] is the whole of it. [`number`], [`rule`] and
 //! [`supply`] read one field.
+//!
+//! Used by the reader, by the network, and by all that name plants, items and pairs.
+//! Keeps true: `Tables` is an accepted table, and each number, rule and supply has one text.
 #![tactic(auto)]
 
 mod dropping;
