@@ -43,7 +43,8 @@ place_in_table N order is k within =
     in omega (arith, range_at (length N.pairs) i d here)) k 0 within
 
 -- each pair of the table has a place
-pub place_in_order : (N : Table) (order : List ℕ) → IsPlanningOrder N order → (x : ℕ) → x < length N.pairs → (k : ℕ) × (k < length order) × (slice_index order k ≡ x)
+pub place_in_order : (N : Table) (order : List ℕ) → IsPlanningOrder N order → (x : ℕ) → x < length N.pairs
+    → (k : ℕ) × (k < length order) × (slice_index order k ≡ x)
 place_in_order N order is x within =
     let in_range : Contains (range_with_len 0 (length N.pairs)) x =
     (x, omega (arith, length-range_with_len 0 (length N.pairs)), range_at (length N.pairs) x x within) in

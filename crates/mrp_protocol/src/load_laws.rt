@@ -1,8 +1,10 @@
 //! What a lane carries: its loads, the bounds of its figures, and how long its text is. Each law is the contract of
 //! a function that does nothing.
 
-ghost use Rattle.mrp_protocol.specs.LoadLaws.{LoadsStandOnce, LoadsAreSmall, LegalIsInForm, LegalFiguresAreSmall, LegalCumsAreSmall};
-ghost use Rattle.mrp_protocol.specs.LoadLaws.{OpeningsAreSmall, TextsAreNoLonger, LaneBeginningsAreNoLonger, StepsAreFew};
+ghost use Rattle.mrp_protocol.specs.LoadLaws.{LoadsStandOnce, LoadsAreSmall, LegalIsInForm};
+ghost use Rattle.mrp_protocol.specs.LoadLaws.{LegalFiguresAreSmall, LegalCumsAreSmall};
+ghost use Rattle.mrp_protocol.specs.LoadLaws.{OpeningsAreSmall, TextsAreNoLonger};
+ghost use Rattle.mrp_protocol.specs.LoadLaws.{LaneBeginningsAreNoLonger, StepsAreFew};
 
 /// A lane has one load of each of its items. Those of a sized network are small: each delivery is of
 /// one piece at least and in the horizon, on a schedule lane their periods rise, and opening figure and
