@@ -1,6 +1,9 @@
 //! `mrp` plans the material of all plants of a firm at once.
 //!
 //! The program is thin: words in, one call of the library `mrp_planner`, a status out.
+//!
+//! Nobody uses it: it is what a planner runs.
+//! Keeps true: the program decides nothing; what it writes and its status are those of `mrp_planner`.
 #![tactic(auto)]
 
 ghost use Rattle.std.specs.Prelude.{◌≡◌};

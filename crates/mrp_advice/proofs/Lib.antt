@@ -2,13 +2,5 @@ pub mod Finding
 pub mod Needing
 pub mod Coming
 pub mod CoverFacts
-pub mod FieldFacts
 pub mod LineFacts
-pub mod AdviceSheetFacts
-pub mod Amounts
-pub mod Carried
-pub mod Periods
-pub mod Planned
-pub mod Released
-pub mod RowFacts
-pub mod ScheduleSheetFacts
+pub mod SheetFacts

@@ -7,7 +7,7 @@ use Rattle.std.proofs.lemmas.Grind.{flat_map-append}
 use Rattle.std.proofs.lemmas.List.{append-nil}
 use Rattle.std.proofs.lemmas.List.Elements.{filter_map-append}
 use Rattle.std.proofs.lemmas.List.FromFn.{length-map-range_with_len}
-use Rattle.mrp_table_rows.proofs.Grouping.{range-suc}
+use Rattle.mrp_grouping.proofs.Grouping.{range-suc}
 use Rattle.mrp_lot.specs.One.{PlanRows}
 use Rattle.mrp_table_rows.specs.declared.rows.PairRow.{PairRow}
 use Rattle.mrp_table_rows.specs.Table.{Table, IsPair, horizon}

@@ -16,7 +16,7 @@ use Rattle.mrp_advice.specs.declared.advice.Advice.{Advice}
 use Rattle.mrp_advice.specs.declared.orders.OrderKind.{OrderKind}
 use Rattle.mrp_advice.specs.declared.orders.OrderKind.TheVariants.{Receipt, Ship}
 use Rattle.mrp_advice.specs.Advice.{pair_advice}
-use Rattle.mrp_advice.specs.Fields.{date_if_any, number_if_any}
+use Rattle.mrp_csv_out.specs.Fields.{date_if_any, number_if_any}
 
 -- the names of the columns
 abbrev pub advice_names : List (List ℕ)

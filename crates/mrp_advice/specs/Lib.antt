@@ -3,14 +3,7 @@ pub mod Needed
 pub mod Advice
 pub mod Covered
 pub mod Gathered
-pub mod Fields
 pub mod AdviceRows
 pub mod AdviceLines
 pub mod AdviceSheets
 pub mod AdviceLaws
-pub mod Calls
-pub mod ItemRows
-pub mod ScheduleLaws
-pub mod ScheduleRows
-pub mod Schedule
-pub mod ScheduleSheets

@@ -18,18 +18,21 @@ ghost use Rattle.mrp_advice.specs.AdviceRows.{action_word, advice_text, order_ki
 ghost use Rattle.mrp_advice.specs.AdviceRows.{messages_text, pair_advice_text, sender_name};
 
 use crate::cover::{Cover, next_advice};
-use crate::fields::{date_if_any, number_if_any};
 use crate::gathering::open_orders;
 use crate::{Action, Advice, OpenOrder, OrderKind};
 use csv::Writer;
 use itoa::Buffer;
 use mrp_commands::Heading;
-use mrp_csv_out::{ReportFault, date_of, date_texts, put_names, put_row, room_for, send, text_of};
+use mrp_csv_out::{
+    ReportFault, date_if_any, date_of, date_texts, number_if_any, put_names, put_row, room_for,
+    send, text_of,
+};
+use mrp_grouping::Groups;
 use mrp_loops::SizedNet;
 use mrp_net::Network;
 use mrp_plan::Plan;
 use mrp_qty::{Qty, Row};
-use mrp_table_rows::{Groups, PairNo, PairRow};
+use mrp_table_rows::{PairNo, PairRow};
 use std::alloc::Global;
 use std::io::Write;
 

@@ -5,8 +5,8 @@ use Rattle.std.specs.List.{range_with_len}
 use Rattle.std.proofs.lemmas.List.{ext_get_or, length-map, take-map, drop-map}
 use Rattle.std.proofs.lemmas.List.FromFn.{get_or-map-range_with_len, length-map-range_with_len}
 use Rattle.std.proofs.lemmas.Option.{slice_get-get_or}
-use Rattle.mrp_table_rows.specs.Starts.{IsGrouped}
-use Rattle.mrp_table_rows.proofs.Sorting.{IsGrouped-within}
+use Rattle.mrp_grouping.specs.Starts.{IsGrouped}
+use Rattle.mrp_grouping.proofs.Sorting.{IsGrouped-within}
 use Rattle.mrp_agent.specs.declared.join.Join.{Join}
 use Rattle.mrp_agent.specs.Components.{ArePartsOf, parts}
 use Rattle.mrp_agent.specs.Counts.{components_of}

@@ -13,7 +13,7 @@ use Rattle.mrp_plant_view.specs.declared.view.OutgoingLane.{OutgoingLane}
 use Rattle.mrp_plant_view.specs.declared.view.PlantEdge.{PlantEdge}
 use Rattle.mrp_plant_view.specs.Seen.{IsPlantEdge}
 use Rattle.mrp_record.specs.Cursor.{OutFigures}
-use Rattle.mrp_table_rows.proofs.Sorting.{IsGrouped-within}
+use Rattle.mrp_grouping.proofs.Sorting.{IsGrouped-within}
 use Rattle.mrp_agent.specs.declared.join.Join.{Join}
 use Rattle.mrp_agent.specs.Counts.{components_of, open_blocks}
 use Rattle.mrp_agent.specs.Progress.{IsFree, Progress, times}

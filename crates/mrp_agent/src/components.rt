@@ -5,7 +5,7 @@ ghost use Rattle.std.specs.List.{range_with_len};
 ghost use Rattle.mrp_agent.specs.Counts.{components_of};
 
 use crate::Join;
-use mrp_table_rows::{Groups, KeyOf, group};
+use mrp_grouping::{Groups, KeyOf, group};
 use std::alloc::{AllocError, Global};
 use std::marker::Model;
 

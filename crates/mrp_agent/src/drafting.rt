@@ -3,7 +3,7 @@
 ghost use Rattle.std.specs.Prelude.{◌≡◌, ◌<◌, ◌≤◌, ◌+◌, ◌*◌, ℕ, All, length, map, slice_index};
 ghost use Rattle.mrp_qty.specs.declared.quantity.TheConstants.{MOST};
 ghost use Rattle.mrp_lot.specs.One.{one};
-ghost use Rattle.mrp_table_rows.specs.Starts.{IsGrouped};
+ghost use Rattle.mrp_grouping.specs.Starts.{IsGrouped};
 ghost use Rattle.mrp_agent.specs.Asking.{ParentCanAsk, HasDraft, asked_by, asked_on, grossed};
 ghost use Rattle.mrp_agent.specs.Kept.{parent_edge};
 ghost use Rattle.mrp_agent.specs.Rows.{edges_at, part_at};
@@ -11,12 +11,12 @@ ghost use Rattle.mrp_agent.specs.State.{plant_pair_at};
 
 use crate::Agent;
 use crate::edges::ParentEdge;
+use mrp_grouping::Groups;
 use mrp_lot::PairParams;
 use mrp_net::PairNo;
 use mrp_netting::{PairPlan, plan_pair};
 use mrp_plant_view::PlantFrame;
 use mrp_qty::Row;
-use mrp_table_rows::Groups;
 
 /// What the plan of a pair is drafted from, beside the plans of its parents: what it is planned by, what
 /// has come and what is called for by period, and the edges to its parents.

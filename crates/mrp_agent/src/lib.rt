@@ -9,6 +9,9 @@
 //! waits for each join to a demander at the plant that isn't planned yet, and for each block of records that it
 //! awaits and that isn't ended: [`Readiness`] has how many that are, and the list of the pairs that wait for nothing
 //! and aren't planned.
+//!
+//! Used by crews and by both drivers of a firm.
+//! Keeps true: what an agent plans and sends follows from its view and the records that came, and is the network's.
 #![tactic(auto)]
 
 mod agent;

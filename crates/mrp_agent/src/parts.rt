@@ -15,11 +15,11 @@ use crate::queues::{QueuePlace, queues};
 use crate::room::Room;
 use crate::{Components, Join, Readiness};
 use mrp_book::Book;
+use mrp_grouping::{Groups, group};
 use mrp_netting::{PairPlan, blank_plans};
 use mrp_plant_view::PlantFrame;
 use mrp_qty::Memory;
 use mrp_record::OutCursor;
-use mrp_table_rows::{Groups, group};
 use std::alloc::Global;
 
 /// The pairs of a plant by their places: their items, their edges, and which of them can be planned.
@@ -32,7 +32,7 @@ pub(crate) struct Structure {
 }
 
 impl Structure {
-    ghost use Rattle.mrp_table_rows.specs.Starts.{IsGrouped};
+    ghost use Rattle.mrp_grouping.specs.Starts.{IsGrouped};
 
     /// The pairs of a plant where nothing is planned and nothing has come.
     pub(crate) fn new(alloc: Global, view: &PlantFrame) -> Result<Structure, Memory>
@@ -120,7 +120,7 @@ pub(crate) struct Lanes {
 }
 
 impl Lanes {
-    ghost use Rattle.mrp_table_rows.specs.Starts.{IsGrouped};
+    ghost use Rattle.mrp_grouping.specs.Starts.{IsGrouped};
     ghost use Rattle.mrp_agent.specs.After.{items_of};
     ghost use Rattle.mrp_agent.specs.Kept.{HasSmallOpenings};
     ghost use Rattle.mrp_agent.specs.Making.{AreIdleOuts, new_figures};

@@ -2,8 +2,9 @@
 
 ghost use Rattle.std.specs.Prelude.{◌≡◌, IfOk, map};
 
+use mrp_grouping::Places;
 use mrp_plant_view::PlantPair;
-use mrp_table_rows::{ItemNo, Places};
+use mrp_table_rows::ItemNo;
 use std::alloc::{AllocError, Global};
 use std::marker::Model;
 

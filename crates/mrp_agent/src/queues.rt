@@ -2,12 +2,12 @@
 
 ghost use Rattle.std.specs.Prelude.{◌≡◌, ◌++◌, ◌^◌, ◌<◌, IfOk, length};
 ghost use Rattle.mrp_agent.specs.Queues.{item_queues, lane_queues, queue_place, queue_places};
-ghost use Rattle.mrp_table_rows.specs.Starts.{IsGrouped};
+ghost use Rattle.mrp_grouping.specs.Starts.{IsGrouped};
 
 use crate::places::ItemPlaces;
+use mrp_grouping::{Groups, KeyOf, group};
 use mrp_net::LaneKind;
 use mrp_plant_view::{OutgoingItems, OutgoingLane};
-use mrp_table_rows::{Groups, KeyOf, group};
 use std::alloc::{AllocError, Global};
 
 /// Where a pair is queued once it is planned: a schedule lane, and the place of the pair's item on it.

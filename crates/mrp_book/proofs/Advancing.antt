@@ -6,6 +6,7 @@ use Rattle.std.specs.List.{IsDistinct, AllByRecursion, find, fold, list_any, sum
 use Rattle.std.proofs.lemmas.Bool.{cases_Bool, eq-eqb, eqb-true, eqb-false, ne_eqb, or_right}
 use Rattle.std.proofs.lemmas.List.{map-append, length-append}
 use Rattle.std.proofs.lemmas.List.Sums.{fold_push, sum_by_push}
+use Rattle.mrp_record.specs.Laws.{is_same_form_item}
 use Rattle.mrp_record.specs.declared.record.Record.{Record}
 use Rattle.mrp_record.specs.declared.record.Record.TheVariants.{Line, ItemEnd, Reset, Close}
 use Rattle.mrp_record.specs.Entries.{Entry, LineOf, EndOf, ResetOf, Closing, content, contents, is_of, is_end, is_closing, entries_of, is_closed, figure_after}
@@ -15,7 +16,7 @@ use Rattle.mrp_record.specs.Form.{FormItem, LaneForm, item_on, GoesOn, ResetFits
 use Rattle.mrp_record.proofs.Growing.{own_pushed, other_pushed}
 use Rattle.mrp_book.specs.declared.item.ItemFigure.{ItemFigure}
 use Rattle.mrp_book.specs.After.{after, at_item, figure_after_line, with_end, figure_after_reset}
-use Rattle.mrp_book.specs.Figures.{Figures, figures, figure_of, is_same_in_form, begun, begun_by}
+use Rattle.mrp_book.specs.Figures.{Figures, figures, figure_of, begun, begun_by}
 
 -- the figures of an item by its own records
 abbrev figure_from : FormItem → List Entry → ItemFigure
@@ -106,7 +107,7 @@ unchanged es e item is i apart =
 
 rest_unchanged : (es : List Entry) (e : Entry) (item : ℕ) → ((other : ℕ) → is_of other e ≡ (item == other)) → (i : FormItem) → i.item ≡ item
     → (items : List FormItem)
-    → AllByRecursion (λ o. is_same_in_form i o ≡ false) items → map (figure_of (es ++ e ∷ [])) items ≡ map (figure_of es) items
+    → AllByRecursion (λ o. is_same_form_item i o ≡ false) items → map (figure_of (es ++ e ∷ [])) items ≡ map (figure_of es) items
 rest_unchanged es e item is i own [] h = refl
 rest_unchanged es e item is i own (o ∷ items) h =
     let apart : (o.item == item) ≡ false = ne_eqb o.item item (λ z. eqb-false i.item o.item h.0 (own ∙ sym z)) in
@@ -114,7 +115,7 @@ rest_unchanged es e item is i own (o ∷ items) h =
     ∙ ap (λ (z : List ItemFigure). figure_of es o ∷ z) (rest_unchanged es e item is i own items h.1)
 
 changed : (es : List Entry) (e : Entry) (item : ℕ) (change : ItemFigure → ItemFigure) → ((other : ℕ) → is_of other e ≡ (item == other))
-    → (items : List FormItem) → IsDistinct is_same_in_form items
+    → (items : List FormItem) → IsDistinct is_same_form_item items
     → ((i : FormItem) → find (λ j. j.item == item) items ≡ Some i → figure_from i (entries_of i.item es ++ e ∷ []) ≡ change (figure_of es i))
     → map (figure_of (es ++ e ∷ [])) items ≡ at_item item change (map (figure_of es) items)
 unfolding IsDistinct
@@ -164,7 +165,7 @@ nobody es (i ∷ items) =
     ap (λ (g : ItemFigure). g ∷ map (figure_of (es ++ Closing ∷ [])) items) (ap (figure_from i) (other_pushed i.item es Closing refl))
     ∙ ap (λ (z : List ItemFigure). figure_of es i ∷ z) (nobody es items)
 
-pub figures_after : (form : LaneForm) (records : List Record) (r : Record) → IsDistinct is_same_in_form form.items
+pub figures_after : (form : LaneForm) (records : List Record) (r : Record) → IsDistinct is_same_form_item form.items
     → EntryFits form (contents records) (content r)
     → figures form (records ++ r ∷ []) ≡ after (figures form records) r
 figures_after form records (Line number item p q c) once fits =

@@ -6,6 +6,7 @@ use Rattle.std.proofs.lemmas.Bool.{or_from}
 use Rattle.std.proofs.lemmas.List.{map-append, take_more}
 use Rattle.std.proofs.lemmas.List.Elements.{All-nil, All-cons, All-push, All-get_or, All-from_recursion}
 use Rattle.std.proofs.lemmas.List.{take_all}
+use Rattle.mrp_record.specs.Laws.{is_same_form_item}
 use Rattle.mrp_qty.specs.declared.quantity.TheConstants.{MOST}
 use Rattle.mrp_table_rows.specs.declared.numbers.ItemNo.{ItemNo}
 use Rattle.mrp_table_rows.specs.contracts.numbers.ItemNoPartialEq.TheImpl.{eq-value}
@@ -18,7 +19,7 @@ use Rattle.mrp_book.specs.declared.item.ItemFigure.{ItemFigure}
 use Rattle.mrp_book.specs.After.{opened, IsBook, IsFigureWithin}
 use Rattle.mrp_net.specs.declared.lane.LaneKind.{LaneKind}
 use Rattle.mrp_net.specs.LaneLaws.{is_schedule}
-use Rattle.mrp_book.specs.Figures.{Figures, figure_of, figures, book_form, book_form_item, is_same_in_form, is_same_book_item, BookShows}
+use Rattle.mrp_book.specs.Figures.{Figures, figure_of, figures, book_form, book_form_item, is_same_book_item, BookShows}
 
 -- no item stands among those before it
 pub is_new : (xs : List BookItem) (k : ℕ) (d : BookItem) → IsDistinct is_same_book_item xs → k < length xs
@@ -32,13 +33,13 @@ is_new (x ∷ xs) (suc k) d once l =
     (All-from_recursion (λ (y : BookItem). is_same_book_item x y ≡ false) xs once.0) in
     or_from (x.item.0 == x'.item.0) (list_any (λ j. j.item.0 == x'.item.0) (take k xs)) apart (is_new xs k d once.1 (omega arith))
 
-pub items_once : (items : List BookItem) → IsDistinct is_same_book_item items → IsDistinct is_same_in_form (map book_form_item items)
+pub items_once : (items : List BookItem) → IsDistinct is_same_book_item items → IsDistinct is_same_form_item (map book_form_item items)
 unfolding IsDistinct
 items_once [] h = h
 items_once (i ∷ items) h = (by items h.0, items_once items h.1)
   where
     by : (rest : List BookItem) → AllByRecursion (λ y. is_same_book_item i y ≡ false) rest
-        → AllByRecursion (λ y. is_same_in_form (book_form_item i) y ≡ false) (map book_form_item rest)
+        → AllByRecursion (λ y. is_same_form_item (book_form_item i) y ≡ false) (map book_form_item rest)
     by [] h = h
     by (x ∷ rest) h = (h.0, by rest h.1)
 

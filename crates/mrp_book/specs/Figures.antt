@@ -2,6 +2,7 @@
 use Rattle.std.specs.Prelude.{◌≡◌, ℕ, ◌+◌, ◌≤◌, ◌==◌, Bool, List, length, map, fold, All, Option, Some}
 use Rattle.std.specs.Prelude.{None}
 use Rattle.std.specs.List.{IsDistinct}
+use Rattle.mrp_record.specs.Laws.{is_same_form_item}
 use Rattle.mrp_qty.specs.declared.quantity.TheConstants.{MOST}
 use Rattle.mrp_net.specs.declared.lane.LaneKind.{LaneKind}
 use Rattle.mrp_net.specs.LaneLaws.{is_schedule}
@@ -57,11 +58,8 @@ figures form records = record {
 }
 
 -- a lane has each item once, and no opening figure is above 10^15
-abbrev pub is_same_in_form : FormItem → FormItem → Bool
-is_same_in_form a b = a.item == b.item
-
 pub record IsForm (form : LaneForm) : Type 0 where
-  pub once : IsDistinct is_same_in_form form.items
+  pub once : IsDistinct is_same_form_item form.items
   pub openings : All (λ i. i.opening ≤ MOST) form.items
 
 -- a book shows a list in form where its figures are those that the list gives

@@ -5,10 +5,10 @@ ghost use Rattle.std.specs.List.{list_all};
 ghost use Rattle.mrp_net.specs.LaneLaws.{is_schedule};
 
 use crate::{BookFault, BookItem, ItemFigure};
+use mrp_grouping::Places;
 use mrp_net::{ItemNo, LaneKind};
 use mrp_qty::{Horizon, MOST, Qty};
 use mrp_record::Record;
-use mrp_table_rows::Places;
 use std::alloc::{AllocError, Global};
 use std::marker::Model;
 

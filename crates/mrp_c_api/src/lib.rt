@@ -13,6 +13,9 @@
 //!
 //! A call keeps nothing once it has returned: what it takes of memory, by `malloc`, it gives back. A caller hands in no
 //! null pointer, also where a length is 0, and a buffer and a size that nothing else reads or writes meanwhile.
+//!
+//! Used by programs in C and Python.
+//! Keeps true: `include/mrp.h` and the calls agree, and nothing outside the caller's buffer and size is written.
 #![tactic(auto)]
 
 mod buffer;

@@ -2,6 +2,9 @@
 //!
 //! Contracts see a [`Calendar`] as its terms: the number of the first day, counted from 1970-01-01,
 //! the days of a period and the number of periods.
+//!
+//! Used by the table and its reader, and by reports for the dates of periods.
+//! Keeps true: a calendar is its three terms, and each day from 1970-01-01 to 2199-12-31 has one text.
 #![tactic(auto)]
 
 mod calendar;

@@ -7,7 +7,7 @@ use Rattle.mrp_csv_out.specs.Dates.{period_date}
 use Rattle.mrp_csv_out.specs.Rows.{row}
 use Rattle.mrp_report.specs.Lanes as lanes
 use Rattle.mrp_report.specs.Orders.{planned_order_row, order_text, orders_text, pair_orders_text}
-use Rattle.mrp_advice.specs.ScheduleRows.{item_text, lane_schedule_text, lanes_text, schedule_line_row, schedule_text}
+use Rattle.mrp_schedules.specs.ScheduleRows.{item_text, lane_schedule_text, lanes_text, schedule_line_row, schedule_text}
 use Rattle.mrp_advice.specs.AdviceRows.{advice_row, advice_text, messages_text, pair_advice_text}
 use Rattle.mrp_world.specs.Figures.{last_figures}
 use Rattle.mrp_cases.specs.PumpsReports.{PumpsAreAdvised, PumpsAreCounted, PumpsAreOrdered, PumpsAreScheduled}

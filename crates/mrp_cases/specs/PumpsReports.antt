@@ -4,7 +4,7 @@ use Rattle.mrp_commands.specs.declared.choice.Heading.TheVariants.{Names}
 use Rattle.mrp_net.specs.Plan.{plan_of}
 use Rattle.mrp_report.specs.Lanes.{lane_text}
 use Rattle.mrp_report.specs.Orders.{order_text}
-use Rattle.mrp_advice.specs.ScheduleRows.{schedule_text}
+use Rattle.mrp_schedules.specs.ScheduleRows.{schedule_text}
 use Rattle.mrp_advice.specs.AdviceRows.{advice_text}
 use Rattle.mrp_world.specs.Figures.{last_figures}
 use Rattle.mrp_cases.specs.Pumps.{pumps}

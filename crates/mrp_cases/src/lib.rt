@@ -2,6 +2,9 @@
 //!
 //! The tests are of calls that no command makes: which plan fits, records as text, booked and written again, and the
 //! text functions at their edges: readers and writers that fail, memory that is refused, gates that are shut.
+//!
+//! Nobody uses it: it is tests and worked tables.
+//! Keeps true: expected rows are worked by hand, never taken from the program.
 #![tactic(auto)]
 
 mod worked;

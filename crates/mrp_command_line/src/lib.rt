@@ -2,6 +2,9 @@
 //!
 //! The command line is written out in `specs/CommandLine.antt`, and `specs/Choice.antt` says which
 //! choice a subcommand and its values are.
+//!
+//! Used by the program.
+//! Keeps true: each list of arguments asks for one thing, and is spelled as `specs/CommandLine.antt` says.
 #![tactic(auto)]
 
 mod laws;

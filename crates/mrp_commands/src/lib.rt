@@ -3,6 +3,9 @@
 //! A program of one's own makes a [`Choice`] and hands it to `answer` of `mrp_planner`; `mrp_command_line` reads one
 //! from the arguments of a command line. It is a crate of its own since the command line, the library of texts and
 //! the reports all speak of it, and neither of the first two stands on the other.
+//!
+//! Used by the command line, reports, the planner and the library for C.
+//! Keeps true: a choice is a command with its values, each within its limits.
 #![tactic(auto)]
 
 mod choice;

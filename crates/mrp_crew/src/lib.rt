@@ -4,6 +4,9 @@
 //! drafts the plan of one, and the agent keeps them, one after the other; so it goes on until no pair is
 //! ready. However many workers there are and however their steps fall, each pair gets the plan that the
 //! agent alone would have given it.
+//!
+//! Used by `mrp_run`.
+//! Keeps true: a crew makes the plans that its agent alone would make, however many workers it has.
 #![tactic(auto)]
 
 mod crew;

@@ -3,3 +3,4 @@ pub mod Fronts
 pub mod PlainFacts
 pub mod ReadBack
 pub mod FieldFacts
+pub mod EmptyFields

@@ -1,5 +1,6 @@
 pub mod DateLists
 pub mod Dates
+pub mod Fields
 pub mod Headings
 pub mod Names
 pub mod Rows

@@ -4,6 +4,9 @@
 //!
 //! The tables that were worked by hand, and what each comes to, are here for the other tests, too:
 //! [`is_same_plan`] and [`has_pieces`] compare plans with one another and with what was worked.
+//!
+//! Used by `mrp_cases`, which shares its tables.
+//! Keeps true: expected plans and records are worked by hand, never taken from the program.
 #![tactic(auto)]
 
 mod endings;

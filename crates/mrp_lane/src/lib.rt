@@ -5,6 +5,9 @@
 //! order and each once, but for the last ones, which lie in the mailbox; and what has been sent is a legal
 //! beginning of the lane's text. That is the rule of the mailbox, which the kit's queue keeps at each step.
 //! Once both ends are in one thread again they can be reconciled: what that answers shows their lists.
+//!
+//! Used by `mrp_run`.
+//! Keeps true: FIFO and at-most-once delivery: the records taken are a prefix of the records sent.
 #![tactic(auto)]
 
 mod joining;

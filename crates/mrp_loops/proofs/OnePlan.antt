@@ -12,7 +12,7 @@ use Rattle.mrp_loops.specs.Planning.{IsPlanningOrder}
 use Rattle.mrp_loops.specs.Laws.{OnePlan}
 use Rattle.mrp_loops.proofs.Coded.{codes_exist}
 use Rattle.mrp_loops.proofs.Ordered.{planning_order}
-use Rattle.mrp_loops.proofs.Orders.{place_in_table, place_of, demander_before}
+use Rattle.mrp_loops.proofs.Orders.{place_in_table, place_in_order, demander_before}
 use Rattle.mrp_net.proofs.Covering.{plans_look_at_demanders}
 
 -- a round plans each pair beside the round before
@@ -62,7 +62,7 @@ plan_fits N order is =
     record {
       size = rounds_size N n refl;
       rows = λ x in_table.
-          let place = place_of N order is x in_table in
+          let place = place_in_order N order is x in_table in
           let at = slice_index order place.0 in
           let here : rows_at (plan_of N) at ≡ pair_plan N (plan_of N) at =
           sym (settled N order is n place.0 (suc n) (omega (arith, place.1, places)) (omega arith) place.1)
@@ -77,7 +77,7 @@ one_plan_by N order is = record {
   only = λ table fits.
       ext_get_or no_rows table (plan_of N) (fits.size ∙ sym (rounds_size N (length N.pairs) refl))
       (λ x h.
-      let place = place_of N order is x (omega (arith, h, fits.size)) in
+      let place = place_in_order N order is x (omega (arith, h, fits.size)) in
       let P : ℕ → Type 0 = λ y. rows_at table y ≡ rows_at (plan_of N) y in
       subst P place.2 (agree N order is table (plan_of N) fits (plan_fits N order is) (suc place.0) place.0 (omega arith) place.1));
 }

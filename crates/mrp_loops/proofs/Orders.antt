@@ -43,8 +43,9 @@ place_in_table N order is k within =
     in omega (arith, range_at (length N.pairs) i d here)) k 0 within
 
 -- each pair of the table has a place
-pub place_of : (N : Table) (order : List ℕ) → IsPlanningOrder N order → (x : ℕ) → x < length N.pairs → (k : ℕ) × (k < length order) × (slice_index order k ≡ x)
-place_of N order is x within =
+pub place_in_order : (N : Table) (order : List ℕ) → IsPlanningOrder N order → (x : ℕ) → x < length N.pairs
+    → (k : ℕ) × (k < length order) × (slice_index order k ≡ x)
+place_in_order N order is x within =
     let in_range : Contains (range_with_len 0 (length N.pairs)) x =
     (x, omega (arith, length-range_with_len 0 (length N.pairs)), range_at (length N.pairs) x x within) in
     let found = Contains-permutation (range_with_len 0 (length N.pairs)) order x is.all in_range in
@@ -107,7 +108,7 @@ module _ (N : Table) (order : List PairNo) (is : IsPlanningOrder N (map (λ z. z
 
   pub pair_place : (x : ℕ) → IsPair N x → (k : ℕ) × (k < length order) × ((d : PairNo) → (slice_index_or order k d).0 ≡ x)
   pair_place x pair =
-      let place = place_of N (map (λ (z : PairNo). z.0) order) is x pair in
+      let place = place_in_order N (map (λ (z : PairNo). z.0) order) is x pair in
       let l : place.0 < length order = omega (arith, place.1, length-map order (λ (z : PairNo). z.0)) in
       (place.0, l, λ d. sym (number_at place.0 d l) ∙ place.2)
 

@@ -1,6 +1,9 @@
 //! Which networks can be planned: the loop check with low-level codes, and the bound on quantities.
 //!
 //! A [`SizedNet`] is a network that passed both.
+//!
+//! Used by plans, reports and agents: each takes a `SizedNet`.
+//! Keeps true: a `SizedNet` has no loop and no figure above 10^15 pieces, so it has exactly one plan.
 #![tactic(auto)]
 
 pub mod laws;

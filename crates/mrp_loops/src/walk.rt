@@ -55,7 +55,7 @@ fn walk(alloc: Global, network: &Network, left: &[usize], first: PairNo) -> Resu
         path.push(x)?;
         x = demander_left(network, left, x);
     }
-    let from = place_of(path.as_slice(), x);
+    let from = place_on_path(path.as_slice(), x);
     Ok(Lasso { path, from })
 }
 
@@ -77,7 +77,7 @@ fn demander_left(network: &Network, left: &[usize], x: PairNo) -> PairNo
 }
 
 /// Where the pair stands in a path that it is in.
-fn place_of(path: &[PairNo], x: PairNo) -> usize
+fn place_on_path(path: &[PairNo], x: PairNo) -> usize
     requires { is_in path.now x.0 ≡ true }
     ensures within { result < length path.now }
     ensures at { (slice_index_or path.now result x).0 ≡ x.0 }

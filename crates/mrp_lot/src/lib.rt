@@ -7,6 +7,9 @@
 //!
 //! Quantities are 0 to 10^15 pieces, and periods are numbered from 0 to the horizon, at most 104,
 //! less 1.
+//!
+//! Used by the plan of one pair, and by all that speak of lot rules.
+//! Keeps true: whatever the rule, an order covers its need, and nothing is ordered in a period without one.
 #![tactic(auto)]
 
 mod laws;

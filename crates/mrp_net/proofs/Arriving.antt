@@ -12,7 +12,7 @@ use Rattle.mrp_table_rows.specs.Table.{Table, IsTable, IsPair, pair_no}
 use Rattle.mrp_net.specs.declared.lane.Lane.{Lane}
 use Rattle.mrp_net.specs.declared.lane.LaneKind.TheVariants.{Despatch, Schedule}
 use Rattle.mrp_net.specs.declared.lane.Shipment.{Shipment}
-use Rattle.mrp_table_rows.specs.Groups.{group}
+use Rattle.mrp_grouping.specs.Groups.{group}
 use Rattle.mrp_net.specs.Lanes.{lanes, lanes_of, lanes_between, taken_over, item_of_source, lane_items, shipments, shipment_of, ships_from, pair_on}
 use Rattle.mrp_net.specs.Lanes.{customer_of, supplier_of}
 use Rattle.mrp_net.specs.LaneLaws.{is_despatch, despatches_to, arriving, IncomingComesOverLanes, ShipmentsAreOfItems}
@@ -22,9 +22,9 @@ use Rattle.mrp_net.proofs.Covering.{sum_by-same, sum-flat_map, sum_groups}
 use Rattle.mrp_net.proofs.Local.{pair_of}
 use Rattle.mrp_net.proofs.Members.{In, Contains-from_in, In-filter, In-map, any_some}
 use Rattle.mrp_net.proofs.Routing.{no_lanes, some_lanes}
-use Rattle.mrp_table_rows.proofs.Kept.{sum_filter}
+use Rattle.mrp_grouping.proofs.Kept.{sum_filter}
 use Rattle.mrp_net.proofs.Sharing.{sum_map, pairs_are_found}
-use Rattle.mrp_table_rows.proofs.Sorting.{filter_none}
+use Rattle.mrp_grouping.proofs.Sorting.{filter_none}
 use Rattle.mrp_net.proofs.Twos.{some_in}
 
 -- ---- a lane without the item has no shipments of it

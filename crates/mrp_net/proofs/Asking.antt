@@ -17,7 +17,7 @@ use Rattle.mrp_net.specs.Sums.{pair_at}
 use Rattle.mrp_net.proofs.Covering.{sum_by-same, routes_cover_suppliers}
 use Rattle.mrp_net.proofs.Joining.{edges_join}
 use Rattle.mrp_net.proofs.Local.{pair_of, whole_need}
-use Rattle.mrp_table_rows.proofs.Kept.{sum-sorted_by, sum_filter}
+use Rattle.mrp_grouping.proofs.Kept.{sum-sorted_by, sum_filter}
 use Rattle.mrp_net.proofs.Sharing.{sum_map}
 
 -- what an edge asks of its pair

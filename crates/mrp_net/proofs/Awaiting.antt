@@ -14,7 +14,7 @@ use Rattle.mrp_qty.specs.declared.horizon.TheConstants.{LONGEST}
 use Rattle.mrp_qty.specs.declared.limits.TheConstants.{MOST_OF_A_KIND}
 use Rattle.mrp_table_rows.specs.declared.rows.ShipRow.{ShipRow}
 use Rattle.mrp_table_rows.specs.Table.{Table, IsTable, IsPair, horizon}
-use Rattle.mrp_table_rows.specs.Added.{AddsAmounts, sum_in}
+use Rattle.mrp_grouping.specs.Added.{AddsAmounts, sum_in}
 use Rattle.mrp_net.specs.declared.incoming.Incoming.{Incoming}
 use Rattle.mrp_net.specs.Incoming.{AreCounted, AreRows, IsIncoming}
 use Rattle.mrp_net.specs.Sums.{row_of, incoming, received, shipped}

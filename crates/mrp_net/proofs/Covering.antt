@@ -13,16 +13,16 @@ use Rattle.mrp_table_rows.specs.declared.rows.SourceRow.{SourceRow}
 use Rattle.mrp_table_rows.specs.Table.{Table, IsTable, IsPair, IsSourceRow, horizon, is_same_source, pair_no}
 use Rattle.mrp_net.specs.declared.edge.Edge.{Edge}
 use Rattle.mrp_net.specs.Edges.{edge_need, demanders}
-use Rattle.mrp_table_rows.specs.Groups.{group}
+use Rattle.mrp_grouping.specs.Groups.{group}
 use Rattle.mrp_net.specs.Lanes.{taken_over, item_of_source, customer_of, supplier_of}
 use Rattle.mrp_net.specs.LaneLaws.{is_same_item, OneSourceBringsAnItem, LaneItemsStandOnce}
 use Rattle.mrp_net.specs.PlanLaws.{PlansLookAtDemanders}
 use Rattle.mrp_net.specs.RouteLaws.{taken_by, taken_from, over_route, over_plants, RoutesCoverCustomers, RoutesCoverSuppliers, RoutesCoverSources}
 use Rattle.mrp_net.specs.Plan.{rows_at, gross}
 use Rattle.mrp_net.specs.Sums.{pair_at, no_pair, demand, incoming, params_at, row_of}
-use Rattle.mrp_table_rows.proofs.Kept.{sum-sorted_by}
+use Rattle.mrp_grouping.proofs.Kept.{sum-sorted_by}
 use Rattle.mrp_net.proofs.Sharing.{pairs_are_found}
-use Rattle.mrp_table_rows.proofs.Sorting.{filter_comm}
+use Rattle.mrp_grouping.proofs.Sorting.{filter_comm}
 
 -- two filters are one, by both tests
 filter_both : {X : Type 0} (p q : X → Bool) (xs : List X) → filter (λ x. p x && q x) xs ≡ filter q (filter p xs)

@@ -13,7 +13,7 @@ use Rattle.mrp_table_rows.specs.declared.rows.ShipRow.{ShipRow}
 use Rattle.mrp_table_rows.specs.declared.rows.SourceRow.{SourceRow}
 use Rattle.mrp_qty.specs.declared.limits.TheConstants.{MOST_PLANTS}
 use Rattle.mrp_table_rows.specs.Table.{Table, IsTable, IsPair, IsPairRow, IsSourceRow, item_at, source_pair}
-use Rattle.mrp_table_rows.specs.Added.{AddsTotals, sum_of}
+use Rattle.mrp_grouping.specs.Added.{AddsTotals, sum_of}
 use Rattle.mrp_net.specs.declared.edge.Edge.{Edge}
 use Rattle.mrp_net.specs.declared.lanes.Taken.{Taken}
 use Rattle.mrp_net.specs.declared.lanes.Sent.{Sent}

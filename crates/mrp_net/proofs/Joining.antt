@@ -6,11 +6,11 @@ use Rattle.mrp_table_rows.specs.Table.{Table, IsTable, IsPair}
 use Rattle.mrp_net.specs.declared.edge.Edge.{Edge}
 use Rattle.mrp_net.specs.Edges.{bill_edge, source_edge, edges, demanders}
 use Rattle.mrp_net.specs.Suppliers.{suppliers, IsEdge}
-use Rattle.mrp_table_rows.specs.Groups.{sorted_by}
-use Rattle.mrp_table_rows.specs.Starts.{IsGrouped}
+use Rattle.mrp_grouping.specs.Groups.{sorted_by}
+use Rattle.mrp_grouping.specs.Starts.{IsGrouped}
 use Rattle.mrp_net.specs.Built.{by_demander, by_pair, AreDemanders, AreSuppliers}
-use Rattle.mrp_table_rows.proofs.Grouping.{before_key-all, length-sorted_by}
-use Rattle.mrp_table_rows.proofs.Sorting.{filter-sorted_by, group-sorted_by, All-sorted_by, IsGrouped-within}
+use Rattle.mrp_grouping.proofs.Grouping.{before_key-all, length-sorted_by}
+use Rattle.mrp_grouping.proofs.Sorting.{filter-sorted_by, group-sorted_by, All-sorted_by, IsGrouped-within}
 
 pub edges_join : (N : Table) → IsTable N → All (IsEdge N) (edges N)
 edges_join N is =

@@ -19,9 +19,9 @@ use Rattle.mrp_net.specs.Lanes.{item_of_source}
 use Rattle.mrp_net.specs.EdgeLaws.{SourcePairsAreThere, is_local, IsLocalEdge, LocalEdgesAreBills, LocalEdgesAreWhole, LocalDemandersAreWhole}
 use Rattle.mrp_net.specs.EdgeLaws.{CrossingEdgesAreSources}
 use Rattle.mrp_net.specs.Sums.{pair_at, no_pair}
-use Rattle.mrp_net.proofs.Naming.{place_of}
+use Rattle.mrp_net.proofs.Naming.{unwrap_or-position}
 use Rattle.mrp_net.proofs.Sharing.{share-whole, zero_share}
-use Rattle.mrp_table_rows.proofs.Sorting.{filter_none, filter_whole, All-sorted_by}
+use Rattle.mrp_grouping.proofs.Sorting.{filter_none, filter_whole, All-sorted_by}
 
 pub plant_is : (N : Table) (x : ℕ) → IsPair N x → plant_at N x ≡ (pair_at N x).plant.0
 plant_is N x h = ap (λ o. unwrap_or (option_map (λ (p : PairRow). p.plant.0) o) 0) (slice_get-get_or N.pairs x no_pair h)
@@ -34,7 +34,7 @@ pub pair_of : (N : Table) (x plant item : ℕ) → x ≡ pair_no N plant item �
 pair_of N x plant item is pair =
     let test = λ (row : PairRow). eqb row.plant.0 plant && eqb row.item.0 item in
     let n : ℕ = position_or_len test N.pairs in
-    let place : x ≡ n = is ∙ place_of test N.pairs in
+    let place : x ≡ n = is ∙ unwrap_or-position test N.pairs in
     let here = passes_at_first test N.pairs no_pair (omega arith) in
     let parts = and_parts (eqb (pair_at N n).plant.0 plant) (eqb (pair_at N n).item.0 item) here in (
       ap (λ (z : ℕ). (pair_at N z).plant.0) place ∙ eqb-true (pair_at N n).plant.0 plant parts.0,

@@ -21,8 +21,8 @@ use Rattle.mrp_net.specs.Sums.{pair_at, no_pair}
 use Rattle.mrp_net.specs.Names.{IsNamed}
 
 -- the first place that passes, however it is said
-pub place_of : {X : Type 0} (p : X → Bool) (xs : List X) → unwrap_or (position p xs) (length xs) ≡ position_or_len p xs
-place_of {X} p xs =
+pub unwrap_or-position : {X : Type 0} (p : X → Bool) (xs : List X) → unwrap_or (position p xs) (length xs) ≡ position_or_len p xs
+unwrap_or-position {X} p xs =
     let n : ℕ = position_or_len p xs in
     let short : n ≤ length xs = prefix_len-le-length (λ x. not (p x)) xs in
     cond_both (ltb n (length xs)) (Some n) None (λ (z : Option ℕ). unwrap_or z (length xs) ≡ n)
@@ -33,7 +33,7 @@ pub named_from_numbers : (N : Table) (x p i : ℕ) (plant item : List ℕ) → x
     → slice_get N.items i ≡ Some item → IsNamed N x plant item
 named_from_numbers N x p i plant item is pair at_plant of_item =
     let test = λ (row : PairRow). eqb row.plant.0 p && eqb row.item.0 i in
-    let place : x ≡ position_or_len test N.pairs = is ∙ place_of test N.pairs in
+    let place : x ≡ position_or_len test N.pairs = is ∙ unwrap_or-position test N.pairs in
     let here = passes_at_first test N.pairs no_pair (omega arith) in
     let parts = and_parts (eqb (pair_at N (position_or_len test N.pairs)).plant.0 p) (eqb (pair_at N (position_or_len test N.pairs)).item.0 i) here in
     let plant_is : (pair_at N x).plant.0 ≡ p = ap (λ (z : ℕ). (pair_at N z).plant.0) place
@@ -124,7 +124,7 @@ none_named : (N : Table) (p i : ℕ) (plant item : List ℕ) → IsTable N → (
     → slice_get N.items i ≡ Some item → (x : ℕ) → IsNamed N x plant item → ⊥
 none_named N p i plant item table none at_plant of_item x named =
     let test = λ (row : PairRow). eqb row.plant.0 p && eqb row.item.0 i in
-    let first : pair_no N p i ≡ position_or_len test N.pairs = place_of test N.pairs in
+    let first : pair_no N p i ≡ position_or_len test N.pairs = unwrap_or-position test N.pairs in
     let past : x < pair_no N p i =
     elim (cases_lt (pair_no N p i) (length N.pairs)) as (λ _. x < pair_no N p i) [
       | inl lt ↦ absurd (none lt)

@@ -15,14 +15,14 @@ use Rattle.mrp_net.specs.declared.lane.Lane.{Lane}
 use Rattle.mrp_net.specs.declared.lane.LaneKind.{LaneKind}
 use Rattle.mrp_net.specs.declared.lane.LaneKind.TheVariants.{Despatch, Schedule}
 use Rattle.mrp_net.specs.declared.lanes.Taken.{Taken}
-use Rattle.mrp_table_rows.specs.Groups.{group, sorted_by}
-use Rattle.mrp_table_rows.specs.Starts.{IsGrouped, ShowsGroups}
+use Rattle.mrp_grouping.specs.Groups.{group, sorted_by}
+use Rattle.mrp_grouping.specs.Starts.{IsGrouped, ShowsGroups}
 use Rattle.mrp_net.specs.Sums.{pair_at, no_pair}
 use Rattle.mrp_net.specs.Lanes.{lanes, lanes_of, lanes_between, both_lanes, lane_items, pair_on, taken_over, item_of_source, figure, shipped_from, opening}
 use Rattle.mrp_net.specs.Lanes.{customer_of, supplier_of}
 use Rattle.mrp_net.specs.Routes.{route_no, taken, AreItems, IsLane}
-use Rattle.mrp_table_rows.proofs.Grouping.{range-suc, sorted_by-suc}
-use Rattle.mrp_table_rows.proofs.Sorting.{IsGrouped-from_begins, IsGrouped-within}
+use Rattle.mrp_grouping.proofs.Grouping.{range-suc, sorted_by-suc}
+use Rattle.mrp_grouping.proofs.Sorting.{IsGrouped-from_begins, IsGrouped-within}
 
 pub filter-map : {X Y : Type 0} (p : Y → Bool) (f : X → Y) (xs : List X) → filter p (map f xs) ≡ map f (filter (λ x. p (f x)) xs)
 filter-map p f [] = refl

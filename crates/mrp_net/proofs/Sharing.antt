@@ -18,15 +18,15 @@ use Rattle.mrp_table_rows.specs.declared.rows.Supply.TheVariants.{Make, Buy, Fro
 use Rattle.mrp_table_rows.specs.Table.{Table, IsTable, IsPair, IsSourceRow, AreShares, HasSupply, is_same_pair, sources_of_pair, supply_at}
 use Rattle.mrp_net.specs.declared.edge.Edge.{Edge}
 use Rattle.mrp_net.specs.Edges.{part, edge_need, bill_edge, source_edge, edges}
-use Rattle.mrp_table_rows.specs.Groups.{sorted_by}
+use Rattle.mrp_grouping.specs.Groups.{sorted_by}
 use Rattle.mrp_net.specs.SupplyLaws.{PartsAreWhole, NeedsAreWhole, OthersHaveNoSources, OthersHaveComponents, BoughtHaveNoEdges, PairsAreFound}
 use Rattle.mrp_net.specs.Sums.{pair_at, no_pair}
-use Rattle.mrp_table_rows.proofs.Grouping.{sorted_by-suc}
-use Rattle.mrp_table_rows.proofs.Kept.{sum-sorted_by}
+use Rattle.mrp_grouping.proofs.Grouping.{sorted_by-suc}
+use Rattle.mrp_grouping.proofs.Kept.{sum-sorted_by}
 use Rattle.mrp_net.proofs.Joining.{edges_join}
-use Rattle.mrp_net.proofs.Naming.{place_of}
+use Rattle.mrp_net.proofs.Naming.{unwrap_or-position}
 use Rattle.mrp_net.proofs.Routing.{filter-map}
-use Rattle.mrp_table_rows.proofs.Sorting.{filter_none}
+use Rattle.mrp_grouping.proofs.Sorting.{filter_none}
 
 -- a running share of a release rises with the share, and the whole share is the release
 share-le : (release low high : ℕ) → low ≤ high → release * low / 1000 ≤ release * high / 1000
@@ -162,7 +162,7 @@ pairs_are_found N table x h =
     let n : ℕ = position_or_len test N.pairs in
     let passes : test row ≡ true = and_from (eqb row.plant.0 row.plant.0) (eqb row.item.0 row.item.0) (eq-eqb row.plant.0 row.plant.0 refl)
     (eq-eqb row.item.0 row.item.0 refl) in
-    place_of test N.pairs
+    unwrap_or-position test N.pairs
     ∙ elim (cases_order n x) as (λ _. n ≡ x) [
       | inl e ↦ e
       | inr (inl lt) ↦

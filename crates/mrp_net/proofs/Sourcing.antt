@@ -16,7 +16,7 @@ use Rattle.mrp_table_rows.specs.Table.{Table, IsTable, IsPair, IsSourceRow, is_t
 use Rattle.mrp_net.specs.declared.lane.Lane.{Lane}
 use Rattle.mrp_net.specs.declared.lane.Shipment.{Shipment}
 use Rattle.mrp_net.specs.declared.lanes.Sent.{Sent}
-use Rattle.mrp_table_rows.specs.Starts.{before_key}
+use Rattle.mrp_grouping.specs.Starts.{before_key}
 use Rattle.mrp_net.specs.Lanes.{figure, shipped_from, ships_from, shipment_of, lane_items, pair_on, taken_over, item_of_source, customer_of, supplier_of}
 use Rattle.mrp_net.specs.Sources.{source_no}
 use Rattle.mrp_net.specs.SourceRows.{AreSourceStarts, sent, AreShipments, AreSent}

@@ -19,8 +19,8 @@ use Rattle.mrp_table_rows.specs.declared.rows.ReceiptRow.{ReceiptRow}
 use Rattle.mrp_table_rows.specs.declared.rows.ShipRow.{ShipRow}
 use Rattle.mrp_table_rows.specs.declared.rows.CumRow.{CumRow}
 use Rattle.mrp_table_rows.specs.Table.{Table, IsTable, IsPair, horizon, is_same_cum}
-use Rattle.mrp_table_rows.specs.Added.{AddsTotals, AddsAmounts, sum_in, sum_of}
-use Rattle.mrp_table_rows.proofs.Adding.{AddsAmounts-same, AddsTotals-same}
+use Rattle.mrp_grouping.specs.Added.{AddsTotals, AddsAmounts, sum_in, sum_of}
+use Rattle.mrp_grouping.proofs.Adding.{AddsAmounts-same, AddsTotals-same}
 use Rattle.mrp_net.specs.Sums.{pair_at, no_pair, row_of, demand, demand_total, received, shipped}
 use Rattle.mrp_net.specs.Lanes.{figure, shipped_from}
 use Rattle.mrp_net.specs.Built.{AreTotals, ArePeriods, capped_supply}

@@ -7,8 +7,8 @@ use Rattle.mrp_net.specs.declared.build.Amounts.{Amounts}
 use Rattle.mrp_net.specs.declared.lanes.LaneLists.{LaneLists}
 use Rattle.mrp_net.specs.Edges.{edges}
 use Rattle.mrp_net.specs.Incoming.{IsIncoming}
-use Rattle.mrp_table_rows.specs.Groups.{sorted_by}
-use Rattle.mrp_table_rows.specs.Starts.{IsGrouped}
+use Rattle.mrp_grouping.specs.Groups.{sorted_by}
+use Rattle.mrp_grouping.specs.Starts.{IsGrouped}
 use Rattle.mrp_net.specs.Routes.{AreLaneLists}
 use Rattle.mrp_net.specs.Sums.{demand, demand_total, received, supply}
 

@@ -6,7 +6,7 @@ use Rattle.mrp_table_rows.specs.Table.{Table}
 use Rattle.mrp_net.specs.declared.lane.Lane.{Lane}
 use Rattle.mrp_net.specs.declared.lanes.LaneLists.{LaneLists}
 use Rattle.mrp_net.specs.declared.lanes.Taken.{Taken}
-use Rattle.mrp_table_rows.specs.Starts.{ShowsGroups}
+use Rattle.mrp_grouping.specs.Starts.{ShowsGroups}
 use Rattle.mrp_net.specs.Sums.{pair_at}
 use Rattle.mrp_net.specs.SourceRows.{AreSourceStarts, AreShipments, AreSent, AreResets}
 use Rattle.mrp_net.specs.Lanes.{lanes, item_of_source, figure, shipped_from, customer_of, supplier_of}

@@ -7,7 +7,7 @@ use Rattle.mrp_table_rows.specs.Table.{Table, is_taken_from, pair_no}
 use Rattle.mrp_net.specs.declared.lane.Lane.{Lane}
 use Rattle.mrp_net.specs.declared.lane.Shipment.{Shipment}
 use Rattle.mrp_net.specs.declared.lanes.Sent.{Sent}
-use Rattle.mrp_table_rows.specs.Starts.{AreStarts, ShowsGroups}
+use Rattle.mrp_grouping.specs.Starts.{AreStarts, ShowsGroups}
 use Rattle.mrp_net.specs.Lanes.{shipment_of, anew_in, supplier_of}
 use Rattle.mrp_net.specs.Sources.{source_no}
 

@@ -6,7 +6,7 @@ use Rattle.mrp_table_rows.specs.Table.{Table, IsTable, IsPair, pair_no, sources_
 use Rattle.mrp_net.specs.declared.edge.Edge.{Edge}
 use Rattle.mrp_net.specs.Edges.{part, edge_need, bill_edge, source_edge}
 use Rattle.mrp_net.specs.Suppliers.{suppliers, IsEdge}
-use Rattle.mrp_table_rows.specs.Groups.{sorted_by}
+use Rattle.mrp_grouping.specs.Groups.{sorted_by}
 use Rattle.mrp_net.specs.Sums.{pair_at}
 
 -- the parts of a release over the sources of a pair that is taken from plants are the release

@@ -2,7 +2,7 @@
 
 ghost use Rattle.std.specs.Prelude.{◌≡◌, ◌+◌, ◌*◌, ◌<◌, ◌++◌, true, length, map, replicate, All, IfOk};
 ghost use Rattle.mrp_table_rows.specs.Table.{is_taken_from};
-ghost use Rattle.mrp_table_rows.specs.Added.{AddsTotals};
+ghost use Rattle.mrp_grouping.specs.Added.{AddsTotals};
 ghost use Rattle.mrp_net.specs.Lanes.{lanes, lanes_of, both_lanes, figure, shipped_from};
 ghost use Rattle.mrp_net.specs.Routes.{taken, AreItems, AreLaneLists};
 ghost use Rattle.mrp_net.specs.Sources.{source_no};
@@ -10,10 +10,9 @@ ghost use Rattle.mrp_net.specs.SourceRows.{sent, AreSourceStarts, AreShipments, 
 
 use crate::lane::{Lane, LaneKind, Shipment};
 use crate::sums::{OfPair, Pieces};
+use mrp_grouping::{AmountOf, Groups, KeyOf, add_totals, group, starts};
 use mrp_qty::Memory;
-use mrp_table_rows::{
-    AmountOf, Groups, ItemNo, KeyOf, PairNo, PlantNo, Tables, add_totals, group, starts,
-};
+use mrp_table_rows::{ItemNo, PairNo, PlantNo, Tables};
 use std::alloc::Global;
 
 /// The lanes of a network, the items of each route, where the sources of each pair begin, and what

@@ -3,6 +3,9 @@
 //! A network is made once from the rows of a table, by counting and placing, and then answers every question
 //! but those for a name in constant time or with a slice (by construction; no clause says so). Names it looks
 //! through one by one.
+//!
+//! Used by plans, reports and agents.
+//! Keeps true: a `Network` is its table; each reader is the definition on the rows.
 #![tactic(auto)]
 
 mod build;

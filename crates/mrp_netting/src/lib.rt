@@ -5,6 +5,9 @@
 //! APICS Dictionary (gross requirements, scheduled receipts, planned order receipts, planned order
 //! releases, projected available balance), into a [`PairPlan`], which is used again from pair to
 //! pair. Contracts see a [`PairPlan`] as its five rows and the list of its late orders.
+//!
+//! Used by the plan of a network and by agents.
+//! Keeps true: the rows of a `PairPlan` are those of the definition in `mrp_lot`, period by period.
 #![tactic(auto)]
 
 mod blank;

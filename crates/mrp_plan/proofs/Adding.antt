@@ -11,7 +11,7 @@ use Rattle.mrp_lot.specs.One.{PlanRows}
 use Rattle.mrp_table_rows.specs.declared.rows.BillRow.{BillRow}
 use Rattle.mrp_table_rows.specs.declared.rows.SourceRow.{SourceRow}
 use Rattle.mrp_table_rows.specs.Table.{Table, IsTable, horizon}
-use Rattle.mrp_table_rows.proofs.Sorting.{All-sorted_by}
+use Rattle.mrp_grouping.proofs.Sorting.{All-sorted_by}
 use Rattle.mrp_net.specs.Edges.{bill_edge, demanders, edges, part, source_edge}
 use Rattle.mrp_net.specs.EdgeLaws.{is_local}
 use Rattle.mrp_net.specs.Plan.{gross, rows_at}

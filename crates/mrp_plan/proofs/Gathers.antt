@@ -11,7 +11,7 @@ use Rattle.std.proofs.lemmas.List.Elements.{filter-append}
 use Rattle.mrp_lot.specs.One.{PlanRows}
 use Rattle.mrp_netting.specs.declared.plan.PairPlan.{PairPlan}
 use Rattle.mrp_table_rows.specs.Table.{Table, IsPair}
-use Rattle.mrp_table_rows.proofs.Grouping.{range-suc}
+use Rattle.mrp_grouping.proofs.Grouping.{range-suc}
 use Rattle.mrp_net.specs.Plan.{rows_at, no_rows, plan_of}
 use Rattle.mrp_net.specs.Sums.{pair_at, no_pair as no_row}
 use Rattle.mrp_plant_view.specs.View.{is_of_plant}

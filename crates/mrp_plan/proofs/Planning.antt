@@ -25,7 +25,7 @@ use Rattle.mrp_plan.specs.Progress.{CanBeDrafted, HavePeriods, IsPlannedTo}
 use Rattle.mrp_net.proofs.Periods.{incomings-le}
 use Rattle.mrp_net.proofs.Totals.{gross_sum-le}
 use Rattle.mrp_plan.proofs.Asked.{no_edge}
-use Rattle.mrp_loops.proofs.Orders.{places_apart, place_in_table, place_of, demander_before}
+use Rattle.mrp_loops.proofs.Orders.{places_apart, place_in_table, place_in_order, demander_before}
 
 -- sums of terms that are the same, or not greater, at each element
 sum_by-same_all : {X : Type 0} (f g : X → ℕ) (d : X) (xs : List X) → ((i : ℕ) → i < length xs → f (slice_index_or xs i d) ≡ g (slice_index_or xs i d))
@@ -260,7 +260,7 @@ pub all_planned : (N : Table) (needs order : List ℕ) (k : ℕ) (table : List P
 all_planned N needs order k table is whole planned = record {
   size = planned.size;
   rows = λ x in_table.
-      let place = place_of N order is x in_table in
+      let place = place_in_order N order is x in_table in
       let P : ℕ → Type 0 = λ y. rows_at table y ≡ pair_plan N table y in
       subst P place.2 (planned.rows place.0 (omega (arith, place.1)));
 }

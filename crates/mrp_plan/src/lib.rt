@@ -1,5 +1,8 @@
 //! The plan of a whole network: each pair planned after all of its demanders, pegging, and planned
 //! orders; and the plans of the plants' pairs, put together to that plan.
+//!
+//! Used by reports, and by the firms that plan plant by plant.
+//! Keeps true: `plan_all` makes the one plan of its network; terms and planned orders add up to its rows.
 #![tactic(auto)]
 
 mod explosion;

@@ -6,7 +6,7 @@ use Rattle.mrp_table_rows.specs.declared.numbers.ItemNo.{ItemNo}
 use Rattle.mrp_table_rows.specs.Table.{Table}
 use Rattle.mrp_net.specs.Lanes.{lane_at, lane_items, lanes, opening}
 use Rattle.mrp_world.specs.Figures.{settled_figure, last_figures, last_on}
-use Rattle.mrp_advice.proofs.Carried.{called_is_carried}
+use Rattle.mrp_schedules.proofs.Carried.{called_is_carried}
 use Rattle.mrp_planner.specs.FigureLaws.{FiguresAreCalledFor, IsCalledFor}
 
 called_on : (N : Table) (l : ℕ) → All (IsCalledFor N) (last_on N l)

@@ -26,7 +26,7 @@ use Rattle.mrp_csv_out.specs.Headings.{header_row}
 use Rattle.mrp_report.specs.Report.{plan_text, late_text}
 use Rattle.mrp_report.specs.Codes.{code_text}
 use Rattle.mrp_report.specs.Terms.{peg_text}
-use Rattle.mrp_advice.specs.ScheduleRows.{schedule_text}
+use Rattle.mrp_schedules.specs.ScheduleRows.{schedule_text}
 use Rattle.mrp_commands.specs.declared.choice.Choice.{Choice}
 use Rattle.mrp_commands.specs.declared.choice.Choice.TheVariants.{Plan, Check, Peg, Cums, Orders, Schedule, Pegs, Advice}
 use Rattle.mrp_planner.specs.declared.fault.TextFault.{TextFault}

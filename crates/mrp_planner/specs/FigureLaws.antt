@@ -5,8 +5,8 @@ use Rattle.mrp_net.specs.declared.lane.LaneKind.TheVariants.{Schedule}
 use Rattle.mrp_net.specs.Lanes.{lane_at}
 use Rattle.mrp_book.specs.declared.figure.LaneFigure.{LaneFigure}
 use Rattle.mrp_world.specs.Figures.{last_figures}
-use Rattle.mrp_advice.specs.ScheduleLaws.{called_pieces}
-use Rattle.mrp_advice.specs.Schedule.{schedule_of}
+use Rattle.mrp_schedules.specs.Laws.{called_pieces}
+use Rattle.mrp_schedules.specs.Schedule.{schedule_of}
 
 -- on a schedule lane what is shipped is the opening figure and all that the item's schedule calls for
 abbrev pub IsCalledFor : Table → LaneFigure → Type 0

@@ -19,6 +19,10 @@ IsGateFault Shut Spent Of (fault.GateShut name) = Of (λ N. IsShutPlant Shut N (
 IsGateFault Shut Spent Of fault.Stopped = Of (λ N. IsTurnsSpent Spent N)
 IsGateFault Shut Spent Of _ = Unit {0}
 
+-- of a plant and a number counted from 1: `Open` holds of a turn to which the gate was open, `Shut` of one to which it
+-- was shut, and `Worker` of a worker to which it was shut. A program that has a gate of its own says what each of
+-- the three means; `Of` says which table the input spells
+
 -- where a run ended well, the gate was open to the first turns of each plant, one or more. A shut gate was shut for the
 -- plant that is named, and where the run was stopped, some plant has used its turns
 pub record GateExplains {U : Type 0} (Open Shut Worker : ℕ → ℕ → Type 0) (workers turns : ℕ)

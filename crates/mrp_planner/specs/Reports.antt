@@ -17,7 +17,7 @@ use Rattle.mrp_report.specs.Report.{plan_text}
 use Rattle.mrp_report.specs.Codes.{code_text}
 use Rattle.mrp_report.specs.Terms.{peg_text}
 use Rattle.mrp_report.specs.Pegs.{pegs_text}
-use Rattle.mrp_advice.specs.ScheduleRows.{schedule_text}
+use Rattle.mrp_schedules.specs.ScheduleRows.{schedule_text}
 use Rattle.mrp_advice.specs.AdviceRows.{advice_text}
 use Rattle.mrp_world.specs.Figures.{last_figures}
 use Rattle.mrp_planner.specs.declared.fault.TextFault.{TextFault}

@@ -17,6 +17,9 @@
 //!
 //! No call ends the process: a growth that is refused is [`TextFault::Memory`], or while the table is read
 //! [`TextFault::Table`] with that kind.
+//!
+//! Used by the program, by the library for C, and by programs of one's own.
+//! Keeps true: what is written on success is the one report of the table, and each fault comes for its cause.
 #![tactic(auto)]
 
 mod answers;

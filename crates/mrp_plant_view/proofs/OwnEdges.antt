@@ -29,9 +29,9 @@ use Rattle.mrp_net.proofs.Members.{In, In-from_contains, In-filter, In-range, ra
 use Rattle.mrp_plant_view.proofs.Once.{one, none, count-filter, count_range}
 use Rattle.mrp_net.proofs.Pieces.{AllPairs-append, AllPairs-map}
 use Rattle.mrp_plant_view.proofs.Seeing.{All-flat_map, demanders_take}
-use Rattle.mrp_table_rows.proofs.Kept.{sum-sorted_by, sum_filter}
+use Rattle.mrp_grouping.proofs.Kept.{sum-sorted_by, sum_filter}
 use Rattle.mrp_net.proofs.Sharing.{sum_map}
-use Rattle.mrp_table_rows.proofs.Sorting.{filter_none, filter_whole}
+use Rattle.mrp_grouping.proofs.Sorting.{filter_none, filter_whole}
 
 -- the plant's pairs
 abbrev own : Table → ℕ → List ℕ

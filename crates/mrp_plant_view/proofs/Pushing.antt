@@ -18,7 +18,7 @@ use Rattle.mrp_plant_view.specs.declared.view.PlantPair.{PlantPair}
 use Rattle.mrp_net.specs.Sums.{row_of, demand, received}
 use Rattle.mrp_plant_view.specs.View.{PlantRows, plant_pairs, plant_edges, plant_amounts, edges_to, incoming_item, incoming_lane, incoming_lanes, outgoing_item}
 use Rattle.mrp_plant_view.specs.View.{outgoing_lane, outgoing_lanes, plant_rows}
-use Rattle.mrp_table_rows.proofs.Grouping.{range-suc}
+use Rattle.mrp_grouping.proofs.Grouping.{range-suc}
 
 -- one number more of a range
 range_more : {Y : Type 0} (f : ℕ → Y) (p : ℕ → Bool) (k : ℕ) (b : Bool) → p k ≡ b

@@ -22,7 +22,7 @@ use Rattle.mrp_net.proofs.Joining.{edges_join, demanders_join}
 use Rattle.mrp_net.proofs.Members.{In, In-from_contains, Contains-from_in, In-filter, In-map, In-range, range_only}
 use Rattle.mrp_plant_view.proofs.Once.{count-map, count-filter, count_range, count_within}
 use Rattle.mrp_net.proofs.Sharing.{pairs_are_found}
-use Rattle.mrp_table_rows.proofs.Sorting.{All-sorted_by}
+use Rattle.mrp_grouping.proofs.Sorting.{All-sorted_by}
 
 -- ---- pairs
 

@@ -26,7 +26,7 @@ use Rattle.mrp_net.proofs.Covering.{one_source_brings_an_item, sum-flat_map}
 use Rattle.mrp_net.proofs.Members.{In, In-from_contains, Contains-from_in, filter_only, In-map, any_some}
 use Rattle.mrp_net.proofs.Routing.{no_lanes, some_lanes}
 use Rattle.mrp_net.proofs.Sharing.{sum_map}
-use Rattle.mrp_table_rows.proofs.Kept.{sum_filter}
+use Rattle.mrp_grouping.proofs.Kept.{sum_filter}
 use Rattle.mrp_record.specs.declared.record.Record.{Record}
 use Rattle.mrp_record.specs.Entries.{Entry, Closing, Delivery, contents, entries_of, is_ended, is_of}
 use Rattle.mrp_record.specs.Blocks.{entry_delivery as delivery_of_entry, deliveries}

@@ -12,7 +12,7 @@ use Rattle.mrp_net.specs.PlanLaws.{asked_by_bill}
 use Rattle.mrp_net.specs.Plan.{rows_at, plan_of, gross}
 use Rattle.mrp_net.specs.Sums.{pair_at, params_at, row_of, demand, received, incoming}
 use Rattle.mrp_net.proofs.Covering.{sum_by-same}
-use Rattle.mrp_table_rows.proofs.Kept.{sum_filter}
+use Rattle.mrp_grouping.proofs.Kept.{sum_filter}
 use Rattle.mrp_plant_view.specs.declared.view.IncomingLane.{IncomingLane}
 use Rattle.mrp_plant_view.specs.declared.view.PlantEdge.{PlantEdge}
 use Rattle.mrp_plant_view.specs.View.{plant_pair, plant_edges, plant_rows}

@@ -20,7 +20,7 @@ use Rattle.mrp_plant_view.specs.View.{comes_to, lane_numbers, incoming_item, inc
 use Rattle.mrp_net.proofs.Routing.{opening_despatch, opening_schedule, map-map}
 use Rattle.mrp_net.proofs.Sharing.{sum_map}
 use Rattle.mrp_plant_view.proofs.Calling.{call_seen}
-use Rattle.mrp_table_rows.proofs.Kept.{sum_filter}
+use Rattle.mrp_grouping.proofs.Kept.{sum_filter}
 use Rattle.mrp_record.specs.Entries.{Delivery, contents}
 use Rattle.mrp_record.specs.Blocks.{deliveries}
 use Rattle.mrp_record.specs.Form.{FormItem, LaneForm}

@@ -32,7 +32,7 @@ use Rattle.mrp_net.proofs.Lengths.{block_is_short, lane_items_are_few}
 use Rattle.mrp_net.proofs.Members.{In, In-from_contains, Contains-from_in, In-map, All-in}
 use Rattle.mrp_net.proofs.Routing.{opening_despatch, map-map}
 use Rattle.mrp_net.proofs.Sharing.{sum_map}
-use Rattle.mrp_table_rows.proofs.Kept.{sum_filter}
+use Rattle.mrp_grouping.proofs.Kept.{sum_filter}
 use Rattle.mrp_loops.specs.Sized.{IsSized}
 use Rattle.mrp_loops.proofs.Carried.{lane_figures_within}
 use Rattle.mrp_loops.proofs.OnePlan.{one_plan}

@@ -1,4 +1,4 @@
--- Laws of every run.
+-- Laws of a lane in every state of a run: FIFO, conservation, and a closed lane's text is whole.
 use Rattle.std.specs.Prelude.{◌≡◌, ℕ, ◌+◌, ◌<◌, true, List, ◌++◌, length, All, Contains}
 use Rattle.mrp_table_rows.specs.declared.numbers.ItemNo.{ItemNo}
 use Rattle.mrp_table_rows.specs.Table.{Table, IsTable}
@@ -10,7 +10,7 @@ use Rattle.mrp_protocol.specs.Loads.{loads}
 use Rattle.mrp_protocol.specs.State.{State, IsDecided, IsReached}
 use Rattle.mrp_protocol.specs.LaneOrder.{KeepsOrder, cum_on}
 
--- ---- order
+-- ---- FIFO
 
 abbrev pub LanesKeepOrder : Type 0
 LanesKeepOrder =
@@ -23,7 +23,7 @@ SentIsDecided =
     (N : Table) (capacity : ℕ) (s : State) → IsReached N capacity s → (l : ℕ) → l < length (lanes N)
     → All (λ r. IsDecided N s.planned (lane_at N l) (content r)) (s.sent l)
 
--- ---- figures
+-- ---- conservation
 
 -- what has been shipped is what has been received and what lies in the mailbox
 abbrev pub NothingSentIsLost : Type 0

@@ -1,4 +1,4 @@
--- How far a run is from its end, and that every run gets there.
+-- How far a run is from its end: no deadlock, and termination.
 use Rattle.std.specs.Prelude.{◌≡◌, ℕ, ◌+◌, ◌-◌, ◌≤◌, ◌↔◌, ◌⊎◌, not, Bool, List, [], ◌∷◌, length, sum_by, count_by}
 use Rattle.std.specs.List.{range_with_len}
 use Rattle.mrp_table_rows.specs.Table.{Table, IsTable}
@@ -38,7 +38,7 @@ abbrev pub NoneIsLeftAtTheEnd : Type 0
 NoneIsLeftAtTheEnd =
     (N : Table) (capacity : ℕ) (s : State) → IsReached N capacity s → (steps_left N s ≡ 0) ↔ IsFinished N s
 
--- no schedule sticks: without loops, where a mailbox holds at least one record, a run is finished or
+-- no deadlock: without loops, where a mailbox holds at least one record, a run is finished or
 -- some event is enabled
 abbrev pub NoScheduleSticks : Type 0
 NoScheduleSticks =

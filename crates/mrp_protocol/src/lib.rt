@@ -1,15 +1,23 @@
 //! What the lanes of a network carry, which events can happen between its plants, and the laws of
-//! every run: lanes keep order, nothing is lost, and no schedule sticks.
+//! every run: FIFO and conservation on each lane ([`lane_laws`]), no deadlock, and termination ([`run_laws`]).
 //!
-//! What one plant can plan and send from its own view and the records that have come to it is the plan of the
-//! network and what its lanes carry ([`local_laws`]). Histories of plants in logical time that agree over each lane
-//! merge to a run ([`history_laws`]).
+//! What a lane carries is small and of known length ([`load_laws`]). A pair that is ready has all that its plan
+//! needs ([`ready_laws`]), and a plant's view says what its lanes carry ([`view_laws`]). So what one plant plans and
+//! sends from its view and the records that came is the network's ([`local_laws`]). Histories of plants in logical
+//! time that agree over each lane merge to a run ([`history_laws`]).
+//!
+//! Used by agents, by both drivers of a firm, by mailboxes, and by the laws of schedules.
+//! Keeps true: FIFO, conservation, no deadlock and termination hold of every run, whatever the order of its events.
 #![tactic(auto)]
 
 mod event;
 pub mod history_laws;
-pub mod laws;
+pub mod lane_laws;
+pub mod load_laws;
 pub mod local_laws;
+pub mod ready_laws;
+pub mod run_laws;
+pub mod view_laws;
 
 pub use event::Event;
 pub use mrp_net::{LaneNo, PairNo};

@@ -3,6 +3,9 @@
 //!
 //! Contracts see a [`Qty`] and a [`Horizon`] as the number, and a [`Row`] as the list of its
 //! quantities, period by period. What each limit is says one law, [`limits_are_numbers`].
+//!
+//! Used by every crate that plans or counts.
+//! Keeps true: a quantity is at most 10^15 pieces, and a row has one quantity for each period of its horizon.
 #![tactic(auto)]
 
 mod horizon;

@@ -3,6 +3,9 @@
 //! continues that to a legal beginning of the lane's text.
 //!
 //! Contracts speak of every list of records that a cursor shows; none is stored.
+//!
+//! Used by books, agents, mailboxes and schedules.
+//! Keeps true: what a cursor has sent is a legal beginning of its lane's text, and a whole text is closed once.
 #![tactic(auto)]
 
 mod cursor;

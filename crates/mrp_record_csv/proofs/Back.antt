@@ -2,6 +2,7 @@
 use Rattle.std.proofs.Common.{◌≡◌, ◌⊎◌, inl, inr, ℕ, List, [], ◌∷◌, ◌++◌, length, map, Result, Ok, Err, refl, sym, ap, ◌∙◌}
 use Rattle.std.specs.List.{All}
 use Rattle.std.proofs.lemmas.List.Elements.{All-head, All-tail}
+use Rattle.mrp_csv_out.specs.Sheets.{sheet_of}
 use Rattle.mrp_table_rows.specs.Table.{IsTable, Table}
 use Rattle.mrp_record.specs.declared.record.Record.{Record}
 use Rattle.mrp_record_csv.specs.declared.fault.RecordFault.{RecordFault}
@@ -10,7 +11,6 @@ use Rattle.mrp_record_csv.specs.declared.fault.RecordFaultKind.TheVariants as fa
 use Rattle.mrp_record_csv.specs.Rows.{HasRow, record_fields, records_text}
 use Rattle.mrp_record_csv.specs.Grammar.{record_of}
 use Rattle.mrp_record_csv.specs.Reading.{AreRowsOf, HasFault, StartsWithFault, StopsAfter}
-use Rattle.mrp_record_csv.specs.Laws.{rows_of_text}
 use Rattle.mrp_record_csv.proofs.Texts.{record_read, written_rows}
 
 -- two records of one row are one
@@ -32,7 +32,7 @@ same_records N (r ∷ rs) (s ∷ ss) is hr hs same =
     ap (λ x. x ∷ rs) first ∙ ap (λ xs. s ∷ xs) others
 
 pub reads_back : (N : Table) → IsTable N → (written : List Record) → All (HasRow N) written → (read : List Record)
-    → AreRowsOf N (rows_of_text (records_text N written)) read → read ≡ written
+    → AreRowsOf N (sheet_of (records_text N written)) read → read ≡ written
 reads_back N is written have read are = same_records N read written is are.have_rows have (sym are.rows_are ∙ written_rows N written is have)
 
 -- a row among those of records is one of theirs
@@ -61,7 +61,7 @@ fault_is N count rows fault.Memory stops none = inr refl
 fault_is N count rows k stops none = absurd (none stops.1)
 
 pub has_no_fault : (N : Table) → IsTable N → (written : List Record) → All (HasRow N) written → (e : RecordFault)
-    → HasFault N (rows_of_text (records_text N written)) e
+    → HasFault N (sheet_of (records_text N written)) e
     → (e.kind ≡ fault.ReadFault) ⊎ (e.kind ≡ fault.Memory)
 has_no_fault N is written have e has =
     fault_is N (length has.before) has.rest e.kind has.stops

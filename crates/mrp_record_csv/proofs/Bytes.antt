@@ -7,8 +7,9 @@ use Rattle.std.proofs.lemmas.Bool.{ne_eqb}
 use Rattle.std.proofs.lemmas.Bool.Decides.{nat_tests}
 use Rattle.std.proofs.lemmas.Str.{IsUtf8-from_ascii, is_utf8-from_IsUtf8}
 use Rattle.std.proofs.lemmas.Str.Ascii.{IsAscii-nil}
+use Rattle.std.specs.Prelude.{decimal}
 use Rattle.csv.specs.Writing.{default_writer, needs_byte}
-use Rattle.mrp_table_rows.specs.Spelling.{is_name, is_name_byte, number_text}
+use Rattle.mrp_table_rows.specs.Spelling.{is_name, is_name_byte}
 use Rattle.mrp_table_rows.specs.Parsing.{IsShort, is_number, spelled_number, read_on}
 use Rattle.mrp_table_rows.proofs.Decimals.{number-written}
 
@@ -63,8 +64,8 @@ number_plain text n e = by (is_number text) refl e
     by true test e = digits_plain text (both_true _ (list_all is_ascii_digit text) test).1
     by false test e = absurd (cc)
 
-pub number_text_plain : (n : ℕ) → IsShort n → IsPlain (number_text n)
-number_text_plain n short = number_plain (number_text n) n (number-written n short)
+pub decimal_plain : (n : ℕ) → IsShort n → IsPlain (decimal n)
+decimal_plain n short = number_plain (decimal n) n (number-written n short)
 
 pub name_plain : (text : List ℕ) → is_name text ≡ true → IsPlain text
 name_plain text e = (both_true _ (list_all is_name_byte text) e).1

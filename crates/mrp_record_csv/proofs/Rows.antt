@@ -3,9 +3,10 @@ use Rattle.std.proofs.Common.{◌≡◌, ◌<◌, ◌≤◌, ◌+◌, ℕ, List,
 use Rattle.std.proofs.Common.{OnErr}
 use Rattle.std.specs.List.{flat_map, join_with_byte}
 use Rattle.std.proofs.lemmas.List.{flat_map_more, take_more, take_all}
+use Rattle.mrp_csv_out.specs.Rows.{row}
 use Rattle.csv.specs.Machine.{line_feed}
 use Rattle.csv.specs.Writing.{comma}
-use Rattle.mrp_record_csv.specs.Rows.{Grows, record_line}
+use Rattle.mrp_record_csv.specs.Rows.{Grows}
 
 -- a row is its first field, then each other field with a comma before it, and the line feed
 joined : {X : Type 0} (see : X → List ℕ) (word : List ℕ) (fields : List X)
@@ -14,13 +15,13 @@ joined see word [] = sym (append-nil word)
 joined see word (f ∷ fs) = ap (λ t. word ++ comma ∷ t) (joined see (see f) fs)
 
 pub row_is : {X : Type 0} (see : X → List ℕ) (word : List ℕ) (fields : List X)
-    → record_line (word ∷ map see fields) ≡ (word ++ flat_map (λ f. comma ∷ see f) fields) ++ line_feed ∷ []
-unfolding record_line
+    → row (word ∷ map see fields) ≡ (word ++ flat_map (λ f. comma ∷ see f) fields) ++ line_feed ∷ []
+unfolding row
 row_is see word fields = ap (λ t. t ++ line_feed ∷ []) (joined see word fields)
 
 -- all fields are there
 pub row_added : {X : Type 0} (see : X → List ℕ) (old now new word : List ℕ) (fields : List X) (n : ℕ) → length fields ≤ n
-    → now ≡ (old ++ word) ++ flat_map (λ f. comma ∷ see f) (take n fields) → new ≡ now ++ line_feed ∷ [] → new ≡ old ++ record_line (word ∷ map see fields)
+    → now ≡ (old ++ word) ++ flat_map (λ f. comma ∷ see f) (take n fields) → new ≡ now ++ line_feed ∷ [] → new ≡ old ++ row (word ∷ map see fields)
 row_added see old now new word fields n all so_far end =
     let text = flat_map (λ f. comma ∷ see f) fields in
     let whole : now ≡ (old ++ word) ++ text = so_far ∙ ap (λ fs. (old ++ word) ++ flat_map (λ f. comma ∷ see f) fs) (take_all n fields all) in

@@ -8,8 +8,8 @@ use Rattle.std.proofs.lemmas.Bool.{eqb-true}
 use Rattle.std.proofs.lemmas.Option.{same_Some}
 use Rattle.std.proofs.lemmas.Slice.Eq.{bytes_eq-Decides}
 use Rattle.std.proofs.lemmas.Str.{is_utf8-from_IsUtf8}
+use Rattle.std.specs.Prelude.{decimal}
 use Rattle.csv.specs.Records.{AllText, field_at}
-use Rattle.mrp_table_rows.specs.Spelling.{number_text}
 use Rattle.mrp_table_rows.specs.Parsing.{IsShort, spelled_number}
 use Rattle.mrp_table_rows.proofs.Decimals.{number-spelled}
 use Rattle.mrp_table_rows.specs.declared.numbers.ItemNo.{ItemNo}
@@ -104,7 +104,7 @@ empty_is (b ∷ bs) e = let same = eqb-true (length (b ∷ bs)) 0 e in absurd (o
 -- a number field, its number and what is made with it of the rest
 record NumberRead (row : List (List ℕ)) (i : ℕ) (made : ℕ → Result Record RecordFaultKind) (r : Record) : Type 0 where
   number : ℕ
-  field_is : field row i ≡ number_text number
+  field_is : field row i ≡ decimal number
   short : IsShort number
   rest : made number ≡ Ok r
 

@@ -3,6 +3,7 @@ use Rattle.std.proofs.Common.{◌≡◌, ◌<◌, ℕ, true, List, [], ◌∷◌
 use Rattle.std.specs.List.{All, join_with_byte, list_all}
 use Rattle.std.specs.Str.{is_utf8}
 use Rattle.std.proofs.lemmas.List.Elements.{All-get_or, All-head, All-tail}
+use Rattle.mrp_csv_out.specs.Rows.{row}
 use Rattle.csv.specs.Machine.{line_feed, next_record}
 use Rattle.csv.specs.Reading.{default_config, records, strip_bom}
 use Rattle.csv.specs.Records.{field_at}
@@ -17,9 +18,9 @@ use Rattle.mrp_record.specs.declared.record.Record.{Record}
 use Rattle.mrp_record.specs.declared.record.Record.TheVariants.{Line, ItemEnd, Reset, Close}
 use Rattle.mrp_tables.proofs.Records.{none_left, one_left}
 use Rattle.mrp_table_rows.specs.Said.{item_name}
-use Rattle.mrp_record_csv.specs.Rows.{HasRow, record_fields, record_text, records_text, record_line}
+use Rattle.mrp_record_csv.specs.Rows.{HasRow, record_fields, record_text, records_text}
 use Rattle.mrp_record_csv.specs.Grammar.{spelled_close, spelled_end, item_named, spelled_line, record_of, spelled_reset, record_row_kind, spelled_record}
-use Rattle.mrp_record_csv.proofs.Bytes.{IsPlain, name_plain, number_text_plain, plain_unquoted, plain_utf8}
+use Rattle.mrp_record_csv.proofs.Bytes.{IsPlain, name_plain, decimal_plain, plain_unquoted, plain_utf8}
 use Rattle.mrp_record_csv.proofs.Names.{item_of_name}
 
 -- ---- the record of its own row
@@ -50,21 +51,21 @@ record_plain N (Line number item period quantity cumulative) is has =
     let s = four_short number period quantity cumulative has.numbers in (
       refl,
       (
-        number_text_plain number s.0,
+        decimal_plain number s.0,
         (
           item_plain N item is has.item,
-          (number_text_plain period s.1, (number_text_plain quantity s.2, (number_text_plain cumulative s.3, tt))),
+          (decimal_plain period s.1, (decimal_plain quantity s.2, (decimal_plain cumulative s.3, tt))),
         ),
       ),
     )
 record_plain N (ItemEnd number item lines cumulative) is has =
     let s = three_short number lines cumulative has.numbers in
-    (refl, (number_text_plain number s.0, (item_plain N item is has.item, (number_text_plain lines s.1, (number_text_plain cumulative s.2, (refl, tt))))))
+    (refl, (decimal_plain number s.0, (item_plain N item is has.item, (decimal_plain lines s.1, (decimal_plain cumulative s.2, (refl, tt))))))
 record_plain N (Reset number item closed) is has =
     let s = two_short number closed has.numbers in
-    (refl, (number_text_plain number s.0, (item_plain N item is has.item, (number_text_plain closed s.1, (refl, (refl, tt))))))
+    (refl, (decimal_plain number s.0, (item_plain N item is has.item, (decimal_plain closed s.1, (refl, (refl, tt))))))
 record_plain N (Close number) is has =
-    (refl, (number_text_plain number (All-head IsShort number [] has.numbers), (refl, (refl, (refl, (refl, tt))))))
+    (refl, (decimal_plain number (All-head IsShort number [] has.numbers), (refl, (refl, (refl, (refl, tt))))))
 
 line_read : (N : Table) (a b c d e : List ℕ) (number : ℕ) (item : ItemNo) (period quantity cumulative : ℕ) → spelled_number a ≡ Some number
     → item_named N b ≡ Some item → spelled_number c ≡ Some period
@@ -115,12 +116,12 @@ unfolding fields_text
 fields_plain first [] plain = append-nil first
 fields_plain first (f ∷ fs) plain = rw (plain_unquoted f plain.0) (ap (λ t. first ++ comma ∷ t) (fields_plain f fs plain.1))
 
-row_plain : (x y : List ℕ) (ys : List (List ℕ)) → AllPlain (x ∷ y ∷ ys) → row_text default_writer (x ∷ y ∷ ys) ≡ record_line (x ∷ y ∷ ys)
-unfolding record_line is_blank
+row_plain : (x y : List ℕ) (ys : List (List ℕ)) → AllPlain (x ∷ y ∷ ys) → row_text default_writer (x ∷ y ∷ ys) ≡ row (x ∷ y ∷ ys)
+unfolding row is_blank
 row_plain x y ys plain = rw (plain_unquoted x plain.0) (ap (λ t. t ++ line_feed ∷ []) (fields_plain x (y ∷ ys) plain.1))
 
 row_next : (x y : List ℕ) (ys : List (List ℕ)) (tail : List ℕ) → AllPlain (x ∷ y ∷ ys)
-    → next_record default_config StartRecord [] [] (record_line (x ∷ y ∷ ys) ++ tail) ≡ Some (x ∷ y ∷ ys, StartRecord, tail)
+    → next_record default_config StartRecord [] [] (row (x ∷ y ∷ ys) ++ tail) ≡ Some (x ∷ y ∷ ys, StartRecord, tail)
 row_next x y ys tail plain = ap (λ t. next_record default_config StartRecord [] [] (t ++ tail)) (sym (row_plain x y ys plain)) ∙ read-write-many x y ys tail
 
 pub record_next : (N : Table) (r : Record) (tail : List ℕ) → IsTable N → HasRow N r
@@ -147,7 +148,7 @@ rows_read N (r ∷ rs) is have =
 
 -- no text of records begins with a byte order mark
 no_mark : (N : Table) (written : List Record) → strip_bom (records_text N written) ≡ records_text N written
-unfolding strip_bom record_line
+unfolding strip_bom row
 no_mark N [] = refl
 no_mark N (Line number item period quantity cumulative ∷ rs) = refl
 no_mark N (ItemEnd number item lines cumulative ∷ rs) = refl

@@ -1,7 +1,7 @@
 -- Laws of the text of records.
 use Rattle.std.specs.Prelude.{◌≡◌, ◌⊎◌, ◌↔◌, ℕ, List, [], ◌∷◌, map, All, Ok, IfErr}
 use Rattle.std.specs.List.{Contains}
-use Rattle.csv.specs.Reading.{default_config, records, strip_bom}
+use Rattle.mrp_csv_out.specs.Sheets.{sheet_of}
 use Rattle.mrp_table_rows.specs.Table.{IsTable, Table}
 use Rattle.mrp_record.specs.declared.record.Record.{Record}
 use Rattle.mrp_record_csv.specs.declared.fault.RecordFault.{RecordFault}
@@ -26,22 +26,19 @@ abbrev pub RowsHaveListedFaults : Type 0
 RowsHaveListedFaults = (N : Table) (row : List (List ℕ)) → IfErr (record_of N row) (Contains row_faults)
 
 -- the rows of a text that was written are those of its records
-abbrev pub rows_of_text : List ℕ → List (List (List ℕ))
-rows_of_text text = records default_config (strip_bom text)
-
 abbrev pub WrittenRowsAreRead : Type 0
 WrittenRowsAreRead =
     (N : Table) → IsTable N → (written : List Record) → All (HasRow N) written
-    → rows_of_text (records_text N written) ≡ map (record_fields N) written
+    → sheet_of (records_text N written) ≡ map (record_fields N) written
 
 -- what was written reads back: no other records are read of it, and no row has a fault
 abbrev pub WrittenReadsBack : Type 0
 WrittenReadsBack =
     (N : Table) → IsTable N → (written : List Record) → All (HasRow N) written
-    → (read : List Record) → AreRowsOf N (rows_of_text (records_text N written)) read → read ≡ written
+    → (read : List Record) → AreRowsOf N (sheet_of (records_text N written)) read → read ≡ written
 
 abbrev pub WrittenHasNoFault : Type 0
 WrittenHasNoFault =
     (N : Table) → IsTable N → (written : List Record) → All (HasRow N) written
-    → (e : RecordFault) → HasFault N (rows_of_text (records_text N written)) e
+    → (e : RecordFault) → HasFault N (sheet_of (records_text N written)) e
     → (e.kind ≡ fault.ReadFault) ⊎ (e.kind ≡ fault.Memory)

@@ -1,10 +1,8 @@
 -- The row of a record: its fields, and its bytes.
-use Rattle.std.specs.Prelude.{◌≡◌, ℕ, ◌<◌, List, [], ◌∷◌, ◌++◌, length, codes, All, Option, Some, None}
+use Rattle.std.specs.Prelude.{◌≡◌, ℕ, ◌<◌, List, [], ◌∷◌, ◌++◌, length, codes, All, Option, Some, None, decimal}
 use Rattle.std.specs.Prelude.{IfSome}
-use Rattle.std.specs.List.{flat_map, join_with_byte}
-use Rattle.csv.specs.Machine.{line_feed}
-use Rattle.csv.specs.Writing.{comma}
-use Rattle.mrp_table_rows.specs.Spelling.{number_text}
+use Rattle.std.specs.List.{flat_map}
+use Rattle.mrp_csv_out.specs.Rows.{row}
 use Rattle.mrp_table_rows.specs.Parsing.{IsShort}
 use Rattle.mrp_table_rows.specs.declared.numbers.ItemNo.{ItemNo}
 use Rattle.mrp_table_rows.specs.Said.{item_name}
@@ -15,17 +13,17 @@ use Rattle.mrp_record.specs.declared.record.Record.TheVariants.{Line, ItemEnd, R
 -- the six fields of each kind of record; those that it doesn't use are empty
 abbrev pub line_fields : ℕ → List ℕ → ℕ → ℕ → ℕ → List (List ℕ)
 line_fields number name period quantity cumulative =
-    codes "line" ∷ number_text number ∷ name ∷ number_text period ∷ number_text quantity ∷ number_text cumulative ∷ []
+    codes "line" ∷ decimal number ∷ name ∷ decimal period ∷ decimal quantity ∷ decimal cumulative ∷ []
 
 abbrev pub end_fields : ℕ → List ℕ → ℕ → ℕ → List (List ℕ)
 end_fields number name lines cumulative =
-    codes "end" ∷ number_text number ∷ name ∷ number_text lines ∷ number_text cumulative ∷ [] ∷ []
+    codes "end" ∷ decimal number ∷ name ∷ decimal lines ∷ decimal cumulative ∷ [] ∷ []
 
 abbrev pub reset_record_fields : ℕ → List ℕ → ℕ → List (List ℕ)
-reset_record_fields number name closed = codes "reset" ∷ number_text number ∷ name ∷ number_text closed ∷ [] ∷ [] ∷ []
+reset_record_fields number name closed = codes "reset" ∷ decimal number ∷ name ∷ decimal closed ∷ [] ∷ [] ∷ []
 
 abbrev pub close_fields : ℕ → List (List ℕ)
-close_fields number = codes "close" ∷ number_text number ∷ [] ∷ [] ∷ [] ∷ [] ∷ []
+close_fields number = codes "close" ∷ decimal number ∷ [] ∷ [] ∷ [] ∷ [] ∷ []
 
 -- the fields of a record
 abbrev pub record_fields : Table → Record → List (List ℕ)
@@ -35,13 +33,9 @@ record_fields N (ItemEnd number item lines cumulative) = end_fields number (item
 record_fields N (Reset number item closed) = reset_record_fields number (item_name N item.0) closed
 record_fields N (Close number) = close_fields number
 
--- a row: fields with commas between them, and a line feed at the end
-unfoldable pub record_line : List (List ℕ) → List ℕ
-record_line fields = join_with_byte comma fields ++ line_feed ∷ []
-
 -- the row of a record
 abbrev pub record_text : Table → Record → List ℕ
-record_text N r = record_line (record_fields N r)
+record_text N r = row (record_fields N r)
 
 -- the text of records, a row each
 abbrev pub records_text : Table → List Record → List ℕ

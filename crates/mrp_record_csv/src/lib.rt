@@ -1,6 +1,9 @@
 //! The text of records: comma-separated rows, one a record.
 //!
 //! Each record of a network has one row, and a row that is read is the row of one record.
+//!
+//! Used by tests alone; no command reads or writes records.
+//! Keeps true: a record has one row, and what is written reads back as the same records.
 #![tactic(auto)]
 
 mod fault;

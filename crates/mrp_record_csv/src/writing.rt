@@ -1,8 +1,9 @@
 //! Records written as csv rows.
 
 ghost use Rattle.std.specs.Prelude.{◌≡◌, ◌++◌, ◌∷◌, map, OnOk, OnErr};
+ghost use Rattle.mrp_csv_out.specs.Rows.{row};
 ghost use Rattle.mrp_record_csv.specs.Rows.{close_fields, end_fields, Grows, HasRow, line_fields, record_text};
-ghost use Rattle.mrp_record_csv.specs.Rows.{reset_record_fields, record_line};
+ghost use Rattle.mrp_record_csv.specs.Rows.{reset_record_fields};
 
 use itoa::Buffer;
 use mrp_net::Network;
@@ -70,7 +71,7 @@ fn put_line(
     out: &mut Vec<u8>,
 ) -> Result<(), Memory>
     ensures written { OnOk result (out.new.items
-        ≡ out.old.items ++ record_line (line_fields number item.now period quantity cumulative)) }
+        ≡ out.old.items ++ row (line_fields number item.now period quantity cumulative)) }
     ensures kept { OnErr result (Grows out.old.items out.new.items) }
 {
     let mut place = Buffer::new();
@@ -99,7 +100,7 @@ fn put_end(
     out: &mut Vec<u8>,
 ) -> Result<(), Memory>
     ensures written { OnOk result (out.new.items
-        ≡ out.old.items ++ record_line (end_fields number item.now lines cumulative)) }
+        ≡ out.old.items ++ row (end_fields number item.now lines cumulative)) }
     ensures kept { OnErr result (Grows out.old.items out.new.items) }
 {
     let mut place = Buffer::new();
@@ -121,7 +122,7 @@ fn put_end(
 /// Puts the row of a reset behind a text, or a prefix of it.
 fn put_reset(number: u64, item: &str, closed: u64, out: &mut Vec<u8>) -> Result<(), Memory>
     ensures written { OnOk result (out.new.items
-        ≡ out.old.items ++ record_line (reset_record_fields number item.now closed)) }
+        ≡ out.old.items ++ row (reset_record_fields number item.now closed)) }
     ensures kept { OnErr result (Grows out.old.items out.new.items) }
 {
     let mut place = Buffer::new();
@@ -141,7 +142,7 @@ fn put_reset(number: u64, item: &str, closed: u64, out: &mut Vec<u8>) -> Result<
 
 /// Puts the row of a closing record behind a text, or a prefix of it.
 fn put_close(number: u64, out: &mut Vec<u8>) -> Result<(), Memory>
-    ensures written { OnOk result (out.new.items ≡ out.old.items ++ record_line (close_fields number)) }
+    ensures written { OnOk result (out.new.items ≡ out.old.items ++ row (close_fields number)) }
     ensures kept { OnErr result (Grows out.old.items out.new.items) }
 {
     let mut place = Buffer::new();
@@ -155,7 +156,7 @@ fn put_close(number: u64, out: &mut Vec<u8>) -> Result<(), Memory>
 /// Puts a row behind a text, or a prefix of it: a word and the fields after it.
 fn put_row(word: &[u8], fields: &[&[u8]], out: &mut Vec<u8>) -> Result<(), Memory>
     ensures written { OnOk result (out.new.items
-        ≡ out.old.items ++ record_line (word.now ∷ map (λ field. field.now) fields.now)) }
+        ≡ out.old.items ++ row (word.now ∷ map (λ field. field.now) fields.now)) }
     ensures kept { OnErr result (Grows out.old.items out.new.items) }
 {
     out.extend_from_slice(word)?;

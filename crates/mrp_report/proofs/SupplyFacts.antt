@@ -7,9 +7,9 @@ use Rattle.std.proofs.lemmas.Bool.{cases_eq, cases_Bool, eq-eqb, ne_eqb}
 use Rattle.std.proofs.lemmas.List.{flat_map_more}
 use Rattle.std.proofs.lemmas.List.Elements.{All-filter, All-head, All-tail, filter-append}
 use Rattle.std.proofs.lemmas.Option.{slice_get-get_or}
-use Rattle.mrp_table_rows.specs.Groups.{group, sorted_by}
-use Rattle.mrp_table_rows.proofs.Grouping.{sorted_by-suc}
-use Rattle.mrp_table_rows.proofs.Sorting.{filter-no, filter-sorted_by, filter-yes, filter_none}
+use Rattle.mrp_grouping.specs.Groups.{group, sorted_by}
+use Rattle.mrp_grouping.proofs.Grouping.{sorted_by-suc}
+use Rattle.mrp_grouping.proofs.Sorting.{filter-no, filter-sorted_by, filter-yes, filter_none}
 use Rattle.mrp_table_rows.specs.declared.rows.BillRow.{BillRow}
 use Rattle.mrp_table_rows.specs.declared.rows.PairRow.{PairRow}
 use Rattle.mrp_table_rows.specs.declared.rows.SourceRow.{SourceRow}

@@ -5,6 +5,9 @@
 //! A row ends with a line feed. All reports but those of the plan may begin with a row of the names of
 //! their columns. The room for a report is taken before its first byte is sent: where it is refused, the
 //! writer is as it was.
+//!
+//! Used by `mrp_planner`, which writes the reports, and by the library for C.
+//! Keeps true: a report is its definition in `specs/`, and csv reads back the fields that its rows are made of.
 #![tactic(auto)]
 
 mod before;

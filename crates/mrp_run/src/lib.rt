@@ -7,6 +7,9 @@
 //! order the threads' steps fell, gives the one plan of the network. [`run_network`] gives for each lane, too, what
 //! two joined ends of it showed: the list sent is a whole text of the lane, and the list taken is the same. (That
 //! these are the ends that the threads used stands in no clause.)
+//!
+//! Used by `mrp_planner` for plans by threads.
+//! Keeps true: a run that ends well has the one plan of its network, in whatever order its threads went.
 #![tactic(auto)]
 
 mod bells;

@@ -4,7 +4,7 @@ use Rattle.std.proofs.Common.{option_map, refl, ap, sym, subst}
 use Rattle.std.specs.List.{list_any}
 use Rattle.std.proofs.lemmas.Bool.{and_parts, eqb-true}
 use Rattle.std.proofs.lemmas.List.Quantifiers.{position-Some}
-use Rattle.mrp_table_rows.proofs.Finding.{last_fails, last_passes}
+use Rattle.mrp_grouping.proofs.Finding.{last_fails, last_passes}
 use Rattle.mrp_table_rows.specs.Places.{FindsPairs, is_at, is_same_place}
 use Rattle.mrp_table_rows.specs.declared.numbers.PairNo.{PairNo}
 use Rattle.mrp_table_rows.specs.declared.row_lists.PlantItem.{PlantItem}

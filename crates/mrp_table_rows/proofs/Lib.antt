@@ -8,12 +8,6 @@ pub mod RuleTexts
 pub mod Shares
 pub mod Wholes
 pub mod Written
-pub mod Grouping
-pub mod Sorting
-pub mod Placing
-pub mod Kept
-pub mod Adding
-pub mod Finding
 pub mod Fewer
 pub mod Found
 pub mod Grow

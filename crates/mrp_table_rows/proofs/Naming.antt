@@ -10,7 +10,7 @@ use Rattle.std.proofs.lemmas.List.Quantifiers.{position-Some}
 use Rattle.std.proofs.lemmas.Map.Keys.{apart_from_distinct}
 use Rattle.std.proofs.lemmas.Slice.Eq.{bytes_eq-Decides}
 use Rattle.mrp_table_rows.proofs.SpelledLists.{distinct_push}
-use Rattle.mrp_table_rows.proofs.Finding.{last_passes}
+use Rattle.mrp_grouping.proofs.Finding.{last_passes}
 use Rattle.mrp_table_rows.specs.Growing.{with_item}
 use Rattle.mrp_table_rows.specs.Table.{Table}
 use Rattle.mrp_table_rows.proofs.Keys.{any-from_no_position, any-from_position, position_is}

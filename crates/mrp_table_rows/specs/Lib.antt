@@ -5,11 +5,6 @@ pub mod Spelling
 pub mod Steps
 pub mod Supplies
 pub mod SupplyParsing
-pub mod Added
-pub mod Counts
-pub mod Groups
-pub mod GroupingLaws
-pub mod Starts
 pub mod Dropping
 pub mod Growing
 pub mod Names

@@ -1,4 +1,4 @@
--- How names, numbers and lot rules are spelled.
+-- How names and lot rules are spelled. The one text of a number is its decimal digits, without a zero before them.
 use Rattle.std.specs.Prelude.{ℕ, decimal, ◌==◌, ◌&&◌, ◌||◌, nat_le, Bool, List, ◌++◌, length, codes}
 use Rattle.std.specs.Char.{is_ascii_alphanumeric}
 use Rattle.std.specs.List.{list_all}
@@ -13,13 +13,9 @@ is_name_byte b = is_ascii_alphanumeric b || b == 45 || b == 95 || b == 46
 abbrev pub is_name : List ℕ → Bool
 is_name text = nat_le 1 (length text) && nat_le (length text) 20 && list_all is_name_byte text
 
--- the one text of a number: its decimal digits, without a zero before them
-abbrev pub number_text : ℕ → List ℕ
-number_text n = decimal n
-
 -- the one text of a lot rule
 abbrev pub rule_text : Rule → List ℕ
 rule_text LotForLot = codes "lot"
-rule_text (Fixed q) = codes "fixed:" ++ number_text q
-rule_text (Periods k) = codes "periods:" ++ number_text k
-rule_text (MinMultiple m k) = codes "min:" ++ (number_text m ++ (codes ":" ++ number_text k))
+rule_text (Fixed q) = codes "fixed:" ++ decimal q
+rule_text (Periods k) = codes "periods:" ++ decimal k
+rule_text (MinMultiple m k) = codes "min:" ++ (decimal m ++ (codes ":" ++ decimal k))

@@ -1,7 +1,6 @@
 -- How it is spelled where a pair comes from, and what each plant's share is.
-use Rattle.std.specs.Prelude.{ℕ, ◌-◌, List, [], ◌∷◌, ◌++◌, codes}
+use Rattle.std.specs.Prelude.{ℕ, ◌-◌, List, [], ◌∷◌, ◌++◌, codes, decimal}
 use Rattle.std.specs.List.{join_with_byte}
-use Rattle.mrp_table_rows.specs.Spelling.{number_text}
 
 -- one plant that a pair is taken from; its share goes from low to high
 pub record SourceTerms : Type 0 where
@@ -20,7 +19,7 @@ pub data SupplyTerms : Type 0 where
 -- each plant before its share
 abbrev pub source_fields : List SourceTerms → List (List ℕ)
 source_fields [] = []
-source_fields (s ∷ ss) = s.plant ∷ number_text (s.high - s.low) ∷ source_fields ss
+source_fields (s ∷ ss) = s.plant ∷ decimal (s.high - s.low) ∷ source_fields ss
 
 -- one plant alone, or plants and shares with a colon between each two
 abbrev pub sources_text : List SourceTerms → List ℕ

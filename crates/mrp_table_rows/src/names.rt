@@ -23,7 +23,7 @@ pub(crate) fn push_name(
 }
 
 /// The place of a name, from 0, or `None` where it isn't there. It is compared with the names one by one.
-pub(crate) fn place_of(names: &[String], name: &str) -> Option<usize>
+pub(crate) fn place_of_name(names: &[String], name: &str) -> Option<usize>
     ensures place { result ≡ position (bytes_eq name.now) (map string_bytes names.now) }
     ensures within { IfSome result (λ place. place < length (map string_bytes names.now)) }
 {

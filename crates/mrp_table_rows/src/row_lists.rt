@@ -1,6 +1,6 @@
 //! The lists of a table: how they grow, row by row, and how they are read.
 
-use crate::names::{name_at, place_of, push_name};
+use crate::names::{name_at, place_of_name, push_name};
 use crate::{
     BillRow, CumRow, DemandRow, ItemNo, PairNo, PairRow, PlantNo, ReceiptRow, ResetRow, ShipRow,
     SourceRow,
@@ -383,7 +383,7 @@ impl RowLists {
         ensures place { option_map (λ p. p.0) result ≡ plant_no self.now name.now }
         ensures within { IfSome result (λ p. p.0 < length self.now.plants) }
     {
-        place_of(self.plants.as_slice(), name).map(PlantNo)
+        place_of_name(self.plants.as_slice(), name).map(PlantNo)
     }
 
     /// The item of that name, if there is one. The names are looked through one by one.
@@ -391,6 +391,6 @@ impl RowLists {
         ensures place { option_map (λ i. i.0) result ≡ position (bytes_eq name.now) self.now.items }
         ensures within { IfSome result (λ i. i.0 < length self.now.items) }
     {
-        place_of(self.items.as_slice(), name).map(ItemNo)
+        place_of_name(self.items.as_slice(), name).map(ItemNo)
     }
 }

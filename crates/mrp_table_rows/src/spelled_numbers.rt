@@ -1,8 +1,7 @@
 //! How a number is spelled.
 
-ghost use Rattle.std.specs.Prelude.{◌≡◌, ◌≢◌, ◌≤◌, ℕ, length, IfSome, MatchOption};
+ghost use Rattle.std.specs.Prelude.{◌≡◌, ◌≢◌, ◌≤◌, ℕ, length, IfSome, MatchOption, decimal};
 ghost use Rattle.mrp_table_rows.specs.Digits.{digits_of};
-ghost use Rattle.mrp_table_rows.specs.Spelling.{number_text};
 ghost use Rattle.mrp_table_rows.specs.Parsing.{IsShort, spelled_number, number_within};
 
 /// The number that digits spell, where each byte is one.
@@ -37,7 +36,7 @@ fn read(text: &str) -> Option<u64>
 pub fn number(text: &str) -> Option<u64>
     ensures value { result ≡ spelled_number text.now }
     ensures spelled { MatchOption result ((n : ℕ) → IsShort n
-        → text.now ≢ number_text n) (λ n. (text.now ≡ number_text n) × IsShort n) }
+        → text.now ≢ decimal n) (λ n. (text.now ≡ decimal n) × IsShort n) }
 {
     read(text)
 }

@@ -182,13 +182,13 @@ fn shared_source<'r>(text: &'r str, low: u64) -> Option<(SpelledSource<'r>, Opti
 {
     let (plant, rest) = cut(text)?;
     match cut(rest) {
-        Some((share, later)) => share_of(plant, low, share, Some(later)),
-        None => share_of(plant, low, rest, None),
+        Some((share, later)) => source_with_share(plant, low, share, Some(later)),
+        None => source_with_share(plant, low, rest, None),
     }
 }
 
 /// A plant with the share that a text spells, and the text after them.
-fn share_of<'r>(
+fn source_with_share<'r>(
     plant: &'r str,
     low: u64,
     share: &'r str,

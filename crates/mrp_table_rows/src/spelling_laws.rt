@@ -1,8 +1,8 @@
 //! Laws of spelling, each the contract of a function that does nothing.
-ghost use Rattle.std.specs.Prelude.{◌≡◌, ℕ, List, Some};
+ghost use Rattle.std.specs.Prelude.{◌≡◌, ℕ, List, Some, decimal};
 ghost use Rattle.mrp_lot.specs.declared.rule.Rule.{Rule};
 ghost use Rattle.mrp_lot.specs.Lot.{IsRule};
-ghost use Rattle.mrp_table_rows.specs.Spelling.{number_text, rule_text};
+ghost use Rattle.mrp_table_rows.specs.Spelling.{rule_text};
 ghost use Rattle.mrp_table_rows.specs.Parsing.{IsShort, spelled_number, rule_of};
 ghost use Rattle.mrp_table_rows.specs.Supplies.{supply_text, SupplyTerms};
 ghost use Rattle.mrp_table_rows.specs.SupplyParsing.{IsWholeSupply, supply_of};
@@ -30,6 +30,6 @@ pub fn rules_have_one_text()
 
 /// A number has one text, and that text is read as it.
 pub fn numbers_have_one_text()
-    ensures read { (n : ℕ) → IsShort n → spelled_number (number_text n) ≡ Some n }
-    ensures text { (text : List ℕ) (n : ℕ) → spelled_number text ≡ Some n → (text ≡ number_text n) × IsShort n }
+    ensures read { (n : ℕ) → IsShort n → spelled_number (decimal n) ≡ Some n }
+    ensures text { (text : List ℕ) (n : ℕ) → spelled_number text ≡ Some n → (text ≡ decimal n) × IsShort n }
 {}

@@ -11,10 +11,11 @@ use Rattle.std.proofs.lemmas.List.{get_or_append_left, get_or_at, length-append,
 use Rattle.std.proofs.lemmas.List.Elements.{All-cons, All-filter, All-from_recursion, All-get_or, All-head, All-nil, All-tail, recursion_from_All}
 use Rattle.std.proofs.lemmas.Map.Keys.{apart_from_distinct, IsDistinct-cons, IsDistinct-from_apart, IsDistinct-head, IsDistinct-tail}
 use Rattle.std.proofs.lemmas.Slice.Eq.{bytes_eq-Decides}
+use Rattle.std.specs.Prelude.{decimal}
 use Rattle.csv.specs.Records.{field_at}
 use Rattle.mrp_lot.specs.declared.rule.Rule.{Rule}
 use Rattle.mrp_lot.specs.declared.rule.TheConstants.{LONGEST_LEAD}
-use Rattle.mrp_table_rows.specs.Spelling.{is_name, number_text, rule_text}
+use Rattle.mrp_table_rows.specs.Spelling.{is_name, rule_text}
 use Rattle.mrp_table_rows.specs.Parsing.{number_within, rule_of}
 use Rattle.mrp_table_rows.specs.Supplies.{supply_text, SupplyTerms}
 use Rattle.mrp_table_rows.specs.SupplyParsing.{HasName, is_same_plant, IsShare, IsWholeSupply, named_sources, names_plant, ShareFrom, supply_of}
@@ -447,13 +448,13 @@ module _ (N : Table) (table : IsTable N) where
         let safety : p.safety < 10 ^ 16 = omega (arith, is_row.safety) in
         row_read old (with_pairs (before ++ p ∷ []) next.has (x + 1)) last kind.Pair (pair_fields N x p)
         (kind_read (pair_fields N x p) kind.Pair (pair_texts (codes "pair") (plant_name N p.plant.0) (item_name N p.item.0) (supply_text from)
-        (rule_text p.rule) (number_text p.lead) (number_text p.on_hand) (number_text p.safety)
+        (rule_text p.rule) (decimal p.lead) (decimal p.on_hand) (decimal p.safety)
         (word_is_text (codes "pair") refl) (name_is_text _ na) (name_is_text _ nb) (supply_is_text from is_whole) (rule_is_text p.rule is_row.rule)
         (number_is_text p.lead lead) (number_is_text p.on_hand on_hand)
         (number_is_text p.safety safety)) refl refl refl)
         (may_stand kind.Pair last (omega arith) low)
-        (pair_read old (plant_name N p.plant.0) (item_name N p.item.0) (supply_text from) (rule_text p.rule) (number_text p.lead) (number_text p.on_hand)
-        (number_text p.safety) p.plant.0 p.lead p.on_hand p.safety p.rule from na nb
+        (pair_read old (plant_name N p.plant.0) (item_name N p.item.0) (supply_text from) (rule_text p.rule) (decimal p.lead) (decimal p.on_hand)
+        (decimal p.safety) p.plant.0 p.lead p.on_hand p.safety p.rule from na nb
         (number_written 0 LONGEST_LEAD p.lead (omega arith) is_row.lead lead) (number_written 0 MOST_IN_ROW p.on_hand (omega arith) is_row.on_hand on_hand)
         (number_written 0 MOST_IN_ROW p.safety (omega arith) is_row.safety safety) (rule_written p.rule is_row.rule) (supply_written from is_whole)
         (plant_at_place N table p.plant.0 is_row.plant) new_pair (known x p.supply)

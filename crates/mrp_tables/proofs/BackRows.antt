@@ -7,10 +7,11 @@ use Rattle.std.proofs.lemmas.Bool.{and_from}
 use Rattle.std.proofs.lemmas.Bool.Decides.{nat_tests}
 use Rattle.std.proofs.lemmas.List.{length-append}
 use Rattle.std.proofs.lemmas.List.Elements.{All-get_or}
+use Rattle.std.specs.Prelude.{decimal}
 use Rattle.csv.specs.Records.{field_at}
 use Rattle.mrp_qty.specs.declared.horizon.TheConstants.{LONGEST}
 use Rattle.mrp_qty.specs.declared.quantity.TheConstants.{MOST}
-use Rattle.mrp_table_rows.specs.Spelling.{is_name, number_text}
+use Rattle.mrp_table_rows.specs.Spelling.{is_name}
 use Rattle.mrp_table_rows.specs.Parsing.{number_within}
 use Rattle.mrp_table_rows.proofs.Ranges.{number_written}
 use Rattle.mrp_table_rows.specs.declared.numbers.PairNo.{PairNo}
@@ -157,7 +158,7 @@ has_room before x after all most e few =
     let lt : length before < most = omega (arith, n, m, few) in
     grind (arith, nat_tests)
 
-period_written : (n periods : ℕ) → n < periods → periods ≤ LONGEST → number_within (number_text n) 0 (periods - 1) ≡ Some n
+period_written : (n periods : ℕ) → n < periods → periods ≤ LONGEST → number_within (decimal n) 0 (periods - 1) ≡ Some n
 period_written n periods lt few = number_written 0 (periods - 1) n (omega arith) (omega (arith, lt)) (omega (arith, lt, few))
 
 -- a pair, a period and a quantity that a row may have
@@ -213,10 +214,10 @@ module _ (N : Table) (table : IsTable N) where
       let nc = item_of_pair_is_name y is.component in
       let few : b.per < 10 ^ 16 = omega (arith, is.few) in
       row_read (with_bills before) (with_bills (before ++ b ∷ [])) last kind.Bill (bill_fields N b)
-      (kind_read (bill_fields N b) kind.Bill (five_texts (codes "bill") (pair_plant N x) (pair_item N x) (pair_item N y) (number_text b.per)
+      (kind_read (bill_fields N b) kind.Bill (five_texts (codes "bill") (pair_plant N x) (pair_item N x) (pair_item N y) (decimal b.per)
       (word_is_text (codes "bill") refl) (name_is_text _ na) (name_is_text _ nb) (name_is_text _ nc) (number_is_text b.per few)) refl refl refl)
       (may_stand kind.Bill last (omega arith) low)
-      (bill_read (with_bills before) (pair_plant N x) (pair_item N x) (pair_item N y) (number_text b.per) (plant_at N x) x y b.per na nb nc
+      (bill_read (with_bills before) (pair_plant N x) (pair_item N x) (pair_item N y) (decimal b.per) (plant_at N x) x y b.per na nb nc
       (number_written 1 MOST_PER b.per is.some is.few few)
       (plant_of_pair N table x is.parent) (pair_by_names N table x is.parent)
       (ap (λ (f : ℕ). pair_named N (Some f) (pair_item N y)) one ∙ pair_by_names N table y is.component)
@@ -228,7 +229,7 @@ module _ (N : Table) (table : IsTable N) where
   with_amounts demands receipts = record N { demands = demands; receipts = receipts; ships = []; cums = []; resets = [] }
 
   abbrev amount_fields : List ℕ → ℕ → ℕ → ℕ → Row
-  amount_fields word x period quantity = word ∷ pair_plant N x ∷ pair_item N x ∷ number_text period ∷ number_text quantity ∷ [] ∷ [] ∷ [] ∷ []
+  amount_fields word x period quantity = word ∷ pair_plant N x ∷ pair_item N x ∷ decimal period ∷ decimal quantity ∷ [] ∷ [] ∷ [] ∷ []
 
   amount_step : {A : Type 0} (k last : Kind) (word : List ℕ) (demands : List DemandRow) (receipts : List ReceiptRow) (x period quantity : ℕ)
       (room_for_one : Bool) (made : PairNo → ℕ → ℕ → A) (more : A → Table)
@@ -246,10 +247,10 @@ module _ (N : Table) (table : IsTable N) where
       let early : period < 10 ^ 16 = omega (arith, is.falls, table.read.limits.periods) in
       let few : quantity < 10 ^ 16 = omega (arith, is.few) in
       row_read K (more (made (record { 0 = x }) period quantity)) last k (amount_fields word x period quantity)
-      (kind_read (amount_fields word x period quantity) k (five_texts word (pair_plant N x) (pair_item N x) (number_text period) (number_text quantity)
+      (kind_read (amount_fields word x period quantity) k (five_texts word (pair_plant N x) (pair_item N x) (decimal period) (decimal quantity)
       text (name_is_text _ na) (name_is_text _ nb) (number_is_text period early) (number_is_text quantity few)) refl named free)
       (may_stand k last some low)
-      (kind_is ∙ ap (λ r. r >>= λ y. Ok (more y)) (amount_read K word (pair_plant N x) (pair_item N x) (number_text period) (number_text quantity)
+      (kind_is ∙ ap (λ r. r >>= λ y. Ok (more y)) (amount_read K word (pair_plant N x) (pair_item N x) (decimal period) (decimal quantity)
       (plant_at N x) x period quantity room_for_one made na nb
       (period_written period (horizon N) is.falls table.read.limits.periods) (number_written 1 MOST_IN_ROW quantity is.some is.few few)
       (plant_of_pair N table x is.pair) (pair_by_names N table x is.pair) room))
@@ -303,17 +304,17 @@ module _ (N : Table) (table : IsTable N) where
       let early : s.period < 10 ^ 16 = omega (arith, is.period, table.read.limits.periods) in
       let few : s.quantity < 10 ^ 16 = omega (arith, is.quantity) in
       row_read (with_ships before) (with_ships (before ++ s ∷ [])) last kind.Ship (ship_fields N s)
-      (kind_read (ship_fields N s) kind.Ship (six_texts (codes "ship") _ _ _ (number_text s.period) (number_text s.quantity)
+      (kind_read (ship_fields N s) kind.Ship (six_texts (codes "ship") _ _ _ (decimal s.period) (decimal s.quantity)
       (word_is_text (codes "ship") refl) (name_is_text _ lane.from_is) (name_is_text _ lane.to_is) (name_is_text _ lane.item_is) (number_is_text s.period early)
       (number_is_text s.quantity few)) refl refl refl)
       (may_stand kind.Ship last (omega arith) low)
-      (ship_read (with_ships before) _ _ _ (number_text s.period) (number_text s.quantity) s.from.0 (plant_at N s.pair.0) s.pair.0 s.period s.quantity lane
+      (ship_read (with_ships before) _ _ _ (decimal s.period) (decimal s.quantity) s.from.0 (plant_at N s.pair.0) s.pair.0 s.period s.quantity lane
       (period_written s.period (horizon N) is.period table.read.limits.periods) (number_written 1 MOST_IN_ROW s.quantity is.some is.quantity few)
       (has_room before s after N.ships MOST_OF_A_KIND e table.read.limits.ships))
 
   -- a row of a lane and one number, after others
   abbrev number_fields : List ℕ → ℕ → ℕ → ℕ → Row
-  number_fields word f x n = word ∷ plant_name N f ∷ pair_plant N x ∷ pair_item N x ∷ number_text n ∷ [] ∷ [] ∷ [] ∷ []
+  number_fields word f x n = word ∷ plant_name N f ∷ pair_plant N x ∷ pair_item N x ∷ decimal n ∷ [] ∷ [] ∷ [] ∷ []
 
   number_step : (k last : Kind) (word : List ℕ) (cums : List CumRow) (resets : List ResetRow) (M : Table) (f x n : ℕ) → is_utf8 word ≡ true
       → kind_of word ≡ Some k → is_empty_from (number_fields word f x n) (used k) ≡ true
@@ -324,7 +325,7 @@ module _ (N : Table) (table : IsTable N) where
   unfolding field_at
   number_step k last word cums resets M f x n text named free some low lane few is =
       row_read (with_lanes N.ships cums resets) M last k (number_fields word f x n)
-      (kind_read (number_fields word f x n) k (five_texts word _ _ _ (number_text n) text (name_is_text _ lane.from_is) (name_is_text _ lane.to_is)
+      (kind_read (number_fields word f x n) k (five_texts word _ _ _ (decimal n) text (name_is_text _ lane.from_is) (name_is_text _ lane.to_is)
       (name_is_text _ lane.item_is) (number_is_text n few)) refl named free)
       (may_stand k last some low) is
 
@@ -338,7 +339,7 @@ module _ (N : Table) (table : IsTable N) where
       let few : c.figure < 10 ^ 16 = omega (arith, is.figure) in
       number_step kind.Cum last (codes "cum") before [] (with_cums (before ++ c ∷ [])) c.from.0 c.pair.0 c.figure (word_is_text (codes "cum") refl) refl refl
       (omega arith) low lane few
-      (cum_read (with_cums before) _ _ _ (number_text c.figure) c.from.0 (plant_at N c.pair.0) c.pair.0 c.figure lane
+      (cum_read (with_cums before) _ _ _ (decimal c.figure) c.from.0 (plant_at N c.pair.0) c.pair.0 c.figure lane
       (number_written 0 MOST c.figure (omega arith) is.figure few)
       (none_before is_same_cum before c after N.cums e table.once.cums) (has_room before c after N.cums MOST_OF_A_KIND e table.read.limits.cums))
 
@@ -353,7 +354,7 @@ module _ (N : Table) (table : IsTable N) where
       let early : r.period < 10 ^ 16 = omega (arith, is.period, table.read.limits.periods) in
       number_step kind.Reset last (codes "reset") N.cums before (with_resets (before ++ r ∷ [])) r.from.0 r.pair.0 r.period
       (word_is_text (codes "reset") refl) refl refl (omega arith) low lane early
-      (reset_read (with_resets before) _ _ _ (number_text r.period) r.from.0 (plant_at N r.pair.0) r.pair.0 r.period lane
+      (reset_read (with_resets before) _ _ _ (decimal r.period) r.from.0 (plant_at N r.pair.0) r.pair.0 r.period lane
       (period_written r.period (horizon N) is.period table.read.limits.periods)
       (none_before is_same_reset before r after N.resets e table.once.resets)
       (at_place (λ r. rises_from 0 (arrivals N r.from.0 r.pair.0) ≡ true) before r after N.resets e table.sourced.arrive))

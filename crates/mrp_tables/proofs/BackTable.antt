@@ -2,6 +2,7 @@
 use Rattle.std.proofs.Common.{◌≡◌, ◌≤◌, ◌<◌, ◌^◌, ℕ, ◌↔◌, true, false, ltb, List, [], ◌∷◌, ◌++◌, codes, length, Some, Ok, refl, ap, sym, ◌∙◌, subst, arith}
 use Rattle.std.specs.List.{list_all, list_any}
 use Rattle.std.specs.Str.{bytes_eq, is_utf8}
+use Rattle.std.specs.Prelude.{decimal}
 use Rattle.csv.specs.Records.{field_at}
 use Rattle.mrp_cal.specs.Calendar.{CalendarTerms, IsCalendar}
 use Rattle.mrp_cal.specs.Made.{IsCalendarFrom}
@@ -13,7 +14,7 @@ use Rattle.mrp_qty.specs.declared.limits.TheConstants.{MOST_PLANTS}
 use Rattle.mrp_table_rows.specs.Growing.{with_plant}
 use Rattle.mrp_table_rows.specs.Table.{IsName, IsTable, Table}
 use Rattle.mrp_table_rows.specs.Growing.{empty_table}
-use Rattle.mrp_table_rows.specs.Spelling.{is_name, number_text}
+use Rattle.mrp_table_rows.specs.Spelling.{is_name}
 use Rattle.mrp_table_rows.specs.Parsing.{spelled_number, number_within}
 use Rattle.mrp_table_rows.proofs.Decimals.{number-written}
 use Rattle.mrp_table_rows.proofs.Ranges.{number_written}
@@ -53,8 +54,8 @@ unfolding field_at
 run_read c is =
     let days : c.days < 10 ^ 16 = omega (arith, is.length.1) in
     let periods : c.periods < 10 ^ 16 = omega (arith, is.periods.1) in
-    run_fields_read (day_text c.first) (number_text c.days) (number_text c.periods) c.days c.periods
-    (kind_read (run_fields c) kind.Run (four_texts (codes "run") (day_text c.first) (number_text c.days) (number_text c.periods)
+    run_fields_read (day_text c.first) (decimal c.days) (decimal c.periods) c.days c.periods
+    (kind_read (run_fields c) kind.Run (four_texts (codes "run") (day_text c.first) (decimal c.days) (decimal c.periods)
     (word_is_text (codes "run") refl)
     (date_is_text _ _ _ (first_spelled c is).1.shape) (number_is_text c.days days) (number_is_text c.periods periods)) refl refl refl)
     (number-written c.days days) (number_written 1 LONGEST c.periods is.periods.0 is.periods.1 periods)

@@ -8,12 +8,13 @@ use Rattle.std.proofs.lemmas.Bool.Decides.{nat_tests}
 use Rattle.std.proofs.lemmas.List.Elements.{All-head, All-tail}
 use Rattle.std.proofs.lemmas.Str.{IsAscii-append, IsUtf8-from_ascii, is_utf8-from_IsUtf8}
 use Rattle.std.proofs.lemmas.Str.Ascii.{IsAscii-nil}
+use Rattle.std.specs.Prelude.{decimal}
 use Rattle.mrp_cal.specs.DateText.{HasDateShape}
 use Rattle.mrp_cal.specs.Days.{date_text}
 use Rattle.mrp_lot.specs.Lot.{IsRule}
 use Rattle.mrp_lot.specs.declared.rule.Rule.{Rule}
 use Rattle.mrp_lot.specs.declared.rule.Rule.TheVariants.{LotForLot, Fixed, Periods, MinMultiple}
-use Rattle.mrp_table_rows.specs.Spelling.{is_name, is_name_byte, number_text, rule_text}
+use Rattle.mrp_table_rows.specs.Spelling.{is_name, is_name_byte, rule_text}
 use Rattle.mrp_table_rows.specs.Parsing.{IsShort}
 use Rattle.mrp_table_rows.specs.Supplies.{BuyTerms, FromTerms, MakeTerms, source_fields, sources_text, SourceTerms, supply_text, SupplyTerms}
 use Rattle.mrp_table_rows.specs.SupplyParsing.{HasName, IsShare, IsWholeSupply}
@@ -43,19 +44,19 @@ word text e = passing (λ b. ltb b 128) small_byte text e
 name : (text : List ℕ) → is_name text ≡ true → IsAscii text
 name text e = passing is_name_byte small_name_byte text (and_parts _ (list_all is_name_byte text) e).1
 
-number : (n : ℕ) → IsShort n → IsAscii (number_text n)
-number n short = passing is_ascii_digit small_digit (number_text n) (decimal_digits n (omega (arith, short)))
+number : (n : ℕ) → IsShort n → IsAscii (decimal n)
+number n short = passing is_ascii_digit small_digit (decimal n) (decimal_digits n (omega (arith, short)))
 
 rule : (r : Rule) → IsRule r → IsAscii (rule_text r)
 rule LotForLot is = word (codes "lot") refl
-rule (Fixed q) is = IsAscii-append (codes "fixed:") (number_text q) (word (codes "fixed:") refl) (number q (omega (arith, is.1)))
-rule (Periods k) is = IsAscii-append (codes "periods:") (number_text k) (word (codes "periods:") refl) (number k (omega (arith, is.1)))
+rule (Fixed q) is = IsAscii-append (codes "fixed:") (decimal q) (word (codes "fixed:") refl) (number q (omega (arith, is.1)))
+rule (Periods k) is = IsAscii-append (codes "periods:") (decimal k) (word (codes "periods:") refl) (number k (omega (arith, is.1)))
 rule (MinMultiple m k) is =
     let least = is.0 in
     let multiple = is.1 in
     IsAscii-append (codes "min:") _ (word (codes "min:") refl)
-    (IsAscii-append (number_text m) _ (number m (omega (arith, least.1)))
-    (IsAscii-append (codes ":") (number_text k) (word (codes ":") refl) (number k (omega (arith, multiple.1)))))
+    (IsAscii-append (decimal m) _ (number m (omega (arith, least.1)))
+    (IsAscii-append (codes ":") (decimal k) (word (codes ":") refl) (number k (omega (arith, multiple.1)))))
 
 -- ---- supplies
 
@@ -131,8 +132,8 @@ word_is_text text e = as_text text (word text e)
 pub name_is_text : (text : List ℕ) → is_name text ≡ true → is_utf8 text ≡ true
 name_is_text text e = as_text text (name text e)
 
-pub number_is_text : (n : ℕ) → IsShort n → is_utf8 (number_text n) ≡ true
-number_is_text n short = as_text (number_text n) (number n short)
+pub number_is_text : (n : ℕ) → IsShort n → is_utf8 (decimal n) ≡ true
+number_is_text n short = as_text (decimal n) (number n short)
 
 pub rule_is_text : (r : Rule) → IsRule r → is_utf8 (rule_text r) ≡ true
 rule_is_text r is = as_text (rule_text r) (rule r is)

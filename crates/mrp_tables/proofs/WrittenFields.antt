@@ -6,8 +6,9 @@ use Rattle.std.specs.Str.{bytes_eq, is_utf8}
 use Rattle.std.proofs.lemmas.Bool.{and_parts, eqb-true}
 use Rattle.std.proofs.lemmas.Option.{get_or_from_slice_get}
 use Rattle.std.proofs.lemmas.Slice.Eq.{bytes_eq-Decides}
+use Rattle.std.specs.Prelude.{decimal}
 use Rattle.csv.specs.Records.{field_at}
-use Rattle.mrp_table_rows.specs.Spelling.{is_name, number_text}
+use Rattle.mrp_table_rows.specs.Spelling.{is_name}
 use Rattle.mrp_table_rows.specs.Parsing.{spelled_number, number_within}
 use Rattle.mrp_table_rows.proofs.Decimals.{number-spelled}
 use Rattle.mrp_table_rows.proofs.Ranges.{number_is}
@@ -166,14 +167,14 @@ name_text text name e = by (is_name text) e
     by true e = same_Ok text name e
     by false e = absurd (cc)
 
-pub ranged_text : (text : List ℕ) (low high n : ℕ) → ranged text low high ≡ Ok n → text ≡ number_text n
+pub ranged_text : (text : List ℕ) (low high n : ℕ) → ranged text low high ≡ Ok n → text ≡ decimal n
 ranged_text text low high n e = by (number_within text low high) refl e
   where
-    by : (o : Option ℕ) → number_within text low high ≡ o → ◌≡◌ {A = Result ℕ TableFaultKind} (ok_or o fault.BadNumber) (Ok n) → text ≡ number_text n
+    by : (o : Option ℕ) → number_within text low high ≡ o → ◌≡◌ {A = Result ℕ TableFaultKind} (ok_or o fault.BadNumber) (Ok n) → text ≡ decimal n
     by (Some m) is e = number_is text low high n (is ∙ ap (λ x. Some x) (same_Ok m n e))
     by None is e = absurd (cc)
 
-pub number_is_text : (text : List ℕ) (n : ℕ) → spelled_number text ≡ Some n → text ≡ number_text n
+pub number_is_text : (text : List ℕ) (n : ℕ) → spelled_number text ≡ Some n → text ≡ decimal n
 number_is_text text n is = (number-spelled text n is).0
 
 -- ---- the names of what was found by its name

@@ -7,8 +7,9 @@ use Rattle.std.specs.Str.{bytes_eq}
 use Rattle.std.proofs.lemmas.List.{get_or_append_left, length_push}
 use Rattle.std.proofs.lemmas.List.Elements.{All-head, All-tail}
 use Rattle.std.proofs.lemmas.Slice.Eq.{bytes_eq-Decides}
+use Rattle.std.specs.Prelude.{decimal}
 use Rattle.mrp_lot.specs.declared.rule.TheConstants.{LONGEST_LEAD}
-use Rattle.mrp_table_rows.specs.Spelling.{number_text, rule_text}
+use Rattle.mrp_table_rows.specs.Spelling.{rule_text}
 use Rattle.mrp_table_rows.specs.Supplies.{BuyTerms, FromTerms, MakeTerms, SourceTerms, supply_text, SupplyTerms}
 use Rattle.mrp_table_rows.specs.SupplyParsing.{named_sources}
 use Rattle.mrp_table_rows.proofs.RuleTexts.{rule_is_text}
@@ -38,9 +39,9 @@ pub record PairSaid (row : List (List ℕ)) (t : PairTerms) : Type 0 where
   pub item : field row 2 ≡ t.item
   pub supply : field row 3 ≡ supply_text t.supply
   pub rule : field row 4 ≡ rule_text t.rule
-  pub lead : field row 5 ≡ number_text t.lead
-  pub on_hand : field row 6 ≡ number_text t.on_hand
-  pub safety : field row 7 ≡ number_text t.safety
+  pub lead : field row 5 ≡ decimal t.lead
+  pub on_hand : field row 6 ≡ decimal t.on_hand
+  pub safety : field row 7 ≡ decimal t.safety
 
 pub pair_terms_said : (row : List (List ℕ)) (t : PairTerms) → pair_terms row ≡ Ok t → PairSaid row t
 pair_terms_said row t is =
@@ -160,7 +161,7 @@ module _ (N : Table) (plant : PlantNo) (t : PairTerms) (read : IsRead N) (once :
   new_said : (row : List (List ℕ)) → IsOfKind row kind.Pair → PairSaid row t → row ≡ pair_fields M (length N.pairs) new_row
   new_said row k said =
       all_used row _ (plant_name M plant.0) (item_name M new_row.item.0) (supply_text (supply_said M (length N.pairs) new_row.supply)) (rule_text t.rule)
-      (number_text t.lead) (number_text t.on_hand) (number_text t.safety)
+      (decimal t.lead) (decimal t.on_hand) (decimal t.safety)
       k.size k.word
       (said.plant ∙ plant_found N t.plant plant.0 fit.at)
       (said.item ∙ sym (name_back (add_item N.items t.item) t.item (item_added N.items t.item)))

@@ -1,11 +1,11 @@
 -- Each row but a pair's is what is written of what it adds.
 use Rattle.std.proofs.Common.{◌≡◌, ℕ, ◌-◌, Bool, ltb, not, true, List, [], ◌∷◌, length, Option, Some, Ok, refl, ap, sym, ◌∙◌, subst}
+use Rattle.std.specs.Prelude.{decimal}
 use Rattle.mrp_cal.specs.Calendar.{CalendarTerms, IsCalendar}
 use Rattle.mrp_cal.specs.Made.{IsCalendarFrom}
 use Rattle.mrp_cal.specs.Days.{day_text}
 use Rattle.mrp_qty.specs.declared.horizon.TheConstants.{LONGEST}
 use Rattle.mrp_qty.specs.declared.quantity.TheConstants.{MOST}
-use Rattle.mrp_table_rows.specs.Spelling.{number_text}
 use Rattle.mrp_table_rows.specs.Parsing.{spelled_number}
 use Rattle.mrp_table_rows.specs.declared.numbers.PairNo.{PairNo}
 use Rattle.mrp_table_rows.specs.declared.numbers.PlantNo.{PlantNo}
@@ -55,7 +55,7 @@ record BillSaid (row : List (List ℕ)) (t : BillTerms) : Type 0 where
   plant : field row 1 ≡ t.plant
   parent : field row 2 ≡ t.parent
   component : field row 3 ≡ t.component
-  per : field row 4 ≡ number_text t.per
+  per : field row 4 ≡ decimal t.per
 
 bill_terms_said : (row : List (List ℕ)) (t : BillTerms) → bill_terms row ≡ Ok t → BillSaid row t
 bill_terms_said row t is =
@@ -74,7 +74,7 @@ bill_said N row b k is =
     let x = pair_found N a.0.plant a.0.parent p.x p.parent in
     let y = pair_found N a.0.plant a.0.component p.y p.component in
     subst (λ (z : BillRow). row ≡ bill_fields N z) p.same
-    (five_used row _ (pair_plant N p.x) (pair_item N p.x) (pair_item N p.y) (number_text a.0.per) k.size k.word k.free (says.plant ∙ x.plant) (says.parent
+    (five_used row _ (pair_plant N p.x) (pair_item N p.x) (pair_item N p.y) (decimal a.0.per) k.size k.word k.free (says.plant ∙ x.plant) (says.parent
     ∙ x.item) (says.component ∙ y.item) says.per)
 
 -- ---- demands and receipts
@@ -82,8 +82,8 @@ bill_said N row b k is =
 record AmountSaid (row : List (List ℕ)) (t : AmountTerms) : Type 0 where
   plant : field row 1 ≡ t.plant
   item : field row 2 ≡ t.item
-  period : field row 3 ≡ number_text t.period
-  quantity : field row 4 ≡ number_text t.quantity
+  period : field row 3 ≡ decimal t.period
+  quantity : field row 4 ≡ decimal t.quantity
 
 amount_terms_said : (row : List (List ℕ)) (periods : ℕ) (t : AmountTerms) → amount_terms row periods ≡ Ok t → AmountSaid row t
 amount_terms_said row periods t is =
@@ -105,7 +105,7 @@ known_said N plant item found is =
 -- a row of an amount has its word, and then what it was made of
 amount_said : {A : Type 0} (N : Table) (row : List (List ℕ)) (k : Kind) (has_room : Bool) (made : PairNo → ℕ → ℕ → A) (x : A) → IsOfKind row k → AreFree row 5
     → (p : AmountParts N row has_room made x)
-    → row ≡ word_of k ∷ pair_plant N p.found.1.0 ∷ pair_item N p.found.1.0 ∷ number_text p.terms.period ∷ number_text p.terms.quantity ∷ [] ∷ [] ∷ [] ∷ []
+    → row ≡ word_of k ∷ pair_plant N p.found.1.0 ∷ pair_item N p.found.1.0 ∷ decimal p.terms.period ∷ decimal p.terms.quantity ∷ [] ∷ [] ∷ [] ∷ []
 amount_said N row k has_room made x is free p =
     let says = amount_terms_said row (horizon N) p.terms p.read in
     let names = known_said N p.terms.plant p.terms.item p.found p.known in
@@ -141,8 +141,8 @@ lane_said row t is =
 
 record ShipSaid (row : List (List ℕ)) (t : LaneTerms × ℕ × ℕ) : Type 0 where
   lane : LaneSaid row t.0
-  period : field row 4 ≡ number_text t.1
-  quantity : field row 5 ≡ number_text t.2
+  period : field row 4 ≡ decimal t.1
+  quantity : field row 5 ≡ decimal t.2
 
 ship_terms_said : (row : List (List ℕ)) (periods : ℕ) (t : LaneTerms × ℕ × ℕ) → ship_terms row periods ≡ Ok t → ShipSaid row t
 ship_terms_said row periods t is =
@@ -154,7 +154,7 @@ ship_terms_said row periods t is =
 
 record FigureSaid (row : List (List ℕ)) (t : LaneTerms × ℕ) : Type 0 where
   lane : LaneSaid row t.0
-  figure : field row 4 ≡ number_text t.1
+  figure : field row 4 ≡ decimal t.1
 
 lane_number_said : (row : List (List ℕ)) (most : ℕ) (t : LaneTerms × ℕ) → lane_number row most ≡ Ok t → FigureSaid row t
 lane_number_said row most t is = let read = lane_number_read row most t is
@@ -175,7 +175,7 @@ lane_written N row t lane says known =
 -- a row of a lane and one number has its word, and then what it was made of
 figure_said : (N : Table) (row : List (List ℕ)) (k : Kind) (t : LaneTerms × ℕ) (lane : PlantNo × PairNo) → IsOfKind row k → AreFree row 5 → FigureSaid row t
     → known_lane N t.0 ≡ Ok lane
-    → row ≡ word_of k ∷ plant_name N lane.0.0 ∷ pair_plant N lane.1.0 ∷ pair_item N lane.1.0 ∷ number_text t.1 ∷ [] ∷ [] ∷ [] ∷ []
+    → row ≡ word_of k ∷ plant_name N lane.0.0 ∷ pair_plant N lane.1.0 ∷ pair_item N lane.1.0 ∷ decimal t.1 ∷ [] ∷ [] ∷ [] ∷ []
 figure_said N row k t lane is free says known =
     let names = lane_written N row t.0 lane says.lane known in
     five_used row _ _ _ _ _ is.size is.word free names.from names.to names.item says.figure
@@ -203,8 +203,8 @@ reset_said N row x k is =
 
 record RunSaid (row : List (List ℕ)) (t : RunTerms) : Type 0 where
   first : field row 1 ≡ t.first
-  days : field row 2 ≡ number_text t.days
-  periods : field row 3 ≡ number_text t.periods
+  days : field row 2 ≡ decimal t.days
+  periods : field row 3 ≡ decimal t.periods
 
 run_terms_said : (row : List (List ℕ)) (t : RunTerms) → run_terms row ≡ Ok t → RunSaid row t
 unfolding run_terms
@@ -233,5 +233,5 @@ run_said row t c is from calendar =
     let b = after_check (is_run a.0) _ _ t a.2 in
     let k = of_kind row kind.Run (a.1 ∙ ap (λ (k : Kind). Ok k) (run_kind a.0 b.0)) in
     let says = run_terms_said row t b.1 in
-    four_used row _ (day_text c.first) (number_text c.days) (number_text c.periods) k.size k.word k.free
-    (says.first ∙ first_text t.first c from.first calendar) (says.days ∙ ap number_text (sym from.days)) (says.periods ∙ ap number_text (sym from.periods))
+    four_used row _ (day_text c.first) (decimal c.days) (decimal c.periods) k.size k.word k.free
+    (says.first ∙ first_text t.first c from.first calendar) (says.days ∙ ap decimal (sym from.days)) (says.periods ∙ ap decimal (sym from.periods))

@@ -1,11 +1,11 @@
 -- A table written out: the rows that say it, kind by kind, each kind in the order of its list, field by
 -- field. Nothing here speaks of reading.
-use Rattle.std.specs.Prelude.{◌≡◌, ◌≤◌, ℕ, ◌+◌, max, List, [], ◌∷◌, ◌++◌, codes, map, Option, Some}
+use Rattle.std.specs.Prelude.{◌≡◌, ◌≤◌, ℕ, ◌+◌, max, List, [], ◌∷◌, ◌++◌, codes, map, Option, Some, decimal}
 use Rattle.std.specs.Prelude.{None}
 use Rattle.mrp_cal.specs.Calendar.{CalendarTerms}
 use Rattle.mrp_cal.specs.Days.{day_text}
 use Rattle.mrp_table_rows.specs.Said.{item_name, pair_item, pair_plant, plant_name, supply_said}
-use Rattle.mrp_table_rows.specs.Spelling.{number_text, rule_text}
+use Rattle.mrp_table_rows.specs.Spelling.{rule_text}
 use Rattle.mrp_table_rows.specs.Supplies.{supply_text}
 use Rattle.mrp_table_rows.specs.Table.{Table}
 use Rattle.mrp_table_rows.specs.declared.rows.BillRow.{BillRow}
@@ -20,7 +20,7 @@ use Rattle.csv.specs.Reading.{default_config, records}
 -- ---- the eight fields of each kind of row; those that it doesn't use are empty
 
 abbrev pub run_fields : CalendarTerms → List (List ℕ)
-run_fields c = codes "run" ∷ day_text c.first ∷ number_text c.days ∷ number_text c.periods ∷ [] ∷ [] ∷ [] ∷ [] ∷ []
+run_fields c = codes "run" ∷ day_text c.first ∷ decimal c.days ∷ decimal c.periods ∷ [] ∷ [] ∷ [] ∷ [] ∷ []
 
 abbrev pub plant_fields : List ℕ → List (List ℕ)
 plant_fields name = codes "plant" ∷ name ∷ [] ∷ [] ∷ [] ∷ [] ∷ [] ∷ [] ∷ []
@@ -30,38 +30,38 @@ abbrev pub pair_fields : Table → ℕ → PairRow → List (List ℕ)
 pair_fields N x p =
     codes "pair" ∷ plant_name N p.plant.0 ∷ item_name N p.item.0 ∷ supply_text (supply_said N x p.supply)
     ∷ rule_text p.rule
-    ∷ number_text p.lead ∷ number_text p.on_hand ∷ number_text p.safety ∷ []
+    ∷ decimal p.lead ∷ decimal p.on_hand ∷ decimal p.safety ∷ []
 
 abbrev pub bill_fields : Table → BillRow → List (List ℕ)
 bill_fields N b =
-    codes "bill" ∷ pair_plant N b.parent.0 ∷ pair_item N b.parent.0 ∷ pair_item N b.component.0 ∷ number_text b.per ∷ []
+    codes "bill" ∷ pair_plant N b.parent.0 ∷ pair_item N b.parent.0 ∷ pair_item N b.component.0 ∷ decimal b.per ∷ []
     ∷ [] ∷ [] ∷ []
 
 abbrev pub demand_fields : Table → DemandRow → List (List ℕ)
 demand_fields N d =
-    codes "demand" ∷ pair_plant N d.pair.0 ∷ pair_item N d.pair.0 ∷ number_text d.period ∷ number_text d.quantity ∷ []
+    codes "demand" ∷ pair_plant N d.pair.0 ∷ pair_item N d.pair.0 ∷ decimal d.period ∷ decimal d.quantity ∷ []
     ∷ [] ∷ [] ∷ []
 
 abbrev pub receipt_fields : Table → ReceiptRow → List (List ℕ)
 receipt_fields N r =
-    codes "receipt" ∷ pair_plant N r.pair.0 ∷ pair_item N r.pair.0 ∷ number_text r.period ∷ number_text r.quantity ∷ []
+    codes "receipt" ∷ pair_plant N r.pair.0 ∷ pair_item N r.pair.0 ∷ decimal r.period ∷ decimal r.quantity ∷ []
     ∷ [] ∷ [] ∷ []
 
 -- the plant that ships stands before the plant of the pair
 abbrev pub ship_fields : Table → ShipRow → List (List ℕ)
 ship_fields N s =
-    codes "ship" ∷ plant_name N s.from.0 ∷ pair_plant N s.pair.0 ∷ pair_item N s.pair.0 ∷ number_text s.period
-    ∷ number_text s.quantity
+    codes "ship" ∷ plant_name N s.from.0 ∷ pair_plant N s.pair.0 ∷ pair_item N s.pair.0 ∷ decimal s.period
+    ∷ decimal s.quantity
     ∷ [] ∷ [] ∷ []
 
 abbrev pub cum_fields : Table → CumRow → List (List ℕ)
 cum_fields N c =
-    codes "cum" ∷ plant_name N c.from.0 ∷ pair_plant N c.pair.0 ∷ pair_item N c.pair.0 ∷ number_text c.figure ∷ [] ∷ []
+    codes "cum" ∷ plant_name N c.from.0 ∷ pair_plant N c.pair.0 ∷ pair_item N c.pair.0 ∷ decimal c.figure ∷ [] ∷ []
     ∷ [] ∷ []
 
 abbrev pub reset_fields : Table → ResetRow → List (List ℕ)
 reset_fields N r =
-    codes "reset" ∷ plant_name N r.from.0 ∷ pair_plant N r.pair.0 ∷ pair_item N r.pair.0 ∷ number_text r.period ∷ []
+    codes "reset" ∷ plant_name N r.from.0 ∷ pair_plant N r.pair.0 ∷ pair_item N r.pair.0 ∷ decimal r.period ∷ []
     ∷ [] ∷ [] ∷ []
 
 -- ---- the rows of a table

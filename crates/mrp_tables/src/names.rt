@@ -151,7 +151,7 @@ impl Draft {
         ensures within { IfSome result (λ p. p.0 < length self.now.lists.plants) }
         ensures named { OnSome result (IsName name.now) }
     {
-        place_of(&self.known.plants, name).map(PlantNo)
+        place_by_key(&self.known.plants, name).map(PlantNo)
     }
 
     /// Whether there is a plant of that name. It isn't looked for where a pair of it was found.
@@ -192,7 +192,7 @@ impl Draft {
 }
 
 /// The place of a name by its key, from 0, or `None` where it isn't there.
-fn place_of(keys: &IndexSet<NameKey>, name: &str) -> Option<usize>
+fn place_by_key(keys: &IndexSet<NameKey>, name: &str) -> Option<usize>
     ensures exact { (names : List (List ℕ)) → FindsNames names keys.now.keys
         → result ≡ position (bytes_eq name.now) names }
 {

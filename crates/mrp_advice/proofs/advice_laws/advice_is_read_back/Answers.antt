@@ -1,4 +1,4 @@
-use Rattle.mrp_advice.proofs.AdviceSheetFacts as proved
+use Rattle.mrp_advice.proofs.SheetFacts as proved
 use Rattle.mrp_advice.proofs.advice_laws.advice_is_read_back.Goals as goal
 
 pub returns : goal.returns

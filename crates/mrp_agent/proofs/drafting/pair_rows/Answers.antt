@@ -1,6 +1,6 @@
 use Rattle.std.proofs.Common.{ℕ, ◌+◌, ◌<◌, ◌≤◌, List, length, map, slice_index, ◌∙◌, ap, subst, sym}
-use Rattle.mrp_table_rows.specs.Starts.{IsGrouped}
-use Rattle.mrp_table_rows.proofs.Sorting.{IsGrouped-within}
+use Rattle.mrp_grouping.specs.Starts.{IsGrouped}
+use Rattle.mrp_grouping.proofs.Sorting.{IsGrouped-within}
 use Rattle.mrp_plant_view.specs.View.{PlantRows}
 use Rattle.mrp_agent.specs.declared.edges.ParentEdge.{ParentEdge}
 use Rattle.mrp_agent.specs.Kept.{parent_edge}

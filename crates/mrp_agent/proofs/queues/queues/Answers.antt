@@ -1,5 +1,5 @@
 use Rattle.std.proofs.Common.{List, IfOk, ◌∙◌, subst}
-use Rattle.mrp_table_rows.specs.Starts.{IsGrouped}
+use Rattle.mrp_grouping.specs.Starts.{IsGrouped}
 use Rattle.mrp_agent.specs.declared.queues.QueuePlace.{QueuePlace}
 use Rattle.mrp_agent.proofs.Queueing.{pairs_known}
 use Rattle.mrp_agent.proofs.queues.queues.Goals as goal

@@ -42,13 +42,13 @@ loop-visited-preserved c =
 pub returns-clause-ring : goal.returns-clause-ring
 returns-clause-ring c =
     let i = c.loop-visited.invariant in
-    ring_from_walk (ComesFrom c.args.network.now) c.loop-visited.path.items c.loop-visited.x c.place_of-from.result
-    (omega (arith, c.place_of-from.ensures.within, ap length c.as_slice.ensures.value))
-    (rw (← c.as_slice.ensures.value) c.place_of-from.ensures.at) i.climbs i.apart
+    ring_from_walk (ComesFrom c.args.network.now) c.loop-visited.path.items c.loop-visited.x c.place_on_path-from.result
+    (omega (arith, c.place_on_path-from.ensures.within, ap length c.as_slice.ensures.value))
+    (rw (← c.as_slice.ensures.value) c.place_on_path-from.ensures.at) i.climbs i.apart
 
 pub returns-clause-met : goal.returns-clause-met
 returns-clause-met c =
-    All-drop (λ (z : PairNo). IsMet c.args.network.now z.0) c.place_of-from.result c.loop-visited.path.items c.loop-visited.invariant.met
+    All-drop (λ (z : PairNo). IsMet c.args.network.now z.0) c.place_on_path-from.result c.loop-visited.path.items c.loop-visited.invariant.met
 
 pub loop-visited-init : goal.loop-visited-init
 loop-visited-init c =
@@ -76,12 +76,12 @@ demander_left-x-requires-clause-pair c = c.loop-visited.invariant.pair
 pub demander_left-x-requires-clause-left : goal.demander_left-x-requires-clause-left
 demander_left-x-requires-clause-left c = c.loop-visited.invariant.left
 
-pub place_of-from-requires : goal.place_of-from-requires
-place_of-from-requires c =
+pub place_on_path-from-requires : goal.place_on_path-from-requires
+place_on_path-from-requires c =
     let i = c.loop-visited.invariant in
     rw c.as_slice.ensures.value (seen_again c.args.network.now c.loop-visited.path.items c.loop-visited.visited.items c.loop-visited.x c.index.result.now i.size
     i.seen i.pair c.index.ensures c.loop-visited-test.false)
 
 pub returns-clause-within : goal.returns-clause-within
 returns-clause-within c =
-    at_most _ _ c.loop-visited.path.items c.place_of-from.ensures.within c.as_slice.ensures.value
+    at_most _ _ c.loop-visited.path.items c.place_on_path-from.ensures.within c.as_slice.ensures.value

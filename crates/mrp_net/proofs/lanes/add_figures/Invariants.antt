@@ -1,5 +1,5 @@
 use Rattle.std.proofs.Common.{take}
-use Rattle.mrp_table_rows.specs.Added.{AddsTotals}
+use Rattle.mrp_grouping.specs.Added.{AddsTotals}
 use Rattle.mrp_net.specs.Sources.{source_no}
 use Rattle.mrp_net.proofs.lanes.add_figures.Given as goal
 

@@ -1,7 +1,7 @@
 use Rattle.std.proofs.Common.{◌≡◌, ◌<◌, ℕ, ◌*◌, List, length, map, sym, ap, ◌∙◌, subst}
 use Rattle.std.specs.List.{All}
 use Rattle.mrp_net.specs.declared.lanes.Taken.{Taken}
-use Rattle.mrp_table_rows.specs.Starts.{IsGrouped}
+use Rattle.mrp_grouping.specs.Starts.{IsGrouped}
 use Rattle.mrp_net.specs.Routes.{taken}
 use Rattle.mrp_net.proofs.Routing.{routes_within, ShowsGroups-from_grouped}
 use Rattle.mrp_net.proofs.lanes.items.Goals as goal

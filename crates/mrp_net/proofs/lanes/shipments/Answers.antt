@@ -1,7 +1,7 @@
 use Rattle.std.proofs.Common.{◌≡◌, ◌<◌, List, length, map, sym, ap, ◌∙◌, subst}
 use Rattle.std.specs.List.{All}
 use Rattle.mrp_net.specs.declared.lanes.Sent.{Sent}
-use Rattle.mrp_table_rows.specs.Starts.{IsGrouped}
+use Rattle.mrp_grouping.specs.Starts.{IsGrouped}
 use Rattle.mrp_net.specs.SourceRows.{sent}
 use Rattle.mrp_net.proofs.Routing.{ShowsGroups-from_grouped}
 use Rattle.mrp_net.proofs.Sourcing.{sent_within}

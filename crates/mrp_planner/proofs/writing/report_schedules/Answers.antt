@@ -1,6 +1,6 @@
 use Rattle.std.proofs.Common.{Err, ap, refl}
 use Rattle.std.proofs.lemmas.Result.{err_from_is_err_and}
-use Rattle.mrp_advice.specs.ScheduleRows.{schedule_text}
+use Rattle.mrp_schedules.specs.ScheduleRows.{schedule_text}
 use Rattle.mrp_planner.specs.Reports.{AreSchedules}
 use Rattle.mrp_planner.proofs.TextFacts.{report-fails}
 use Rattle.mrp_planner.proofs.writing.report_schedules.Goals as goal

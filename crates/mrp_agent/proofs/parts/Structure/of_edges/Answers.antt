@@ -1,7 +1,7 @@
 use Rattle.std.proofs.Common.{◌≤◌, ◌∙◌, ℕ, List, length, map, ap, refl, subst, sym, arith}
 use Rattle.mrp_plant_view.specs.declared.view.PlantPair.{PlantPair}
 use Rattle.mrp_plant_view.specs.Seen.{pairs_of_item}
-use Rattle.mrp_table_rows.specs.Starts.{IsGrouped}
+use Rattle.mrp_grouping.specs.Starts.{IsGrouped}
 use Rattle.mrp_agent.specs.declared.edges.ParentEdge.{ParentEdge}
 use Rattle.mrp_agent.specs.Kept.{parent_edge}
 use Rattle.mrp_agent.proofs.Opening.{components_known}

@@ -1,0 +1,6 @@
+pub mod Grouping
+pub mod Sorting
+pub mod Placing
+pub mod Kept
+pub mod Adding
+pub mod Finding

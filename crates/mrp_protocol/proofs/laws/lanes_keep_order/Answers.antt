@@ -1,5 +1,0 @@
-use Rattle.mrp_protocol.proofs.Ordering as proved
-use Rattle.mrp_protocol.proofs.laws.lanes_keep_order.Goals as goal
-
-pub returns : goal.returns
-returns c = proved.lanes_keep_order

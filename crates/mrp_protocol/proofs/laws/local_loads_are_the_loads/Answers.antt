@@ -1,5 +1,0 @@
-use Rattle.mrp_protocol.proofs.Promising as proved
-use Rattle.mrp_protocol.proofs.laws.local_loads_are_the_loads.Goals as goal
-
-pub returns : goal.returns
-returns c = proved.local_loads_are_the_loads

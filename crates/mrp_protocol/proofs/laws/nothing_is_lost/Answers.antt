@@ -1,5 +1,0 @@
-use Rattle.mrp_protocol.proofs.Ordering as proved
-use Rattle.mrp_protocol.proofs.laws.nothing_is_lost.Goals as goal
-
-pub returns : goal.returns
-returns c = proved.nothing_is_lost

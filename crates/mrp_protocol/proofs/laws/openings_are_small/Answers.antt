@@ -1,5 +1,0 @@
-use Rattle.mrp_protocol.proofs.Small as proved
-use Rattle.mrp_protocol.proofs.laws.openings_are_small.Goals as goal
-
-pub returns : goal.returns
-returns c = proved.openings_are_small

@@ -1,5 +1,0 @@
-use Rattle.mrp_protocol.proofs.Ordering as proved
-use Rattle.mrp_protocol.proofs.laws.sent_is_decided.Goals as goal
-
-pub returns : goal.returns
-returns c = proved.sent_is_decided

@@ -1,0 +1,101 @@
+-- The lines of a schedule stand within the horizon; the rows of an item are those of its lines, and those of the report
+-- are those of the lanes that are asked for.
+use Rattle.std.proofs.Common.{◌≡◌, ℕ, ◌<◌, Bool, true, false, cond, List, [], ◌∷◌, ◌++◌, length, refl, sym, ap, subst, ◌∙◌}
+use Rattle.std.specs.Prelude.{Option, Some, None, All, Contains, IfSome, filter, filter_map}
+use Rattle.std.specs.List.{flat_map}
+use Rattle.std.proofs.lemmas.List.Elements.{All-cons, All-head, All-nil, All-tail}
+use Rattle.std.proofs.lemmas.List.FromFn.{length-map-range_with_len}
+use Rattle.mrp_table_rows.specs.Said.{item_name}
+use Rattle.mrp_table_rows.specs.declared.numbers.ItemNo.{ItemNo}
+use Rattle.mrp_table_rows.specs.declared.numbers.PlantNo.{PlantNo}
+use Rattle.mrp_table_rows.specs.Table.{IsTable, Table, horizon}
+use Rattle.mrp_net.specs.declared.lane.Lane.{Lane}
+use Rattle.mrp_net.specs.declared.lane.LaneKind.{LaneKind}
+use Rattle.mrp_net.specs.declared.lane.LaneKind.TheVariants.{Schedule}
+use Rattle.mrp_net.specs.Lanes.{lane_items, opening, pair_on, reset}
+use Rattle.mrp_net.specs.Sources.{source_on}
+use Rattle.mrp_net.specs.Sums.{no_pair}
+use Rattle.mrp_net.proofs.Behind.{items_have_sources}
+use Rattle.mrp_record.specs.Entries.{Closing, Delivery, EndOf, Entry, LineOf, ResetOf}
+use Rattle.mrp_record.specs.Blocks.{entry_delivery}
+use Rattle.mrp_record.specs.Text.{block}
+use Rattle.mrp_record.proofs.Running.{block_delivers}
+use Rattle.mrp_protocol.specs.Loads.{called_in, lines_by, load_of}
+use Rattle.mrp_protocol.proofs.Delivered.{by_period_inside}
+use Rattle.mrp_csv_out.specs.Dates.{dates_of, period_date}
+use Rattle.mrp_schedules.specs.declared.line.ScheduleLine.{ScheduleLine}
+use Rattle.mrp_schedules.specs.declared.line.ScheduleLine.TheVariants.{Call, Opening, Reset}
+use Rattle.mrp_schedules.specs.declared.report.ItemRows.{ItemRows}
+use Rattle.mrp_schedules.specs.ItemRows.{AreOfItem, IsLineWithin, asked_text, item_row}
+use Rattle.mrp_schedules.specs.ScheduleRows.{customer_name, is_between, item_text, lane_schedule_text, schedule_line_row, supplier_name}
+use Rattle.mrp_schedules.specs.Schedule.{in_transit, line_of, schedule_of}
+use Rattle.mrp_schedules.proofs.Planned.{reset_before}
+
+-- ---- periods
+
+-- where the deliveries of records stand, and the reset, there stand their lines
+lines_within : (n : ℕ) (from : Option ℕ) → IfSome from (λ t. t < n) → (es : List Entry) → All (λ d. d.period < n) (filter_map entry_delivery es)
+    → All (IsLineWithin n) (filter_map (line_of from) es)
+lines_within n from before [] inside = All-nil (IsLineWithin n)
+lines_within n from before (LineOf i p q c ∷ es) inside =
+    let line : Delivery = record { period = p; quantity = q } in
+    let rest = filter_map entry_delivery es in
+    All-cons (IsLineWithin n) (Call p q c) (filter_map (line_of from) es) (All-head (λ (d : Delivery). d.period < n) line rest inside)
+    (lines_within n from before es (All-tail (λ (d : Delivery). d.period < n) line rest inside))
+lines_within n from before (EndOf i k c ∷ es) inside = lines_within n from before es inside
+lines_within n None before (ResetOf i c ∷ es) inside = lines_within n None before es inside
+lines_within n (Some from) before (ResetOf i c ∷ es) inside =
+    All-cons (IsLineWithin n) (Reset from c) (filter_map (line_of (Some from)) es) before (lines_within n (Some from) before es inside)
+lines_within n from before (Closing ∷ es) inside = lines_within n from before es inside
+
+-- those of a schedule stand within the horizon
+pub schedule_within : (N : Table) → IsTable N → (lane : Lane) (item : ItemNo) → lane.kind ≡ Schedule → All (IsLineWithin (horizon N)) (schedule_of N lane item)
+schedule_within N table lane item schedule =
+    let n = horizon N in
+    let entries = block (load_of N lane item) in
+    let delivered = block_delivers (load_of N lane item) ∙ ap (λ (k : LaneKind). lines_by N k lane item) schedule in
+    All-cons (IsLineWithin n) (Opening (in_transit N lane item) (opening N lane item)) (filter_map (line_of (reset N lane item)) entries) tt
+    (lines_within n (reset N lane item) (reset_before N table lane item) entries
+    (subst (λ (ds : List Delivery). All (λ d. d.period < n) ds) (sym delivered) (by_period_inside (called_in N (source_on N lane item)) n)))
+
+-- so there is a date for each of them
+pub schedule_dated : (N : Table) → IsTable N → (lane : Lane) (item : ItemNo) → lane.kind ≡ Schedule → (lines : List ScheduleLine) (dates : List (List ℕ))
+    → lines ≡ schedule_of N lane item → dates ≡ dates_of N.calendar → All (IsLineWithin (length dates)) lines
+schedule_dated N table lane item schedule lines dates same are =
+    let size : length dates ≡ horizon N = ap (λ (l : List (List ℕ)). length l) are ∙ length-map-range_with_len (period_date N.calendar) 0 (horizon N) in
+    subst (λ (n : ℕ). All (IsLineWithin n) lines) (sym size)
+    (subst (λ (ls : List ScheduleLine). All (IsLineWithin (horizon N)) ls) (sym same) (schedule_within N table lane item schedule))
+
+-- ---- rows
+
+-- an item of a lane is one of the table
+pub item_is_there : (N : Table) → IsTable N → (lane : Lane) (item : ItemNo) → Contains (lane_items N lane) item → item.0 < length N.items
+item_is_there N table lane item there =
+    let taker = (items_have_sources N table lane item there).customer in
+    subst (λ (i : ItemNo). i.0 < length N.items) taker.of_item (table.read.pairs (pair_on N lane item) no_pair taker.pair).item
+
+-- the rows of the lines are those of the item
+pub rows_are_of_item : (N : Table) (lane : Lane) (item : ItemNo) (rows : ItemRows) (lines : List ScheduleLine)
+    → lines ≡ schedule_of N lane item → AreOfItem N lane item rows → flat_map (item_row rows) lines ≡ item_text N lane item
+unfolding item_text
+rows_are_of_item N lane item rows lines same are =
+    let schedule = schedule_of N lane item in
+    ap (flat_map (item_row rows)) same
+    ∙ ap (λ (s : List ℕ). flat_map (schedule_line_row s rows.customer.now rows.item.now rows.dates.now) schedule) are.supplier
+    ∙ ap (λ (c : List ℕ). flat_map (schedule_line_row (supplier_name N lane) c rows.item.now rows.dates.now) schedule) are.customer
+    ∙ ap (λ (i : List ℕ). flat_map (schedule_line_row (supplier_name N lane) (customer_name N lane) i rows.dates.now) schedule) are.of_item
+    ∙ ap (λ (d : List (List ℕ)). flat_map (schedule_line_row (supplier_name N lane) (customer_name N lane) (item_name N item.0) d) schedule) are.dates
+
+kept : {X : Type 0} (text : X → List ℕ) (test : X → Bool) (xs : List X) → flat_map (λ x. cond (test x) (text x) []) xs ≡ flat_map text (filter test xs)
+kept text test [] = refl
+kept text test (x ∷ xs) =
+    let rest = flat_map (λ y. cond (test y) (text y) []) xs in
+    elim (test x) as (λ b. cond b (text x) [] ++ rest ≡ flat_map text (cond b (x ∷ filter test xs) (filter test xs))) [
+      | true ↦ ap (λ t. text x ++ t) (kept text test xs)
+      | false ↦ kept text test xs
+    ]
+
+-- the rows of the lanes that are asked for are those of the lanes that pass the test
+pub asked_are_kept : (from to : Option PlantNo) (N : Table) (ls : List Lane)
+    → flat_map (asked_text from to N) ls ≡ flat_map (lane_schedule_text N) (filter (is_between from to) ls)
+asked_are_kept from to N ls = kept (lane_schedule_text N) (is_between from to) ls

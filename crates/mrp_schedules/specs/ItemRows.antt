@@ -1,0 +1,40 @@
+-- The schedule rows of one lane and of one item, line by line.
+use Rattle.std.specs.Prelude.{◌≡◌, ℕ, ◌<◌, if◌then◌else◌, List, [], Option}
+use Rattle.mrp_table_rows.specs.Said.{item_name}
+use Rattle.mrp_table_rows.specs.declared.numbers.ItemNo.{ItemNo}
+use Rattle.mrp_table_rows.specs.declared.numbers.PlantNo.{PlantNo}
+use Rattle.mrp_table_rows.specs.Table.{Table}
+use Rattle.mrp_net.specs.declared.lane.Lane.{Lane}
+use Rattle.mrp_csv_out.specs.Dates.{dates_of}
+use Rattle.mrp_csv_out.specs.Rows.{row}
+use Rattle.mrp_schedules.specs.declared.line.ScheduleLine.{ScheduleLine}
+use Rattle.mrp_schedules.specs.declared.line.ScheduleLine.TheVariants.{Opening, Call, Reset}
+use Rattle.mrp_schedules.specs.declared.report.ItemRows.{ItemRows}
+use Rattle.mrp_schedules.specs.ScheduleRows.{customer_name, is_between, kind_fields, lane_schedule_text}
+use Rattle.mrp_schedules.specs.ScheduleRows.{schedule_line_row, supplier_name}
+
+-- what the rows of an item's schedule have in common
+pub record AreOfItem (N : Table) (lane : Lane) (item : ItemNo) (rows : ItemRows) : Type 0 where
+  pub supplier : rows.supplier.now ≡ supplier_name N lane
+  pub customer : rows.customer.now ≡ customer_name N lane
+  pub of_item : rows.item.now ≡ item_name N item.0
+  pub dates : rows.dates.now ≡ dates_of N.calendar
+
+-- the row of a line of the schedule
+abbrev pub item_row : ItemRows → ScheduleLine → List ℕ
+item_row rows line = schedule_line_row rows.supplier.now rows.customer.now rows.item.now rows.dates.now line
+
+-- a row of that kind, in a period or in none, with pieces or without
+abbrev pub kind_row : ItemRows → List ℕ → Option ℕ → Option ℕ → ℕ → List ℕ
+kind_row rows kind period pieces figure =
+    row (kind_fields rows.supplier.now rows.customer.now rows.item.now rows.dates.now kind period pieces figure)
+
+-- a line stands in one of the first so many periods, or in none
+abbrev pub IsLineWithin : ℕ → ScheduleLine → Type 0
+IsLineWithin periods (Opening transit figure) = Unit {0}
+IsLineWithin periods (Call period quantity cumulative) = period < periods
+IsLineWithin periods (Reset period closed) = period < periods
+
+-- the rows of a lane, if its schedules are asked for
+abbrev pub asked_text : Option PlantNo → Option PlantNo → Table → Lane → List ℕ
+asked_text from to N lane = if is_between from to lane then lane_schedule_text N lane else []

@@ -1,0 +1,6 @@
+pub mod Calls
+pub mod ItemRows
+pub mod Laws
+pub mod ScheduleRows
+pub mod Schedule
+pub mod ScheduleSheets

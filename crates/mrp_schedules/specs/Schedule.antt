@@ -1,0 +1,30 @@
+-- The delivery schedule of an item of a schedule lane: what the lane's records say of it, without their numbers,
+-- the item's end and the closing.
+use Rattle.std.specs.Prelude.{ℕ, List, ◌∷◌, filter_map, sum_by, Option, Some, None, option_map}
+use Rattle.mrp_table_rows.specs.declared.numbers.ItemNo.{ItemNo}
+use Rattle.mrp_table_rows.specs.Table.{Table}
+use Rattle.mrp_net.specs.declared.lane.Lane.{Lane}
+use Rattle.mrp_net.specs.Lanes.{opening, shipments, reset}
+use Rattle.mrp_record.specs.Entries.{Entry, LineOf, EndOf, ResetOf, Closing}
+use Rattle.mrp_record.specs.Text.{block}
+use Rattle.mrp_protocol.specs.Loads.{load_of}
+use Rattle.mrp_schedules.specs.declared.line.ScheduleLine.{ScheduleLine}
+use Rattle.mrp_schedules.specs.declared.line.ScheduleLine.TheVariants.{Opening, Call, Reset}
+
+-- a line is a call, a reset stands at the period from which the figures start anew, and an end and a closing are no
+-- line
+abbrev pub line_of : Option ℕ → Entry → Option ScheduleLine
+line_of reset (LineOf item period quantity cumulative) = Some (Call period quantity cumulative)
+line_of reset (EndOf item lines cumulative) = None
+line_of reset (ResetOf item closed) = option_map (λ period. Reset period closed) reset
+line_of reset Closing = None
+
+-- the pieces that the shipments of the table have on their way from the supplier to the customer
+abbrev pub in_transit : Table → Lane → ItemNo → ℕ
+in_transit N lane item = sum_by (λ s. s.quantity) (shipments N lane item)
+
+-- what is in transit and the figure with it, then the calls and the reset in the order of the item's records
+abbrev pub schedule_of : Table → Lane → ItemNo → List ScheduleLine
+schedule_of N lane item =
+    Opening (in_transit N lane item) (opening N lane item)
+    ∷ filter_map (line_of (reset N lane item)) (block (load_of N lane item))

@@ -1,6 +1,0 @@
-use Rattle.std.proofs.Common.{take}
-use Rattle.mrp_table_rows.specs.Added.{AddsTotals}
-use Rattle.mrp_table_rows.proofs.sums.add_totals.Given as goal
-
-abbrev pub invariant-loop-row : goal.invariant-loop-row
-invariant-loop-row g l = AddsTotals (g.K.KeyOf.key_of l.by) (g.A.AmountOf.amount_of l.of) (take l.row-index l.rows) l.fn.totals l.totals
