@@ -1,10 +1,8 @@
-//! The plan of a whole network: each pair planned after all of its demanders, pegging, and planned
-//! orders; and the plans of the plants' pairs, put together to that plan.
+//! The plan of a whole network: each pair planned after all of its demanders, pegging, and planned orders.
 #![tactic(auto)]
 
 mod explosion;
 mod fitting;
-mod gathering;
 mod laws;
 mod orders;
 mod pegging;
@@ -12,7 +10,6 @@ mod plan;
 mod terms;
 
 pub use fitting::fits;
-pub use gathering::gather;
 pub use laws::{orders_make_releases, terms_add_up, terms_have_rows};
 pub use mrp_net::Network;
 pub use mrp_netting::PairPlan;
