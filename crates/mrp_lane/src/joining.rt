@@ -124,11 +124,13 @@ pub fn join(send: SendEnd, take: TakeEnd) -> JoinedLane
     ensures legal_taken { HasLegalList take }
 {
     let SendEnd {
-        mailbox, mut pass, ..
+        mailbox,
+        pass: mut joined,
+        ..
     } = send;
-    mailbox.absorb::<Meeting>(&mut pass, take.pass);
-    mailbox.learn_as::<Taken>(&mut pass);
-    JoinedLane { pass }
+    mailbox.absorb::<Meeting>(&mut joined, take.pass);
+    mailbox.learn_as::<Taken>(&mut joined);
+    JoinedLane { pass: joined }
 }
 
 /// Joins the two ends of one lane and empties the mailbox.

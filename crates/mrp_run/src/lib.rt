@@ -16,6 +16,7 @@ mod booking;
 mod dealing;
 mod fault;
 mod gathering;
+mod joining;
 pub mod laws;
 mod moving;
 mod network;

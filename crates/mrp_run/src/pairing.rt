@@ -1,4 +1,4 @@
-//! How the ends of the lanes are paired again after the joins of the threads, and reconciled, or joined for proofs alone.
+//! How the ends of the lanes are paired again after the joins, and reconciled.
 ghost use Rattle.std.specs.Prelude.{◌≡◌, ◌+◌, ◌<◌, [], ◌∷◌, ◌++◌, List, length, All, IfOk, IfSome, IsSomeAnd};
 ghost use Rattle.mrp_table_rows.specs.Table.{Table};
 ghost use Rattle.mrp_net.specs.Lanes.{lanes, lane_at};
@@ -9,7 +9,7 @@ ghost use Rattle.mrp_run.specs.Outcome.{AreSettled, IsSettled};
 ghost use Rattle.mrp_run.specs.Plant.{IsClosed};
 
 use crate::plant::Plant;
-use mrp_lane::{JoinedLane, Reconciled, SendEnd, TakeEnd, join, reconcile};
+use mrp_lane::{Reconciled, SendEnd, TakeEnd, reconcile};
 use mrp_net::{LaneNo, Network, PlantNo};
 use mrp_qty::Memory;
 use std::alloc::Global;
@@ -68,53 +68,8 @@ fn reconcile_last<R: Wait>(
     reconcile(rt, alloc, send, take)
 }
 
-/// The two ends of each lane, joined, in lane order.
-///
-/// # Errors
-///
-/// [`Memory`] where the list is refused, which has no bytes.
-pub(crate) fn join_lanes(
-    alloc: Global,
-    network: &Network,
-    plants: &mut [Plant],
-) -> Result<Vec<JoinedLane>, Memory>
-    requires ended { (ns : List Name) × AreNames network.now (length (lanes network.now)) ns
-        × HaveEnded network.now ns ns plants.old }
-    ensures lanes { IfOk result (λ all. AreSettled network.now all.items) }
-    ensures ends { IfOk result (λ all. EachAt (IsOfEnds network.now plants.old) all.items) }
-    ensures plans { IfOk result (λ _. HavePlans network.now plants.new) }
-{
-    let lanes = network.lanes();
-    let mut all = Vec::with_capacity(alloc, lanes)?;
-    for done in 0..lanes {
-        let joined = join_last(network, LaneNo(lanes - 1 - done), plants);
-        all.push(joined).unwrap();
-    }
-    all.as_mut_slice().reverse();
-    Ok(all)
-}
-
-/// The two ends of the last lane whose ends are there, joined.
-fn join_last(network: &Network, lane: LaneNo, plants: &mut [Plant]) -> JoinedLane
-    requires lane { lane.0 < length (lanes network.now) }
-    requires left { HaveLeft network.now (lane.0 + 1) plants.old }
-    ensures settled { IsSettled network.now lane.0 result }
-    ensures left { HaveLeft network.now lane.0 plants.new }
-    ensures of { IsOfEnds network.now plants.old lane.0 result }
-    ensures left_of { HaveLeftOf plants.old plants.new }
-{
-    let between = network.lane(lane);
-    let Some(send) = last_send(plants, between.sender) else {
-        unreachable!()
-    };
-    let Some(take) = last_take(plants, between.receiver) else {
-        unreachable!()
-    };
-    join(send, take)
-}
-
 /// Takes the last sender's end of a plant.
-fn last_send(plants: &mut [Plant], sender: PlantNo) -> Option<SendEnd>
+pub(crate) fn last_send(plants: &mut [Plant], sender: PlantNo) -> Option<SendEnd>
     requires there { sender.0 < length plants.old }
     ensures last { (N : Table) (ns ts : List Name) (n : Name) → (lane_at N n.lane).sender.0 ≡ sender.0
         → HaveEnded N (ns ++ n ∷ []) ts plants.old
@@ -126,7 +81,7 @@ fn last_send(plants: &mut [Plant], sender: PlantNo) -> Option<SendEnd>
 }
 
 /// Takes the last receiver's end of a plant.
-fn last_take(plants: &mut [Plant], receiver: PlantNo) -> Option<TakeEnd>
+pub(crate) fn last_take(plants: &mut [Plant], receiver: PlantNo) -> Option<TakeEnd>
     requires there { receiver.0 < length plants.old }
     ensures last { (N : Table) (ns ts : List Name) (n : Name) → (lane_at N n.lane).receiver.0 ≡ receiver.0
         → HaveEnded N ns (ts ++ n ∷ []) plants.old

@@ -2,7 +2,7 @@ use Rattle.std.proofs.Common.{◌-◌, ◌≤◌, length, vec_capacity}
 use Rattle.mrp_net.specs.Lanes.{lanes}
 use Rattle.mrp_run.specs.Ends.{HaveLeft, HaveLeftOf}
 use Rattle.mrp_run.proofs.PairedSettled.{ArePairedFrom}
-use Rattle.mrp_run.proofs.pairing.join_lanes.Given as goal
+use Rattle.mrp_run.proofs.joining.join_lanes.Given as goal
 
 -- the lanes from the last on are joined, and the ends of the others are there yet
 abbrev pub invariant-loop-done : goal.invariant-loop-done

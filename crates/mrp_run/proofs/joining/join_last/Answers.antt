@@ -6,7 +6,7 @@ use Rattle.mrp_run.proofs.DealtLists.{there_is_one}
 use Rattle.mrp_run.proofs.Paired.{have_last, have_both}
 use Rattle.mrp_run.proofs.PairedSettled.{settled}
 use Rattle.mrp_run.proofs.Ran.{left_of_left, of_ends}
-use Rattle.mrp_run.proofs.pairing.join_last.Goals as goal
+use Rattle.mrp_run.proofs.joining.join_last.Goals as goal
 
 pub unreachable-requires : goal.unreachable-requires
 unreachable-requires c =

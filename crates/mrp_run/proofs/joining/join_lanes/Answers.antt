@@ -7,7 +7,7 @@ use Rattle.mrp_run.proofs.DealtLists.{pushed}
 use Rattle.mrp_run.proofs.Paired as pair
 use Rattle.mrp_run.proofs.PairedSettled as settle
 use Rattle.mrp_run.proofs.Ran as ran
-use Rattle.mrp_run.proofs.pairing.join_lanes.Goals as goal
+use Rattle.mrp_run.proofs.joining.join_lanes.Goals as goal
 
 pub loop-done-init : goal.loop-done-init
 loop-done-init c =
