@@ -107,8 +107,8 @@ impl Model for JoinedLane {
 
 /// Joins the two ends of one lane, for proofs alone. What lies in the mailbox is dropped with it.
 ///
-/// What was sent is what was taken and then what is left. The figures are those of these lists. It takes no memory
-/// and doesn't wait (by construction; no clause says so).
+/// What was sent is what was taken and then what is left. The figures are those of these lists. It has no allocator
+/// and no handle, so it takes no memory and doesn't wait.
 pub fn join(send: SendEnd, take: TakeEnd) -> JoinedLane
     requires same { AreOfOneLane send take }
     ensures network { result.network ≡ send.name.network }
