@@ -10,4 +10,5 @@ gather-requires c =
 pub returns : goal.returns
 returns c =
     let plannable = c.requires.plannable in
-    rw (c.gather.ensures) (rw (c.requires.outcome.plans) (one_plan c.args.net.now.network plannable.table plannable.loop_free).fits)
+    rw (c.gather.ensures)
+    (rw (c.requires.outcome.plans) record { fits = (one_plan c.args.net.now.network plannable.table plannable.loop_free).fits })
