@@ -24,11 +24,11 @@ overflow_sub-lanes c = omega (arith, c.loop-done-test.true)
 pub overflow_sub-lanes-in-loop-done : goal.overflow_sub-lanes-in-loop-done
 overflow_sub-lanes-in-loop-done c = omega (arith, c.loop-done-test.true)
 
-pub join_last-requires-clause-lane : goal.join_last-requires-clause-lane
-join_last-requires-clause-lane c = omega (arith, c.loop-done-test.true, c.lanes-lanes.ensures)
+pub join_last-joined-requires-clause-lane : goal.join_last-joined-requires-clause-lane
+join_last-joined-requires-clause-lane c = omega (arith, c.loop-done-test.true, c.lanes-lanes.ensures)
 
-pub join_last-requires-clause-left : goal.join_last-requires-clause-left
-join_last-requires-clause-left c = pair.left_here c.args.network.now c.loop-done.plants c.lanes-lanes.result c.loop-done.done c.lanes-lanes.ensures
+pub join_last-joined-requires-clause-left : goal.join_last-joined-requires-clause-left
+join_last-joined-requires-clause-left c = pair.left_here c.args.network.now c.loop-done.plants c.lanes-lanes.result c.loop-done.done c.lanes-lanes.ensures
     c.loop-done-test.true c.loop-done.invariant.left
 
 pub unwrap-requires : goal.unwrap-requires
@@ -41,17 +41,17 @@ pub loop-done-preserved : goal.loop-done-preserved
 loop-done-preserved c =
     let N = c.args.network.now in record {
       settled = settle.paired_more N c.args.plants.now c.lanes-lanes.result
-          (length (lanes N)) c.loop-done.done c.loop-done.all.items c.push.new.self.items c.join_last.result
-          (pushed c.loop-done.all.items c.push.new.self.items c.join_last.result _ c.push.ensures.items (ap is_ok c.unwrap.ensures)) c.lanes-lanes.ensures
+          (length (lanes N)) c.loop-done.done c.loop-done.all.items c.push.new.self.items c.join_last-joined.result
+          (pushed c.loop-done.all.items c.push.new.self.items c.join_last-joined.result _ c.push.ensures.items (ap is_ok c.unwrap.ensures)) c.lanes-lanes.ensures
           (record {
-            settled = c.join_last.ensures.settled;
-            of = ran.of_before N c.args.plants.now c.loop-done.plants _ c.join_last.result c.loop-done.invariant.left_of c.join_last.ensures.of;
+            settled = c.join_last-joined.ensures.settled;
+            of = ran.of_before N c.args.plants.now c.loop-done.plants _ c.join_last-joined.result c.loop-done.invariant.left_of c.join_last-joined.ensures.of;
           })
           c.loop-done.invariant.settled;
       room = omega (arith, c.loop-done.invariant.room, c.push.ensures.capacity);
-      left = pair.left_next N c.join_last.new.plants c.lanes-lanes.result c.loop-done.done c.lanes-lanes.ensures c.loop-done-test.true
-          c.join_last.ensures.left;
-      left_of = ran.left_of_left c.args.plants.now c.loop-done.plants c.join_last.new.plants c.loop-done.invariant.left_of c.join_last.ensures.left_of;
+      left = pair.left_next N c.join_last-joined.new.plants c.lanes-lanes.result c.loop-done.done c.lanes-lanes.ensures c.loop-done-test.true
+          c.join_last-joined.ensures.left;
+      left_of = ran.left_of_left c.args.plants.now c.loop-done.plants c.join_last-joined.new.plants c.loop-done.invariant.left_of c.join_last-joined.ensures.left_of;
     }
 
 pub returns-clause-lanes : goal.returns-clause-lanes
