@@ -16,6 +16,7 @@ pub mod DraftReads
 pub mod Drafts
 pub mod Ending
 pub mod Formed
+pub mod Gathers
 pub mod Leaving
 pub mod Left
 pub mod Looking

@@ -7,6 +7,7 @@ pub mod After
 pub mod Asking
 pub mod Drafts
 pub mod Fields
+pub mod Given
 pub mod InNetwork
 pub mod Kept
 pub mod Laws

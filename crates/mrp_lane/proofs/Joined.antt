@@ -126,6 +126,25 @@ module _ {Q A : Type 0} {box : Box Q A} {p : Pass Record LaneView} {lane : LaneN
   figures_agree = (λ j. figures_of lane (h.counted j).items (h'.counted j).items)
       ∙ figures_are (view p).network lane.0 sent taken h.sized.table h.legal h'.legal
 
+-- ---- what a joined pass knows
+
+module _ (v : LaneView) (mailbox : List Record) (whole : IsWholePass v mailbox) where
+  rest_is : drop (length v.taken) v.sent ≡ mailbox
+  rest_is = ap (drop (length v.taken)) whole.records ∙ drop_at v.taken mailbox (length v.taken) refl
+
+  pub parts_join : v.sent ≡ v.taken ++ drop (length v.taken) v.sent
+  parts_join = whole.records ∙ ap (λ (z : List Record). v.taken ++ z) (sym rest_is)
+
+  rest_at : drop (length v.taken_at) v.sent_at ≡ whole.stamps.waits_at
+  rest_at = ap (drop (length v.taken_at)) whole.stamps.whole ∙ drop_at v.taken_at whole.stamps.waits_at (length v.taken_at) refl
+
+  pub stamps_join : (v.sent_at ≡ v.taken_at ++ drop (length v.taken_at) v.sent_at)
+      × (length (drop (length v.taken_at) v.sent_at) ≡ length (drop (length v.taken) v.sent))
+  stamps_join = (
+    whole.stamps.whole ∙ ap (λ (z : List ℕ). v.taken_at ++ z) (sym rest_at),
+    ap length rest_at ∙ whole.stamps.as_many ∙ sym (ap length rest_is),
+  )
+
 -- ---- what is answered
 
 -- of a pass that has taken all: the front of what was sent, as long as what was taken before

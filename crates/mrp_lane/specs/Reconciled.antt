@@ -1,4 +1,4 @@
--- What reconciling the two ends of a lane answers.
+-- What reconciling and joining the two ends of a lane answers.
 use Rattle.std.specs.Prelude.{◌≡◌, ℕ, ◌+◌, ◌<◌, List, [], ◌∷◌, ◌++◌, drop, length, map, take}
 use Rattle.crossbeam_queue.specs.Passes.{Pass, view}
 use Rattle.mrp_table_rows.specs.declared.numbers.ItemNo.{ItemNo}
@@ -69,6 +69,20 @@ carried_over pass count left figures = record {
   taken_at = take count (view pass).sent_at;
   left_at = drop count (view pass).sent_at;
   figures = figures;
+}
+
+-- the joined pass knows both lists: what was sent behind those that were taken is left
+abbrev pub joined_over : Pass Record LaneView → Carried
+joined_over pass = record {
+  network = (view pass).network;
+  lane = (view pass).lane;
+  sent = (view pass).sent;
+  taken = (view pass).taken;
+  left = drop (length (view pass).taken) (view pass).sent;
+  sent_at = (view pass).sent_at;
+  taken_at = (view pass).taken_at;
+  left_at = drop (length (view pass).taken_at) (view pass).sent_at;
+  figures = figures_on (view pass).network (view pass).lane (view pass).sent (view pass).taken;
 }
 
 -- the number of the lane and the counts are those of the lists, which are legal beginnings; what was sent is what

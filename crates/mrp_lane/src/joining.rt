@@ -1,4 +1,4 @@
-//! How the two ends of a lane are reconciled once both are in one thread again.
+//! How the two ends of a lane are joined, and reconciled, once both are in one thread again.
 ghost use Rattle.std.specs.Prelude.{◌≡◌, ◌+◌, ◌<◌, ◌≤◌, ◌++◌, true, All, IfOk, length};
 ghost use Rattle.crossbeam_queue.specs.Passes.{view, IsPassOf};
 ghost use Rattle.mrp_net.specs.Lanes.{lanes};
@@ -10,7 +10,7 @@ ghost use Rattle.mrp_lane.specs.Views.{AreStamped, IsLegal, taken_all};
 use crate::send::SendEnd;
 use crate::take::{TakeEnd, pop};
 use crate::tally::{ItemPieces, Tally};
-use crate::view::{LanePass, Mailbox, Meeting};
+use crate::view::{LanePass, Mailbox, Meeting, Taken};
 use mrp_book::LaneFigure;
 use mrp_net::LaneNo;
 use mrp_qty::{Memory, Qty};
@@ -86,6 +86,51 @@ impl Reconciled {
     {
         self.figures.as_slice()
     }
+}
+
+/// What went over a lane, for proofs alone: the pass of its two ends, joined. It has no bytes, and [`join`] alone makes
+/// one.
+///
+/// Contracts see what they see of a [`Reconciled`].
+#[derive(Drop)]
+pub struct JoinedLane {
+    pass: LanePass,
+}
+
+impl Model for JoinedLane {
+    ghost use Rattle.mrp_lane.specs.Reconciled.{Carried, joined_over};
+
+    ghost Value = { Carried };
+
+    ghost view = { λ j. joined_over j.pass };
+}
+
+/// Joins the two ends of one lane, for proofs alone. What lies in the mailbox is dropped with it.
+///
+/// What was sent is what was taken and then what is left. The figures are those of these lists. It has no allocator
+/// and no handle, so it takes no memory and doesn't wait.
+pub fn join(send: SendEnd, take: TakeEnd) -> JoinedLane
+    requires same { AreOfOneLane send take }
+    ensures network { result.network ≡ send.name.network }
+    ensures lane { result.lane ≡ send.name.lane }
+    ensures sent { result.sent ≡ send.list }
+    ensures taken { result.taken ≡ take.list }
+    ensures left { send.list ≡ take.list ++ result.left }
+    ensures sent_at { result.sent_at ≡ send.stamps }
+    ensures taken_at { result.taken_at ≡ take.stamps }
+    ensures left_at { (send.stamps ≡ take.stamps ++ result.left_at) × (length result.left_at ≡ length result.left) }
+    ensures figures { result.figures ≡ figures_on send.name.network send.name.lane send.list take.list }
+    ensures legal_sent { HasLegalList send }
+    ensures legal_taken { HasLegalList take }
+{
+    let SendEnd {
+        mailbox,
+        pass: mut joined,
+        ..
+    } = send;
+    mailbox.absorb::<Meeting>(&mut joined, take.pass);
+    mailbox.learn_as::<Taken>(&mut joined);
+    JoinedLane { pass: joined }
 }
 
 /// Joins the two ends of one lane and empties the mailbox.

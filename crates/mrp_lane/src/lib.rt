@@ -4,7 +4,8 @@
 //! whichever order their steps fall, the records taken are the records sent (offered and not refused), in
 //! order and each once, but for the last ones, which lie in the mailbox; and what has been sent is a legal
 //! beginning of the lane's text. That is the rule of the mailbox, which the kit's queue keeps at each step.
-//! Once both ends are in one thread again they can be reconciled: what that answers shows their lists.
+//! Once both ends are in one thread again they can be reconciled: what that answers shows their lists. Where a proof
+//! alone asks for these, the ends are joined.
 //!
 //! Used by `mrp_run`.
 //! Keeps true: FIFO and at-most-once delivery: the records taken are a prefix of the records sent.
@@ -18,7 +19,7 @@ mod take;
 mod tally;
 mod view;
 
-pub use joining::{Reconciled, reconcile};
+pub use joining::{JoinedLane, Reconciled, join, reconcile};
 pub use making::lane;
 pub use mrp_book::LaneFigure;
 pub use mrp_net::{ItemNo, LaneNo};

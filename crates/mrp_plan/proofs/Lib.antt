@@ -4,4 +4,3 @@ pub mod Pegs
 pub mod Next
 pub mod Ordering
 pub mod Planning
-pub mod Gathers

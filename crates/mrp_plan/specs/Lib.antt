@@ -4,4 +4,3 @@ pub mod Orders
 pub mod Peg
 pub mod PegLaws
 pub mod Progress
-pub mod Given

@@ -1,13 +1,11 @@
-//! The plan of a whole network: each pair planned after all of its demanders, pegging, and planned
-//! orders; and the plans of the plants' pairs, put together to that plan.
+//! The plan of a whole network: each pair planned after all of its demanders, pegging, and planned orders.
 //!
-//! Used by reports, and by the firms that plan plant by plant.
+//! Used by reports, and by `mrp_world` for the steps of a run.
 //! Keeps true: `plan_all` makes the one plan of its network; terms and planned orders add up to its rows.
 #![tactic(auto)]
 
 mod explosion;
 mod fitting;
-mod gathering;
 mod laws;
 mod orders;
 mod pegging;
@@ -15,7 +13,6 @@ mod plan;
 mod terms;
 
 pub use fitting::fits;
-pub use gathering::gather;
 pub use laws::{orders_make_releases, terms_add_up, terms_have_rows};
 pub use mrp_net::Network;
 pub use mrp_netting::PairPlan;

@@ -1,48 +1,83 @@
-//! A network run by a thread for each plant, for its plan and the report of it.
+//! A network run by a thread for each plant, for its plan and the report of it. A network with a loop or past the bound
+//! is refused before anything is written.
 
-ghost use Rattle.std.specs.Prelude.{◌<◌, IfOk, IfErr, length};
+ghost use Rattle.std.specs.Prelude.{◌≡◌, ◌<◌, IfOk, IfErr, length};
 ghost use Rattle.mrp_loops.specs.Sized.{IsSized};
 ghost use Rattle.mrp_net.specs.PlanLaws.{Fits};
 ghost use Rattle.mrp_qty.specs.declared.limits.TheConstants.{MOST_TURNS};
-ghost use Rattle.mrp_planner.specs.Fault.{IsLate};
+ghost use Rattle.mrp_run.specs.Outcome.{IsOutcome};
+ghost use Rattle.mrp_planner.specs.Fault.{IsBeforeWriting, IsLate};
 ghost use Rattle.mrp_planner.specs.Gates.{GateExplains};
 ghost use Rattle.mrp_planner.specs.Reports.{IsPlanRows, WritesRows};
+ghost use Rattle.mrp_planner.specs.Refusals.{AskByThreads, RefusesTable};
 ghost use Rattle.mrp_planner.specs.Runs.{IsInNetwork, IsOfRun, IsRunFault, IsShutFor};
 ghost use Rattle.mrp_planner.specs.Text.{IsPlanReport, Writes};
 
 use crate::fault::TextFault;
+use crate::network::{levels_of, sized_of};
 use mrp_loops::SizedNet;
 use mrp_net::{Network, PlantNo};
 use mrp_plan::Plan;
 use mrp_report::{late_rows, plan_rows_by_threads};
-use mrp_run::{Gate, RunFault, Settings, plan_network};
+use mrp_run::{Gate, JoinedLane, Outcome, RunFault, Settings, plan_network};
 use std::alloc::{AllocError, Global};
 use std::io::Write;
 use std::sync::Wait;
 use std::thread::Threads;
 
-/// The plan that the plants of a network come to, each in a thread of its own.
-pub(crate) fn run_plan<T: Threads + Wait + Sync, G: Gate>(
+/// Writes the plan rows and the late rows of a network that is run by threads.
+pub(crate) fn write_run<T: Threads + Wait + Sync, W: Write, G: Gate>(
+    rt: &T,
+    alloc: Global,
+    network: &Network,
+    writer: &mut W,
+    settings: Settings,
+    gate: &G,
+) -> Result<(), TextFault>
+    ensures text { Writes (W.contents writer.old) (W.contents writer.new) result (IsPlanReport network.now) }
+    ensures rows { WritesRows W.contents writer.old writer.new result (IsPlanRows network.now) }
+    ensures refusal { IfErr result (RefusesTable AskByThreads network.now) }
+    ensures untouched { IfErr result (λ fault. IsBeforeWriting fault → writer.new ≡ writer.old) }
+    ensures gate { GateExplains G.turn_open G.turn_shut G.worker_shut settings.workers MOST_TURNS
+        (λ says. says network.now) result }
+{
+    let levels = levels_of(alloc, network)?;
+    let net = sized_of(alloc, network, &levels)?;
+    let outcome = run_plan(rt, alloc, &net, settings, gate)?;
+    let plan = plan_of_outcome(&net, outcome);
+    report_run(rt, alloc, &net, &plan, writer)
+}
+
+/// The outcome that the plants of a network come to, each in a thread of its own.
+fn run_plan<T: Threads + Wait + Sync, G: Gate>(
     rt: &T,
     alloc: Global,
     net: &SizedNet<'_>,
     settings: Settings,
     gate: &G,
-) -> Result<Plan, TextFault>
-    requires plannable { IsSized net.now.network }
-    ensures fits { IfOk result (Fits net.now.network) }
+) -> Result<Outcome<JoinedLane>, TextFault>
+    ensures outcome { IfOk result (λ o. IsOutcome net.now.network o) }
     ensures fault { IfErr result (IsRunFault net.now.network) }
     ensures gate { GateExplains G.turn_open G.turn_shut G.worker_shut settings.workers MOST_TURNS
         (λ says. says net.now.network) result }
 {
     match plan_network(rt, alloc, net, settings, gate) {
-        Ok(plans) => Ok(Plan::gather(net, plans)),
+        Ok(outcome) => Ok(outcome),
         Err(fault) => Err(named(alloc, net.network(), fault)?),
     }
 }
 
+/// The plan of an outcome.
+fn plan_of_outcome(net: &SizedNet<'_>, outcome: Outcome<JoinedLane>) -> Plan
+    requires plannable { IsSized net.now.network }
+    requires outcome { IsOutcome net.now.network outcome }
+    ensures fits { Fits net.now.network result }
+{
+    Plan::gather(net, outcome.plans)
+}
+
 /// Writes the plan rows, by threads, and the late rows of a plan.
-pub(crate) fn report_run<T: Threads + Sync, W: Write>(
+fn report_run<T: Threads + Sync, W: Write>(
     rt: &T,
     alloc: Global,
     net: &SizedNet<'_>,

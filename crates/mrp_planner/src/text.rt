@@ -22,7 +22,8 @@ ghost use Rattle.mrp_commands.specs.declared.choice.TheConstants.{MOST_CAPACITY}
 
 use crate::fault::TextFault;
 use crate::network::network_of;
-use crate::writing::{write_report, write_run};
+use crate::run::write_run;
+use crate::writing::write_report;
 use mrp_commands::{Choice, Heading, MOST_CAPACITY};
 use mrp_run::{Gate, Settings};
 use std::alloc::Global;

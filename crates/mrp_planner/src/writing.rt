@@ -1,14 +1,13 @@
-//! What is written of a network: the report that was chosen, and the plan that is made by threads. A network with a
-//! loop or past the bound, and names and periods that it lacks, are refused before anything is written.
+//! What one thread writes of a network: the report that was chosen. A network with a loop or past the bound, and names
+//! and periods that it lacks, are refused before anything is written.
 
 ghost use Rattle.std.specs.Prelude.{◌≡◌, ◌≢◌, ◌≤◌, ◌<◌, IfErr, IfOk};
 ghost use Rattle.mrp_loops.specs.Sized.{IsSized};
 ghost use Rattle.mrp_table_rows.specs.Table.{IsPair, horizon};
 ghost use Rattle.mrp_net.specs.PlanLaws.{Fits};
 ghost use Rattle.mrp_loops.specs.Codes.{AreCodes};
-ghost use Rattle.mrp_qty.specs.declared.limits.TheConstants.{MOST_TURNS};
 ghost use Rattle.mrp_planner.specs.Answer.{IsAlone, IsAnswer, IsBeforeReport, question_of};
-ghost use Rattle.mrp_planner.specs.Fault.{IsBeforeWriting, IsLate};
+ghost use Rattle.mrp_planner.specs.Fault.{IsLate};
 ghost use Rattle.mrp_planner.specs.Text.{Writes, IsPlanReport};
 ghost use Rattle.mrp_planner.specs.Reports.{WritesRows, IsPlanRows, IsCodeReport};
 ghost use Rattle.mrp_report.specs.Headings.{code_names, lane_names, peg_names, pegs_names};
@@ -16,49 +15,22 @@ ghost use Rattle.mrp_planner.specs.Reports.{IsPegReport, IsCumReport, IsPegs, Is
 ghost use Rattle.mrp_planner.specs.Reports.{AreSchedules, IsAdviceReport, IsChosenPlant};
 ghost use Rattle.mrp_planner.specs.Reports.{IsPegsReport, IsScheduleReport};
 ghost use Rattle.mrp_planner.specs.Reports.{name_of};
-ghost use Rattle.mrp_planner.specs.Refusals.{IsNoPlant, RefusesTable, AskByThreads, AskPair, AskPlants};
-ghost use Rattle.mrp_planner.specs.Gates.{GateExplains};
+ghost use Rattle.mrp_planner.specs.Refusals.{IsNoPlant, RefusesTable, AskPair, AskPlants};
 ghost use Rattle.mrp_commands.specs.declared.choice.TheConstants.{MOST_CAPACITY};
 
 use crate::fault::TextFault;
 use crate::firm::driven_plan;
 use crate::network::{levels_of, sized_of};
-use crate::run::{report_run, run_plan};
 use mrp_advice::advice_rows;
 use mrp_commands::{Choice, Heading, MOST_CAPACITY};
 use mrp_loops::{Levels, SizedNet};
 use mrp_net::{Network, PairNo, PlantNo};
 use mrp_plan::{Plan, peg, plan_all};
 use mrp_report::{code_rows, lane_rows, late_rows, order_rows, peg_rows, pegs_rows, plan_rows};
-use mrp_run::{Gate, Settings};
 use mrp_schedules::schedule_rows;
 use mrp_world::last_figures;
 use std::alloc::Global;
 use std::io::Write;
-use std::sync::Wait;
-use std::thread::Threads;
-
-/// Writes the plan rows and the late rows of a network that is run by threads.
-pub(crate) fn write_run<T: Threads + Wait + Sync, W: Write, G: Gate>(
-    rt: &T,
-    alloc: Global,
-    network: &Network,
-    writer: &mut W,
-    settings: Settings,
-    gate: &G,
-) -> Result<(), TextFault>
-    ensures text { Writes (W.contents writer.old) (W.contents writer.new) result (IsPlanReport network.now) }
-    ensures rows { WritesRows W.contents writer.old writer.new result (IsPlanRows network.now) }
-    ensures refusal { IfErr result (RefusesTable AskByThreads network.now) }
-    ensures untouched { IfErr result (λ fault. IsBeforeWriting fault → writer.new ≡ writer.old) }
-    ensures gate { GateExplains G.turn_open G.turn_shut G.worker_shut settings.workers MOST_TURNS
-        (λ says. says network.now) result }
-{
-    let levels = levels_of(alloc, network)?;
-    let net = sized_of(alloc, network, &levels)?;
-    let plan = run_plan(rt, alloc, &net, settings, gate)?;
-    report_run(rt, alloc, &net, &plan, writer)
-}
 
 /// Writes the report of a network that one thread was asked for.
 pub(crate) fn write_report<W: Write>(

@@ -18,7 +18,7 @@ use Rattle.mrp_agent.specs.State.{AgentState, no_plant_pair, pair_place}
 use Rattle.mrp_agent.proofs.Looking.{place_is_only}
 use Rattle.mrp_run.specs.declared.plant.Plant.{Plant}
 use Rattle.mrp_run.specs.Ends.{EachAt, HasPlans, HavePlans}
-use Rattle.mrp_plan.specs.Given.{plans_below}
+use Rattle.mrp_agent.specs.Given.{plans_below}
 
 -- ---- what an agent gives
 

@@ -7,7 +7,7 @@ use Rattle.mrp_table_rows.specs.Table.{Table}
 use Rattle.mrp_run.specs.declared.fault.RunFault.{RunFault}
 use Rattle.mrp_run.specs.declared.fault.RunFault.TheVariants.{Memory}
 use Rattle.mrp_run.specs.declared.plant.Plant.{Plant}
-use Rattle.mrp_run.specs.Ends.{AreReady, AreThrough, EachAt, HaveEnded, HavePlans, IsReadyPlant}
+use Rattle.mrp_run.specs.Ends.{AreReady, AreThrough, EachAt, HaveEnded, IsReadyPlant}
 use Rattle.mrp_run.specs.Faults.{AllTurned, WasShut, WasSpent}
 use Rattle.mrp_run.specs.Gates.{GateTells}
 use Rattle.mrp_run.specs.Steps.{Finishes, PlantIsAtWork}
@@ -51,12 +51,6 @@ pub through_if : (N : Table) (before : List Plant) (r : Result (Vec Plant Global
     → IfOk r (λ after. AreThrough N after.items)
 through_if N before (Ok after) ready size each = are_through N before after.items ready size each
 through_if N before (Err fault) ready size each = tt
-
-pub have_plans : (N : Table) (plants : List Plant) → AreThrough N plants → HavePlans N plants
-have_plans N plants through = record {
-  all_plants = through.all_plants;
-  each = λ k d within. ((have_ended N plants through).each k d within).plans;
-}
 
 -- ---- what a gate tells of the calls behind the run
 

@@ -132,7 +132,7 @@ of_before N before now l r left of =
 
 -- ---- reconciled
 
-of_ends : (N : Table) (before middle : List Plant) (l : ℕ) (between : Lane) (n : Name) (send take : End) (r : Carried) → between ≡ lane_at N l → n.lane ≡ l
+pub of_ends : (N : Table) (before middle : List Plant) (l : ℕ) (between : Lane) (n : Name) (send take : End) (r : Carried) → between ≡ lane_at N l → n.lane ≡ l
     → n.network ≡ N
     → send.name ≡ n → take.name ≡ n → HasLegalList send → HaveLeftOf before middle → between.sender.0 < length before → between.receiver.0 < length before
     → ((d : Plant) → Contains (get_or before between.sender.0 d).sends.items send)

@@ -38,7 +38,7 @@ IsRun N lanes_of =
 
 -- the plans are the plan of the network, each lane carried its whole text, and the lists are those of a run of the
 -- events
-pub record IsOutcome (N : Table) (o : Outcome) : Type 0 where
+pub record IsOutcome (N : Table) (o : Outcome Carried) : Type 0 where
   pub plans : o.plans.items ≡ plan_of N
   pub lanes : AreSettled N o.lanes.items
   pub run : IsRun N o.lanes.items

@@ -4,13 +4,13 @@ ghost use Rattle.mrp_table_rows.specs.Table.{Table};
 ghost use Rattle.mrp_net.specs.Plan.{plan_of};
 ghost use Rattle.mrp_loops.specs.Sized.{IsSized};
 ghost use Rattle.mrp_run.specs.Ends.{HavePlans};
-ghost use Rattle.mrp_plan.specs.Given.{HaveGiven};
+ghost use Rattle.mrp_agent.specs.Given.{HaveGiven};
 
 use crate::fault::RunFault;
 use crate::plant::Plant;
+use mrp_agent::gather;
 use mrp_net::Network;
 use mrp_netting::PairPlan;
-use mrp_plan::gather;
 use mrp_qty::Memory;
 use std::alloc::Global;
 

@@ -1,6 +1,5 @@
 //! A whole network, run by a thread for each plant.
 ghost use Rattle.std.specs.Prelude.{◌≡◌, IfErr, IfOk};
-ghost use Rattle.mrp_net.specs.Plan.{plan_of};
 ghost use Rattle.mrp_loops.specs.Sized.{IsSized};
 ghost use Rattle.mrp_run.specs.Ends.{AreThrough};
 ghost use Rattle.mrp_run.specs.declared.fault.RunFault.{RunFault};
@@ -11,12 +10,13 @@ ghost use Rattle.mrp_run.specs.Outcome.{IsOutcome};
 use crate::dealing::ready_plants;
 use crate::fault::RunFault;
 use crate::gathering::plans_of;
+use crate::joining::join_lanes;
 use crate::pairing::reconcile_all;
 use crate::plant::Plant;
 use crate::settings::Settings;
 use crate::threads::run_plants;
 use mrp_agent::Gate;
-use mrp_lane::Reconciled;
+use mrp_lane::{JoinedLane, Reconciled};
 use mrp_loops::SizedNet;
 use mrp_net::Network;
 use mrp_netting::PairPlan;
@@ -26,13 +26,13 @@ use std::marker::Brand;
 use std::sync::Wait;
 use std::thread::Threads;
 
-/// What a run comes to.
+/// What a run comes to. What went over its lanes is a [`Reconciled`] each, or, for proofs alone, a [`JoinedLane`].
 #[derive(Drop)]
-pub struct Outcome {
+pub struct Outcome<L = Reconciled> {
     /// The plan of each pair, in table order.
     pub plans: Vec<PairPlan>,
     /// What went over each lane, as its ends showed it when they were joined, in lane order.
-    pub lanes: Vec<Reconciled>,
+    pub lanes: Vec<L>,
 }
 
 /// Runs a network by a thread for each plant, until each plant is done.
@@ -85,8 +85,8 @@ pub fn run_network_within<R: Threads + Wait + Sync, G: Gate>(
     outcome_of(rt, alloc, net.network(), through)
 }
 
-/// The plan of each pair, in table order, as [`run_network`] comes to it, where nobody asks what went over the
-/// lanes: their ends are dropped as the threads left them.
+/// The outcome of the run that [`run_network`] makes, where nobody asks for records and figures: the two ends of each
+/// lane are joined for proofs alone, and no mailbox is emptied.
 ///
 /// # Errors
 ///
@@ -97,12 +97,12 @@ pub fn plan_network<R: Threads + Wait + Sync, G: Gate>(
     net: &SizedNet<'_>,
     settings: Settings,
     gate: &G,
-) -> Result<Vec<PairPlan>, RunFault>
-    ensures plans { IfOk result (λ plans. plans.items ≡ plan_of net.now.network) }
+) -> Result<Outcome<JoinedLane>, RunFault>
+    ensures outcome { IfOk result (λ o. IsOutcome net.now.network o) }
     ensures gate { GateTells G.turn_open G.turn_shut G.worker_shut settings.workers MOST_TURNS net.now.network result }
 {
     let through = run_through(rt, alloc, net, settings, gate, MOST_TURNS)?;
-    plans_of(alloc, net.network(), through)
+    joined_outcome(alloc, net.network(), through)
 }
 
 /// The plants of a network once the thread of each has finished, in so many turns at most.
@@ -144,4 +144,23 @@ fn outcome_of<R: Wait>(
     let lanes = reconcile_all(rt, alloc, network, plants.as_mut_slice())?;
     let plans = plans_of(alloc, network, plants)?;
     Ok(Outcome { plans, lanes })
+}
+
+/// What plants that have finished come to, for proofs alone but for the plans.
+fn joined_outcome(
+    alloc: Global,
+    network: &Network,
+    mut plants: Vec<Plant>,
+) -> Result<Outcome<JoinedLane>, RunFault>
+    requires sized { IsSized network.now }
+    requires through { AreThrough network.now plants.items }
+    ensures outcome { IfOk result (λ o. IsOutcome network.now o) }
+    ensures fault { IfErr result (λ fault. fault ≡ RunFault.Memory) }
+{
+    let joined = join_lanes(alloc, network, plants.as_mut_slice())?;
+    let plans = plans_of(alloc, network, plants)?;
+    Ok(Outcome {
+        plans,
+        lanes: joined,
+    })
 }

@@ -69,7 +69,7 @@ fn reconcile_last<R: Wait>(
 }
 
 /// Takes the last sender's end of a plant.
-fn last_send(plants: &mut [Plant], sender: PlantNo) -> Option<SendEnd>
+pub(crate) fn last_send(plants: &mut [Plant], sender: PlantNo) -> Option<SendEnd>
     requires there { sender.0 < length plants.old }
     ensures last { (N : Table) (ns ts : List Name) (n : Name) → (lane_at N n.lane).sender.0 ≡ sender.0
         → HaveEnded N (ns ++ n ∷ []) ts plants.old
@@ -81,7 +81,7 @@ fn last_send(plants: &mut [Plant], sender: PlantNo) -> Option<SendEnd>
 }
 
 /// Takes the last receiver's end of a plant.
-fn last_take(plants: &mut [Plant], receiver: PlantNo) -> Option<TakeEnd>
+pub(crate) fn last_take(plants: &mut [Plant], receiver: PlantNo) -> Option<TakeEnd>
     requires there { receiver.0 < length plants.old }
     ensures last { (N : Table) (ns ts : List Name) (n : Name) → (lane_at N n.lane).receiver.0 ≡ receiver.0
         → HaveEnded N ns (ts ++ n ∷ []) plants.old

@@ -1,7 +1,7 @@
 //! What the plants give to the plan of the network.
 ghost use Rattle.std.specs.Prelude.{◌<◌, ℕ, IfOk, List, length};
 ghost use Rattle.mrp_protocol.specs.State.{State, IsFinished};
-ghost use Rattle.mrp_plan.specs.Given.{HaveGiven};
+ghost use Rattle.mrp_agent.specs.Given.{HaveGiven};
 ghost use Rattle.mrp_world.specs.Mailbox.{Held};
 ghost use Rattle.mrp_world.specs.Moves.{AreAt};
 

@@ -248,7 +248,7 @@ impl<'a, P: Plant> World<'a, P> {
             ..
         } = self;
         let lists = plans_by_plant(alloc, network, plants)?;
-        let pairs = mrp_plan::gather(alloc, network, lists)?;
+        let pairs = mrp_agent::gather(alloc, network, lists)?;
         Ok(Plan::gather(net, pairs))
     }
 

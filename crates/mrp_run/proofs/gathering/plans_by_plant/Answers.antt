@@ -1,7 +1,7 @@
 use Rattle.std.proofs.Common.{◌≡◌, ◌<◌, ◌++◌, ◌∷◌, [], List, length, length-append, ap, sym, subst, ◌∙◌, is_ok, vec_len, vec_capacity, arith, Vec, Global}
 use Rattle.std.specs.Vec.Iter.{into_iter_items}
 use Rattle.std.proofs.lemmas.Result.{IfOk-from_err}
-use Rattle.mrp_plan.specs.Given.{HaveGiven}
+use Rattle.mrp_agent.specs.Given.{HaveGiven}
 use Rattle.mrp_netting.specs.declared.plan.PairPlan.{PairPlan}
 use Rattle.mrp_run.proofs.GatheredPlans.{AreOwn, given_more}
 use Rattle.mrp_run.proofs.DealtLists.{pushed}

@@ -1,6 +1,6 @@
 use Rattle.std.proofs.Common.{get_or}
 use Rattle.std.proofs.lemmas.List.{get_or_default}
-use Rattle.mrp_plan.proofs.Gathers.{nothing_left}
+use Rattle.mrp_agent.proofs.Gathers.{nothing_left}
 use Rattle.mrp_run.specs.declared.plant.Plant.{Plant}
 use Rattle.mrp_run.proofs.Paired.{takes_popped}
 use Rattle.mrp_run.proofs.Ran.{take_left, take_there}

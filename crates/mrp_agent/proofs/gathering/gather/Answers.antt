@@ -1,5 +1,5 @@
-use Rattle.mrp_plan.proofs.Gathers as gather
-use Rattle.mrp_plan.proofs.gathering.gather.Goals as goal
+use Rattle.mrp_agent.proofs.Gathers as gather
+use Rattle.mrp_agent.proofs.gathering.gather.Goals as goal
 
 pub returns : goal.returns
 returns c =

@@ -18,7 +18,7 @@ use Rattle.mrp_plant_view.specs.View.{is_of_plant}
 use Rattle.mrp_loops.specs.Sized.{IsSized}
 use Rattle.mrp_loops.specs.Within.{plan_at}
 use Rattle.mrp_loops.proofs.OnePlan.{one_plan}
-use Rattle.mrp_plan.specs.Given.{plans_below, HaveGiven}
+use Rattle.mrp_agent.specs.Given.{plans_below, HaveGiven}
 
 -- ---- the last one
 

@@ -1,7 +1,7 @@
 use Rattle.std.proofs.Common.{◌≡◌, ◌-◌, ◌++◌, length, take, reverse}
 use Rattle.mrp_net.specs.Plan.{plan_of}
-use Rattle.mrp_plan.specs.Given.{HaveGiven}
-use Rattle.mrp_plan.proofs.gathering.from_the_last.Given as goal
+use Rattle.mrp_agent.specs.Given.{HaveGiven}
+use Rattle.mrp_agent.proofs.gathering.from_the_last.Given as goal
 
 -- the plans so far, from the last on
 abbrev pub invariant-loop-done : goal.invariant-loop-done

@@ -3,7 +3,7 @@ ghost use Rattle.std.specs.Prelude.{◌≡◌, ◌+◌, ◌<◌, IfOk, Some, len
 ghost use Rattle.mrp_table_rows.specs.Table.{IsPair};
 ghost use Rattle.mrp_net.specs.Plan.{plan_of, rows_at};
 ghost use Rattle.mrp_loops.specs.Sized.{IsSized};
-ghost use Rattle.mrp_plan.specs.Given.{HaveGiven};
+ghost use Rattle.mrp_agent.specs.Given.{HaveGiven};
 
 use mrp_net::{Network, PairNo};
 use mrp_netting::PairPlan;

@@ -1,8 +1,8 @@
 use Rattle.std.proofs.Common.{◌≡◌, ◌<◌, length, ap, sym, arith}
 use Rattle.mrp_table_rows.specs.declared.rows.PairRow.{PairRow}
 use Rattle.mrp_net.specs.Sums.{pair_at}
-use Rattle.mrp_plan.proofs.Gathers as gather
-use Rattle.mrp_plan.proofs.gathering.take_last.Goals as goal
+use Rattle.mrp_agent.proofs.Gathers as gather
+use Rattle.mrp_agent.proofs.gathering.take_last.Goals as goal
 
 pub returns-clause-plan : goal.returns-clause-plan
 returns-clause-plan c =

@@ -2,10 +2,10 @@ use Rattle.std.proofs.Common.{◌++◌, ◌-◌, Vec, Global, List, length, take
 use Rattle.mrp_lot.specs.One.{PlanRows}
 use Rattle.mrp_net.specs.Plan.{plan_of}
 use Rattle.mrp_netting.specs.declared.plan.PairPlan.{PairPlan}
-use Rattle.mrp_plan.specs.Given.{HaveGiven}
-use Rattle.mrp_plan.proofs.Gathers as gather
-use Rattle.mrp_plan.proofs.gathering.from_the_last.Goals as goal
-use Rattle.mrp_plan.proofs.gathering.from_the_last.Goals.{in-Some+in_ok-push, in_default}
+use Rattle.mrp_agent.specs.Given.{HaveGiven}
+use Rattle.mrp_agent.proofs.Gathers as gather
+use Rattle.mrp_agent.proofs.gathering.from_the_last.Goals as goal
+use Rattle.mrp_agent.proofs.gathering.from_the_last.Goals.{in-Some+in_ok-push, in_default}
 
 pub loop-done-init : goal.loop-done-init
 loop-done-init c =
