@@ -28,15 +28,22 @@ form_is : (V : PlantRows) (lane : IncomingLane) → seen_form V.horizon lane ≡
 form_is V lane =
     ap (form_with V.horizon (is_schedule lane.kind)) (sym (map-map book_form_item book_item lane.items))
 
--- it is the form by which the lane's receiver books
+-- it is the form by which the lane's receiver books, wherever it sees the lane
+pub form_at : (N : Table) (p : ℕ) (V : PlantRows) → V ≡ plant_rows N p → (l k : ℕ) → incoming_at V k ≡ incoming_lane N l
+    → lane_form N (lane_at N l) ≡ form_of V (incoming_at V k)
+form_at N p V view l k is =
+    let periods : horizon N ≡ V.horizon = sym (ap (λ (z : PlantRows). z.horizon) view) in
+    forms_are_seen N l ∙ ap (λ (h : ℕ). seen_form h (incoming_lane N l)) periods ∙ form_is V (incoming_lane N l) ∙ ap (form_of V) (sym is)
+
+pub legal_at : (N : Table) → IsSized N → (p : ℕ) (V : PlantRows) → V ≡ plant_rows N p → (l k : ℕ) → incoming_at V k ≡ incoming_lane N l
+    → (records : List Record) → IsBeginning (loads N (lane_at N l)) records → IsInForm (form_of V (incoming_at V k)) records
+legal_at N sized p V view l k is records legal =
+    subst (λ (form : LaneForm). IsInForm form records) (form_at N p V view l k is) (legal_is_in_form N sized (lane_at N l) records legal)
+
 pub form_same : (N : Table) (p : ℕ) (V : PlantRows) → V ≡ plant_rows N p → (l : ℕ) → Contains (incoming_lanes N p) (incoming_lane N l)
     → lane_form N (lane_at N l) ≡ form_of V (incoming_at V (incoming_place V l))
-form_same N p V view l own =
-    let place = in_placed V N p l view own in
-    let periods : horizon N ≡ V.horizon = sym (ap (λ (z : PlantRows). z.horizon) view) in
-    forms_are_seen N l ∙ ap (λ (h : ℕ). seen_form h (incoming_lane N l)) periods ∙ form_is V (incoming_lane N l) ∙ ap (form_of V) (sym place.is)
+form_same N p V view l own = form_at N p V view l (incoming_place V l) (in_placed V N p l view own).is
 
 pub legal_in_form : (N : Table) → IsSized N → (p : ℕ) (V : PlantRows) → V ≡ plant_rows N p → (l : ℕ) → Contains (incoming_lanes N p) (incoming_lane N l)
     → (records : List Record) → IsBeginning (loads N (lane_at N l)) records → IsInForm (form_of V (incoming_at V (incoming_place V l))) records
-legal_in_form N sized p V view l own records legal =
-    subst (λ (form : LaneForm). IsInForm form records) (form_same N p V view l own) (legal_is_in_form N sized (lane_at N l) records legal)
+legal_in_form N sized p V view l own = legal_at N sized p V view l (incoming_place V l) (in_placed V N p l view own).is

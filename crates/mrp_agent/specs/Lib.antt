@@ -20,3 +20,4 @@ pub mod Sending
 pub mod Sent
 pub mod Shows
 pub mod State
+pub mod Taken

@@ -1,6 +1,6 @@
 use Rattle.std.proofs.Common.{arith}
 use Rattle.mrp_run.proofs.Keeping.{nothing_done, one_after_another, same_lanes, still_works}
-use Rattle.mrp_run.proofs.moving.move_all.Goals as goal
+use Rattle.mrp_run.proofs.moving.move_records.Goals as goal
 
 pub look_at-requires-clause-work : goal.look_at-requires-clause-work
 look_at-requires-clause-work g c =

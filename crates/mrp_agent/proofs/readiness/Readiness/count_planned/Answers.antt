@@ -2,7 +2,7 @@ use Rattle.std.proofs.Common.{ℕ, List, ◌∙◌, subst}
 use Rattle.mrp_agent.specs.Progress.{IsLess}
 use Rattle.mrp_agent.proofs.Counting.{AreCounts-settled}
 use Rattle.mrp_agent.proofs.Listing.{left-planned}
-use Rattle.mrp_agent.proofs.readiness.Readiness.settle.Goals as goal
+use Rattle.mrp_agent.proofs.readiness.Readiness.count_planned.Goals as goal
 
 pub returns-clause-counts : goal.returns-clause-counts
 returns-clause-counts c = λ joins blocks components was.

@@ -3,7 +3,7 @@ use Rattle.mrp_table_rows.specs.declared.numbers.PairNo.{PairNo}
 use Rattle.mrp_crew.specs.Planning.{IsPlannable, PlansAll}
 use Rattle.mrp_crew.specs.Rooms.{IsRoom}
 use Rattle.mrp_crew.specs.Settled.{AreToSettle}
-use Rattle.mrp_crew.proofs.settling.settle_all.Given as goal
+use Rattle.mrp_crew.proofs.settling.keep_drafts.Given as goal
 
 -- some pairs are planned, of all results so far where the gate was open to all, and the other results can still be kept
 abbrev pub invariant-loop-work : goal.invariant-loop-work

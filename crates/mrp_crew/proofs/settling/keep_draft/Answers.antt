@@ -4,7 +4,7 @@ use Rattle.mrp_agent.specs.State.{AgentState}
 use Rattle.mrp_crew.proofs.PlanningLaws.{plans_one}
 use Rattle.mrp_crew.proofs.Ready.{can_draft, unplanned}
 use Rattle.mrp_crew.proofs.Keeping.{numbers_differ, on_true}
-use Rattle.mrp_crew.proofs.settling.settle.Goals as goal
+use Rattle.mrp_crew.proofs.settling.keep_draft.Goals as goal
 
 pub settle-requires-clause-can : goal.settle-requires-clause-can
 settle-requires-clause-can c =

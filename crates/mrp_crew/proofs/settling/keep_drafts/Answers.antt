@@ -6,15 +6,15 @@ use Rattle.mrp_crew.specs.declared.work.Work.{Work}
 use Rattle.mrp_crew.specs.Rooms.{IsRoom}
 use Rattle.mrp_crew.proofs.Keeping.{first_ready, first_worked, popped_first, still_to_settle, when_true, where_true}
 use Rattle.mrp_crew.proofs.PlanningLaws.{plannable_after, plans_append, plans_none}
-use Rattle.mrp_crew.proofs.settling.settle_all.Goals as goal
+use Rattle.mrp_crew.proofs.settling.keep_drafts.Goals as goal
 
-pub settle-kept-requires-clause-ready : goal.settle-kept-requires-clause-ready
-settle-kept-requires-clause-ready c =
+pub keep_draft-kept-requires-clause-ready : goal.keep_draft-kept-requires-clause-ready
+keep_draft-kept-requires-clause-ready c =
     first_ready c.loop-work.agent c.in-Some.work (reverse c.pop.new.self.items)
     (popped_first c.loop-work.agent c.loop-work.works.items c.pop.new.self.items c.in-Some.work c.in-Some.ensures.items c.loop-work.invariant.drafts)
 
-pub settle-kept-requires-clause-worked : goal.settle-kept-requires-clause-worked
-settle-kept-requires-clause-worked c =
+pub keep_draft-kept-requires-clause-worked : goal.keep_draft-kept-requires-clause-worked
+keep_draft-kept-requires-clause-worked c =
     first_worked c.loop-work.agent c.in-Some.work (reverse c.pop.new.self.items)
     (popped_first c.loop-work.agent c.loop-work.works.items c.pop.new.self.items c.in-Some.work c.in-Some.ensures.items c.loop-work.invariant.drafts)
 
@@ -24,11 +24,11 @@ loop-work-preserved c =
     let work : Work = c.in-Some.work in
     let first : AgentState = c.args.agent.now in
     let A : AgentState = c.loop-work.agent in
-    let B : AgentState = c.settle-kept.new.agent in
+    let B : AgentState = c.keep_draft-kept.new.agent in
     let rest : List Work = c.pop.new.self.items in
     let popped = c.in-Some.ensures.items in
     let are = popped_first A c.loop-work.works.items rest work popped before.drafts in
-    let next = c.settle-kept.ensures.planned in
+    let next = c.keep_draft-kept.ensures.planned in
     let room : IsRoom first.view.horizon work.room = subst (λ (V : PlantRows). IsRoom V.horizon work.room) before.planned.1.view
     (first_worked A work (reverse rest) are).room in
     record {
@@ -36,15 +36,15 @@ loop-work-preserved c =
         before.planned.0 ++ next.0,
         plans_append first A B before.planned.0 next.0 before.planned.1 next.1,
         (λ all.
-            let kept = when_true c.settle-kept.result _ next.2 all in
+            let kept = when_true c.keep_draft-kept.result _ next.2 all in
             omega (arith, length-append before.planned.0 next.0, before.planned.2 kept.0, kept.1, ap length popped, length-append rest (work ∷ []))),
       );
       plannable = plannable_after A B next.0 before.plannable next.1;
-      drafts = still_to_settle A B work (reverse rest) are next.1.view c.settle-kept.ensures.others;
+      drafts = still_to_settle A B work (reverse rest) are next.1.view c.keep_draft-kept.ensures.others;
       let_in = λ each.
           let so_far = before.let_in each in
           let parts = All-pop (λ (w : Work). w.open ≡ true) c.loop-work.works.items rest (Some work) popped so_far.1 in
-          (c.settle-kept.ensures.let_in so_far.0 parts.1, parts.0);
+          (c.keep_draft-kept.ensures.let_in so_far.0 parts.1, parts.0);
       rooms = c.put_back.ensures first.view.horizon before.rooms room;
     }
 
@@ -60,8 +60,8 @@ loop-work-init c = record {
   rooms = c.requires.rooms;
 }
 
-pub settle-kept-requires-clause-plannable : goal.settle-kept-requires-clause-plannable
-settle-kept-requires-clause-plannable c = c.loop-work.invariant.plannable
+pub keep_draft-kept-requires-clause-plannable : goal.keep_draft-kept-requires-clause-plannable
+keep_draft-kept-requires-clause-plannable c = c.loop-work.invariant.plannable
 
 pub loop-work-smaller : goal.loop-work-smaller
 loop-work-smaller c = omega (arith, ap length c.in-Some.ensures.items, length-append c.pop.new.self.items (c.in-Some.work ∷ []))
