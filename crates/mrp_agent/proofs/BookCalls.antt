@@ -76,8 +76,12 @@ module _ {A : AgentState} {I : Indexes} {k : ℕ} {was : Figures} (on : IsOnLane
       new_is =
           ap (λ (z : List ℕ). record A { books = set A.books k now; scheduled_receipts = z; outside_demand = demand; progress = progress })
           (added.comes ∙ ap (λ (z : LaneKind). receipts_after z A.view A.scheduled_receipts r) (kind_is lanes lane added.lanes_are))
-          ∙ ap (λ (z : List ℕ). record A { books = set A.books k now; scheduled_receipts = receipts_after Lane.kind A.view A.scheduled_receipts r;
-          outside_demand = z; progress = progress })
+          ∙ ap (λ (z : List ℕ). record A {
+            books = set A.books k now;
+            scheduled_receipts = receipts_after Lane.kind A.view A.scheduled_receipts r;
+            outside_demand = z;
+            progress = progress;
+          })
           (added.calls ∙ ap (λ (z : LaneKind). demand_after z A.view A.outside_demand r) (kind_is lanes lane added.lanes_are))
 
       ended_is : BlockEnded (ended_place (items_of A.view) r) A.progress progress

@@ -182,6 +182,7 @@ fn take_turn<R: Threads + Wait + Sync, G: Gate, S: StopRule>(
     ensures crew { crew.new ≡ crew.old }
     ensures kept { KeepsPlant plant.old plant.new }
     ensures fault { IfErr result (IsOf (WasWorkerShut G.worker_shut crew.old.workers) never_spent number) }
+    ensures by_crew { IfErr result (λ fault. (why : CrewFault) × (fault ≡ faults.of_crew number why)) }
 {
     let booked = move_records(rt, plant, Lanes::Incoming, looks, stop);
     let planned = match crew.plan_ready(rt, alloc, &mut plant.agent, number.0, gate) {

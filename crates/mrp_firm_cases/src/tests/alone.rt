@@ -62,7 +62,9 @@ fn run<R: Threads + Wait + Sync, G: Gate>(
     let stop = Stop::<Brand>::new();
     let (sends, takes) = (Vec::new(alloc), Vec::new(alloc));
     let plant = PlantNo(0);
-    match run_plant(rt, alloc, plant, agent, sends, takes, &mut crew, gate, &stop, 1) {
+    match run_plant(
+        rt, alloc, plant, agent, sends, takes, &mut crew, gate, &stop, 1,
+    ) {
         Ok((agent, _sends, _takes)) => Ok(Ok(agent)),
         Err(fault) => Ok(Err(fault)),
     }

@@ -54,3 +54,6 @@ returns-clause-kept g c =
     keeps_on c.args.plant.now q c.move_records-sent.new.plant
     (keeps_on c.args.plant.now p q c.move_records-booked.ensures.kept (planned_kept p.agent p.sends.items p.takes.items c.plan_ready.new.agent xs.0 xs.1))
     c.move_records-sent.ensures.kept
+
+pub returns-in-Err-clause-by_crew : goal.returns-in-Err-clause-by_crew
+returns-in-Err-clause-by_crew g c = (c.in-Err.fault, c.of_crew.ensures)
