@@ -1,6 +1,7 @@
 -- What an agent's methods of sending know.
 use Rattle.std.proofs.Common.{◌≡◌, ℕ, ◌-◌, ◌<◌, ◌≤◌, Option, Some, None, option_map, IsSome, IfSome, IfNone, List, length, get_or, set, refl, sym, ap, ◌∙◌, subst, arith, rules}
 use Rattle.std.specs.List.{Contains}
+use Rattle.std.proofs.lemmas.Bool.{false≢true}
 use Rattle.std.proofs.lemmas.List.{get_or_default}
 use Rattle.std.proofs.lemmas.List.Elements.{All-contains}
 use Rattle.mrp_lot.specs.One.{PlanRows}
@@ -134,7 +135,7 @@ parts_handed left (Some r) next is =
     (ap (λ (n : NextOut). n.left) same, ap (λ (n : NextOut). Some n.entry) same)
 
 pub some_handed : (left : Option Remainder) (o : Option Record) → IsSome o → (next : NextOut) × (option_map (handed left) o ≡ Some next)
-some_handed left None some = absurd some
+some_handed left None some = absurd (false≢true some)
 some_handed left (Some r) some = (handed left r, refl)
 
 -- the records of those

@@ -1,6 +1,6 @@
 //! The thread of a plant whose network has no lanes: it has no ends, and is done in one turn.
 
-ghost use Rattle.std.specs.Prelude.{◌≡◌, [], IfOk};
+ghost use Rattle.std.specs.Prelude.{◌≡◌, [], IfOk, length};
 ghost use Rattle.mrp_net.specs.Lanes.{lanes};
 ghost use Rattle.mrp_run.specs.Plant.{IsAtWork};
 
@@ -39,7 +39,7 @@ impl Gate for Shut {
 
 /// The agent of the first plant of a network without lanes: with no ends it is at work.
 fn new_agent(alloc: Global, net: &SizedNet) -> Result<Agent, Memory>
-    requires lanes { lanes net.now.network ≡ [] }
+    requires lanes { length (lanes net.now.network) ≡ 0 }
     ensures work { IfOk result (λ agent. IsAtWork agent [] []) }
 {
     let network = net.network();
@@ -55,12 +55,13 @@ fn run<R: Threads + Wait + Sync, G: Gate>(
     net: &SizedNet,
     gate: &G,
 ) -> Result<Result<Agent, RunFault>, Fail>
-    requires lanes { lanes net.now.network ≡ [] }
+    requires lanes { length (lanes net.now.network) ≡ 0 }
 {
     let agent = new_agent(alloc, net)?;
     let mut crew = Crew::new(alloc, 2, agent.view().horizon())?;
     let stop = Stop::<Brand>::new();
-    let (sends, takes) = (Vec::new(alloc), Vec::new(alloc));
+    let sends = Vec::new(alloc);
+    let takes = Vec::new(alloc);
     let plant = PlantNo(0);
     match run_plant(
         rt, alloc, plant, agent, sends, takes, &mut crew, gate, &stop, 1,
@@ -79,7 +80,7 @@ fn run_in<R: Threads + Wait + Sync, G: Gate>(
 ) -> Result<Result<Agent, RunFault>, Fail> {
     let levels = check(alloc, network)?;
     let net = bound(alloc, network, &levels)?;
-    if network.lanes() > 0 {
+    if net.network().lanes() > 0 {
         return Err(Fail::new("the network has lanes"));
     }
     run(rt, alloc, &net, gate)
