@@ -11,6 +11,7 @@ use Rattle.mrp_record.proofs.Beginnings.{empty_is_a_beginning}
 use Rattle.mrp_protocol.specs.Loads.{loads}
 use Rattle.mrp_protocol.specs.State.{opening_state}
 use Rattle.mrp_protocol.proofs.Passing.{IsUnused, opening_is_explained}
+use Rattle.mrp_agent.specs.InNetwork.{WorksIn}
 use Rattle.mrp_agent.specs.Shows.{ShowsHistory}
 use Rattle.mrp_agent.specs.State.{AgentState}
 use Rattle.mrp_agent.proofs.Viewing.{views_can_be_planned}
@@ -18,18 +19,17 @@ use Rattle.mrp_crew.specs.Planning.{IsPlannable}
 use Rattle.mrp_lane.specs.Ends.{End}
 use Rattle.mrp_run.specs.Plant.{AreEnds, IsAtWork}
 
+opening_works : (N : Table) → IsSized N → (plant : ℕ) (A : AgentState) → A.view ≡ plant_rows N plant
+    → ShowsHistory A opening_state.sent opening_state.taken opening_state.planned → WorksIn N plant opening_state A
+opening_works N sized plant A view shows = record {
+  shown = record { view = view; enough = subst IsView (sym view) (views_can_be_planned N sized plant).0; history = shows };
+  legal = λ l within receiver. empty_is_a_beginning (loads N (lane_at N l));
+}
+
 pub opening_is_plannable : (N : Table) → IsSized N → (plant : ℕ) (A : AgentState) → A.view ≡ plant_rows N plant
     → ShowsHistory A opening_state.sent opening_state.taken opening_state.planned → IsPlannable A
-opening_is_plannable N sized plant A view shows = record {
-  network = N;
-  sized = sized;
-  plant = plant;
-  state = opening_state;
-  works = record {
-    shown = record { view = view; enough = subst IsView (sym view) (views_can_be_planned N sized plant).0; history = shows };
-    legal = λ l within receiver. empty_is_a_beginning (loads N (lane_at N l));
-  };
-}
+opening_is_plannable N sized plant A view shows =
+    record { network = N; sized = sized; plant = plant; state = opening_state; works = opening_works N sized plant A view shows }
 
 -- no ends are those of no lanes
 no_ends : (N : Table) (numbers : List ℕ) → numbers ≡ [] → AreEnds N numbers (λ _. []) []
@@ -47,7 +47,7 @@ opening_is_at_work N sized plant A none view shows = (
   record {
     sized = sized;
     state = opening_state;
-    works = (opening_is_plannable N sized plant A view shows).works;
+    works = opening_works N sized plant A view shows;
     sends_are = no_ends N _ (ap (λ (n : ℕ). filter (goes_from N plant) (range_with_len 0 n)) none);
     takes_are = no_ends N _ (ap (λ (n : ℕ). filter (comes_to N plant) (range_with_len 0 n)) none);
     explained = opening_is_explained N plant [] [] (All-nil IsUnused) (All-nil IsUnused);
