@@ -185,7 +185,8 @@ module _ (A : AgentState) (view : IsView A.view) (rooms : HasRooms A) (k : ℕ) 
         ended.counts (joins_of A.view) (open_blocks (awaited A.view taken)) (open_blocks (awaited A.view Then)) (falls A.view view taken k within r fits) awaits
 
     -- pieces come in or are called for
-    receipts_more : (p : PlantPair) → Contains A.view.pairs p → HasScheduledReceipts A taken p → (kind : LaneKind) → Lane.kind ≡ kind → (t : ℕ) → t < A.view.horizon
+    receipts_more : (p : PlantPair) → Contains A.view.pairs p → HasScheduledReceipts A taken p
+        → (kind : LaneKind) → Lane.kind ≡ kind → (t : ℕ) → t < A.view.horizon
         → amount_at A.view (receipts_after kind A.view A.scheduled_receipts r) p.number t ≡ up_to_last (local_incoming A.view Then p t)
     receipts_more p there before Despatch kind t inside =
         let more = booked_after Despatch A.view taken k r p.item t view.incoming_once within in

@@ -16,6 +16,7 @@ abbrev pub with_taken : PlantRows → (ℕ → List Record) → ℕ → Record �
 with_taken V taken k r = changed taken (incoming_at V k).number.0 (taken (incoming_at V k).number.0 ++ r ∷ [])
 
 -- the record has this fault first after what was taken on the lane, and with it the list isn't in form
-pub record IsRefused (V : PlantRows) (lane : IncomingLane) (taken : ℕ → List Record) (r : Record) (fault : BookFault) : Type 0 where
+pub record IsRefused (V : PlantRows) (lane : IncomingLane) (taken : ℕ → List Record) (r : Record)
+    (fault : BookFault) : Type 0 where
   pub first : first_fault (figures (form_of V lane) (taken lane.number.0)) r ≡ Some fault
   pub unfit : IsInForm (form_of V lane) (taken lane.number.0 ++ r ∷ []) → ⊥

@@ -65,7 +65,8 @@ marked c =
 pub invariant_of-self : goal.invariant_of-self
 invariant_of-self c =
     let now = marked (goal.at.invariant_of-self c).After-queue_item in
-    kept_marked (the_view c.self.inside) (indexes_of c.self.inside) c.args.place _ c.count_planned.new.self c.queue_item.new.outs.items c.self.invariant now.settled
+    kept_marked (the_view c.self.inside) (indexes_of c.self.inside) c.args.place _ c.count_planned.new.self c.queue_item.new.outs.items c.self.invariant
+    now.settled
     now.queued
 
 pub returns : goal.returns

@@ -18,7 +18,8 @@ place_there c = c.outgoing_place-k.ensures ∙ ap (λ (z : List OutgoingLane). p
 -- the record that is given
 next_there : (c : After-next_at) → option_map (λ (n : NextOut). n.entry) c.next_at.result ≡ next_out c.args.self.now c.outgoing_place-k.result
 next_there c =
-    entry_handed (left_at c.args.self.now c.outgoing_place-k.result) (next_out c.args.self.now c.outgoing_place-k.result) c.next_at.result c.next_at.ensures.exact
+    entry_handed (left_at c.args.self.now c.outgoing_place-k.result) (next_out c.args.self.now c.outgoing_place-k.result) c.next_at.result
+    c.next_at.ensures.exact
 
 pub next_at-requires : goal.next_at-requires
 next_at-requires c = record {

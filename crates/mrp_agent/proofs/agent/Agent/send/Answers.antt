@@ -55,7 +55,8 @@ pub returns-clause-given : goal.returns-clause-given
 returns-clause-given c =
     let r = c.in_ok-next.next.entry in
     subst (λ (a : AgentState). GivenIsLegal a (outgoing_place a.view c.args.lane.0) r) c.self.view_is
-    (subst (λ (n : ℕ). GivenIsLegal (the_view c.self.inside) n r) (place_there (goal.at.returns-clause-given c).After-outgoing_near-k) c.in_ok-next.ensures.given)
+    (subst (λ (n : ℕ). GivenIsLegal (the_view c.self.inside) n r) (place_there (goal.at.returns-clause-given c).After-outgoing_near-k)
+    c.in_ok-next.ensures.given)
 
 pub returns-clause-sent : goal.returns-clause-sent
 returns-clause-sent c =
