@@ -19,7 +19,7 @@ use Rattle.mrp_record.specs.Laws.{quantity_in}
 use Rattle.mrp_protocol.specs.State.{changed}
 use Rattle.mrp_protocol.specs.LocalPlans.{pieces_in, is_of_kind, booked_on}
 use Rattle.mrp_agent.specs.State.{incoming_at, no_incoming}
-use Rattle.mrp_agent.specs.Taken.{with_taken}
+use Rattle.mrp_agent.specs.Sent.{with_taken}
 use Rattle.mrp_agent.proofs.Sent.{changed_there, changed_elsewhere}
 
 -- ---- a sum with one part changed

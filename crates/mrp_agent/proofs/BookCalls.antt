@@ -15,7 +15,7 @@ use Rattle.mrp_agent.specs.State.{AgentState, book_at, incoming_at, no_book, no_
 use Rattle.mrp_agent.specs.After.{after_booked, receipts_after, demand_after, ended_place, items_of, BlockEnded, IsAwaited}
 use Rattle.mrp_agent.specs.Kept.{Indexes, IsKept}
 use Rattle.mrp_agent.specs.Shows.{form_of, BooksShow, ShowsHistory}
-use Rattle.mrp_agent.specs.Taken.{IsRefused, with_taken}
+use Rattle.mrp_agent.specs.Sent.{IsRefused, with_taken}
 use Rattle.mrp_agent.proofs.Booked.{booked_kept, booked_shows, ends_awaited}
 
 -- the lane of a record has a place, and the book was read there

@@ -35,7 +35,7 @@ use Rattle.mrp_agent.specs.State.{AgentState, book_at, incoming_at, outgoing_at,
 use Rattle.mrp_agent.specs.After.{after_booked, added_for, receipts_after, demand_after, ended_place, items_of, place_among, with_line, BlockEnded, IsAwaited}
 use Rattle.mrp_agent.specs.Kept.{HasRooms, HasTaken, Indexes, IsKept}
 use Rattle.mrp_agent.specs.Shows.{awaited, form_of, joins_of, up_to_last, Awaits, BooksShow, HasScheduledReceipts, HasOutsideDemand, OutShows, ShowsHistory}
-use Rattle.mrp_agent.specs.Taken.{with_taken}
+use Rattle.mrp_agent.specs.Sent.{with_taken}
 use Rattle.mrp_agent.proofs.Arriving.{booked_after, brought, entries_stay, sum_each}
 use Rattle.mrp_agent.proofs.Bringing.{line_comes, no_item, open_on, IsOpenOn}
 use Rattle.mrp_agent.proofs.Ending.{falls, is_awaited}

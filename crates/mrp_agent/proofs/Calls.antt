@@ -140,6 +140,9 @@ some_handed left None some = absurd (false≢true some)
 some_handed left (Some r) some = (handed left r, refl)
 
 -- the records of those
-pub entry_handed : (left : Option Remainder) (o : Option Record) (p : Option NextOut) → p ≡ option_map (handed left) o → option_map (λ n. n.entry) p ≡ o
-entry_handed left None p is = ap (option_map (λ (n : NextOut). n.entry)) is
-entry_handed left (Some r) p is = ap (option_map (λ (n : NextOut). n.entry)) is
+entry_handed : (left : Option Remainder) (o : Option Record) → option_map (λ n. n.entry) (option_map (handed left) o) ≡ o
+entry_handed left None = refl
+entry_handed left (Some r) = refl
+
+pub next_entry : (A : AgentState) (k : ℕ) (o : Option NextOut) → o ≡ next_at A k → option_map (λ n. n.entry) o ≡ next_out A k
+next_entry A k o is = ap (option_map (λ (n : NextOut). n.entry)) is ∙ entry_handed (left_at A k) (next_out A k)

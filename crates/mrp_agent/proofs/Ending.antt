@@ -21,7 +21,7 @@ use Rattle.mrp_agent.specs.Progress.{Progress}
 use Rattle.mrp_agent.specs.State.{incoming_at, pair_place, no_incoming}
 use Rattle.mrp_agent.specs.After.{items_of, place_among, ended_place, Falls, IsAwaited}
 use Rattle.mrp_agent.specs.Shows.{form_of, awaited, awaited_on, block_awaited}
-use Rattle.mrp_agent.specs.Taken.{with_taken}
+use Rattle.mrp_agent.specs.Sent.{with_taken}
 use Rattle.mrp_agent.proofs.Arriving.{ended_more, sum_changed, sum_each}
 use Rattle.mrp_agent.proofs.Bringing.{IsOpenOn, IsPlaced, no_item, open_on, placed}
 use Rattle.mrp_agent.proofs.Sent.{changed_there, changed_elsewhere}

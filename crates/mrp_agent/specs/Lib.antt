@@ -20,4 +20,3 @@ pub mod Sending
 pub mod Sent
 pub mod Shows
 pub mod State
-pub mod Taken

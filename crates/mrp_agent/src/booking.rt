@@ -21,7 +21,7 @@ impl Agent {
     ghost use Rattle.mrp_protocol.specs.State.{changed};
     ghost use Rattle.mrp_agent.specs.State.{incoming_place, incoming_at};
     ghost use Rattle.mrp_agent.specs.Shows.{ShowsHistory, BooksShow, form_of};
-    ghost use Rattle.mrp_agent.specs.Taken.{IsRefused, with_taken};
+    ghost use Rattle.mrp_agent.specs.Sent.{IsRefused, with_taken};
 
     /// Books the next record of a lane that comes in.
     ///
@@ -42,9 +42,16 @@ impl Agent {
             (taken lane.0 ++ entry.now ∷ []) → ⊥)) }
         ensures unchanged { OnErr result (self.new ≡ self.old) }
     {
-        let k = incoming_near(self.view.incoming(), lane, self.last.booked);
-        self.last.booked = k;
+        let k = self.in_place(lane);
         self.book_at(k, entry)
+    }
+
+    /// The place of a lane among those that come in, or how many these are. It is looked for first where the last
+    /// record was booked.
+    fn in_place(&self, lane: LaneNo) -> usize
+        ensures { result ≡ incoming_place self.now.view lane.0 }
+    {
+        incoming_near(self.view.incoming(), lane, self.last.booked)
     }
 
     /// Books the next record of the lane at a place among those that come in.
@@ -65,6 +72,7 @@ impl Agent {
         self.lanes.books[k].book(entry)?;
         let kind = self.view.incoming()[k].kind;
         let near = pair_near(&self.structure.items, entry, self.last.pair);
+        self.last.booked = k;
         self.last.pair = near;
         add_entry(
             &mut self.amounts.scheduled_receipts,

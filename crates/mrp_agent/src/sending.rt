@@ -46,7 +46,7 @@ impl Agent {
         ensures given { IfSome result (λ r. GivenIsLegal self.now (outgoing_place self.now.view lane.0) r) }
         ensures none { IfNone result (NoneCanBeSent self.now (outgoing_place self.now.view lane.0)) }
     {
-        let k = outgoing_place(self.view.outgoing(), lane);
+        let k = self.out_place(lane);
         let next = self.next_at(k)?;
         Some(next.entry)
     }
@@ -72,7 +72,7 @@ impl Agent {
         ensures appended { (r : Record) → next_out self.old (outgoing_place self.old.view lane.0) ≡ Some r
             → IsAppended self.old self.new (outgoing_place self.old.view lane.0) r }
     {
-        let k = outgoing_place(self.view.outgoing(), lane);
+        let k = self.out_place(lane);
         let Some(next) = self.next_at(k) else {
             unreachable!()
         };
@@ -88,6 +88,7 @@ impl Agent {
         ensures appended { IsAppended self.old self.new k next.entry }
     {
         self.lanes.outs[k].step(next.left);
+        self.last.sent = k;
     }
 
     /// Sends the record that a lane that goes out is to be sent next, or answers `None` where there is none;
@@ -105,11 +106,18 @@ impl Agent {
         ensures appended { IfSome result (λ r. IsAppended self.old self.new (outgoing_place self.old.view lane.0) r) }
         ensures unchanged { IfNone result (self.new ≡ self.old) }
     {
-        let k = outgoing_near(self.view.outgoing(), lane, self.last.sent);
-        self.last.sent = k;
+        let k = self.out_place(lane);
         let next = self.next_at(k)?;
         self.sent_at(k, next);
         Some(next.entry)
+    }
+
+    /// The place of a lane among those that go out, or how many these are. It is looked for first where the last
+    /// record was sent.
+    fn out_place(&self, lane: LaneNo) -> usize
+        ensures { result ≡ outgoing_place self.now.view lane.0 }
+    {
+        outgoing_near(self.view.outgoing(), lane, self.last.sent)
     }
 
     /// What is left of the item at the head of a lane's queue.

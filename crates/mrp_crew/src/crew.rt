@@ -214,22 +214,13 @@ fn wave_end(all: bool, let_in: bool) -> Result<(), CrewFault>
     ensures shut { IfErr result (λ fault. fault ≡ CrewFault.GateShut → let_in ≡ false) }
     ensures refused { IfErr result (λ fault. fault ≡ CrewFault.ThreadRefused → all ≡ false) }
 {
-    if all && let_in {
-        return Ok(());
+    if !all {
+        return Err(CrewFault::ThreadRefused);
     }
-    Err(wave_fault(all))
-}
-
-/// Why a wave ended early: one of its threads could not be started, or all could and the gate was shut.
-fn wave_fault(all: bool) -> CrewFault
-    ensures refused { all ≡ false → result ≡ CrewFault.ThreadRefused }
-    ensures shut { all ≡ true → result ≡ CrewFault.GateShut }
-    ensures threads { result ≡ CrewFault.ThreadRefused → all ≡ false }
-{
-    if all {
-        CrewFault::GateShut
+    if let_in {
+        Ok(())
     } else {
-        CrewFault::ThreadRefused
+        Err(CrewFault::GateShut)
     }
 }
 

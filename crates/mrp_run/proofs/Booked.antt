@@ -18,7 +18,7 @@ use Rattle.mrp_protocol.proofs.Passing.{taken_is_explained}
 use Rattle.mrp_lane.specs.Ends.{End, Name, HasLegalList, IsStampedOnce}
 use Rattle.mrp_agent.specs.Shows.{ShowsHistory, BooksShow, form_of}
 use Rattle.mrp_agent.specs.State.{AgentState, incoming_at}
-use Rattle.mrp_agent.specs.Taken.{with_taken}
+use Rattle.mrp_agent.specs.Sent.{with_taken}
 use Rattle.mrp_agent.proofs.Formed.{legal_at}
 use Rattle.mrp_run.specs.Plant.{AtWork, IsAtWork, Kept, lanes_to, passage, passages}
 use Rattle.mrp_run.proofs.Held.{is_longer, lanes_rise, list_is, list_was, one_more, put_back}

@@ -1,22 +1,13 @@
 -- The ends of a plant's lanes and the lanes that it sees are both in lane order: a lane has the place of its end.
-use Rattle.std.proofs.Common.{◌≡◌, ℕ, ◌<◌, List, length, get_or, sym, ap, ◌∙◌, arith, Contains}
+use Rattle.std.proofs.Common.{◌≡◌, ℕ, ◌<◌, List, length, get_or, sym, ap, ◌∙◌, arith}
 use Rattle.std.proofs.lemmas.List.{get_or-map, length-map}
 use Rattle.mrp_table_rows.specs.Table.{Table}
-use Rattle.mrp_net.proofs.Members.{Contains-from_in, In-from_contains, In-map}
-use Rattle.mrp_plant_view.specs.View.{PlantRows, incoming_lane, incoming_lanes, outgoing_lane, outgoing_lanes, plant_rows}
+use Rattle.mrp_plant_view.specs.View.{PlantRows, incoming_lane, outgoing_lane, plant_rows}
 use Rattle.mrp_record.specs.declared.record.Record.{Record}
 use Rattle.mrp_lane.specs.Ends.{End}
 use Rattle.mrp_agent.specs.State.{incoming_at, no_incoming, no_outgoing, outgoing_at}
 use Rattle.mrp_run.specs.Plant.{AreEnds, lanes_from, lanes_to}
 use Rattle.mrp_run.proofs.Held.{all_lanes, lane_is}
-
-pub out_there : (N : Table) (p l : ℕ) → Contains (lanes_from N p) l → Contains (outgoing_lanes N p) (outgoing_lane N l)
-out_there N p l own = Contains-from_in (outgoing_lanes N p) (outgoing_lane N l)
-    (In-map (outgoing_lane N) (lanes_from N p) l (In-from_contains (lanes_from N p) l own))
-
-pub in_there : (N : Table) (p l : ℕ) → Contains (lanes_to N p) l → Contains (incoming_lanes N p) (incoming_lane N l)
-in_there N p l own = Contains-from_in (incoming_lanes N p) (incoming_lane N l)
-    (In-map (incoming_lane N) (lanes_to N p) l (In-from_contains (lanes_to N p) l own))
 
 -- a lane that goes out is seen at the place of its end
 module _ (N : Table) (p : ℕ) (V : PlantRows) (view : V ≡ plant_rows N p) (sent : ℕ → List Record) (s : List End) (are : AreEnds N (lanes_from N p) sent s)

@@ -9,7 +9,7 @@ use Rattle.mrp_agent.specs.Fields.{indexes_of}
 use Rattle.mrp_agent.specs.Kept.{IsKept}
 use Rattle.mrp_agent.specs.State.{AgentState, incoming_at}
 use Rattle.mrp_agent.specs.Shows.{BooksShow, ShowsHistory}
-use Rattle.mrp_agent.specs.Taken.{IsRefused, with_taken}
+use Rattle.mrp_agent.specs.Sent.{IsRefused, with_taken}
 use Rattle.mrp_agent.specs.contracts.agent.Agent.{the_view}
 use Rattle.mrp_agent.proofs.BookCalls.{HasAdded, IsOnLane, ends, kept_now, shows_now, refused_is}
 use Rattle.mrp_agent.proofs.agent.Agent.book_at.Goals as goal
