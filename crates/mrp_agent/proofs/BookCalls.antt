@@ -49,13 +49,10 @@ module _ {A : AgentState} {I : Indexes} {k : ℕ} {was : Figures} (on : IsOnLane
   pub refused_is : (fault : BookFault)
       → ((F : LaneForm) (records : List Record) → book.BookShows F was records
       → (first_fault (figures F records) r ≡ Some fault) × (IsInForm F (records ++ r ∷ []) → ⊥))
-      → (taken : ℕ → List Record) → BooksShow A taken → IsRefused A.view Lane taken r fault
+      → (taken : ℕ → List Record) → BooksShow A taken → IsRefused A.view k (taken Lane.number.0) r fault
   refused_is fault refused taken shows =
-      let n : ℕ = Lane.number.0 in
-      let shown : book.BookShows (form_of A.view Lane) was (taken n) =
-      subst (λ (z : Figures). book.BookShows (form_of A.view Lane) z (taken n)) (sym was_is) (shows k on.within) in
-      let said = refused (form_of A.view Lane) (taken n) shown in
-      record { first = said.0; unfit = said.1 }
+      refused (form_of A.view Lane) (taken Lane.number.0)
+      (subst (λ (z : Figures). book.BookShows (form_of A.view Lane) z (taken Lane.number.0)) (sym was_is) (shows k on.within))
 
   module _ {now : Figures} (booked : (F : LaneForm) (records : List Record) → book.BookShows F was records → book.BookShows F now (records ++ r ∷ [])) where
     on_lane : (records : List Record) → book.BookShows (form_of A.view Lane) (book_at A k) records

@@ -1,8 +1,7 @@
 -- What an agent's methods of sending know.
-use Rattle.std.proofs.Common.{◌≡◌, ℕ, ◌-◌, ◌<◌, ◌≤◌, Option, Some, None, option_map, IsSome, IfSome, IfNone, List}
+use Rattle.std.proofs.Common.{◌≡◌, ℕ, ◌-◌, ◌<◌, ◌≤◌, Option, Some, None, option_map, IfSome, IfNone, List}
 use Rattle.std.proofs.Common.{length, get_or, set, refl, sym, ap, ◌∙◌, subst, arith, rules}
 use Rattle.std.specs.List.{Contains}
-use Rattle.std.proofs.lemmas.Bool.{false≢true}
 use Rattle.std.proofs.lemmas.List.{get_or_default}
 use Rattle.std.proofs.lemmas.List.Elements.{All-contains}
 use Rattle.mrp_lot.specs.One.{PlanRows}
@@ -134,10 +133,6 @@ parts_handed left None next is = absurd (cc is)
 parts_handed left (Some r) next is =
     let same : handed left r ≡ next = cc is in
     (ap (λ (n : NextOut). n.left) same, ap (λ (n : NextOut). Some n.entry) same)
-
-pub some_handed : (left : Option Remainder) (o : Option Record) → IsSome o → (next : NextOut) × (option_map (handed left) o ≡ Some next)
-some_handed left None some = absurd (false≢true some)
-some_handed left (Some r) some = (handed left r, refl)
 
 -- the records of those
 entry_handed : (left : Option Remainder) (o : Option Record) → option_map (λ n. n.entry) (option_map (handed left) o) ≡ o

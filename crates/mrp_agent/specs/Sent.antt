@@ -1,6 +1,5 @@
 -- What calls of an agent's sending and booking promise of a lane at a place, for every history that it shows.
 use Rattle.std.specs.Prelude.{◌≡◌, ℕ, Bool, List, [], ◌∷◌, ◌++◌, Some}
-use Rattle.mrp_plant_view.specs.declared.view.IncomingLane.{IncomingLane}
 use Rattle.mrp_plant_view.specs.View.{PlantRows}
 use Rattle.mrp_record.specs.declared.record.Record.{Record}
 use Rattle.mrp_record.specs.Form.{IsInForm}
@@ -37,8 +36,7 @@ IsAppended old new k r =
 abbrev pub with_taken : PlantRows → (ℕ → List Record) → ℕ → Record → ℕ → List Record
 with_taken V taken k r = changed taken (incoming_at V k).number.0 (taken (incoming_at V k).number.0 ++ r ∷ [])
 
--- the record has this fault first after what was taken on the lane, and with it the list isn't in form
-pub record IsRefused (V : PlantRows) (lane : IncomingLane) (taken : ℕ → List Record) (r : Record)
-    (fault : BookFault) : Type 0 where
-  pub first : first_fault (figures (form_of V lane) (taken lane.number.0)) r ≡ Some fault
-  pub unfit : IsInForm (form_of V lane) (taken lane.number.0 ++ r ∷ []) → ⊥
+-- after this list of the lane at a place the record has this fault first, and with it the list isn't in form
+abbrev pub IsRefused : PlantRows → ℕ → List Record → Record → BookFault → Type 0
+IsRefused V k list r fault = (first_fault (figures (form_of V (incoming_at V k)) list) r ≡ Some fault)
+    × (IsInForm (form_of V (incoming_at V k)) (list ++ r ∷ []) → ⊥)

@@ -66,7 +66,7 @@ impl Agent {
             → ShowsHistory self.old sent taken planned
             → ShowsHistory self.new sent (with_taken self.old.view taken k entry.now) planned) }
         ensures refused { IfErr result (λ fault. (taken : ℕ → List Record) → BooksShow self.old taken
-            → IsRefused self.old.view (incoming_at self.old.view k) taken entry.now fault) }
+            → IsRefused self.old.view k (taken (incoming_at self.old.view k).number.0) entry.now fault) }
         ensures unchanged { OnErr result (self.new ≡ self.old) }
     {
         self.lanes.books[k].book(entry)?;

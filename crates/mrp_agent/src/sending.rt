@@ -72,11 +72,7 @@ impl Agent {
         ensures appended { (r : Record) → next_out self.old (outgoing_place self.old.view lane.0) ≡ Some r
             → IsAppended self.old self.new (outgoing_place self.old.view lane.0) r }
     {
-        let k = self.out_place(lane);
-        let Some(next) = self.next_at(k) else {
-            unreachable!()
-        };
-        self.sent_at(k, next);
+        let _sent = self.send(lane);
     }
 
     /// Goes on after the record that [`Agent::next_at`] gives was sent on the lane at a place.

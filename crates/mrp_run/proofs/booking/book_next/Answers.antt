@@ -18,7 +18,7 @@ pub unreachable-requires : goal.unreachable-requires
 unreachable-requires g c =
     let p = c.args.plant.now in
     not_refused p.agent p.sends.items p.takes.items c.args.k c.index_mut.result.now c.take.new.self c.in-Some.entry c.requires.lane c.index_mut.ensures.value
-    c.take.ensures.name c.in-Some.ensures.taken c.in-Some.ensures.legal c.requires.work (λ taken shown. (c.in-Err.ensures.refused taken shown).unfit)
+    c.take.ensures.name c.in-Some.ensures.taken c.in-Some.ensures.legal c.requires.work (λ taken shown. (c.in-Err.ensures.refused taken shown).1)
 
 pub returns : goal.returns
 returns g c =

@@ -1,15 +1,9 @@
-use Rattle.std.proofs.Common.{◌≡◌, ◌<◌, Some, List, [], ◌∷◌, ◌++◌, ℕ, Bool, OnOk, IfErr, length, sym, ap, ◌∙◌, subst}
-use Rattle.std.proofs.lemmas.Result.{IfErr-weaker}
+use Rattle.std.proofs.Common.{◌<◌, List, [], ◌∷◌, ◌++◌, ◌≡◌, ℕ, Bool, OnOk, IfErr, length, sym, ap, ◌∙◌, subst}
 use Rattle.mrp_record.specs.declared.record.Record.{Record}
-use Rattle.mrp_record.specs.Form.{IsInForm}
-use Rattle.mrp_book.specs.declared.fault.BookFault.{BookFault}
-use Rattle.mrp_book.specs.Faults.{first_fault}
-use Rattle.mrp_book.specs.Figures.{figures}
-use Rattle.mrp_plant_view.specs.View.{PlantRows}
 use Rattle.mrp_protocol.specs.State.{changed}
 use Rattle.mrp_agent.specs.Sent.{IsRefused}
-use Rattle.mrp_agent.specs.State.{AgentState, incoming_at, incoming_place}
-use Rattle.mrp_agent.specs.Shows.{BooksShow, ShowsHistory, form_of}
+use Rattle.mrp_agent.specs.State.{AgentState, incoming_at}
+use Rattle.mrp_agent.specs.Shows.{BooksShow, ShowsHistory}
 use Rattle.mrp_agent.proofs.Placed.{in_number}
 use Rattle.mrp_agent.proofs.agent.Agent.book.Goals as goal
 use Rattle.mrp_agent.proofs.agent.Agent.book.Goals.{After-in_place-k}
@@ -32,13 +26,7 @@ returns-clause-booked c =
 pub returns-clause-refused : goal.returns-clause-refused
 returns-clause-refused c =
     let A : AgentState = c.args.self.now in
-    let V : PlantRows = A.view in
-    let r : Record = c.args.entry.now in
-    let k : ℕ = c.in_place-k.result in
-    let Q : ℕ → ℕ → BookFault → Type 0 = λ n j fault. (taken : ℕ → List Record) → BooksShow A taken
-    → (first_fault (figures (form_of V (incoming_at V j)) (taken n)) r ≡ Some fault)
-    × (IsInForm (form_of V (incoming_at V j)) (taken n ++ r ∷ []) → ⊥) in
-    subst (λ (j : ℕ). IfErr c.book_at.result (Q c.args.lane.0 j)) c.in_place-k.ensures
-    (subst (λ (n : ℕ). IfErr c.book_at.result (Q n k)) (number_there (goal.at.returns-clause-refused c).After-in_place-k)
-    (IfErr-weaker c.book_at.result (λ fault. (taken : ℕ → List Record) → BooksShow A taken → IsRefused V (incoming_at V k) taken r fault)
-    (Q (incoming_at V k).number.0 k) (λ fault refused taken shows. ((refused taken shows).first, (refused taken shows).unfit)) c.book_at.ensures.refused))
+    let Q : ℕ → ℕ → Type 0 = λ j n. IfErr c.book_at.result (λ fault. (taken : ℕ → List Record) → BooksShow A taken
+    → IsRefused A.view j (taken n) c.args.entry.now fault) in
+    subst (λ (j : ℕ). Q j c.args.lane.0) c.in_place-k.ensures
+    (subst (Q c.in_place-k.result) (number_there (goal.at.returns-clause-refused c).After-in_place-k) c.book_at.ensures.refused)

@@ -47,7 +47,7 @@ returns-in_err-book-clause-refused c =
     let p = err_from_is_err_and c.from_residual.result c.from_residual.ensures.1 in
     let fault : BookFault = c.in_err-book.field-0.0 in
     let P : AgentState → Type 0 = λ a. (taken : ℕ → List Record) → BooksShow a taken
-    → IsRefused a.view (incoming_at a.view c.args.k) taken c.args.entry.now fault in
+    → IsRefused a.view c.args.k (taken (incoming_at a.view c.args.k).number.0) c.args.entry.now fault in
     let on = on_lane (goal.at.returns-in_err-book-clause-refused c).After-index_mut in
     rw (p.1, p.2) (subst P c.self.view_is (refused_is on c.args.entry.now fault c.in_err-book.ensures.refused))
 
