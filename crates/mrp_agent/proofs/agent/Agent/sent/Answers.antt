@@ -2,6 +2,7 @@ use Rattle.std.proofs.Common.{None, Some, IfSome, IsSome, Option, sym, ◌∙◌
 use Rattle.std.proofs.lemmas.Bool.{false≢true}
 use Rattle.mrp_record.specs.declared.record.Record.{Record}
 use Rattle.mrp_agent.specs.Sent.{IsAppended}
+use Rattle.mrp_agent.specs.State.{outgoing_place}
 use Rattle.mrp_agent.proofs.agent.Agent.sent.Goals as goal
 
 when_some : (P : Type 0) (o : Option Record) → IsSome o → IfSome o (λ _. P) → P
@@ -13,5 +14,5 @@ returns-clause-exact c = when_some _ c.send-sent.result (subst IsSome (sym c.sen
 
 pub returns-clause-appended : goal.returns-clause-appended
 returns-clause-appended c = λ r given.
-    subst (λ (o : Option Record). IfSome o (λ r. IsAppended c.args.self.now c.send-sent.new.self _ r)) (c.send-sent.ensures.exact ∙ given)
-    c.send-sent.ensures.appended
+    subst (λ (o : Option Record). IfSome o (λ r. IsAppended c.args.self.now c.send-sent.new.self (outgoing_place c.args.self.now.view c.args.lane.0) r))
+    (c.send-sent.ensures.exact ∙ given) c.send-sent.ensures.appended
