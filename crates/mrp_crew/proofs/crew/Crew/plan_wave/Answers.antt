@@ -9,7 +9,7 @@ use Rattle.mrp_crew.proofs.Ready.{can_draft, unplanned}
 use Rattle.mrp_crew.proofs.crew.Crew.plan_wave.Goals as goal
 
 pub plan-requires-clause-within : goal.plan-requires-clause-within
-plan-requires-clause-within g c κs within = λ listed.
+plan-requires-clause-within g c = λ listed.
     let ready = c.ready_pairs-ready in
     (can_draft c.args.agent.now c.requires.plannable ready.result.now ready.ensures.numbers ready.ensures.own ready.ensures.exact
     (get_or ready.result.now 0 (record { 0 = 0 })) listed).within
