@@ -175,10 +175,10 @@ module _ (A : AgentState) (enough : IsView A.view) (s t : State) (same : AgreeOn
     books = λ k within.
         subst (book.BookShows (form_of A.view (incoming_at A.view k)) (book_at A k)) (same.ins k no_incoming within) (shown.books k within);
     waits = subst (λ (z : List Awaited). AreCounts A.progress.waits (joins_of A.view) A.progress.planned (open_blocks z)) awaited_same shown.waits;
-    came = λ p there u low.
-        shown.came p there u low ∙ ap (λ (n : ℕ). up_to_last (amount_at A.view A.view.receipts p.number u + n)) (booked_same Despatch p.item u);
-    called = λ p there u low.
-        shown.called p there u low ∙ ap (λ (n : ℕ). up_to_last (amount_at A.view A.view.demands p.number u + n)) (booked_same Schedule p.item u);
+    scheduled_receipts = λ p there u low.
+        shown.scheduled_receipts p there u low ∙ ap (λ (n : ℕ). up_to_last (amount_at A.view A.view.receipts p.number u + n)) (booked_same Despatch p.item u);
+    outside_demand = λ p there u low.
+        shown.outside_demand p there u low ∙ ap (λ (n : ℕ). up_to_last (amount_at A.view A.view.demands p.number u + n)) (booked_same Schedule p.item u);
     planned_are = λ p there.
         sym (All-contains (λ (q : PlantPair). s.planned q.number.0 ≡ t.planned q.number.0) A.view.pairs p same.pairs there) ∙ shown.planned_are p there;
     local = local_same (plans_of A) shown.local;

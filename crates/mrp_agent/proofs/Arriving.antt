@@ -19,6 +19,7 @@ use Rattle.mrp_record.specs.Laws.{quantity_in}
 use Rattle.mrp_protocol.specs.State.{changed}
 use Rattle.mrp_protocol.specs.LocalPlans.{pieces_in, is_of_kind, booked_on}
 use Rattle.mrp_agent.specs.State.{incoming_at, no_incoming}
+use Rattle.mrp_agent.specs.Sent.{with_taken}
 use Rattle.mrp_agent.proofs.Sent.{changed_there, changed_elsewhere}
 
 -- ---- a sum with one part changed
@@ -135,10 +136,6 @@ reset_brings_nothing i closed item t =
     ]
 
 -- ---- what lanes of a kind have brought
-
--- the lists of the lanes with one record more of the lane at a place
-abbrev pub with_taken : PlantRows → (ℕ → List Record) → ℕ → Record → ℕ → List Record
-with_taken V taken k r = changed taken (incoming_at V k).number.0 (taken (incoming_at V k).number.0 ++ r ∷ [])
 
 abbrev pub HasLanesOnce : PlantRows → Type 0
 HasLanesOnce V = (l : ℕ) → count_by (λ lane. lane.number.0 == l) V.incoming ≤ 1

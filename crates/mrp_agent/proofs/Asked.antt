@@ -51,48 +51,48 @@ more_asked plans edges k e old now new h inside is size each = record {
 -- ---- the gross requirements
 
 -- a period's gross requirement, within the sum of all
-grossed_at : (called : List ℕ) (edges : List ParentEdge) (plans : List PlanRows) (t : ℕ) → t < length called
-    → slice_index (grossed called edges plans) t ≡ slice_index called t + asked_by plans edges t
-grossed_at called edges plans t low =
-    get_or-map-range_with_len (λ (t : ℕ). slice_index called t + asked_by plans edges t) 0 (length called) t t 0 low (omega arith)
+grossed_at : (demand : List ℕ) (edges : List ParentEdge) (plans : List PlanRows) (t : ℕ) → t < length demand
+    → slice_index (grossed demand edges plans) t ≡ slice_index demand t + asked_by plans edges t
+grossed_at demand edges plans t low =
+    get_or-map-range_with_len (λ (t : ℕ). slice_index demand t + asked_by plans edges t) 0 (length demand) t t 0 low (omega arith)
 
-pub gross_within : (params : PairParams) (came called : List ℕ) (edges : List ParentEdge) (plans : List PlanRows)
-    → IsWithin params came (grossed called edges plans)
-    → (t : ℕ) → t < length called → slice_index called t + asked_by plans edges t ≤ MOST
-gross_within params came called edges plans h t low =
-    let inside : t < length (grossed called edges plans) =
-    omega (arith, low, length-map-range_with_len (λ (t : ℕ). slice_index called t + asked_by plans edges t) 0 (length called)) in
-    let part : slice_index (grossed called edges plans) t ≤ sum (grossed called edges plans) =
-    get_or-le-sum_by (λ (n : ℕ). n) (grossed called edges plans) t 0 inside in
-    omega (arith, part, h.total, grossed_at called edges plans t low)
+pub gross_within : (params : PairParams) (receipts demand : List ℕ) (edges : List ParentEdge) (plans : List PlanRows)
+    → IsWithin params receipts (grossed demand edges plans)
+    → (t : ℕ) → t < length demand → slice_index demand t + asked_by plans edges t ≤ MOST
+gross_within params receipts demand edges plans h t low =
+    let inside : t < length (grossed demand edges plans) =
+    omega (arith, low, length-map-range_with_len (λ (t : ℕ). slice_index demand t + asked_by plans edges t) 0 (length demand)) in
+    let part : slice_index (grossed demand edges plans) t ≤ sum (grossed demand edges plans) =
+    get_or-le-sum_by (λ (n : ℕ). n) (grossed demand edges plans) t 0 inside in
+    omega (arith, part, h.total, grossed_at demand edges plans t low)
 
 -- so what is called for is small
-pub called_within : (params : PairParams) (came called : List ℕ) (edges : List ParentEdge) (plans : List PlanRows)
-    → IsWithin params came (grossed called edges plans)
-    → All (λ n. n ≤ MOST) called
-called_within params came called edges plans h =
-    All-from_get_or (λ (n : ℕ). n ≤ MOST) called 0 (λ t low. omega (arith, gross_within params came called edges plans h t low))
+pub demand_within : (params : PairParams) (receipts demand : List ℕ) (edges : List ParentEdge) (plans : List PlanRows)
+    → IsWithin params receipts (grossed demand edges plans)
+    → All (λ n. n ≤ MOST) demand
+demand_within params receipts demand edges plans h =
+    All-from_get_or (λ (n : ℕ). n ≤ MOST) demand 0 (λ t low. omega (arith, gross_within params receipts demand edges plans h t low))
 
 -- what is called for, and on top of it what the parents ask
-pub grossed_is : (called : List ℕ) (edges : List ParentEdge) (plans : List PlanRows) (new : List ℕ) → length new ≡ length called
-    → ((t : ℕ) → t < length called → slice_index new t ≡ slice_index called t + asked_by plans edges t)
-    → new ≡ grossed called edges plans
-grossed_is called edges plans new size each =
-    fill_by_all (λ (t : ℕ). slice_index called t + asked_by plans edges t) new (length called) 0 size each
+pub grossed_is : (demand : List ℕ) (edges : List ParentEdge) (plans : List PlanRows) (new : List ℕ) → length new ≡ length demand
+    → ((t : ℕ) → t < length demand → slice_index new t ≡ slice_index demand t + asked_by plans edges t)
+    → new ≡ grossed demand edges plans
+grossed_is demand edges plans new size each =
+    fill_by_all (λ (t : ℕ). slice_index demand t + asked_by plans edges t) new (length demand) 0 size each
 
 -- ---- lengths
 
-pub grossed_length : (called : List ℕ) (edges : List ParentEdge) (plans : List PlanRows) → length (grossed called edges plans) ≡ length called
-grossed_length called edges plans = length-map-range_with_len (λ (t : ℕ). slice_index called t + asked_by plans edges t) 0 (length called)
+pub grossed_length : (demand : List ℕ) (edges : List ParentEdge) (plans : List PlanRows) → length (grossed demand edges plans) ≡ length demand
+grossed_length demand edges plans = length-map-range_with_len (λ (t : ℕ). slice_index demand t + asked_by plans edges t) 0 (length demand)
 
-pub came_length : (params : PairParams) (came called : List ℕ) (edges : List ParentEdge) (plans : List PlanRows)
-    → IsWithin params came (grossed called edges plans)
-    → length came ≡ length called
-came_length params came called edges plans h = h.periods ∙ grossed_length called edges plans
+pub receipts_length : (params : PairParams) (receipts demand : List ℕ) (edges : List ParentEdge) (plans : List PlanRows)
+    → IsWithin params receipts (grossed demand edges plans)
+    → length receipts ≡ length demand
+receipts_length params receipts demand edges plans h = h.periods ∙ grossed_length demand edges plans
 
 -- a plan has a period for each that is called for
-pub drafted_length : (params : PairParams) (came called : List ℕ) (edges : List ParentEdge) (plans : List PlanRows) (plan : PlanRows)
-    → plan ≡ one params came (grossed called edges plans)
-    → length plan.gross ≡ length called
-drafted_length params came called edges plans plan is =
-    ap (λ (z : PlanRows). length z.gross) is ∙ ap length (one-gross params came (grossed called edges plans)) ∙ grossed_length called edges plans
+pub drafted_length : (params : PairParams) (receipts demand : List ℕ) (edges : List ParentEdge) (plans : List PlanRows) (plan : PlanRows)
+    → plan ≡ one params receipts (grossed demand edges plans)
+    → length plan.gross ≡ length demand
+drafted_length params receipts demand edges plans plan is =
+    ap (λ (z : PlanRows). length z.gross) is ∙ ap length (one-gross params receipts (grossed demand edges plans)) ∙ grossed_length demand edges plans

@@ -32,10 +32,11 @@ use Rattle.mrp_protocol.specs.Goods.{goods_by, goods_of, called_for, by_period_f
 use Rattle.mrp_protocol.specs.LocalPlans.{amount_at, asked_within, booked_on, is_of_kind, lanes_in, local_gross, local_incoming, local_plan, local_row}
 use Rattle.mrp_protocol.specs.LocalPlans.{AwaitsNothing, Carries, IsLocal, IsPlannedLocally}
 use Rattle.mrp_agent.specs.State.{AgentState, book_at, incoming_at, outgoing_at, out_at, pair_place, plans_of, no_book, no_incoming}
-use Rattle.mrp_agent.specs.After.{after_booked, added_for, came_by, called_after, ended_place, items_of, place_of, with_line, BlockEnded, IsAwaited}
+use Rattle.mrp_agent.specs.After.{after_booked, added_for, receipts_after, demand_after, ended_place, items_of, place_among, with_line, BlockEnded, IsAwaited}
 use Rattle.mrp_agent.specs.Kept.{HasRooms, HasTaken, Indexes, IsKept}
-use Rattle.mrp_agent.specs.Shows.{awaited, form_of, joins_of, up_to_last, Awaits, BooksShow, Comes, IsCalled, OutShows, ShowsHistory}
-use Rattle.mrp_agent.proofs.Arriving.{booked_after, brought, entries_stay, sum_each, with_taken}
+use Rattle.mrp_agent.specs.Shows.{awaited, form_of, joins_of, up_to_last, Awaits, BooksShow, HasScheduledReceipts, HasOutsideDemand, OutShows, ShowsHistory}
+use Rattle.mrp_agent.specs.Sent.{with_taken}
+use Rattle.mrp_agent.proofs.Arriving.{booked_after, brought, entries_stay, sum_each}
 use Rattle.mrp_agent.proofs.Bringing.{line_comes, no_item, open_on, IsOpenOn}
 use Rattle.mrp_agent.proofs.Ending.{falls, is_awaited}
 use Rattle.mrp_agent.proofs.Looking.{only_place}
@@ -46,7 +47,7 @@ use Rattle.mrp_agent.proofs.Sent.{changed_there, changed_elsewhere, is_schedule}
 line_length : (items : List ItemNo) (periods : ℕ) (amounts : List ℕ) (r : Record) → length (with_line items periods amounts r) ≡ length amounts
 line_length items periods amounts (Line number item period quantity cumulative) =
     elim (cases_lt period periods) as (λ _. length (with_line items periods amounts (Line number item period quantity cumulative)) ≡ length amounts) [
-      | inl low ↦ rw (lt-ltb period periods low) (by (place_of items item))
+      | inl low ↦ rw (lt-ltb period periods low) (by (place_among items item))
       | inr high ↦ rw (le-ltb period periods high) refl
     ]
   where
@@ -57,13 +58,13 @@ line_length items periods amounts (ItemEnd number item lines cumulative) = refl
 line_length items periods amounts (Reset number item closed) = refl
 line_length items periods amounts (Close number) = refl
 
-came_length : (kind : LaneKind) (V : PlantRows) (came : List ℕ) (r : Record) → length (came_by kind V came r) ≡ length came
-came_length Despatch V came r = line_length (items_of V) V.horizon came r
-came_length Schedule V came r = refl
+receipts_length : (kind : LaneKind) (V : PlantRows) (receipts : List ℕ) (r : Record) → length (receipts_after kind V receipts r) ≡ length receipts
+receipts_length Despatch V receipts r = line_length (items_of V) V.horizon receipts r
+receipts_length Schedule V receipts r = refl
 
-called_length : (kind : LaneKind) (V : PlantRows) (called : List ℕ) (r : Record) → length (called_after kind V called r) ≡ length called
-called_length Despatch V called r = refl
-called_length Schedule V called r = line_length (items_of V) V.horizon called r
+demand_length : (kind : LaneKind) (V : PlantRows) (demand : List ℕ) (r : Record) → length (demand_after kind V demand r) ≡ length demand
+demand_length Despatch V demand r = refl
+demand_length Schedule V demand r = line_length (items_of V) V.horizon demand r
 
 -- ---- a planned pair gets no records any more
 
@@ -184,33 +185,35 @@ module _ (A : AgentState) (view : IsView A.view) (rooms : HasRooms A) (k : ℕ) 
         ended.counts (joins_of A.view) (open_blocks (awaited A.view taken)) (open_blocks (awaited A.view Then)) (falls A.view view taken k within r fits) awaits
 
     -- pieces come in or are called for
-    came_more : (p : PlantPair) → Contains A.view.pairs p → Comes A taken p → (kind : LaneKind) → Lane.kind ≡ kind → (t : ℕ) → t < A.view.horizon
-        → amount_at A.view (came_by kind A.view A.came r) p.number t ≡ up_to_last (local_incoming A.view Then p t)
-    came_more p there before Despatch kind t inside =
+    receipts_more : (p : PlantPair) → Contains A.view.pairs p → HasScheduledReceipts A taken p
+        → (kind : LaneKind) → Lane.kind ≡ kind → (t : ℕ) → t < A.view.horizon
+        → amount_at A.view (receipts_after kind A.view A.scheduled_receipts r) p.number t ≡ up_to_last (local_incoming A.view Then p t)
+    receipts_more p there before Despatch kind t inside =
         let more = booked_after Despatch A.view taken k r p.item t view.incoming_once within in
         let on : cond (is_of_kind Despatch Lane.kind) (brought p.item.0 t (content r)) 0 ≡ brought p.item.0 t (content r) =
         ap (λ (z : LaneKind). cond (is_of_kind Despatch z) (brought p.item.0 t (content r)) 0) kind in
-        line_comes A.view view A.came rooms.came p there t inside (local_incoming A.view taken p t) (before t inside) r
+        line_comes A.view view A.scheduled_receipts rooms.scheduled_receipts p there t inside (local_incoming A.view taken p t) (before t inside) r
         ∙ ap up_to_last (omega (arith, more, on))
-    came_more p there before Schedule kind t inside =
+    receipts_more p there before Schedule kind t inside =
         let more = booked_after Despatch A.view taken k r p.item t view.incoming_once within in
         let off : cond (is_of_kind Despatch Lane.kind) (brought p.item.0 t (content r)) 0 ≡ 0 =
         ap (λ (z : LaneKind). cond (is_of_kind Despatch z) (brought p.item.0 t (content r)) 0) kind in
         before t inside ∙ ap up_to_last (omega (arith, more, off))
 
-    called_more : (p : PlantPair) → Contains A.view.pairs p → IsCalled A taken p → (kind : LaneKind) → Lane.kind ≡ kind → (t : ℕ) → t < A.view.horizon
-        → amount_at A.view (called_after kind A.view A.called r) p.number t
+    demand_more : (p : PlantPair) → Contains A.view.pairs p → HasOutsideDemand A taken p → (kind : LaneKind) → Lane.kind ≡ kind → (t : ℕ) → t < A.view.horizon
+        → amount_at A.view (demand_after kind A.view A.outside_demand r) p.number t
         ≡ up_to_last (amount_at A.view A.view.demands p.number t + booked_on Schedule A.view Then p.item t)
-    called_more p there before Despatch kind t inside =
+    demand_more p there before Despatch kind t inside =
         let more = booked_after Schedule A.view taken k r p.item t view.incoming_once within in
         let off : cond (is_of_kind Schedule Lane.kind) (brought p.item.0 t (content r)) 0 ≡ 0 =
         ap (λ (z : LaneKind). cond (is_of_kind Schedule z) (brought p.item.0 t (content r)) 0) kind in
         before t inside ∙ ap up_to_last (omega (arith, more, off))
-    called_more p there before Schedule kind t inside =
+    demand_more p there before Schedule kind t inside =
         let more = booked_after Schedule A.view taken k r p.item t view.incoming_once within in
         let on : cond (is_of_kind Schedule Lane.kind) (brought p.item.0 t (content r)) 0 ≡ brought p.item.0 t (content r) =
         ap (λ (z : LaneKind). cond (is_of_kind Schedule z) (brought p.item.0 t (content r)) 0) kind in
-        line_comes A.view view A.called rooms.called p there t inside (amount_at A.view A.view.demands p.number t + booked_on Schedule A.view taken p.item t)
+        line_comes A.view view A.outside_demand rooms.outside_demand p there t inside
+        (amount_at A.view A.view.demands p.number t + booked_on Schedule A.view taken p.item t)
         (before t inside) r
         ∙ ap up_to_last (omega (arith, more, on))
 
@@ -279,8 +282,8 @@ module _ (A : AgentState) (view : IsView A.view) (rooms : HasRooms A) (k : ℕ) 
   booked_shows ended sent taken planned shows = record {
     books = books_show taken shows.books;
     waits = still_awaits taken shows.books ended shows.waits;
-    came = λ p there. came_more taken shows.books p there (shows.came p there) Lane.kind refl;
-    called = λ p there. called_more taken shows.books p there (shows.called p there) Lane.kind refl;
+    scheduled_receipts = λ p there. receipts_more taken shows.books p there (shows.scheduled_receipts p there) Lane.kind refl;
+    outside_demand = λ p there. demand_more taken shows.books p there (shows.outside_demand p there) Lane.kind refl;
     planned_are = λ p there. shows.planned_are p there ∙ ap (λ (z : List Bool). is_planned z (pair_place A.view p.number.0)) (sym ended.planned);
     local = local_stays taken shows.books planned (plans_of A) shows.local;
     outs = λ i inside. outs_stay taken shows.books sent planned shows.local i inside (shows.outs i inside);
@@ -291,8 +294,8 @@ module _ (A : AgentState) (view : IsView A.view) (rooms : HasRooms A) (k : ℕ) 
   booked_rooms : BlockEnded (ended_place (items_of A.view) r) A.progress progress → HasRooms New
   booked_rooms ended = record {
     books = length-set A.books k figures ∙ rooms.books;
-    came = came_length Lane.kind A.view A.came r ∙ rooms.came;
-    called = called_length Lane.kind A.view A.called r ∙ rooms.called;
+    scheduled_receipts = receipts_length Lane.kind A.view A.scheduled_receipts r ∙ rooms.scheduled_receipts;
+    outside_demand = demand_length Lane.kind A.view A.outside_demand r ∙ rooms.outside_demand;
     plans = rooms.plans;
     progress = record {
       numbers = ended.numbers ∙ rooms.progress.numbers;

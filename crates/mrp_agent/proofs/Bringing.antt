@@ -20,7 +20,7 @@ use Rattle.mrp_record.specs.Form.{FormItem, EntryFits, GoesOn, item_on}
 use Rattle.mrp_book.specs.Figures as book
 use Rattle.mrp_protocol.specs.LocalPlans.{amount_at}
 use Rattle.mrp_agent.specs.State.{pair_place, no_plant_pair}
-use Rattle.mrp_agent.specs.After.{added_for, items_of, place_of, with_line}
+use Rattle.mrp_agent.specs.After.{added_for, items_of, place_among, with_line}
 use Rattle.mrp_agent.specs.Shows.{form_of, up_to_last, book_item}
 use Rattle.mrp_agent.proofs.Arriving.{brought, line_brings, line_brings_later, other_brings_nothing, end_brings_nothing, reset_brings_nothing}
 use Rattle.mrp_agent.proofs.Looking.{place_at, place_is_only, place_known}
@@ -38,7 +38,7 @@ place-map {X} p f (x ∷ xs) =
 pub record IsPlaced (V : PlantRows) (p : PlantPair) : Type 0 where
   pub within : pair_place V p.number.0 < length V.pairs
   pub there : get_or V.pairs (pair_place V p.number.0) no_plant_pair ≡ p
-  pub item : place_of (items_of V) p.item ≡ Some (pair_place V p.number.0)
+  pub item : place_among (items_of V) p.item ≡ Some (pair_place V p.number.0)
 
 pub placed : (V : PlantRows) → IsView V → (p : PlantPair) → Contains V.pairs p → IsPlaced V p
 placed V view p (k, within, is) =
@@ -58,7 +58,7 @@ placed V view p (k, within, is) =
       item = place_known (λ (i : ItemNo). eqb i.0 p.item.0) (items_of V) (omega (arith, found, within, inside)) ∙ ap (λ (n : ℕ). Some n) (found ∙ sym number);
     }
 
-pub item_there : (V : PlantRows) → IsView V → (p : PlantPair) → Contains V.pairs p → (item : ItemNo) (y : ℕ) → place_of (items_of V) item ≡ Some y
+pub item_there : (V : PlantRows) → IsView V → (p : PlantPair) → Contains V.pairs p → (item : ItemNo) (y : ℕ) → place_among (items_of V) item ≡ Some y
     → pair_place V p.number.0 ≡ y → p.item.0 ≡ item.0
 item_there V view p there item y e same =
     let at = place_at (λ (i : ItemNo). eqb i.0 item.0) (items_of V) y e in
@@ -77,7 +77,7 @@ item_there V view p there item y e same =
 module _ (V : PlantRows) (view : IsView V) (amounts : List ℕ) (size : length amounts ≡ length V.pairs * V.horizon) (p : PlantPair) (there : Contains V.pairs p)
     (t : ℕ) (inside : t < V.horizon)
     (sum : ℕ) (now : amount_at V amounts p.number t ≡ up_to_last sum) where
-  line_at : (number period quantity cumulative : ℕ) (item : ItemNo) → period < V.horizon → (o : Option ℕ) → place_of (items_of V) item ≡ o
+  line_at : (number period quantity cumulative : ℕ) (item : ItemNo) → period < V.horizon → (o : Option ℕ) → place_among (items_of V) item ≡ o
       → amount_at V (added_for amounts V.horizon period quantity o) p.number t
       ≡ up_to_last (sum + brought p.item.0 t (LineOf item.0 period quantity cumulative))
   line_at number period quantity cumulative item within None e =
@@ -122,7 +122,7 @@ module _ (V : PlantRows) (view : IsView V) (amounts : List ℕ) (size : length a
   line_comes (Line number item period quantity cumulative) =
       elim (cases_lt period V.horizon) as (λ _. amount_at V (with_line (items_of V) V.horizon amounts (Line number item period quantity cumulative)) p.number t
       ≡ up_to_last (sum + brought p.item.0 t (LineOf item.0 period quantity cumulative))) [
-        | inl low ↦ rw (lt-ltb period V.horizon low) (line_at number period quantity cumulative item low (place_of (items_of V) item) refl)
+        | inl low ↦ rw (lt-ltb period V.horizon low) (line_at number period quantity cumulative item low (place_among (items_of V) item) refl)
         | inr high ↦
             let nothing = line_brings_later item.0 period quantity cumulative p.item.0 t (λ e. omega arith) in
             rw (le-ltb period V.horizon high) (now ∙ ap up_to_last (omega (arith, nothing)))

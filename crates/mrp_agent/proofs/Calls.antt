@@ -1,7 +1,8 @@
 -- What an agent's methods of sending know.
-use Rattle.std.proofs.Common.{◌≡◌, ℕ, ◌-◌, ◌<◌, ◌≤◌, Option, Some, None, IfSome, IfNone, List, length, get_or, set, sym, ap, ◌∙◌, subst, arith, rules}
+use Rattle.std.proofs.Common.{◌≡◌, ℕ, ◌-◌, ◌<◌, ◌≤◌, Option, Some, None, option_map, IfSome, IfNone, List}
+use Rattle.std.proofs.Common.{length, get_or, set, refl, sym, ap, ◌∙◌, subst, arith, rules}
 use Rattle.std.specs.List.{Contains}
-use Rattle.std.proofs.lemmas.List.{get_or_default, set-get_or}
+use Rattle.std.proofs.lemmas.List.{get_or_default}
 use Rattle.std.proofs.lemmas.List.Elements.{All-contains}
 use Rattle.mrp_lot.specs.One.{PlanRows}
 use Rattle.mrp_net.specs.declared.lane.LaneKind.{LaneKind}
@@ -16,10 +17,11 @@ use Rattle.mrp_book.specs.Figures.{Figures}
 use Rattle.mrp_record.specs.declared.remainder.Remainder.{Remainder}
 use Rattle.mrp_record.specs.Cursor.{OutFigures}
 use Rattle.mrp_record.specs.Next.{next_record, stepped}
+use Rattle.mrp_agent.specs.declared.sending.NextOut.{NextOut}
 use Rattle.mrp_agent.specs.State.{AgentState, book_at, incoming_at, incoming_place, out_at, pair_place, plans_of, no_out}
-use Rattle.mrp_agent.specs.After.{after_sent, gone_on}
+use Rattle.mrp_agent.specs.After.{after_sent}
 use Rattle.mrp_agent.specs.Kept.{HasTaken, Indexes, IsKept, IsShowing}
-use Rattle.mrp_agent.specs.Sending.{IsCallShare, left_at, left_to_call, next_out, remainder, remainder_by}
+use Rattle.mrp_agent.specs.Sending.{IsCallShare, handed, left_at, left_to_call, next_at, next_out, remainder, remainder_by}
 use Rattle.mrp_agent.specs.Sent.{GivenIsLegal, NoneCanBeSent, IsAppended}
 use Rattle.mrp_agent.specs.Shows.{form_of}
 use Rattle.mrp_agent.proofs.Leaving.{place_before}
@@ -98,15 +100,12 @@ appended A B kept k within is r given =
     subst P (sym is) (λ sent taken planned shows bounded. sent_shows A kept.view kept.rooms sent taken planned shows k within r bounded given)
 
 -- the cursors after a step
-pub stepped_outs : (A : AgentState) (k j : ℕ) (o new : OutFigures) (left : Option Remainder) → k ≡ j → j < length A.outs → o ≡ get_or A.outs k o
-    → left ≡ left_at A k → new ≡ stepped o left
-    → set A.outs k new ≡ set A.outs j (stepped (out_at A j) (left_at A j))
-stepped_outs A k j o new left same within is e s =
-    let inside : k < length A.outs = omega arith in
-    let is' : o ≡ out_at A k = read_is A.outs k o no_out is inside in
-    let step : new ≡ stepped (out_at A k) (left_at A k) = s ∙ ap (λ (z : OutFigures). stepped z left) is'
-    ∙ ap (λ (z : Option Remainder). stepped (out_at A k) z) e in
-    ap (λ (z : OutFigures). set A.outs k z) step ∙ ap (λ (z : ℕ). set A.outs z (stepped (out_at A z) (left_at A z))) same
+pub stepped_outs : (A : AgentState) (k : ℕ) (o new : OutFigures) (left : Option Remainder) → k < length A.outs → o ≡ get_or A.outs k o
+    → left_at A k ≡ left → new ≡ stepped o left
+    → set A.outs k new ≡ set A.outs k (stepped (out_at A k) (left_at A k))
+stepped_outs A k o new left within is e s =
+    ap (λ (z : OutFigures). set A.outs k z) (s ∙ ap (λ (z : OutFigures). stepped z left) (read_is A.outs k o no_out is within)
+    ∙ ap (λ (z : Option Remainder). stepped (out_at A k) z) (sym e))
 
 pub kept_outs : (A : AgentState) {I : Indexes} (k : ℕ) (outs : List OutFigures) → k < length A.view.outgoing → IsKept A I
     → outs ≡ set A.outs k (stepped (out_at A k) (left_at A k)) → IsKept (record A { outs = outs }) I
@@ -115,43 +114,30 @@ kept_outs A {I} k outs within kept is =
     subst P (sym is) (sent_kept A I k within kept)
 
 -- the record that is given
-pub next_is : (A : AgentState) (k j : ℕ) (o : OutFigures) (left : Option Remainder) (r : Option Record) → k ≡ j → j < length A.outs → o ≡ get_or A.outs k o
-    → left ≡ left_at A k → r ≡ next_record o left → r ≡ next_out A j
-next_is A k j o left r same within is e s =
-    let inside : k < length A.outs = omega arith in
-    let is' : o ≡ out_at A k = read_is A.outs k o no_out is inside in
-    s ∙ ap (λ (z : OutFigures). next_record z left) is' ∙ ap (λ (z : Option Remainder). next_record (out_at A k) z) e ∙ ap (next_out A) same
+pub next_is : (A : AgentState) (k : ℕ) (o : OutFigures) (left : Option Remainder) (r : Option Record) → k < length A.outs → o ≡ get_or A.outs k o
+    → left ≡ left_at A k → r ≡ next_record o left → r ≡ next_out A k
+next_is A k o left r within is e s =
+    s ∙ ap (λ (z : OutFigures). next_record z left) (read_is A.outs k o no_out is within) ∙ ap (λ (z : Option Remainder). next_record (out_at A k) z) e
 
--- ---- where a record is given the cursor has gone on after it, and nothing has changed where there is none
+-- ---- a record that is handed on with what is left before it
 
--- the cursors after a lane was asked
-pub gone_outs : (A : AgentState) (k j : ℕ) (o new : OutFigures) (left : Option Remainder) (r : Option Record) → k ≡ j → j < length A.outs
-    → o ≡ get_or A.outs k o → left ≡ left_at A k → new ≡ gone_on r o left
-    → set A.outs k new ≡ set A.outs j (gone_on r (out_at A j) (left_at A j))
-gone_outs A k j o new left r same within is e s =
-    let inside : k < length A.outs = omega arith in
-    let is' : o ≡ out_at A k = read_is A.outs k o no_out is inside in
-    let step : new ≡ gone_on r (out_at A k) (left_at A k) = s ∙ ap (λ (z : OutFigures). gone_on r z left) is'
-    ∙ ap (λ (z : Option Remainder). gone_on r (out_at A k) z) e in
-    ap (λ (z : OutFigures). set A.outs k z) step ∙ ap (λ (z : ℕ). set A.outs z (gone_on r (out_at A z) (left_at A z))) same
+pub handed_on : (A : AgentState) (k : ℕ) (left : Option Remainder) (o : Option Record) (r : Record) → left ≡ left_at A k → o ≡ next_out A k → o ≡ Some r
+    → Some (handed left r) ≡ next_at A k
+handed_on A k left o r e is some =
+    ap (λ (z : Option Remainder). Some (handed z r)) e ∙ ap (option_map (handed (left_at A k))) (sym some ∙ is)
 
-pub kept_gone : (A : AgentState) {I : Indexes} (k : ℕ) (outs : List OutFigures) (r : Option Record) → k < length A.view.outgoing → IsKept A I
-    → outs ≡ set A.outs k (gone_on r (out_at A k) (left_at A k)) → IsKept (record A { outs = outs }) I
-kept_gone A {I} k outs None within kept is =
-    let P : List OutFigures → Type 0 = λ z. IsKept (record A { outs = z }) I in
-    subst P (sym (is ∙ set-get_or A.outs k no_out)) kept
-kept_gone A k outs (Some r) within kept is = kept_outs A k outs within kept is
+-- its parts
+pub parts_handed : (left : Option Remainder) (o : Option Record) (next : NextOut) → option_map (handed left) o ≡ Some next
+    → (left ≡ next.left) × (o ≡ Some next.entry)
+parts_handed left None next is = absurd (cc is)
+parts_handed left (Some r) next is =
+    let same : handed left r ≡ next = cc is in
+    (ap (λ (n : NextOut). n.left) same, ap (λ (n : NextOut). Some n.entry) same)
 
-pub record_gone : (A B : AgentState) (k : ℕ) (r : Option Record) → B ≡ record A { outs = set A.outs k (gone_on r (out_at A k) (left_at A k)) }
-    → IfSome r (λ _. B ≡ after_sent A k)
-record_gone A B k None is = tt
-record_gone A B k (Some r) is = is
+-- the records of those
+entry_handed : (left : Option Remainder) (o : Option Record) → option_map (λ n. n.entry) (option_map (handed left) o) ≡ o
+entry_handed left None = refl
+entry_handed left (Some r) = refl
 
-pub none_gone : (A B : AgentState) (k : ℕ) (r : Option Record) → B ≡ record A { outs = set A.outs k (gone_on r (out_at A k) (left_at A k)) } → IfNone r (B ≡ A)
-none_gone A B k None is = is ∙ ap (λ (z : List OutFigures). record A { outs = z }) (set-get_or A.outs k no_out)
-none_gone A B k (Some r) is = tt
-
-pub record_appended : (A B : AgentState) {I : Indexes} → IsKept A I → (k : ℕ) → k < length A.view.outgoing → (r : Option Record) → r ≡ next_out A k
-    → B ≡ record A { outs = set A.outs k (gone_on r (out_at A k) (left_at A k)) } → IfSome r (λ r. IsAppended A B k r)
-record_appended A B kept k within None given is = tt
-record_appended A B kept k within (Some r) given is = appended A B kept k within is r (sym given)
+pub next_entry : (A : AgentState) (k : ℕ) (o : Option NextOut) → o ≡ next_at A k → option_map (λ n. n.entry) o ≡ next_out A k
+next_entry A k o is = ap (option_map (λ (n : NextOut). n.entry)) is ∙ entry_handed (left_at A k) (next_out A k)

@@ -63,21 +63,21 @@ module _ (N : Table) (plant x : ℕ) (at : IsPairAt N plant x) where
 
 -- ---- its rows
 
-module _ (V : PlantRows) (taken : ℕ → List Record) (plans : ℕ → PlanRows) (came called : List ℕ) (p : PlantPair)
+module _ (V : PlantRows) (taken : ℕ → List Record) (plans : ℕ → PlanRows) (receipts demand : List ℕ) (p : PlantPair)
     (small : IsWithin p.params (local_row V (local_incoming V taken p)) (local_row V (local_gross V taken plans p)))
-    (comes : (t : ℕ) → t < V.horizon → amount_at V came p.number t ≡ up_to_last (local_incoming V taken p t))
-    (is_called : (t : ℕ) → t < V.horizon → amount_at V called p.number t ≡ up_to_last (amount_at V V.demands p.number t + booked_on Schedule V taken p.item t))
+    (comes : (t : ℕ) → t < V.horizon → amount_at V receipts p.number t ≡ up_to_last (local_incoming V taken p t))
+    (is_called : (t : ℕ) → t < V.horizon → amount_at V demand p.number t ≡ up_to_last (amount_at V V.demands p.number t + booked_on Schedule V taken p.item t))
   where
-    incoming_is : local_row V (λ t. amount_at V came p.number t) ≡ local_row V (local_incoming V taken p)
+    incoming_is : local_row V (λ t. amount_at V receipts p.number t) ≡ local_row V (local_incoming V taken p)
     incoming_is =
-        map_same (λ (t : ℕ). amount_at V came p.number t) (local_incoming V taken p) 0 V.horizon
+        map_same (λ (t : ℕ). amount_at V receipts p.number t) (local_incoming V taken p) 0 V.horizon
         (λ t h.
         let low : t < V.horizon = omega arith in
         comes t low ∙ small_sum (local_incoming V taken p t) (omega (arith, in_row V (local_incoming V taken p) t low, small.total)))
 
-    gross_is : local_row V (λ t. amount_at V called p.number t + asked_within V plans p.number t) ≡ local_row V (local_gross V taken plans p)
+    gross_is : local_row V (λ t. amount_at V demand p.number t + asked_within V plans p.number t) ≡ local_row V (local_gross V taken plans p)
     gross_is =
-        map_same (λ (t : ℕ). amount_at V called p.number t + asked_within V plans p.number t) (local_gross V taken plans p) 0 V.horizon
+        map_same (λ (t : ℕ). amount_at V demand p.number t + asked_within V plans p.number t) (local_gross V taken plans p) 0 V.horizon
         (λ t h.
         let low : t < V.horizon = omega arith in
         let most : local_gross V taken plans p t ≤ MOST = omega (arith, in_row V (local_gross V taken plans p) t low, small.total) in
@@ -88,30 +88,31 @@ module _ (V : PlantRows) (taken : ℕ → List Record) (plans : ℕ → PlanRows
 
 -- the rows that it drafts from
 abbrev RowsAre : Table → (ℕ → List Record) → (ℕ → PlanRows) → List ℕ → List ℕ → ℕ → PlantRows → PlantRows → Type 0
-RowsAre N taken plans came called x R V =
+RowsAre N taken plans receipts demand x R V =
     (pair_owned V (pair_of x) ≡ plant_pair N x)
-    × (local_row V (λ t. amount_at V came (pair_of x) t) ≡ local_row R (local_incoming R taken (plant_pair N x)))
-    × (local_row V (λ t. amount_at V called (pair_of x) t + asked_within V plans (pair_of x) t) ≡ local_row R (local_gross R taken plans (plant_pair N x)))
+    × (local_row V (λ t. amount_at V receipts (pair_of x) t) ≡ local_row R (local_incoming R taken (plant_pair N x)))
+    × (local_row V (λ t. amount_at V demand (pair_of x) t + asked_within V plans (pair_of x) t) ≡ local_row R (local_gross R taken plans (plant_pair N x)))
 
 rows_are : (N : Table) → IsSized N → (plant : ℕ) (s : State) (A : AgentState) → WorksIn N plant s A
     → (x : ℕ) → IsPairAt N plant x → IsReadyAt N plant s.taken s.planned x
-    → RowsAre N s.taken (plans_of A) A.came A.called x (plant_rows N plant) A.view
+    → RowsAre N s.taken (plans_of A) A.scheduled_receipts A.outside_demand x (plant_rows N plant) A.view
 rows_are N sized plant s A w x at ready =
     let R : PlantRows = plant_rows N plant in
     let p : PlantPair = plant_pair N x in
     let small = network.drafts_are_within N sized plant s.taken s.planned (plans_of A) (works N plant s A w) x at ready in
     let there : Contains A.view.pairs p = subst (λ (V : PlantRows). Contains V.pairs p) (sym w.shown.view)
     (Contains-from_in (plant_pairs N plant) p (sees_pair N plant x at)) in
-    let comes = subst (λ (V : PlantRows). (t : ℕ) → t < V.horizon → amount_at V A.came p.number t ≡ up_to_last (local_incoming V s.taken p t)) w.shown.view
-    (w.shown.history.came p there) in
+    let comes = subst (λ (V : PlantRows). (t : ℕ) → t < V.horizon → amount_at V A.scheduled_receipts p.number t
+    ≡ up_to_last (local_incoming V s.taken p t)) w.shown.view
+    (w.shown.history.scheduled_receipts p there) in
     let is_called =
-    subst (λ (V : PlantRows). (t : ℕ) → t < V.horizon → amount_at V A.called p.number t
-    ≡ up_to_last (amount_at V V.demands p.number t + booked_on Schedule V s.taken p.item t)) w.shown.view (w.shown.history.called p there) in
-    subst (RowsAre N s.taken (plans_of A) A.came A.called x R) (sym w.shown.view) (
+    subst (λ (V : PlantRows). (t : ℕ) → t < V.horizon → amount_at V A.outside_demand p.number t
+    ≡ up_to_last (amount_at V V.demands p.number t + booked_on Schedule V s.taken p.item t)) w.shown.view (w.shown.history.outside_demand p there) in
+    subst (RowsAre N s.taken (plans_of A) A.scheduled_receipts A.outside_demand x R) (sym w.shown.view) (
       pair_is N plant x at,
-      incoming_is R s.taken (plans_of A) A.came A.called p small comes is_called,
+      incoming_is R s.taken (plans_of A) A.scheduled_receipts A.outside_demand p small comes is_called,
       gross_is R s.taken
-          (plans_of A) A.came A.called p small comes is_called,
+          (plans_of A) A.scheduled_receipts A.outside_demand p small comes is_called,
     )
 
 pub drafts_are_within : AgentDraftsAreWithin
@@ -121,8 +122,8 @@ drafts_are_within N sized plant s A w x at ready =
     let rows = rows_are N sized plant s A w x at ready in
     let small = network.drafts_are_within N sized plant s.taken s.planned (plans_of A) (works N plant s A w) x at ready in
     let V : PlantRows = A.view in
-    let incoming : List ℕ = local_row V (λ t. amount_at V A.came (pair_of x) t) in
-    let gross : List ℕ = local_row V (λ t. amount_at V A.called (pair_of x) t + asked_within V (plans_of A) (pair_of x) t) in
+    let incoming : List ℕ = local_row V (λ t. amount_at V A.scheduled_receipts (pair_of x) t) in
+    let gross : List ℕ = local_row V (λ t. amount_at V A.outside_demand (pair_of x) t + asked_within V (plans_of A) (pair_of x) t) in
     subst (λ (q : PlantPair). IsWithin q.params incoming gross) (sym rows.0)
     (subst (λ (z : List ℕ). IsWithin p.params z gross) (sym rows.1)
     (subst (λ (z : List ℕ). IsWithin p.params (local_row R (local_incoming R s.taken p)) z) (sym rows.2) small))
@@ -133,8 +134,8 @@ drafts_are_the_plan N sized plant s A w x at ready =
     let p : PlantPair = plant_pair N x in
     let rows = rows_are N sized plant s A w x at ready in
     let V : PlantRows = A.view in
-    let incoming : List ℕ = local_row V (λ t. amount_at V A.came (pair_of x) t) in
-    let gross : List ℕ = local_row V (λ t. amount_at V A.called (pair_of x) t + asked_within V (plans_of A) (pair_of x) t) in
+    let incoming : List ℕ = local_row V (λ t. amount_at V A.scheduled_receipts (pair_of x) t) in
+    let gross : List ℕ = local_row V (λ t. amount_at V A.outside_demand (pair_of x) t + asked_within V (plans_of A) (pair_of x) t) in
     ap (λ (q : PlantPair). one q.params incoming gross) rows.0
     ∙ ap (λ (z : List ℕ). one p.params z gross) rows.1
     ∙ ap (λ (z : List ℕ). one p.params (local_row R (local_incoming R s.taken p)) z) rows.2

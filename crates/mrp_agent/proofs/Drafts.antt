@@ -103,56 +103,57 @@ module _ (A : AgentState) (view : IsView A.view) (rooms : HasRooms A) (x : PairN
   bound : pair_place A.view x.0 * A.view.horizon + A.view.horizon ≤ length A.view.pairs * A.view.horizon
   bound = row_within (pair_place A.view x.0) (length A.view.pairs) A.view.horizon (own_within A.view x own)
 
-  pub came_is : Part A.came ≡ drafted_incoming A x
-  came_is = part_is A.came (pair_place A.view x.0 * A.view.horizon) A.view.horizon (omega (arith, bound, rooms.came))
+  pub receipts_are : Part A.scheduled_receipts ≡ drafted_incoming A x
+  receipts_are = part_is A.scheduled_receipts (pair_place A.view x.0 * A.view.horizon) A.view.horizon (omega (arith, bound, rooms.scheduled_receipts))
 
-  pub came_length : length (Part A.came) ≡ A.view.horizon
-  came_length = ap length came_is ∙ length-map-range_with_len (λ (t : ℕ). amount_at A.view A.came x t) 0 A.view.horizon
+  pub receipts_length : length (Part A.scheduled_receipts) ≡ A.view.horizon
+  receipts_length = ap length receipts_are ∙ length-map-range_with_len (λ (t : ℕ). amount_at A.view A.scheduled_receipts x t) 0 A.view.horizon
 
-  called_is : Part A.called ≡ map (λ t. slice_index A.called (pair_place A.view x.0 * A.view.horizon + t)) (range_with_len 0 A.view.horizon)
-  called_is = part_is A.called (pair_place A.view x.0 * A.view.horizon) A.view.horizon (omega (arith, bound, rooms.called))
+  demand_is : Part A.outside_demand ≡ map (λ t. slice_index A.outside_demand (pair_place A.view x.0 * A.view.horizon + t)) (range_with_len 0 A.view.horizon)
+  demand_is = part_is A.outside_demand (pair_place A.view x.0 * A.view.horizon) A.view.horizon (omega (arith, bound, rooms.outside_demand))
 
-  pub called_length : length (Part A.called) ≡ A.view.horizon
-  called_length =
-      ap length called_is
-      ∙ length-map-range_with_len (λ (t : ℕ). slice_index A.called (pair_place A.view x.0 * A.view.horizon + t)) 0 A.view.horizon
+  pub demand_length : length (Part A.outside_demand) ≡ A.view.horizon
+  demand_length =
+      ap length demand_is
+      ∙ length-map-range_with_len (λ (t : ℕ). slice_index A.outside_demand (pair_place A.view x.0 * A.view.horizon + t)) 0 A.view.horizon
 
-  called_at : (t : ℕ) → t < A.view.horizon → slice_index (Part A.called) t ≡ slice_index A.called (pair_place A.view x.0 * A.view.horizon + t)
+  called_at : (t : ℕ) → t < A.view.horizon → slice_index (Part A.outside_demand) t ≡ slice_index A.outside_demand (pair_place A.view x.0 * A.view.horizon + t)
   called_at t within =
-      let f : ℕ → ℕ = λ t. slice_index A.called (pair_place A.view x.0 * A.view.horizon + t) in
-      ap (λ (z : List ℕ). slice_index z t) called_is ∙ get_or-map-range_with_len f 0 A.view.horizon t t 0 within (omega arith)
+      let f : ℕ → ℕ = λ t. slice_index A.outside_demand (pair_place A.view x.0 * A.view.horizon + t) in
+      ap (λ (z : List ℕ). slice_index z t) demand_is ∙ get_or-map-range_with_len f 0 A.view.horizon t t 0 within (omega arith)
 
-  pub gross_is : grossed (Part A.called) (edges_at A.view (pair_place A.view x.0)) A.plans ≡ drafted_gross A x
+  pub gross_is : grossed (Part A.outside_demand) (edges_at A.view (pair_place A.view x.0)) A.plans ≡ drafted_gross A x
   gross_is =
-      let f : ℕ → ℕ = λ t. slice_index (Part A.called) t + asked_by A.plans (edges_at A.view (pair_place A.view x.0)) t in
-      let g : ℕ → ℕ = λ t. amount_at A.view A.called x t + asked_within A.view (plans_of A) x t in
-      ap (λ (n : ℕ). map f (range_with_len 0 n)) called_length
+      let f : ℕ → ℕ = λ t. slice_index (Part A.outside_demand) t + asked_by A.plans (edges_at A.view (pair_place A.view x.0)) t in
+      let g : ℕ → ℕ = λ t. amount_at A.view A.outside_demand x t + asked_within A.view (plans_of A) x t in
+      ap (λ (n : ℕ). map f (range_with_len 0 n)) demand_length
       ∙ map_same f g 0 A.view.horizon
       (λ t h.
       let lower : t < A.view.horizon = omega arith in
       ap (λ (n : ℕ). n + asked_by A.plans (edges_at A.view (pair_place A.view x.0)) t) (called_at t lower)
-      ∙ ap (λ (n : ℕ). amount_at A.view A.called x t + n) (asked_is A x own t A.view.edges view.edges))
+      ∙ ap (λ (n : ℕ). amount_at A.view A.outside_demand x t + n) (asked_is A x own t A.view.edges view.edges))
 
-  can_ask : (e : PlantEdge) → IsPlantEdge A.view e → ParentCanAsk A.plans (length (Part A.called)) (parent_edge A.view e)
+  can_ask : (e : PlantEdge) → IsPlantEdge A.view e → ParentCanAsk A.plans (length (Part A.outside_demand)) (parent_edge A.view e)
   can_ask e is =
       let within : pair_place A.view e.parent.0 < length A.plans = omega (arith, own_within A.view e.parent is.parent, rooms.plans.count) in
-      record { known = within; periods_are = (rooms.plans.periods (pair_place A.view e.parent.0) no_rows within).gross ∙ sym called_length }
+      record { known = within; periods_are = (rooms.plans.periods (pair_place A.view e.parent.0) no_rows within).gross ∙ sym demand_length }
 
   pub has_draft : IsWithin (pair_owned A.view x).params (drafted_incoming A x) (drafted_gross A x)
-      → HasDraft (pair_owned A.view x).params (Part A.came) (Part A.called) (edges_at A.view (pair_place A.view x.0)) A.plans
+      → HasDraft (pair_owned A.view x).params (Part A.scheduled_receipts) (Part A.outside_demand) (edges_at A.view (pair_place A.view x.0)) A.plans
   has_draft within = record {
     within =
-        subst (λ (z : List ℕ). IsWithin (pair_owned A.view x).params z (grossed (Part A.called) (edges_at A.view (pair_place A.view x.0)) A.plans))
-        (sym came_is)
+        subst (λ (z : List ℕ). IsWithin (pair_owned A.view x).params z (grossed (Part A.outside_demand) (edges_at A.view (pair_place A.view x.0)) A.plans))
+        (sym receipts_are)
         (subst (λ (z : List ℕ). IsWithin (pair_owned A.view x).params (drafted_incoming A x) z) (sym gross_is) within);
     edges_are =
-        All-filter (λ (e : ParentEdge). e.component == pair_place A.view x.0) (ParentCanAsk A.plans (length (Part A.called)))
+        All-filter (λ (e : ParentEdge). e.component == pair_place A.view x.0) (ParentCanAsk A.plans (length (Part A.outside_demand)))
         (map (parent_edge A.view) A.view.edges)
-        (All-map (ParentCanAsk A.plans (length (Part A.called))) (parent_edge A.view) A.view.edges
+        (All-map (ParentCanAsk A.plans (length (Part A.outside_demand))) (parent_edge A.view) A.view.edges
         (λ k d h. can_ask (get_or A.view.edges k d) (view.edges k d h)));
   }
 
-  pub drafted_is : one (pair_owned A.view x).params (Part A.came) (grossed (Part A.called) (edges_at A.view (pair_place A.view x.0)) A.plans) ≡ drafted A x
+  pub drafted_is : one (pair_owned A.view x).params (Part A.scheduled_receipts)
+      (grossed (Part A.outside_demand) (edges_at A.view (pair_place A.view x.0)) A.plans) ≡ drafted A x
   drafted_is =
-      ap (λ (z : List ℕ). one (pair_owned A.view x).params z (grossed (Part A.called) (edges_at A.view (pair_place A.view x.0)) A.plans)) came_is
+      ap (λ (z : List ℕ). one (pair_owned A.view x).params z (grossed (Part A.outside_demand) (edges_at A.view (pair_place A.view x.0)) A.plans)) receipts_are
       ∙ ap (λ (z : List ℕ). one (pair_owned A.view x).params (drafted_incoming A x) z) gross_is

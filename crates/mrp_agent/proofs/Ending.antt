@@ -19,9 +19,10 @@ use Rattle.mrp_agent.specs.declared.join.Join.{Join}
 use Rattle.mrp_agent.specs.Counts.{Awaited, AreCounts, IsOneEnded, open_blocks}
 use Rattle.mrp_agent.specs.Progress.{Progress}
 use Rattle.mrp_agent.specs.State.{incoming_at, pair_place, no_incoming}
-use Rattle.mrp_agent.specs.After.{items_of, place_of, ended_place, Falls, IsAwaited}
+use Rattle.mrp_agent.specs.After.{items_of, place_among, ended_place, Falls, IsAwaited}
 use Rattle.mrp_agent.specs.Shows.{form_of, awaited, awaited_on, block_awaited}
-use Rattle.mrp_agent.proofs.Arriving.{ended_more, sum_changed, sum_each, with_taken}
+use Rattle.mrp_agent.specs.Sent.{with_taken}
+use Rattle.mrp_agent.proofs.Arriving.{ended_more, sum_changed, sum_each}
 use Rattle.mrp_agent.proofs.Bringing.{IsOpenOn, IsPlaced, no_item, open_on, placed}
 use Rattle.mrp_agent.proofs.Sent.{changed_there, changed_elsewhere}
 
@@ -143,10 +144,10 @@ module _ (V : PlantRows) (view : IsView V) (taken : ℕ → List Record) (k : �
     }
 
     -- the pair is at the item's place
-    place_is : (place_of (items_of V) item ≡ Some Pair) × (Pair < length V.pairs)
+    place_is : (place_among (items_of V) item ≡ Some Pair) × (Pair < length V.pairs)
     place_is = by (lane_is.items o.place no_item o.within).pair
       where
-        by : IsOwnOf V It.pair It.item → (place_of (items_of V) item ≡ Some Pair) × (Pair < length V.pairs)
+        by : IsOwnOf V It.pair It.item → (place_among (items_of V) item ≡ Some Pair) × (Pair < length V.pairs)
         by (p, there, number, its) =
             let h : IsPlaced V p = placed V view p there in
             let same : p.item.0 ≡ item.0 = ap (λ (i : ItemNo). i.0) its ∙ o.is in

@@ -1,11 +1,11 @@
 -- What is legal on a lane that comes in is in the form by which its receiver books it.
-use Rattle.std.proofs.Common.{◌≡◌, ℕ, Bool, List, sym, ap, ◌∙◌, subst, Contains}
+use Rattle.std.proofs.Common.{◌≡◌, ℕ, Bool, List, sym, ap, ◌∙◌, subst}
 use Rattle.mrp_table_rows.specs.Table.{Table, horizon}
 use Rattle.mrp_net.specs.Lanes.{lane_at}
 use Rattle.mrp_net.proofs.Routing.{map-map}
 use Rattle.mrp_net.specs.LaneLaws.{is_schedule}
 use Rattle.mrp_plant_view.specs.declared.view.IncomingLane.{IncomingLane}
-use Rattle.mrp_plant_view.specs.View.{PlantRows, incoming_lane, incoming_lanes, plant_rows}
+use Rattle.mrp_plant_view.specs.View.{PlantRows, incoming_lane, plant_rows}
 use Rattle.mrp_loops.specs.Sized.{IsSized}
 use Rattle.mrp_record.specs.declared.record.Record.{Record}
 use Rattle.mrp_record.specs.Form.{FormItem, LaneForm, IsInForm}
@@ -17,8 +17,7 @@ use Rattle.mrp_protocol.specs.Seen.{seen_form}
 use Rattle.mrp_protocol.proofs.Sending.{forms_are_seen}
 use Rattle.mrp_protocol.proofs.Small.{legal_is_in_form}
 use Rattle.mrp_agent.specs.Shows.{book_item, form_of}
-use Rattle.mrp_agent.specs.State.{incoming_at, incoming_place}
-use Rattle.mrp_agent.proofs.Placed.{in_placed}
+use Rattle.mrp_agent.specs.State.{incoming_at}
 
 abbrev form_with : ℕ → Bool → List FormItem → LaneForm
 form_with periods rising items = record { rising = rising; horizon = periods; items = items }
@@ -28,15 +27,14 @@ form_is : (V : PlantRows) (lane : IncomingLane) → seen_form V.horizon lane ≡
 form_is V lane =
     ap (form_with V.horizon (is_schedule lane.kind)) (sym (map-map book_form_item book_item lane.items))
 
--- it is the form by which the lane's receiver books
-pub form_same : (N : Table) (p : ℕ) (V : PlantRows) → V ≡ plant_rows N p → (l : ℕ) → Contains (incoming_lanes N p) (incoming_lane N l)
-    → lane_form N (lane_at N l) ≡ form_of V (incoming_at V (incoming_place V l))
-form_same N p V view l own =
-    let place = in_placed V N p l view own in
+-- it is the form by which the lane's receiver books, wherever it sees the lane
+pub form_seen : (N : Table) (p : ℕ) (V : PlantRows) → V ≡ plant_rows N p → (l k : ℕ) → incoming_at V k ≡ incoming_lane N l
+    → lane_form N (lane_at N l) ≡ form_of V (incoming_at V k)
+form_seen N p V view l k is =
     let periods : horizon N ≡ V.horizon = sym (ap (λ (z : PlantRows). z.horizon) view) in
-    forms_are_seen N l ∙ ap (λ (h : ℕ). seen_form h (incoming_lane N l)) periods ∙ form_is V (incoming_lane N l) ∙ ap (form_of V) (sym place.is)
+    forms_are_seen N l ∙ ap (λ (h : ℕ). seen_form h (incoming_lane N l)) periods ∙ form_is V (incoming_lane N l) ∙ ap (form_of V) (sym is)
 
-pub legal_in_form : (N : Table) → IsSized N → (p : ℕ) (V : PlantRows) → V ≡ plant_rows N p → (l : ℕ) → Contains (incoming_lanes N p) (incoming_lane N l)
-    → (records : List Record) → IsBeginning (loads N (lane_at N l)) records → IsInForm (form_of V (incoming_at V (incoming_place V l))) records
-legal_in_form N sized p V view l own records legal =
-    subst (λ (form : LaneForm). IsInForm form records) (form_same N p V view l own) (legal_is_in_form N sized (lane_at N l) records legal)
+pub legal_at : (N : Table) → IsSized N → (p : ℕ) (V : PlantRows) → V ≡ plant_rows N p → (l k : ℕ) → incoming_at V k ≡ incoming_lane N l
+    → (records : List Record) → IsBeginning (loads N (lane_at N l)) records → IsInForm (form_of V (incoming_at V k)) records
+legal_at N sized p V view l k is records legal =
+    subst (λ (form : LaneForm). IsInForm form records) (form_seen N p V view l k is) (legal_is_in_form N sized (lane_at N l) records legal)

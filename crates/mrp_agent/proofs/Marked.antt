@@ -19,7 +19,7 @@ use Rattle.mrp_agent.specs.Counts.{components_of, open_blocks}
 use Rattle.mrp_agent.specs.Progress.{IsFree, Progress, times}
 use Rattle.mrp_agent.proofs.Counting.{components_wait}
 use Rattle.mrp_agent.specs.declared.queues.QueuePlace.{QueuePlace}
-use Rattle.mrp_agent.specs.After.{AreOutsSettled, PairSettled, items_of, place_of, queued_at, queued_by}
+use Rattle.mrp_agent.specs.After.{AreOutsSettled, PairSettled, items_of, place_among, queued_at, queued_by}
 use Rattle.mrp_agent.specs.Kept.{Indexes, IsKept}
 use Rattle.mrp_agent.specs.Shows.{awaited, join_of, joins_of}
 use Rattle.mrp_agent.specs.Queues.{queue_places, with_queued}
@@ -103,7 +103,7 @@ queued_size o (Some place) = queue_size (nat_lt place o.size && nat_lt (length o
 
 settled_size : (kind : LaneKind) (items : List ItemNo) (o : OutFigures) (item : ItemNo) → (queued_by kind items o item).size ≡ o.size
 settled_size Despatch items o item = refl
-settled_size Schedule items o item = queued_size o (place_of items item)
+settled_size Schedule items o item = queued_size o (place_among items item)
 
 -- ---- what is kept
 
@@ -115,8 +115,8 @@ kept_marked A I place item progress outs kept settled queued = record {
   indexes = kept.indexes;
   rooms = record {
     books = kept.rooms.books;
-    came = kept.rooms.came;
-    called = kept.rooms.called;
+    scheduled_receipts = kept.rooms.scheduled_receipts;
+    outside_demand = kept.rooms.outside_demand;
     plans = kept.rooms.plans;
     progress = record {
       numbers = settled.numbers ∙ kept.rooms.progress.numbers;

@@ -139,21 +139,22 @@ pub draft_is_local : (A : AgentState) (p : PlantPair) (sent taken : ℕ → List
     → drafted A p.number ≡ local_plan A.view taken (plans_of A) p
 draft_is_local A p sent taken planned view there can shows =
     let V : PlantRows = A.view in
-    let came : ℕ → ℕ = λ t. amount_at V A.came p.number t in
-    let asked : ℕ → ℕ = λ t. amount_at V A.called p.number t + asked_within V (plans_of A) p.number t in
-    let incoming : local_row V came ≡ local_row V (local_incoming V taken p) =
-    map_same came (local_incoming V taken p) 0 V.horizon
+    let receipts : ℕ → ℕ = λ t. amount_at V A.scheduled_receipts p.number t in
+    let asked : ℕ → ℕ = λ t. amount_at V A.outside_demand p.number t + asked_within V (plans_of A) p.number t in
+    let incoming : local_row V receipts ≡ local_row V (local_incoming V taken p) =
+    map_same receipts (local_incoming V taken p) 0 V.horizon
     (λ t h.
     let low : t < V.horizon = omega arith in
-    uncut (came t) (local_incoming V taken p t) (shows.came p there t low) (omega (arith, in_row V came t low, can.within.total))) in
+    uncut (receipts t) (local_incoming V taken p t) (shows.scheduled_receipts p there t low) (omega (arith, in_row V receipts t low, can.within.total))) in
     let gross : local_row V asked ≡ local_row V (local_gross V taken (plans_of A) p) =
     map_same asked (local_gross V taken (plans_of A) p) 0 V.horizon
     (λ t h.
     let low : t < V.horizon = omega arith in
     let most : asked t ≤ MOST = omega (arith, in_row V asked t low, can.within.total) in
-    let called = uncut (amount_at V A.called p.number t) (amount_at V V.demands p.number t + booked_on Schedule V taken p.item t) (shows.called p there t low)
+    let demand = uncut (amount_at V A.outside_demand p.number t) (amount_at V V.demands p.number t + booked_on Schedule V taken p.item t)
+    (shows.outside_demand p there t low)
     (omega (arith, most)) in
-    omega (arith, called)) in
-    ap (λ (q : PlantPair). one q.params (local_row V came) (local_row V asked)) (pair_is V view p there)
+    omega (arith, demand)) in
+    ap (λ (q : PlantPair). one q.params (local_row V receipts) (local_row V asked)) (pair_is V view p there)
     ∙ ap (λ (row : List ℕ). one p.params row (local_row V asked)) incoming
     ∙ ap (λ (row : List ℕ). one p.params (local_row V (local_incoming V taken p)) row) gross

@@ -144,8 +144,8 @@ abbrev pub opened : PlantRows → Progress → List OutFigures → AgentState
 opened V progress outs = record {
   view = V;
   books = map (new_figures V) V.incoming;
-  came = V.receipts;
-  called = V.demands;
+  scheduled_receipts = V.receipts;
+  outside_demand = V.demands;
   plans = replicate (length V.pairs) (nothing_planned V.horizon);
   progress = progress;
   outs = outs;
@@ -174,9 +174,9 @@ module _ (V : PlantRows) (progress : Progress) (outs : List OutFigures) (view : 
   opening_shows receipts demands = record {
     books = books_open;
     waits = first_awaits V progress first;
-    came = λ p there t within. amount_shown (amount_at V V.receipts p.number t) (booked_on Despatch V nothing p.item t) (receipts _)
+    scheduled_receipts = λ p there t within. amount_shown (amount_at V V.receipts p.number t) (booked_on Despatch V nothing p.item t) (receipts _)
         (nothing_booked Despatch V p t);
-    called = λ p there t within. amount_shown (amount_at V V.demands p.number t) (booked_on Schedule V nothing p.item t) (demands _)
+    outside_demand = λ p there t within. amount_shown (amount_at V V.demands p.number t) (booked_on Schedule V nothing p.item t) (demands _)
         (nothing_booked Schedule V p t);
     planned_are = λ p there. sym (ap (λ (z : List Bool). is_planned z (pair_place V p.number.0)) first.planned
         ∙ unplanned (length V.pairs) (pair_place V p.number.0));
@@ -190,8 +190,8 @@ module _ (V : PlantRows) (progress : Progress) (outs : List OutFigures) (view : 
   rooms_open : HasRooms (opened V progress outs)
   rooms_open = record {
     books = length-map V.incoming (new_figures V);
-    came = view.receipts;
-    called = view.demands;
+    scheduled_receipts = view.receipts;
+    outside_demand = view.demands;
     plans = record {
       count = length-replicate (length V.pairs) (nothing_planned V.horizon);
       periods = All-replicate (HasPlanRows V) (length V.pairs) (nothing_planned V.horizon) has_periods;
@@ -253,21 +253,21 @@ demander_joins_known V {pairs} {joins} h pairs_are is =
     subst (λ (z : List PlantPair). All (P (length z)) joins) (sym pairs_are) (subst (All (P (length V.pairs))) (sym is) known)
 
 -- the books, sums and plans that are made are those of the opening
-pub record AreMade (V : PlantRows) (books : List Figures) (came called : List ℕ) (plans : List PlanRows) : Type 0 where
+pub record AreMade (V : PlantRows) (books : List Figures) (receipts demand : List ℕ) (plans : List PlanRows) : Type 0 where
   pub books_are : books ≡ map (new_figures V) V.incoming
-  pub came_is : came ≡ V.receipts
-  pub called_is : called ≡ V.demands
+  pub receipts_are : receipts ≡ V.receipts
+  pub demand_is : demand ≡ V.demands
   pub plans_are : plans ≡ replicate (length V.pairs) (nothing_planned V.horizon)
 
 abbrev pub agent_of : PlantRows → List Figures → List ℕ → List ℕ → List PlanRows → Progress → List OutFigures → AgentState
-agent_of V books came called plans progress outs =
-    record { view = V; books = books; came = came; called = called; plans = plans; progress = progress; outs = outs }
+agent_of V books receipts demand plans progress outs =
+    record { view = V; books = books; scheduled_receipts = receipts; outside_demand = demand; plans = plans; progress = progress; outs = outs }
 
-pub agent_opened : (V : PlantRows) (books : List Figures) (came called : List ℕ) (plans : List PlanRows) (progress : Progress) (outs : List OutFigures)
-    → AreMade V books came called plans
-    → agent_of V books came called plans progress outs ≡ opened V progress outs
-agent_opened V books came called plans progress outs h =
-    ap (λ (z : List Figures). agent_of V z came called plans progress outs) h.books_are
-    ∙ ap (λ (z : List ℕ). agent_of V (map (new_figures V) V.incoming) z called plans progress outs) h.came_is
-    ∙ ap (λ (z : List ℕ). agent_of V (map (new_figures V) V.incoming) V.receipts z plans progress outs) h.called_is
+pub agent_opened : (V : PlantRows) (books : List Figures) (receipts demand : List ℕ) (plans : List PlanRows) (progress : Progress) (outs : List OutFigures)
+    → AreMade V books receipts demand plans
+    → agent_of V books receipts demand plans progress outs ≡ opened V progress outs
+agent_opened V books receipts demand plans progress outs h =
+    ap (λ (z : List Figures). agent_of V z receipts demand plans progress outs) h.books_are
+    ∙ ap (λ (z : List ℕ). agent_of V (map (new_figures V) V.incoming) z demand plans progress outs) h.receipts_are
+    ∙ ap (λ (z : List ℕ). agent_of V (map (new_figures V) V.incoming) V.receipts z plans progress outs) h.demand_is
     ∙ ap (λ (z : List PlanRows). agent_of V (map (new_figures V) V.incoming) V.receipts V.demands z progress outs) h.plans_are

@@ -27,6 +27,10 @@ out_placed V N p l view own =
     }
 
 -- and of one that comes in, which is seen as it is
+pub in_number : (V : PlantRows) (l : ℕ) → incoming_place V l < length V.incoming → (incoming_at V (incoming_place V l)).number.0 ≡ l
+in_number V l within =
+    eqb-true (incoming_at V (incoming_place V l)).number.0 l (passes_at_first (λ (lane : IncomingLane). lane.number.0 == l) V.incoming no_incoming within)
+
 pub record IsTakenAt (V : PlantRows) (N : Table) (l : ℕ) : Type 0 where
   pub within : incoming_place V l < length V.incoming
   pub is : incoming_at V (incoming_place V l) ≡ incoming_lane N l
@@ -40,8 +44,6 @@ in_placed V N p l view own =
     let there : Contains V.incoming (incoming_lane N l) = subst (λ (z : PlantRows). Contains z.incoming (incoming_lane N l)) (sym view) own in
     let within : incoming_place V l < length V.incoming = place_found (λ (lane : IncomingLane). lane.number.0 == l) V.incoming (incoming_lane N l) there
     (eq-eqb l l refl) in
-    let number : (incoming_at V (incoming_place V l)).number.0 ≡ l =
-    eqb-true (incoming_at V (incoming_place V l)).number.0 l (passes_at_first (λ (lane : IncomingLane). lane.number.0 == l) V.incoming no_incoming within) in
     let seen_all : All (λ lane. lane ≡ incoming_lane N lane.number.0) V.incoming =
     subst (λ (z : PlantRows). All (λ lane. lane ≡ incoming_lane N lane.number.0) z.incoming) (sym view) (incoming_are_seen N p) in
-    record { within = within; is = seen_all (incoming_place V l) no_incoming within ∙ ap (incoming_lane N) number }
+    record { within = within; is = seen_all (incoming_place V l) no_incoming within ∙ ap (incoming_lane N) (in_number V l within) }

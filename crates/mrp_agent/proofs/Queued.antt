@@ -22,7 +22,7 @@ use Rattle.mrp_record.specs.Shows.{ShowsSent}
 use Rattle.mrp_record.proofs.Queues.{queues_show, looks_at_queued}
 use Rattle.mrp_protocol.specs.State.{changed}
 use Rattle.mrp_protocol.specs.Goods.{by_period_from, goods_by, goods_of, schedule_goods, share, IsSendable}
-use Rattle.mrp_agent.specs.After.{place_of, queued_at, queued_by, settled_out}
+use Rattle.mrp_agent.specs.After.{place_among, queued_at, queued_by, settled_out}
 use Rattle.mrp_agent.proofs.Looking.{only_place, place_found, place_known}
 use Rattle.mrp_agent.proofs.Marked.{queued_size}
 use Rattle.mrp_agent.proofs.Nothing.{more_planned, same_item, same_number}
@@ -112,7 +112,7 @@ module _ (V : PlantRows) (view : IsView V) (lane : OutgoingLane) (is_lane : IsOu
   items = map (λ i. i.item) lane.items
 
   -- the place that is queued on a schedule lane
-  at_place : lane.kind ≡ Schedule → (m : Option ℕ) → place_of (map (λ i. i.item) lane.items) p.item ≡ m → Shown (queued_at old m)
+  at_place : lane.kind ≡ Schedule → (m : Option ℕ) → place_among (map (λ i. i.item) lane.items) p.item ≡ m → Shown (queued_at old m)
   at_place kind None none =
       as_before
       (λ j within _ same.
@@ -166,7 +166,7 @@ module _ (V : PlantRows) (view : IsView V) (lane : OutgoingLane) (is_lane : IsOu
 
   by_kind : (kind : LaneKind) → lane.kind ≡ kind → Shown (queued_by kind (map (λ i. i.item) lane.items) old p.item)
   by_kind Despatch kind = as_before (λ j within schedules _. cc (kind, schedules))
-  by_kind Schedule kind = at_place kind (place_of (map (λ i. i.item) lane.items) p.item) refl
+  by_kind Schedule kind = at_place kind (place_among (map (λ i. i.item) lane.items) p.item) refl
 
   pub shown_now : Shown (settled_out lane old p.item)
   shown_now = by_kind lane.kind refl

@@ -20,7 +20,7 @@ use Rattle.mrp_plant_view.specs.View.{PlantRows}
 use Rattle.mrp_record.specs.Cursor.{OutFigures}
 use Rattle.mrp_record.specs.Next.{queued}
 use Rattle.mrp_agent.specs.declared.queues.QueuePlace.{QueuePlace}
-use Rattle.mrp_agent.specs.After.{AreOutsSettled, items_of, place_of, queued_at, queued_by, settled_out}
+use Rattle.mrp_agent.specs.After.{AreOutsSettled, items_of, place_among, queued_at, queued_by, settled_out}
 use Rattle.mrp_agent.specs.Queues.{item_queues, lane_queues, lane_queues_at, queue_place, queue_places, with_queued}
 use Rattle.mrp_agent.specs.State.{no_out, no_outgoing, no_plant_pair, outgoing_at, plant_pair_at}
 use Rattle.mrp_agent.proofs.Looking.{place_is_only, place_known}
@@ -140,12 +140,12 @@ lane_apart : (kind : LaneKind) (pairs : List ItemNo) (items : List OutgoingLoad)
     → fold (on_lane_of place k) o (lane_queues kind pairs i items) ≡ o
 lane_apart Despatch pairs items place k i not o = refl
 lane_apart Schedule pairs items place k i not o =
-    none_changes (on_lane_of place k) (λ (j : ℕ). queue_place (place_of pairs (load_at items j).item) i j) (length items)
-    (λ j low. other_lane place k i j (place_of pairs (load_at items j).item) not) o
+    none_changes (on_lane_of place k) (λ (j : ℕ). queue_place (place_among pairs (load_at items j).item) i j) (length items)
+    (λ j low. other_lane place k i j (place_among pairs (load_at items j).item) not) o
 
 -- ---- where an item stands in a list that has each once
 
-item_there : {X : Type 0} (item : X → ItemNo) (xs : List X) (k : ℕ) (d : X) (i : ItemNo) → place_of (map item xs) i ≡ Some k
+item_there : {X : Type 0} (item : X → ItemNo) (xs : List X) (k : ℕ) (d : X) (i : ItemNo) → place_among (map item xs) i ≡ Some k
     → (k < length xs) × ((item (get_or xs k d)).0 ≡ i.0)
 item_there {X} item xs k d i found =
     let at = position-Some (λ (z : ItemNo). eqb z.0 i.0) (map item xs) k i found in
@@ -156,7 +156,7 @@ item_there {X} item xs k d i found =
 
 item_found : {X : Type 0} (item : X → ItemNo) (xs : List X) (k : ℕ) (d : X) (i : ItemNo) → ((n : ℕ) → count_by (λ x. (item x).0 == n) xs ≤ 1) → k < length xs
     → (item (get_or xs k d)).0 ≡ i.0
-    → place_of (map item xs) i ≡ Some k
+    → place_among (map item xs) i ≡ Some k
 item_found {X} item xs k d i once within same =
     let test : ItemNo → Bool = λ z. eqb z.0 i.0 in
     let items : List ItemNo = map item xs in
@@ -169,26 +169,26 @@ item_found {X} item xs k d i once within same =
 -- ---- the pair at a place
 
 module _ (V : PlantRows) (view : IsView V) (place : ℕ) (within : place < length V.pairs) where
-  is_mine : (i : ItemNo) → i.0 ≡ (plant_pair_at V place).item.0 → place_of (items_of V) i ≡ Some place
+  is_mine : (i : ItemNo) → i.0 ≡ (plant_pair_at V place).item.0 → place_among (items_of V) i ≡ Some place
   is_mine i same = item_found (λ (p : PlantPair). p.item) V.pairs place no_plant_pair i view.items_once within (sym same)
 
-  is_other : (i : ItemNo) → (i.0 ≡ (plant_pair_at V place).item.0 → ⊥) → place_of (items_of V) i ≡ Some place → ⊥
+  is_other : (i : ItemNo) → (i.0 ≡ (plant_pair_at V place).item.0 → ⊥) → place_among (items_of V) i ≡ Some place → ⊥
   is_other i not found = not (sym (item_there (λ (p : PlantPair). p.item) V.pairs place no_plant_pair i found).1)
 
   -- the items of a schedule lane
   items_queued : (items : List OutgoingLoad) → ((i : ℕ) → count_by (λ z. z.item.0 == i) items ≤ 1) → (k : ℕ) (m : Option ℕ)
-      → place_of (map (λ z. z.item) items) (plant_pair_at V place).item ≡ m
+      → place_among (map (λ z. z.item) items) (plant_pair_at V place).item ≡ m
       → (o : OutFigures) → fold (on_lane_of place k) o (item_queues (items_of V) k items) ≡ queued_at o m
   items_queued items once k None none o =
-      none_changes (on_lane_of place k) (λ (j : ℕ). queue_place (place_of (items_of V) (load_at items j).item) k j) (length items)
-      (λ j low. other_pair place k k j (place_of (items_of V) (load_at items j).item)
+      none_changes (on_lane_of place k) (λ (j : ℕ). queue_place (place_among (items_of V) (load_at items j).item) k j) (length items)
+      (λ j low. other_pair place k k j (place_among (items_of V) (load_at items j).item)
       (is_other (load_at items j).item
       (λ same. let found = item_found (λ (z : OutgoingLoad). z.item) items j no_load (plant_pair_at V place).item once low same in absurd (cc (none, found)))))
       o
   items_queued items once k (Some m) found o =
       let there = item_there (λ (z : OutgoingLoad). z.item) items m no_load (plant_pair_at V place).item found in
-      one_changes (on_lane_of place k) (λ (j : ℕ). queue_place (place_of (items_of V) (load_at items j).item) k j) m (length items) there.0
-      (λ j low not. other_pair place k k j (place_of (items_of V) (load_at items j).item)
+      one_changes (on_lane_of place k) (λ (j : ℕ). queue_place (place_among (items_of V) (load_at items j).item) k j) m (length items) there.0
+      (λ j low not. other_pair place k k j (place_among (items_of V) (load_at items j).item)
       (is_other (load_at items j).item
       (λ same.
       let again : Some j ≡ Some m = sym (item_found (λ (z : OutgoingLoad). z.item) items j no_load (plant_pair_at V place).item once low same) ∙ found in
@@ -201,7 +201,7 @@ module _ (V : PlantRows) (view : IsView V) (place : ℕ) (within : place < lengt
   kind_queued : (kind : LaneKind) (items : List OutgoingLoad) → ((i : ℕ) → count_by (λ z. z.item.0 == i) items ≤ 1) → (k : ℕ) (o : OutFigures)
       → fold (on_lane_of place k) o (lane_queues kind (items_of V) k items) ≡ queued_by kind (map (λ z. z.item) items) o (plant_pair_at V place).item
   kind_queued Despatch items once k o = refl
-  kind_queued Schedule items once k o = items_queued items once k (place_of (map (λ z. z.item) items) (plant_pair_at V place).item) refl o
+  kind_queued Schedule items once k o = items_queued items once k (place_among (map (λ z. z.item) items) (plant_pair_at V place).item) refl o
 
   -- the cursor of a lane after the queue places of the pair
   cursor_queued : (k : ℕ) → k < length V.outgoing → (o : OutFigures)
@@ -218,7 +218,7 @@ module _ (V : PlantRows) (view : IsView V) (place : ℕ) (within : place < lengt
 abbrev Names : ℕ → ℕ → QueuePlace → Type 0
 Names pairs lanes q = (q.pair < pairs) × (q.lane < lanes)
 
-place_names : (pairs : List ItemNo) (i : ItemNo) (k j n : ℕ) → k < n → (found : Option ℕ) → place_of pairs i ≡ found
+place_names : (pairs : List ItemNo) (i : ItemNo) (k j n : ℕ) → k < n → (found : Option ℕ) → place_among pairs i ≡ found
     → All (Names (length pairs) n) (queue_place found k j)
 place_names pairs i k j n low None e = All-nil (Names (length pairs) n)
 place_names pairs i k j n low (Some pair) e =
@@ -229,8 +229,8 @@ lane_names : (pairs : List ItemNo) (kind : LaneKind) (items : List OutgoingLoad)
     → All (Names (length pairs) n) (lane_queues kind pairs k items)
 lane_names pairs Despatch items k n low = All-nil (Names (length pairs) n)
 lane_names pairs Schedule items k n low =
-    All-flat_map-range (Names (length pairs) n) (λ (j : ℕ). queue_place (place_of pairs (load_at items j).item) k j) (length items)
-    (λ j _. place_names pairs (load_at items j).item k j n low (place_of pairs (load_at items j).item) refl)
+    All-flat_map-range (Names (length pairs) n) (λ (j : ℕ). queue_place (place_among pairs (load_at items j).item) k j) (length items)
+    (λ j _. place_names pairs (load_at items j).item k j n low (place_among pairs (load_at items j).item) refl)
 
 -- pairs and lanes of the plant
 all_name : (pairs : List ItemNo) (lanes : List OutgoingLane) → All (Names (length pairs) (length lanes)) (queue_places pairs lanes)

@@ -19,7 +19,7 @@ drafted_periods A x =
     let incoming : List ℕ = drafted_incoming A x in
     let gross : List ℕ = drafted_gross A x in
     let size : length gross ≡ A.view.horizon =
-    length-map-range_with_len (λ (t : ℕ). amount_at A.view A.called x t + asked_within A.view (plans_of A) x t) 0 A.view.horizon in
+    length-map-range_with_len (λ (t : ℕ). amount_at A.view A.outside_demand x t + asked_within A.view (plans_of A) x t) 0 A.view.horizon in
     record {
       gross = ap length (one-gross params incoming gross) ∙ size;
       release = ap length (one-release params incoming gross) ∙ length-map-range_with_len (release_at params incoming gross) 0 (length gross) ∙ size;
@@ -53,8 +53,8 @@ kept_written {A} {I} {x} {place} {room} {plan} h is same =
       };
       rooms = record {
         books = kept.rooms.books;
-        came = kept.rooms.came;
-        called = kept.rooms.called;
+        scheduled_receipts = kept.rooms.scheduled_receipts;
+        outside_demand = kept.rooms.outside_demand;
         plans = record {
           count = length-set A.plans place plan ∙ kept.rooms.plans.count;
           periods = All-set (HasPlanRows A.view) A.plans place plan (subst (HasPlanRows A.view) (sym is) (drafted_periods A x)) kept.rooms.plans.periods;

@@ -145,8 +145,8 @@ module _ (A : AgentState) (view : IsView A.view) (rooms : HasRooms A) where
     sent_shows r bounded given = record {
       books = shows.books;
       waits = shows.waits;
-      came = shows.came;
-      called = shows.called;
+      scheduled_receipts = shows.scheduled_receipts;
+      outside_demand = shows.outside_demand;
       planned_are = shows.planned_are;
       local = shows.local;
       outs = λ i ini.
@@ -178,8 +178,8 @@ sent_rooms : (A : AgentState) (k : ℕ) → k < length A.view.outgoing → HasRo
 sent_rooms A k within rooms =
     record {
       books = rooms.books;
-      came = rooms.came;
-      called = rooms.called;
+      scheduled_receipts = rooms.scheduled_receipts;
+      outside_demand = rooms.outside_demand;
       plans = rooms.plans;
       progress = rooms.progress;
       cursors = sent_cursors A k within rooms.cursors;

@@ -112,8 +112,8 @@ module _ (A : AgentState) (I : Indexes) (kept : IsKept A I) (p : PlantPair) (the
   shows_after settled queued = record {
     books = shows.books;
     waits = settled.counts (open_blocks (awaited A.view taken)) shows.waits;
-    came = shows.came;
-    called = shows.called;
+    scheduled_receipts = shows.scheduled_receipts;
+    outside_demand = shows.outside_demand;
     planned_are = planned_after A kept.rooms planned p.number progress own settled.planned shows.planned_are;
     local = local_after;
     outs = λ k low. out_after queued k low;

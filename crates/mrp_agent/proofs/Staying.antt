@@ -57,9 +57,9 @@ module _ (A : AgentState) (I : Indexes) (x : PairNo) (kept : IsKept A I) (can : 
         same = parent_stays y ready (get_or V.edges k d) (In-from_contains V.edges (get_or V.edges k d) (Contains-get_or V.edges k d h));
       } in
       let gross : drafted_gross Next y ≡ drafted_gross A y =
-      map_same (λ (t : ℕ). amount_at V A.called y t + asked_within V (plans_of Next) y t)
-      (λ (t : ℕ). amount_at V A.called y t + asked_within V (plans_of A) y t) 0 V.horizon
-      (λ t h. ap (λ (n : ℕ). amount_at V A.called y t + n) (sym (asked_same V (plans_of A) (plans_of Next) y.0 t V.edges parents))) in
+      map_same (λ (t : ℕ). amount_at V A.outside_demand y t + asked_within V (plans_of Next) y t)
+      (λ (t : ℕ). amount_at V A.outside_demand y t + asked_within V (plans_of A) y t) 0 V.horizon
+      (λ t h. ap (λ (n : ℕ). amount_at V A.outside_demand y t + n) (sym (asked_same V (plans_of A) (plans_of Next) y.0 t V.edges parents))) in
       ap (λ (row : List ℕ). one (pair_owned V y).params (drafted_incoming A y) row) gross
 
 abbrev Written : AgentState → PairNo → ℕ → AgentState

@@ -26,11 +26,6 @@ use Rattle.mrp_agent.specs.Shows.{up_to_last}
 abbrev pub after_sent : AgentState → ℕ → AgentState
 after_sent A k = record A { outs = slice_set A.outs k (stepped (out_at A k) (left_at A k)) }
 
--- the cursor of a lane after its next record, where there is one
-abbrev pub gone_on : Option Record → OutFigures → Option Remainder → OutFigures
-gone_on None o left = o
-gone_on (Some r) o left = stepped o left
-
 -- ---- booked
 
 -- an amount with pieces added
@@ -42,13 +37,13 @@ added_for amounts periods period quantity None = amounts
 added_for amounts periods period quantity (Some place) = added_at amounts (place * periods + period) quantity
 
 -- the place of an item in a list of them
-abbrev pub place_of : List ItemNo → ItemNo → Option ℕ
-place_of items item = position (λ i. i.0 == item.0) items
+abbrev pub place_among : List ItemNo → ItemNo → Option ℕ
+place_among items item = position (λ i. i.0 == item.0) items
 
 -- a line's pieces are added at the place of its item and in its period
 abbrev pub with_line : List ItemNo → ℕ → List ℕ → Record → List ℕ
 with_line items periods amounts (Line number item period quantity cumulative) =
-    if nat_lt period periods then added_for amounts periods period quantity (place_of items item) else amounts
+    if nat_lt period periods then added_for amounts periods period quantity (place_among items item) else amounts
 with_line items periods amounts (ItemEnd number item lines cumulative) = amounts
 with_line items periods amounts (Reset number item closed) = amounts
 with_line items periods amounts (Close number) = amounts
@@ -58,18 +53,18 @@ abbrev pub items_of : PlantRows → List ItemNo
 items_of V = map (λ p. p.item) V.pairs
 
 -- on a despatch lane it comes in, on a schedule lane it is called for
-abbrev pub came_by : LaneKind → PlantRows → List ℕ → Record → List ℕ
-came_by Despatch V came r = with_line (items_of V) V.horizon came r
-came_by Schedule V came r = came
+abbrev pub receipts_after : LaneKind → PlantRows → List ℕ → Record → List ℕ
+receipts_after Despatch V receipts r = with_line (items_of V) V.horizon receipts r
+receipts_after Schedule V receipts r = receipts
 
-abbrev pub called_after : LaneKind → PlantRows → List ℕ → Record → List ℕ
-called_after Despatch V called r = called
-called_after Schedule V called r = with_line (items_of V) V.horizon called r
+abbrev pub demand_after : LaneKind → PlantRows → List ℕ → Record → List ℕ
+demand_after Despatch V demand r = demand
+demand_after Schedule V demand r = with_line (items_of V) V.horizon demand r
 
 -- the place of the pair whose awaited block ends with the record
 abbrev pub ended_place : List ItemNo → Record → Option ℕ
 ended_place items (Line number item period quantity cumulative) = None
-ended_place items (ItemEnd number item lines cumulative) = place_of items item
+ended_place items (ItemEnd number item lines cumulative) = place_among items item
 ended_place items (Reset number item closed) = None
 ended_place items (Close number) = None
 
@@ -95,8 +90,8 @@ pub record BlockEnded (place : Option ℕ) (old new : Progress) : Type 0 where
 abbrev pub after_booked : AgentState → ℕ → Record → Figures → Progress → AgentState
 after_booked A k r book progress = record A {
   books = slice_set A.books k book;
-  came = came_by (incoming_at A.view k).kind A.view A.came r;
-  called = called_after (incoming_at A.view k).kind A.view A.called r;
+  scheduled_receipts = receipts_after (incoming_at A.view k).kind A.view A.scheduled_receipts r;
+  outside_demand = demand_after (incoming_at A.view k).kind A.view A.outside_demand r;
   progress = progress;
 }
 
@@ -109,7 +104,7 @@ queued_at o (Some place) = queued o place
 
 abbrev pub queued_by : LaneKind → List ItemNo → OutFigures → ItemNo → OutFigures
 queued_by Despatch items o item = o
-queued_by Schedule items o item = queued_at o (place_of items item)
+queued_by Schedule items o item = queued_at o (place_among items item)
 
 abbrev pub settled_out : OutgoingLane → OutFigures → ItemNo → OutFigures
 settled_out lane o item = queued_by lane.kind (map (λ i. i.item) lane.items) o item

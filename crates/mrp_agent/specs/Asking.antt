@@ -25,10 +25,10 @@ pub record ParentCanAsk (plans : List PlanRows) (periods : ℕ) (e : ParentEdge)
 
 -- the gross requirements: what is called for, and what the parents ask
 abbrev pub grossed : List ℕ → List ParentEdge → List PlanRows → List ℕ
-grossed called edges plans = map (λ t. slice_index called t + asked_by plans edges t) (range_with_len 0 (length called))
+grossed demand edges plans = map (λ t. slice_index demand t + asked_by plans edges t) (range_with_len 0 (length demand))
 
 -- what a pair's plan is drafted from
-pub record HasDraft (params : PairParams) (came called : List ℕ) (edges : List ParentEdge)
+pub record HasDraft (params : PairParams) (receipts demand : List ℕ) (edges : List ParentEdge)
     (plans : List PlanRows) : Type 0 where
-  pub within : IsWithin params came (grossed called edges plans)
-  pub edges_are : All (ParentCanAsk plans (length called)) edges
+  pub within : IsWithin params receipts (grossed demand edges plans)
+  pub edges_are : All (ParentCanAsk plans (length demand)) edges

@@ -10,10 +10,10 @@ use Rattle.mrp_agent.specs.State.{AgentState, plans_of, pair_owned}
 
 -- what comes in of a pair, and what is asked for: beside the parents what has come, and what their plans release
 abbrev pub drafted_incoming : AgentState → PairNo → List ℕ
-drafted_incoming A x = local_row A.view (λ t. amount_at A.view A.came x t)
+drafted_incoming A x = local_row A.view (λ t. amount_at A.view A.scheduled_receipts x t)
 
 abbrev pub drafted_gross : AgentState → PairNo → List ℕ
-drafted_gross A x = local_row A.view (λ t. amount_at A.view A.called x t + asked_within A.view (plans_of A) x t)
+drafted_gross A x = local_row A.view (λ t. amount_at A.view A.outside_demand x t + asked_within A.view (plans_of A) x t)
 
 -- the plan of a pair of the plant by these rows
 abbrev pub drafted : AgentState → PairNo → PlanRows

@@ -8,8 +8,8 @@ abbrev pub agent_state : Inside → AgentState
 agent_state a = record {
   view = a.view;
   books = a.lanes.books.items;
-  came = a.amounts.came.items;
-  called = a.amounts.called.items;
+  scheduled_receipts = a.amounts.scheduled_receipts.items;
+  outside_demand = a.amounts.outside_demand.items;
   plans = a.amounts.plans.items;
   progress = a.structure.progress;
   outs = a.lanes.outs.items;

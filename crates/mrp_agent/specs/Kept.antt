@@ -70,8 +70,8 @@ pub record AreCursors (V : PlantRows) (outs : List OutFigures) : Type 0 where
 -- it has what it keeps of each lane and pair
 pub record HasRooms (A : AgentState) : Type 0 where
   pub books : length A.books ≡ length A.view.incoming
-  pub came : length A.came ≡ length A.view.pairs * A.view.horizon
-  pub called : length A.called ≡ length A.view.pairs * A.view.horizon
+  pub scheduled_receipts : length A.scheduled_receipts ≡ length A.view.pairs * A.view.horizon
+  pub outside_demand : length A.outside_demand ≡ length A.view.pairs * A.view.horizon
   pub plans : ArePlans A.view A.plans
   pub progress : IsOfPairs A.view A.progress
   pub cursors : AreCursors A.view A.outs

@@ -9,7 +9,7 @@ use Rattle.mrp_plant_view.specs.Loads.{OutgoingLoad, load_at}
 use Rattle.mrp_record.specs.Cursor.{OutFigures}
 use Rattle.mrp_record.specs.Next.{queued}
 use Rattle.mrp_agent.specs.declared.queues.QueuePlace.{QueuePlace}
-use Rattle.mrp_agent.specs.After.{place_of}
+use Rattle.mrp_agent.specs.After.{place_among}
 use Rattle.mrp_agent.specs.State.{no_out, no_outgoing}
 
 -- the queue place of an item of a lane, if the plant has a pair of the item
@@ -20,7 +20,7 @@ queue_place (Some pair) lane item = record { pair = pair; lane = lane; item = it
 -- those of a lane's items, where these are the items of the plant's pairs
 abbrev pub item_queues : List ItemNo → ℕ → List OutgoingLoad → List QueuePlace
 item_queues pairs lane items =
-    flat_map (λ j. queue_place (place_of pairs (load_at items j).item) lane j) (range_with_len 0 (length items))
+    flat_map (λ j. queue_place (place_among pairs (load_at items j).item) lane j) (range_with_len 0 (length items))
 
 -- a schedule lane has those of its items, a despatch lane none
 abbrev pub lane_queues : LaneKind → List ItemNo → ℕ → List OutgoingLoad → List QueuePlace

@@ -24,6 +24,7 @@ use Rattle.mrp_record.specs.Cursor.{Goods}
 use Rattle.mrp_record.specs.CursorLaws.{Agrees, IsBounded, MaySend}
 use Rattle.mrp_record.specs.Next.{next_record}
 use Rattle.mrp_protocol.specs.Goods.{goods_of, share}
+use Rattle.mrp_agent.specs.declared.sending.NextOut.{NextOut}
 use Rattle.mrp_agent.specs.State.{AgentState, book_at, out_at, incoming_place, outgoing_at, plans_of}
 
 -- the cumulative figure of an item in a book
@@ -94,6 +95,13 @@ left_at A k = option_map (remainder A (outgoing_at A.view k) (out_at A k).mark)
 -- the record that is sent next
 abbrev pub next_out : AgentState → ℕ → Option Record
 next_out A k = next_record (out_at A k) (left_at A k)
+
+-- with what is left before it
+abbrev pub handed : Option Remainder → Record → NextOut
+handed left r = record { entry = r; left = left }
+
+abbrev pub next_at : AgentState → ℕ → Option NextOut
+next_at A k = option_map (handed (left_at A k)) (next_out A k)
 
 -- ---- what is given to send
 

@@ -1,10 +1,15 @@
--- What calls of an agent's sending promise, for every history that it shows.
-use Rattle.std.specs.Prelude.{ℕ, Bool, List, [], ◌∷◌, ◌++◌}
+-- What calls of an agent's sending and booking promise of a lane at a place, for every history that it shows.
+use Rattle.std.specs.Prelude.{◌≡◌, ℕ, Bool, List, [], ◌∷◌, ◌++◌, Some}
+use Rattle.mrp_plant_view.specs.View.{PlantRows}
 use Rattle.mrp_record.specs.declared.record.Record.{Record}
+use Rattle.mrp_record.specs.Form.{IsInForm}
+use Rattle.mrp_book.specs.declared.fault.BookFault.{BookFault}
+use Rattle.mrp_book.specs.Faults.{first_fault}
+use Rattle.mrp_book.specs.Figures.{figures}
 use Rattle.mrp_protocol.specs.State.{changed}
-use Rattle.mrp_agent.specs.State.{AgentState, outgoing_at}
+use Rattle.mrp_agent.specs.State.{AgentState, incoming_at, outgoing_at}
 use Rattle.mrp_agent.specs.Sending.{ContinuesSent, NothingContinues, IsWithin64}
-use Rattle.mrp_agent.specs.Shows.{ShowsHistory}
+use Rattle.mrp_agent.specs.Shows.{ShowsHistory, form_of}
 
 -- the record that is given continues what was sent
 abbrev pub GivenIsLegal : AgentState → ℕ → Record → Type 0
@@ -26,3 +31,12 @@ abbrev pub IsAppended : AgentState → AgentState → ℕ → Record → Type 0
 IsAppended old new k r =
     (sent taken : ℕ → List Record) (planned : ℕ → Bool) → ShowsHistory old sent taken planned
     → IsWithin64 old taken k → ShowsHistory new (with_sent old sent k r) taken planned
+
+-- the lane's taken list with one more record
+abbrev pub with_taken : PlantRows → (ℕ → List Record) → ℕ → Record → ℕ → List Record
+with_taken V taken k r = changed taken (incoming_at V k).number.0 (taken (incoming_at V k).number.0 ++ r ∷ [])
+
+-- after this list of the lane at a place the record has this fault first, and with it the list isn't in form
+abbrev pub IsRefused : PlantRows → ℕ → List Record → Record → BookFault → Type 0
+IsRefused V k list r fault = (first_fault (figures (form_of V (incoming_at V k)) list) r ≡ Some fault)
+    × (IsInForm (form_of V (incoming_at V k)) (list ++ r ∷ []) → ⊥)

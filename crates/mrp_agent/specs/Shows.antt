@@ -69,14 +69,14 @@ abbrev pub up_to_last : ℕ → ℕ
 up_to_last sum = min sum (2 ^ 64 - 1)
 
 -- what comes in and what is asked for beside the parents, as far as it has come
-abbrev pub Comes : AgentState → (ℕ → List Record) → PlantPair → Type 0
-Comes A taken p = (t : ℕ) → t < A.view.horizon → amount_at A.view A.came p.number t
+abbrev pub HasScheduledReceipts : AgentState → (ℕ → List Record) → PlantPair → Type 0
+HasScheduledReceipts A taken p = (t : ℕ) → t < A.view.horizon → amount_at A.view A.scheduled_receipts p.number t
     ≡ up_to_last (local_incoming A.view taken p t)
 
-abbrev pub IsCalled : AgentState → (ℕ → List Record) → PlantPair → Type 0
-IsCalled A taken p =
+abbrev pub HasOutsideDemand : AgentState → (ℕ → List Record) → PlantPair → Type 0
+HasOutsideDemand A taken p =
     (t : ℕ) → t < A.view.horizon
-    → amount_at A.view A.called p.number t ≡ up_to_last
+    → amount_at A.view A.outside_demand p.number t ≡ up_to_last
     (amount_at A.view A.view.demands p.number t + booked_on Schedule A.view taken p.item t)
 
 -- ---- cursors
@@ -93,8 +93,8 @@ pub record OutShows (A : AgentState) (sent taken : ℕ → List Record) (planned
 pub record ShowsHistory (A : AgentState) (sent taken : ℕ → List Record) (planned : ℕ → Bool) : Type 0 where
   pub books : BooksShow A taken
   pub waits : Awaits A taken
-  pub came : (p : PlantPair) → Contains A.view.pairs p → Comes A taken p
-  pub called : (p : PlantPair) → Contains A.view.pairs p → IsCalled A taken p
+  pub scheduled_receipts : (p : PlantPair) → Contains A.view.pairs p → HasScheduledReceipts A taken p
+  pub outside_demand : (p : PlantPair) → Contains A.view.pairs p → HasOutsideDemand A taken p
   pub planned_are : (p : PlantPair) → Contains A.view.pairs p
       → planned p.number.0 ≡ is_planned A.progress.planned (pair_place A.view p.number.0)
   pub local : IsLocal A.view taken planned (plans_of A)

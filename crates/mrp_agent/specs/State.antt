@@ -22,8 +22,8 @@ use Rattle.mrp_agent.specs.Progress.{Progress}
 pub record AgentState : Type 0 where
   pub view : PlantRows
   pub books : List Figures
-  pub came : List ℕ
-  pub called : List ℕ
+  pub scheduled_receipts : List ℕ
+  pub outside_demand : List ℕ
   pub plans : List PlanRows
   pub progress : Progress
   pub outs : List OutFigures

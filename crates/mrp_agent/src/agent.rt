@@ -74,8 +74,8 @@ impl Agent {
         Agent::of_parts(alloc, frame, demands, receipts)
     }
 
-    /// The agent of the parts of a view: the sums of its demand rows and receipt rows become what is called for
-    /// and what has come.
+    /// The agent of the parts of a view: the sums of its demand rows and receipt rows become the demand
+    /// from outside and the scheduled receipts.
     fn of_parts(
         alloc: Global,
         view: PlantFrame,

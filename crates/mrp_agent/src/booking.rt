@@ -2,8 +2,8 @@
 
 ghost use Rattle.std.specs.Prelude.{◌≡◌, ◌==◌, ◌*◌, ◌<◌, ◌≤◌, count_by, length, position, IfSome};
 ghost use Rattle.std.specs.List.{position_or_len};
-ghost use Rattle.mrp_agent.specs.After.{came_by, called_after, items_of, with_line, added_at, ended_place, BlockEnded};
-ghost use Rattle.mrp_agent.specs.After.{IsAwaited};
+ghost use Rattle.mrp_agent.specs.After.{receipts_after, demand_after, items_of, with_line, added_at, ended_place};
+ghost use Rattle.mrp_agent.specs.After.{BlockEnded, IsAwaited};
 
 use crate::places::ItemPlaces;
 use crate::{Agent, Readiness};
@@ -21,6 +21,7 @@ impl Agent {
     ghost use Rattle.mrp_protocol.specs.State.{changed};
     ghost use Rattle.mrp_agent.specs.State.{incoming_place, incoming_at};
     ghost use Rattle.mrp_agent.specs.Shows.{ShowsHistory, BooksShow, form_of};
+    ghost use Rattle.mrp_agent.specs.Sent.{IsRefused, with_taken};
 
     /// Books the next record of a lane that comes in.
     ///
@@ -41,15 +42,41 @@ impl Agent {
             (taken lane.0 ++ entry.now ∷ []) → ⊥)) }
         ensures unchanged { OnErr result (self.new ≡ self.old) }
     {
-        let k = incoming_near(self.view.incoming(), lane, self.last.booked);
+        let k = self.in_place(lane);
+        self.book_at(k, entry)
+    }
+
+    /// The place of a lane among those that come in, or how many these are. It is looked for first where the last
+    /// record was booked.
+    fn in_place(&self, lane: LaneNo) -> usize
+        ensures { result ≡ incoming_place self.now.view lane.0 }
+    {
+        incoming_near(self.view.incoming(), lane, self.last.booked)
+    }
+
+    /// Books the next record of the lane at a place among those that come in.
+    ///
+    /// # Errors
+    ///
+    /// The first fault of the lane's book; then nothing has changed.
+    pub fn book_at(&mut self, k: usize, entry: &Record) -> Result<(), BookFault>
+        requires incoming { k < length self.old.view.incoming }
+        ensures view { self.new.view ≡ self.old.view }
+        ensures booked { OnOk result ((sent taken : ℕ → List Record) (planned : ℕ → Bool)
+            → ShowsHistory self.old sent taken planned
+            → ShowsHistory self.new sent (with_taken self.old.view taken k entry.now) planned) }
+        ensures refused { IfErr result (λ fault. (taken : ℕ → List Record) → BooksShow self.old taken
+            → IsRefused self.old.view k (taken (incoming_at self.old.view k).number.0) entry.now fault) }
+        ensures unchanged { OnErr result (self.new ≡ self.old) }
+    {
         self.lanes.books[k].book(entry)?;
         let kind = self.view.incoming()[k].kind;
         let near = pair_near(&self.structure.items, entry, self.last.pair);
         self.last.booked = k;
         self.last.pair = near;
         add_entry(
-            &mut self.amounts.came,
-            &mut self.amounts.called,
+            &mut self.amounts.scheduled_receipts,
+            &mut self.amounts.outside_demand,
             &self.view,
             &self.structure.items,
             near,
@@ -105,8 +132,8 @@ fn pair_near(items: &ItemPlaces, entry: &Record, near: usize) -> usize {
 /// Adds the pieces of a line where they belong: on a despatch lane they come in, on a schedule lane they
 /// are called for. Their pair is looked for at the place `near` first.
 fn add_entry(
-    came: &mut Vec<u64>,
-    called: &mut Vec<u64>,
+    receipts: &mut Vec<u64>,
+    demand: &mut Vec<u64>,
     view: &PlantFrame,
     items: &ItemPlaces,
     near: usize,
@@ -114,15 +141,15 @@ fn add_entry(
     entry: &Record,
 )
     requires items { items.now ≡ items_of view.now }
-    requires came { length came.old.items ≡ length view.now.pairs * view.now.horizon }
-    requires called { length called.old.items ≡ length view.now.pairs * view.now.horizon }
-    ensures came { came.new.items ≡ came_by kind view.now came.old.items entry.now }
-    ensures called { called.new.items ≡ called_after kind view.now called.old.items entry.now }
+    requires receipts { length receipts.old.items ≡ length view.now.pairs * view.now.horizon }
+    requires demand { length demand.old.items ≡ length view.now.pairs * view.now.horizon }
+    ensures receipts { receipts.new.items ≡ receipts_after kind view.now receipts.old.items entry.now }
+    ensures demand { demand.new.items ≡ demand_after kind view.now demand.old.items entry.now }
 {
     let periods = view.horizon().get() as usize;
     match kind {
-        LaneKind::Despatch => add_line(came, items, near, periods, entry),
-        LaneKind::Schedule => add_line(called, items, near, periods, entry),
+        LaneKind::Despatch => add_line(receipts, items, near, periods, entry),
+        LaneKind::Schedule => add_line(demand, items, near, periods, entry),
     }
 }
 

@@ -1,4 +1,4 @@
-//! How the plan of a pair is drafted from what has come, what is called for and the plans of its parents.
+//! How the plan of a pair is drafted from its scheduled receipts, the demand from outside and its parents' plans.
 
 ghost use Rattle.std.specs.Prelude.{◌≡◌, ◌<◌, ◌≤◌, ◌+◌, ◌*◌, ℕ, All, length, map, slice_index};
 ghost use Rattle.mrp_qty.specs.declared.quantity.TheConstants.{MOST};
@@ -18,13 +18,13 @@ use mrp_netting::{PairPlan, plan_pair};
 use mrp_plant_view::PlantFrame;
 use mrp_qty::Row;
 
-/// What the plan of a pair is drafted from, beside the plans of its parents: what it is planned by, what
-/// has come and what is called for by period, and the edges to its parents.
+/// What the plan of a pair is drafted from, beside the plans of its parents: what it is planned by, its scheduled
+/// receipts and the demand from outside by period, and the edges to its parents.
 #[derive(Clone, Copy)]
 pub(crate) struct PairRows<'a> {
     params: PairParams,
-    came: &'a [u64],
-    called: &'a [u64],
+    receipts: &'a [u64],
+    demand: &'a [u64],
     edges: &'a [ParentEdge],
 }
 
@@ -51,8 +51,8 @@ impl Agent {
         let rows = pair_rows(
             &self.view,
             &self.structure.edges,
-            &self.amounts.came,
-            &self.amounts.called,
+            &self.amounts.scheduled_receipts,
+            &self.amounts.outside_demand,
             place,
         );
         draft_from(&rows, &self.amounts.plans, incoming, gross, into);
@@ -63,25 +63,25 @@ impl Agent {
 pub(crate) fn pair_rows<'a>(
     view: &'a PlantFrame,
     edges: &'a Groups<ParentEdge>,
-    came: &'a [u64],
-    called: &'a [u64],
+    receipts: &'a [u64],
+    demand: &'a [u64],
     place: usize,
 ) -> PairRows<'a>
     requires place { place < length view.now.pairs }
     requires edges { IsGrouped (λ e. e.component) (length view.now.pairs) (map (parent_edge view.now) view.now.edges)
         edges.now.rows.items edges.now.starts.items }
-    requires came { length came.now ≡ length view.now.pairs * view.now.horizon }
-    requires called { length called.now ≡ length view.now.pairs * view.now.horizon }
+    requires receipts { length receipts.now ≡ length view.now.pairs * view.now.horizon }
+    requires demand { length demand.now ≡ length view.now.pairs * view.now.horizon }
     ensures params { result.params ≡ (plant_pair_at view.now place).params }
-    ensures came { result.came.now ≡ part_at view.now.horizon place came.now }
-    ensures called { result.called.now ≡ part_at view.now.horizon place called.now }
+    ensures receipts { result.receipts.now ≡ part_at view.now.horizon place receipts.now }
+    ensures demand { result.demand.now ≡ part_at view.now.horizon place demand.now }
     ensures edges { result.edges.now ≡ edges_at view.now place }
 {
     let periods = view.horizon().get() as usize;
     PairRows {
         params: view.pairs()[place].params,
-        came: part_of(came, periods, place),
-        called: part_of(called, periods, place),
+        receipts: part_of(receipts, periods, place),
+        demand: part_of(demand, periods, place),
         edges: edges.get(place),
     }
 }
@@ -95,7 +95,7 @@ fn part_of(amounts: &[u64], periods: usize, place: usize) -> &[u64]
     &amounts[begin..begin + periods]
 }
 
-/// Writes the plan of a pair from what has come, what is called for, and the plans of its parents.
+/// Writes the plan of a pair from its scheduled receipts, the demand from outside, and the plans of its parents.
 pub(crate) fn draft_from(
     rows: &PairRows<'_>,
     plans: &[PairPlan],
@@ -103,17 +103,17 @@ pub(crate) fn draft_from(
     gross: &mut Row,
     into: &mut PairPlan,
 )
-    requires draft { HasDraft rows.now.params rows.now.came.now rows.now.called.now rows.now.edges.now plans.now }
-    requires incoming { length incoming.old ≡ length rows.now.came.now }
-    requires gross { length gross.old ≡ length rows.now.called.now }
-    requires into { length into.old.gross ≡ length rows.now.called.now }
-    ensures plan { into.new ≡ one rows.now.params rows.now.came.now
-        (grossed rows.now.called.now rows.now.edges.now plans.now) }
+    requires draft { HasDraft rows.now.params rows.now.receipts.now rows.now.demand.now rows.now.edges.now plans.now }
+    requires incoming { length incoming.old ≡ length rows.now.receipts.now }
+    requires gross { length gross.old ≡ length rows.now.demand.now }
+    requires into { length into.old.gross ≡ length rows.now.demand.now }
+    ensures plan { into.new ≡ one rows.now.params rows.now.receipts.now
+        (grossed rows.now.demand.now rows.now.edges.now plans.now) }
     ensures incoming { length incoming.new ≡ length incoming.old }
     ensures gross { length gross.new ≡ length gross.old }
 {
-    incoming.copy_pieces(rows.came);
-    gross.copy_pieces(rows.called);
+    incoming.copy_pieces(rows.receipts);
+    gross.copy_pieces(rows.demand);
     add_asked(rows.edges, plans, gross);
     plan_pair(&rows.params, incoming, gross, into);
 }

@@ -48,4 +48,5 @@ pub use mrp_net::{LaneNo, PairNo};
 pub use mrp_record::Record;
 pub use readiness::Readiness;
 pub use room::Room;
+pub use sending::NextOut;
 pub use waits::first_waits;

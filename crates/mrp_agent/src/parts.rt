@@ -151,8 +151,10 @@ impl Lanes {
 /// The amounts of a plant by pair and period, and the room in which plans are drafted.
 #[derive(Drop)]
 pub(crate) struct Amounts {
-    pub(crate) came: Vec<u64>,
-    pub(crate) called: Vec<u64>,
+    /// What comes in: the receipt rows, and the despatches that are booked.
+    pub(crate) scheduled_receipts: Vec<u64>,
+    /// What is asked for from outside the plant: the demand rows, and the calls that are booked.
+    pub(crate) outside_demand: Vec<u64>,
     pub(crate) plans: Vec<PairPlan>,
     pub(crate) room: Room,
 }
@@ -161,30 +163,30 @@ impl Amounts {
     ghost use Rattle.mrp_netting.specs.Plan.{nothing_planned};
     ghost use Rattle.mrp_agent.specs.Making.{AreFit};
 
-    /// What has come and what is called for by the view's sums, which are taken over, and no plans.
+    /// The scheduled receipts and the demand from outside by the view's sums, which are taken over, and no plans.
     pub(crate) fn new(
         alloc: Global,
         view: &PlantFrame,
-        came: Vec<u64>,
-        called: Vec<u64>,
+        scheduled_receipts: Vec<u64>,
+        outside_demand: Vec<u64>,
     ) -> Result<Amounts, Memory>
-        requires came { came.items ≡ view.now.receipts }
-        requires called { called.items ≡ view.now.demands }
-        ensures came { IfOk result (λ a. a.came.items ≡ view.now.receipts) }
-        ensures called { IfOk result (λ a. a.called.items ≡ view.now.demands) }
+        requires scheduled_receipts { scheduled_receipts.items ≡ view.now.receipts }
+        requires outside_demand { outside_demand.items ≡ view.now.demands }
+        ensures scheduled_receipts { IfOk result (λ a. a.scheduled_receipts.items ≡ view.now.receipts) }
+        ensures outside_demand { IfOk result (λ a. a.outside_demand.items ≡ view.now.demands) }
         ensures plans { IfOk result (λ a. a.plans.items
             ≡ replicate (length view.now.pairs) (nothing_planned view.now.horizon)) }
         ensures room { IfOk result (λ a. length a.room.gross ≡ view.now.horizon) }
         ensures receipts { IfOk result (λ _. AreFit view.now.receipts) }
         ensures demands { IfOk result (λ _. AreFit view.now.demands) }
     {
-        are_fit(&came);
-        are_fit(&called);
+        are_fit(&scheduled_receipts);
+        are_fit(&outside_demand);
         let plans = blank_plans(alloc, view.horizon(), view.pairs().len())?;
         let room = Room::new(alloc, view.horizon())?;
         Ok(Amounts {
-            came,
-            called,
+            scheduled_receipts,
+            outside_demand,
             plans,
             room,
         })

@@ -25,11 +25,11 @@ impl Model for ItemPlaces {
 
 impl ItemPlaces {
     ghost use Rattle.std.specs.Prelude.{ℕ, ◌<◌, ◌≤◌, ◌==◌, count_by, length, IfSome};
-    ghost use Rattle.mrp_agent.specs.After.{place_of};
+    ghost use Rattle.mrp_agent.specs.After.{place_among};
 
     /// The place of an item.
     pub(crate) fn find(&self, item: ItemNo) -> Option<usize>
-        ensures place { result ≡ place_of self.now item }
+        ensures place { result ≡ place_among self.now item }
         ensures within { IfSome result (λ place. place < length self.now) }
     {
         self.items.find(item)
@@ -37,7 +37,7 @@ impl ItemPlaces {
 
     /// The place of an item, which is looked for at the place `near` and right behind it first.
     pub(crate) fn find_near(&self, item: ItemNo, near: usize) -> Option<usize>
-        ensures place { result ≡ place_of self.now item }
+        ensures place { result ≡ place_among self.now item }
         ensures within { IfSome result (λ place. place < length self.now) }
     {
         self.items.find_near(item, near)

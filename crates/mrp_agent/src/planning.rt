@@ -62,8 +62,8 @@ impl Agent {
         let rows = pair_rows(
             &self.view,
             &self.structure.edges,
-            &self.amounts.came,
-            &self.amounts.called,
+            &self.amounts.scheduled_receipts,
+            &self.amounts.outside_demand,
             place,
         );
         self.amounts.room.draft_rows(&rows, &self.amounts.plans);
@@ -78,7 +78,7 @@ impl Agent {
     {
         self.structure
             .progress
-            .settle(place, self.structure.components.of(place));
+            .count_planned(place, self.structure.components.of(place));
         queue_item(&mut self.lanes.outs, self.lanes.queues.get(place));
     }
 }

@@ -74,7 +74,7 @@ impl Readiness {
     /// `components` are the places of the pairs that go into it at the plant, as often as they stand in
     /// its joins: each waits for one less each time, and those that wait for nothing any more become
     /// ready.
-    pub fn settle(&mut self, x: usize, components: &[usize])
+    pub fn count_planned(&mut self, x: usize, components: &[usize])
         requires ready { Contains self.old.ready x }
         requires known { All (λ y. y < length self.old.waits) components.now }
         requires waits { (y : ℕ) → y < length self.old.waits

@@ -70,12 +70,14 @@ impl Room {
         &self.plan
     }
 
-    /// Drafts the plan of a pair from what has come, what is called for, and the plans of its parents.
+    /// Drafts the plan of a pair from its scheduled receipts, the demand from outside, and the plans of its
+    /// parents.
     pub(crate) fn draft_rows(&mut self, rows: &PairRows<'_>, plans: &[PairPlan])
-        requires draft { HasDraft rows.now.params rows.now.came.now rows.now.called.now rows.now.edges.now plans.now }
-        requires periods { length self.old.gross ≡ length rows.now.called.now }
-        ensures { self.new ≡ one rows.now.params rows.now.came.now
-            (grossed rows.now.called.now rows.now.edges.now plans.now) }
+        requires draft { HasDraft rows.now.params rows.now.receipts.now rows.now.demand.now rows.now.edges.now
+            plans.now }
+        requires periods { length self.old.gross ≡ length rows.now.demand.now }
+        ensures { self.new ≡ one rows.now.params rows.now.receipts.now
+            (grossed rows.now.demand.now rows.now.edges.now plans.now) }
     {
         draft_from(
             rows,

@@ -5,9 +5,7 @@ ghost use Rattle.std.specs.List.{position_or_len};
 ghost use Rattle.mrp_plant_view.specs.Loads.{load_at};
 ghost use Rattle.mrp_agent.specs.Sending.{next_shipment, next_called, left_to_ship, left_to_call, figure_in};
 ghost use Rattle.mrp_agent.specs.Sending.{IsCallShare};
-ghost use Rattle.mrp_agent.specs.After.{gone_on};
 ghost use Rattle.mrp_agent.specs.Kept.{IsShowing};
-ghost use Rattle.mrp_record.specs.Next.{next_record};
 
 use crate::Agent;
 use crate::booking::incoming_near;
@@ -16,14 +14,24 @@ use mrp_net::{LaneKind, LaneNo, Shipment, share_of};
 use mrp_netting::PairPlan;
 use mrp_plant_view::{Call, OutgoingItem, OutgoingItems, OutgoingLane};
 use mrp_qty::Row;
-use mrp_record::{NextLine, OutCursor, Record, Remainder};
+use mrp_record::{NextLine, Record, Remainder};
 use mrp_table_rows::ItemNo;
+
+/// The record that a lane is to be sent next, and what is left of its item before: [`Agent::next_at`] gives it, and
+/// [`Agent::sent_at`] takes it back.
+#[derive(Clone, Copy)]
+pub struct NextOut {
+    /// The record.
+    pub entry: Record,
+    /// What is left of the item that the record is of, where it is of one.
+    pub left: Option<Remainder>,
+}
 
 impl Agent {
     ghost use Rattle.std.specs.Prelude.{IsSome, IfSome, IfNone, Contains, Some};
     ghost use Rattle.mrp_net.specs.declared.lane.LaneKind.TheVariants.{Schedule};
     ghost use Rattle.mrp_agent.specs.After.{after_sent};
-    ghost use Rattle.mrp_agent.specs.Sending.{next_out, left_at, remainder};
+    ghost use Rattle.mrp_agent.specs.Sending.{next_out, next_at, left_at, remainder};
     ghost use Rattle.mrp_agent.specs.Sent.{GivenIsLegal, NoneCanBeSent, IsAppended};
     ghost use Rattle.mrp_record.specs.declared.record.Record.{Record};
     ghost use Rattle.mrp_agent.specs.State.{outgoing_place};
@@ -38,8 +46,21 @@ impl Agent {
         ensures given { IfSome result (λ r. GivenIsLegal self.now (outgoing_place self.now.view lane.0) r) }
         ensures none { IfNone result (NoneCanBeSent self.now (outgoing_place self.now.view lane.0)) }
     {
-        let k = outgoing_place(self.view.outgoing(), lane);
-        self.lanes.outs[k].next_record(self.left_at(k))
+        let k = self.out_place(lane);
+        let next = self.next_at(k)?;
+        Some(next.entry)
+    }
+
+    /// The same of the lane at a place among those that go out, with what [`Agent::sent_at`] takes back.
+    pub fn next_at(&self, k: usize) -> Option<NextOut>
+        requires outgoing { k < length self.now.view.outgoing }
+        ensures exact { result ≡ next_at self.now k }
+        ensures given { IfSome result (λ next. GivenIsLegal self.now k next.entry) }
+        ensures none { IfNone result (NoneCanBeSent self.now k) }
+    {
+        let left = self.left_at(k);
+        let entry = self.lanes.outs[k].next_record(left)?;
+        Some(NextOut { entry, left })
     }
 
     /// Goes on after the record that [`Agent::next_out`] gives was sent on the lane.
@@ -51,9 +72,19 @@ impl Agent {
         ensures appended { (r : Record) → next_out self.old (outgoing_place self.old.view lane.0) ≡ Some r
             → IsAppended self.old self.new (outgoing_place self.old.view lane.0) r }
     {
-        let k = outgoing_place(self.view.outgoing(), lane);
-        let left = self.left_at(k);
-        self.lanes.outs[k].step(left);
+        let _sent = self.send(lane);
+    }
+
+    /// Goes on after the record that [`Agent::next_at`] gives was sent on the lane at a place.
+    pub fn sent_at(&mut self, k: usize, next: NextOut)
+        requires outgoing { k < length self.old.view.outgoing }
+        requires given { next_at self.old k ≡ Some next }
+        ensures view { self.new.view ≡ self.old.view }
+        ensures exact { self.new ≡ after_sent self.old k }
+        ensures appended { IsAppended self.old self.new k next.entry }
+    {
+        self.lanes.outs[k].step(next.left);
+        self.last.sent = k;
     }
 
     /// Sends the record that a lane that goes out is to be sent next, or answers `None` where there is none;
@@ -71,10 +102,18 @@ impl Agent {
         ensures appended { IfSome result (λ r. IsAppended self.old self.new (outgoing_place self.old.view lane.0) r) }
         ensures unchanged { IfNone result (self.new ≡ self.old) }
     {
-        let k = outgoing_near(self.view.outgoing(), lane, self.last.sent);
-        let left = self.left_at(k);
-        self.last.sent = k;
-        send_next(&mut self.lanes.outs[k], left)
+        let k = self.out_place(lane);
+        let next = self.next_at(k)?;
+        self.sent_at(k, next);
+        Some(next.entry)
+    }
+
+    /// The place of a lane among those that go out, or how many these are. It is looked for first where the last
+    /// record was sent.
+    fn out_place(&self, lane: LaneNo) -> usize
+        ensures { result ≡ outgoing_place self.now.view lane.0 }
+    {
+        outgoing_near(self.view.outgoing(), lane, self.last.sent)
     }
 
     /// What is left of the item at the head of a lane's queue.
@@ -132,16 +171,6 @@ impl Agent {
             mark,
         )
     }
-}
-
-/// Gives a lane's next record, where there is one, and goes on after it.
-fn send_next(out: &mut OutCursor, left: Option<Remainder>) -> Option<Record>
-    ensures record { result ≡ next_record out.old left }
-    ensures after { out.new ≡ gone_on result out.old left }
-{
-    let entry = out.next_record(left)?;
-    out.step(left);
-    Some(entry)
 }
 
 /// What a schedule lane has left to call for of an item, by the book of the despatch lane before it and

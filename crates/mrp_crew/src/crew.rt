@@ -13,7 +13,7 @@ ghost use Rattle.mrp_crew.specs.declared.fault.CrewFault.{CrewFault};
 
 use crate::fault::CrewFault;
 use crate::rooms::refill;
-use crate::settling::settle_all;
+use crate::settling::keep_drafts;
 use crate::threads::draft_wave;
 use crate::work::Drafts;
 use mrp_agent::{Agent, Gate, Room};
@@ -118,7 +118,8 @@ impl Crew {
         Ok(before - agent.left())
     }
 
-    /// Plans a wave of ready pairs; there is one. A wave of one pair needs no threads, and no room.
+    /// Plans a wave of ready pairs; there is one. A wave of one pair needs no threads, and no room: the calling thread,
+    /// the first worker, plans it.
     fn plan_wave<R: Threads + Wait + Sync, G: Gate>(
         &mut self,
         rt: &R,
@@ -136,11 +137,16 @@ impl Crew {
             → WasShutToWorker G.worker_shut self.old.workers plant) }
         ensures refused { IfErr result (λ fault. fault ≡ CrewFault.ThreadRefused → 2 ≤ self.old.workers) }
     {
-        if self.workers == 1 || agent.ready_pairs().len() == 1 {
-            plan_alone(agent, plant, gate)
-        } else {
-            self.plan_by_threads(rt, alloc, agent, plant, gate)
+        let ready = agent.ready_pairs();
+        if self.workers > 1 && ready.len() > 1 {
+            return self.plan_by_threads(rt, alloc, agent, plant, gate);
         }
+        let pair = ready[0];
+        if !gate.worker(plant, 1) {
+            return Err(CrewFault::GateShut);
+        }
+        agent.plan(pair);
+        Ok(())
     }
 
     /// Plans a wave of ready pairs by threads, where there is one; of several, each in a room of its own.
@@ -165,25 +171,9 @@ impl Crew {
         let drafts = draft_ready(rt, alloc, agent, plant, gate, self.workers, &mut self.rooms)?;
         let Drafts { works, all, rooms } = drafts;
         self.rooms = rooms;
-        let open = settle_all(agent, works, &mut self.rooms);
+        let open = keep_drafts(agent, works, &mut self.rooms);
         wave_end(all, open)
     }
-}
-
-/// Plans the first ready pair in the calling thread, the first worker; there is one.
-fn plan_alone<G: Gate>(agent: &mut Agent, plant: usize, gate: &G) -> Result<(), CrewFault>
-    requires plannable { IsPlannable agent.old }
-    requires ready { 0 < length (ready_numbers agent.old) }
-    ensures planned { (xs : List PairNo) × PlansAll agent.old agent.new xs × OnOk result (0 < length xs) }
-    ensures shut { IfErr result (λ _. G.worker_shut plant 1) }
-    ensures fault { IfErr result (λ fault. fault ≡ CrewFault.GateShut) }
-{
-    let pair = agent.ready_pairs()[0];
-    if !gate.worker(plant, 1) {
-        return Err(CrewFault::GateShut);
-    }
-    agent.plan(pair);
-    Ok(())
 }
 
 /// Drafts the plans of the first ready pairs, of as many as there are workers; for each there is a room.
@@ -224,22 +214,13 @@ fn wave_end(all: bool, let_in: bool) -> Result<(), CrewFault>
     ensures shut { IfErr result (λ fault. fault ≡ CrewFault.GateShut → let_in ≡ false) }
     ensures refused { IfErr result (λ fault. fault ≡ CrewFault.ThreadRefused → all ≡ false) }
 {
-    if all && let_in {
-        return Ok(());
+    if !all {
+        return Err(CrewFault::ThreadRefused);
     }
-    Err(wave_fault(all))
-}
-
-/// Why a wave ended early: one of its threads could not be started, or all could and the gate was shut.
-fn wave_fault(all: bool) -> CrewFault
-    ensures refused { all ≡ false → result ≡ CrewFault.ThreadRefused }
-    ensures shut { all ≡ true → result ≡ CrewFault.GateShut }
-    ensures threads { result ≡ CrewFault.ThreadRefused → all ≡ false }
-{
-    if all {
-        CrewFault::GateShut
+    if let_in {
+        Ok(())
     } else {
-        CrewFault::ThreadRefused
+        Err(CrewFault::GateShut)
     }
 }
 

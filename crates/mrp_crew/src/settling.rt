@@ -13,7 +13,7 @@ use mrp_agent::{Agent, Room};
 
 /// Has the agent keep each plan that was drafted, and puts the rooms back. The answer is whether the gate
 /// was open to all.
-pub(crate) fn settle_all(agent: &mut Agent, mut works: Vec<Work>, rooms: &mut Vec<Room>) -> bool
+pub(crate) fn keep_drafts(agent: &mut Agent, mut works: Vec<Work>, rooms: &mut Vec<Room>) -> bool
     requires plannable { IsPlannable agent.old }
     requires drafts { AreToSettle agent.old (reverse works.items) }
     requires rooms { All (IsRoom agent.old.view.horizon) rooms.old.items }
@@ -24,7 +24,7 @@ pub(crate) fn settle_all(agent: &mut Agent, mut works: Vec<Work>, rooms: &mut Ve
 {
     let mut all = true;
     while let Some(work) = works.pop() {
-        let kept = settle(agent, &work, all);
+        let kept = keep_draft(agent, &work, all);
         all = kept;
         put_back(rooms, work.room);
     }
@@ -32,7 +32,7 @@ pub(crate) fn settle_all(agent: &mut Agent, mut works: Vec<Work>, rooms: &mut Ve
 }
 
 /// Has the agent keep a plan where it was drafted. The answer is whether it was, and `before` with it.
-fn settle(agent: &mut Agent, work: &Work, before: bool) -> bool
+fn keep_draft(agent: &mut Agent, work: &Work, before: bool) -> bool
     requires plannable { IsPlannable agent.old }
     requires ready { Contains (ready_numbers agent.old) work.now.pair }
     requires worked { WorkedFor agent.old work.now }

@@ -2,6 +2,8 @@
 //! what gates see of them.
 
 mod agents;
+mod alone;
+mod books;
 mod crews;
 mod endings;
 mod firms;

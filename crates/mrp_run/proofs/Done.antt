@@ -1,6 +1,7 @@
 -- A plant that is done has finished.
 use Rattle.std.proofs.Common.{◌≡◌, ◌↔◌, ℕ, Bool, true, List, get_or, sym, ◌∙◌, subst, Contains}
 use Rattle.std.specs.Bool.{IsTrue}
+use Rattle.std.proofs.lemmas.List.Elements.{Contains-get_or}
 use Rattle.mrp_table_rows.specs.Table.{Table}
 use Rattle.mrp_net.proofs.Members.{Contains-from_in}
 use Rattle.mrp_plant_view.specs.View.{PlantRows, incoming_lane, outgoing_lane, plant_pair, plant_pairs}
@@ -10,11 +11,10 @@ use Rattle.mrp_protocol.proofs.Seeing.{sees_pair}
 use Rattle.mrp_lane.specs.Ends.{End}
 use Rattle.mrp_agent.specs.Reading.{HasDone}
 use Rattle.mrp_agent.specs.Shows.{ShowsHistory, is_done}
-use Rattle.mrp_agent.specs.State.{AgentState}
+use Rattle.mrp_agent.specs.State.{AgentState, no_incoming, no_outgoing}
 use Rattle.mrp_agent.proofs.Network.{planned_pairs_have_the_plan}
-use Rattle.mrp_run.specs.Plant.{AtWork, HasFinished, AgentIsDone, Kept, lanes_from, lanes_to}
-use Rattle.mrp_run.proofs.Held.{lane_there}
-use Rattle.mrp_run.proofs.Placed.{in_there, out_there}
+use Rattle.mrp_run.specs.Plant.{AtWork, HasFinished, AgentIsDone, Kept}
+use Rattle.mrp_run.proofs.Placed.{in_is, in_within, out_is, out_within}
 
 done_there : (N : Table) (p : ℕ) (A : AgentState) (s t : List End) → (w : AtWork N p A s t) → is_done A ≡ true
     → ((v : AtWork N p A s t) → HasDone A.view v.state.sent v.state.taken v.state.planned) → AgentIsDone N p A s t
@@ -25,14 +25,14 @@ done_there N p A s t w done each =
       sent = λ k d within.
           let l : ℕ = (get_or s k d).name.lane in
           let there : Contains A.view.outgoing (outgoing_lane N l) =
-          subst (λ (V : PlantRows). Contains V.outgoing (outgoing_lane N l)) (sym w.works.shown.view)
-          (out_there N p l (lane_there N (lanes_from N p) w.state.sent s w.sends_are k d within)) in
+          subst (Contains A.view.outgoing) (out_is N p A.view w.works.shown.view w.state.sent s w.sends_are k within d)
+          (Contains-get_or A.view.outgoing k no_outgoing (out_within N p A.view w.works.shown.view w.state.sent s w.sends_are k within)) in
           subst (λ (z : List Record). is_closed (contents z) ≡ true) (sym (w.sends_are.lists k d within)) (all.outgoing (outgoing_lane N l) there);
       taken = λ k d within.
           let l : ℕ = (get_or t k d).name.lane in
           let there : Contains A.view.incoming (incoming_lane N l) =
-          subst (λ (V : PlantRows). Contains V.incoming (incoming_lane N l)) (sym w.works.shown.view)
-          (in_there N p l (lane_there N (lanes_to N p) w.state.taken t w.takes_are k d within)) in
+          subst (Contains A.view.incoming) (in_is N p A.view w.works.shown.view w.state.taken t w.takes_are k within d)
+          (Contains-get_or A.view.incoming k no_incoming (in_within N p A.view w.works.shown.view w.state.taken t w.takes_are k within)) in
           subst (λ (z : List Record). is_closed (contents z) ≡ true) (sym (w.takes_are.lists k d within)) (all.incoming (incoming_lane N l) there);
       planned = λ v x pair.
           let there : Contains A.view.pairs (plant_pair N x) =

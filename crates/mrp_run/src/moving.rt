@@ -47,7 +47,7 @@ impl Looks {
 
 /// Moves over each of the lanes at which the plant looks what can be moved, wakes who may wait for it, and answers
 /// whether any record was.
-pub(crate) fn move_all<R: Wait, S: StopRule>(
+pub(crate) fn move_records<R: Wait, S: StopRule>(
     rt: &R,
     plant: &mut Plant,
     lanes: Lanes,

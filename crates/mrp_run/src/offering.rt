@@ -10,21 +10,21 @@ use std::snapshot::Snapshot;
 use std::sync::Wait;
 
 /// Offers the next record of a lane, and answers whether there was one and there was room for it. A record
-/// that is refused stays the next one.
+/// that is refused stays the next one. The ends and what the agent sees are both in lane order, so the lane has
+/// the place of its end.
 pub(crate) fn offer_next<R: Wait>(rt: &R, plant: &mut Plant, k: usize) -> bool
     requires work { PlantIsAtWork plant.old }
     requires lane { k < length plant.old.sends.items }
     ensures kept { KeepsPlant plant.old plant.new }
 {
-    let lane = plant.sends[k].lane();
-    let Some(entry) = plant.agent.next_out(lane) else {
+    let Some(next) = plant.agent.next_at(k) else {
         return false;
     };
     let before = Snapshot::of(&*plant);
-    if let Err(_back) = offer_at::<Brand, R>(rt, before, &mut plant.sends[k], entry) {
+    if let Err(_back) = offer_at::<Brand, R>(rt, before, &mut plant.sends[k], next.entry) {
         return false;
     }
-    plant.agent.sent(lane);
+    plant.agent.sent_at(k, next);
     true
 }
 

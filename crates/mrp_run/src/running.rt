@@ -9,7 +9,7 @@ ghost use Rattle.mrp_run.specs.Steps.{PlantIsAtWork, IsUnfinished, KeepsPlant, F
 ghost use Rattle.mrp_run.specs.declared.fault.RunFault.{RunFault};
 
 use crate::fault::RunFault;
-use crate::moving::{Lanes, Looks, move_all};
+use crate::moving::{Lanes, Looks, move_records};
 use crate::plant::Plant;
 use crate::stop::{Stop, StopRule};
 use mrp_agent::{Agent, Gate};
@@ -182,34 +182,16 @@ fn take_turn<R: Threads + Wait + Sync, G: Gate, S: StopRule>(
     ensures crew { crew.new ≡ crew.old }
     ensures kept { KeepsPlant plant.old plant.new }
     ensures fault { IfErr result (IsOf (WasWorkerShut G.worker_shut crew.old.workers) never_spent number) }
-{
-    let came = move_all(rt, plant, Lanes::Incoming, looks, stop);
-    let planned = plan_all(rt, alloc, number, plant, crew, gate)?;
-    let after = looks.after(came | planned);
-    let sent = move_all(rt, plant, Lanes::Outgoing, after, stop);
-    Ok(came | planned | sent)
-}
-
-/// Plans all pairs that can be planned, and answers whether there were any.
-fn plan_all<R: Threads + Wait + Sync, G: Gate>(
-    rt: &R,
-    alloc: Global,
-    number: PlantNo,
-    plant: &mut Plant,
-    crew: &mut Crew,
-    gate: &G,
-) -> Result<bool, RunFault>
-    requires work { PlantIsAtWork plant.old }
-    requires horizon { crew.old.horizon ≡ plant.old.agent.view.horizon }
-    ensures crew { crew.new ≡ crew.old }
-    ensures kept { KeepsPlant plant.old plant.new }
-    ensures fault { IfErr result (IsOf (WasWorkerShut G.worker_shut crew.old.workers) never_spent number) }
     ensures by_crew { IfErr result (λ fault. (why : CrewFault) × (fault ≡ faults.of_crew number why)) }
 {
-    match crew.plan_ready(rt, alloc, &mut plant.agent, number.0, gate) {
-        Ok(count) => Ok(count > 0),
-        Err(fault) => Err(of_crew(fault, number)),
-    }
+    let booked = move_records(rt, plant, Lanes::Incoming, looks, stop);
+    let planned = match crew.plan_ready(rt, alloc, &mut plant.agent, number.0, gate) {
+        Ok(count) => count > 0,
+        Err(fault) => return Err(of_crew(fault, number)),
+    };
+    let after = looks.after(booked | planned);
+    let sent = move_records(rt, plant, Lanes::Outgoing, after, stop);
+    Ok(booked | planned | sent)
 }
 
 /// The fault of a plant's crew, as the run answers it.

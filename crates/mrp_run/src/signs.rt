@@ -11,7 +11,7 @@ use std::sync::atomic::{AtomicBool, Ordering};
 #[derive(Drop)]
 pub(crate) struct Signs {
     /// At the receivers, by the numbers of the lanes: records were sent.
-    came: Vec<AtomicBool>,
+    filled: Vec<AtomicBool>,
     /// At the senders: room was made.
     freed: Vec<AtomicBool>,
 }
@@ -24,7 +24,7 @@ impl Signs {
     /// [`Memory`] where a growth is refused.
     pub(crate) fn new(alloc: Global, lanes: usize) -> Result<Signs, Memory> {
         Ok(Signs {
-            came: new_signs(alloc, lanes)?,
+            filled: new_signs(alloc, lanes)?,
             freed: new_signs(alloc, lanes)?,
         })
     }
@@ -32,7 +32,7 @@ impl Signs {
     /// Puts up the sign at the other end of a lane over which a plant moved records.
     pub(crate) fn put_up(&self, lane: LaneNo, moved: Lanes) {
         let there = match moved {
-            Lanes::Outgoing => &self.came,
+            Lanes::Outgoing => &self.filled,
             Lanes::Incoming => &self.freed,
         };
         if let Some(sign) = there.get(lane.0) {
@@ -43,7 +43,7 @@ impl Signs {
     /// Takes down the sign at a plant's own end of a lane, and answers whether it was up.
     pub(crate) fn take_down(&self, lane: LaneNo, lanes: Lanes) -> bool {
         let here = match lanes {
-            Lanes::Incoming => &self.came,
+            Lanes::Incoming => &self.filled,
             Lanes::Outgoing => &self.freed,
         };
         match here.get(lane.0) {

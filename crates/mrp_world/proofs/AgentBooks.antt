@@ -23,7 +23,7 @@ use Rattle.mrp_protocol.specs.State.{CanTake, after_take, changed}
 use Rattle.mrp_protocol.proofs.Ordering.{lanes_keep_order}
 use Rattle.mrp_agent.specs.Shows.{ShowsHistory, BooksShow, form_of}
 use Rattle.mrp_agent.specs.State.{AgentState, book_at, incoming_at, incoming_place}
-use Rattle.mrp_agent.proofs.Formed.{form_same, legal_in_form}
+use Rattle.mrp_agent.proofs.Formed.{form_seen, legal_at}
 use Rattle.mrp_agent.proofs.Placed.{in_placed}
 use Rattle.mrp_agent.proofs.Sent.{changed_there}
 use Rattle.mrp_agent.specs.InNetwork.{ShowsAgent}
@@ -42,14 +42,17 @@ next_in_form A l r m p at comes can =
     subst (IsBeginning (loads N lane)) (can.next ∙ sym (append_assoc (m.state.taken l) (r ∷ []) can.rest))
     (lanes_keep_order N m.capacity m.state at.reached l comes.lane).sent in
     let front = fronts_are_beginnings (loads N lane) (m.state.taken l ++ r ∷ []) can.rest all in
-    legal_in_form N at.sized p A.view at.shown.view l (in_there N p l comes) (m.state.taken l ++ r ∷ []) front
+    legal_at N at.sized p A.view at.shown.view l (incoming_place A.view l) (in_placed A.view N p l at.shown.view (in_there N p l comes)).is
+    (m.state.taken l ++ r ∷ []) front
 
 -- ---- the form by which it books
 
 -- it is the lane's
 form_at : (A : AgentState) (l : ℕ) (m : Moment) (p : ℕ) → IsAt ShowsAgent m p A → IsIn m.network p l
     → lane_form m.network (lane_at m.network l) ≡ form_of A.view (incoming_at A.view (incoming_place A.view l))
-form_at A l m p at comes = form_same m.network p A.view at.shown.view l (in_there m.network p l comes)
+form_at A l m p at comes =
+    form_seen m.network p A.view at.shown.view l (incoming_place A.view l)
+    (in_placed A.view m.network p l at.shown.view (in_there m.network p l comes)).is
 
 -- its book shows what was taken on the lane
 book_shows : (A : AgentState) (l : ℕ) (taken : ℕ → List Record) (N : Table) (p : ℕ) → A.view ≡ plant_rows N p → IsIn N p l → BooksShow A taken
@@ -65,7 +68,8 @@ booked_in_form : (A : AgentState) (l : ℕ) (taken : ℕ → List Record) (recor
     → BooksShow A taken
     → taken l ≡ records → IsInForm (lane_form N (lane_at N l)) records
 booked_in_form A l taken records N p view comes books is =
-    let form : lane_form N (lane_at N l) ≡ form_of A.view (incoming_at A.view (incoming_place A.view l)) = form_same N p A.view view l (in_there N p l comes) in
+    let form : lane_form N (lane_at N l) ≡ form_of A.view (incoming_at A.view (incoming_place A.view l)) =
+    form_seen N p A.view view l (incoming_place A.view l) (in_placed A.view N p l view (in_there N p l comes)).is in
     subst (λ (F : LaneForm). IsInForm F records) (sym form)
     (subst (IsInForm (form_of A.view (incoming_at A.view (incoming_place A.view l)))) is (book_shows A l taken N p view comes books).in_form)
 

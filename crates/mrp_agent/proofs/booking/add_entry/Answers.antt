@@ -4,7 +4,7 @@ use Rattle.mrp_table_rows.specs.declared.numbers.ItemNo.{ItemNo}
 use Rattle.mrp_net.specs.declared.lane.LaneKind.{LaneKind}
 use Rattle.mrp_plant_view.specs.declared.view.PlantPair.{PlantPair}
 use Rattle.mrp_plant_view.specs.View.{PlantRows}
-use Rattle.mrp_agent.specs.After.{called_after, came_by, items_of}
+use Rattle.mrp_agent.specs.After.{demand_after, receipts_after, items_of}
 use Rattle.mrp_agent.proofs.booking.add_entry.Goals as goal
 
 -- the amounts have room for each pair and period
@@ -19,19 +19,20 @@ room V {items} {amounts} {seen} {periods} are size same value is =
 
 pub add_line-requires : goal.add_line-requires
 add_line-requires c = record {
-  room = room c.args.view.now c.requires.items c.requires.came c.deref_mut.ensures.value c.get-periods.ensures.value
+  room = room c.args.view.now c.requires.items c.requires.receipts c.deref_mut.ensures.value c.get-periods.ensures.value
       c.horizon.ensures;
 }
 
 pub add_line-requires-in-Schedule : goal.add_line-requires-in-Schedule
 add_line-requires-in-Schedule c =
     record {
-      room = room c.args.view.now c.requires.items c.requires.called c.deref_mut-in-Schedule.ensures.value c.get-periods.ensures.value
+      room = room c.args.view.now c.requires.items c.requires.demand c.deref_mut-in-Schedule.ensures.value c.get-periods.ensures.value
           c.horizon.ensures;
     }
 
-pub returns-in-Despatch-clause-called : goal.returns-in-Despatch-clause-called
-returns-in-Despatch-clause-called c = sym (ap (λ (k : LaneKind). called_after k c.args.view.now c.args.called.now.items c.args.entry.now) c.in-Despatch.is)
+pub returns-in-Despatch-clause-demand : goal.returns-in-Despatch-clause-demand
+returns-in-Despatch-clause-demand c = sym (ap (λ (k : LaneKind). demand_after k c.args.view.now c.args.demand.now.items c.args.entry.now) c.in-Despatch.is)
 
-pub returns-in-Schedule-clause-came : goal.returns-in-Schedule-clause-came
-returns-in-Schedule-clause-came c = sym (ap (λ (k : LaneKind). came_by k c.args.view.now c.args.came.now.items c.args.entry.now) c.in-Schedule.is)
+pub returns-in-Schedule-clause-receipts : goal.returns-in-Schedule-clause-receipts
+returns-in-Schedule-clause-receipts c =
+    sym (ap (λ (k : LaneKind). receipts_after k c.args.view.now c.args.receipts.now.items c.args.entry.now) c.in-Schedule.is)

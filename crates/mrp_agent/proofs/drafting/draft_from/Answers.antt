@@ -4,43 +4,45 @@ use Rattle.mrp_lot.specs.Bound.{IsWithin}
 use Rattle.mrp_qty.specs.declared.quantity.TheConstants.{MOST}
 use Rattle.mrp_agent.specs.declared.edges.ParentEdge.{ParentEdge}
 use Rattle.mrp_agent.specs.Asking.{asked_by, grossed, ParentCanAsk}
-use Rattle.mrp_agent.proofs.Asked.{called_within, gross_within, grossed_is}
+use Rattle.mrp_agent.proofs.Asked.{demand_within, gross_within, grossed_is}
 use Rattle.std.specs.List.{All}
 use Rattle.mrp_agent.proofs.drafting.draft_from.Goals as goal
 
 -- the row was made what is called for, and then what the parents ask was added
-asked_added : (called copied new : List ℕ) (edges : List ParentEdge) (plans : List PlanRows) → copied ≡ called → length new ≡ length copied
+asked_added : (demand copied new : List ℕ) (edges : List ParentEdge) (plans : List PlanRows) → copied ≡ demand → length new ≡ length copied
     → ((t : ℕ) → t < length copied → slice_index new t ≡ slice_index copied t + asked_by plans edges t)
-    → new ≡ grossed called edges plans
-asked_added called copied new edges plans same size each =
+    → new ≡ grossed demand edges plans
+asked_added demand copied new edges plans same size each =
     grossed_is copied edges plans new size each ∙ ap (λ (row : List ℕ). grossed row edges plans) same
 
 pub copy_pieces-requires-2-clause-within : goal.copy_pieces-requires-2-clause-within
 copy_pieces-requires-2-clause-within c =
-    called_within c.args.rows.now.params c.args.rows.now.came.now c.args.rows.now.called.now c.args.rows.now.edges.now c.args.plans.now c.requires.draft.within
+    demand_within c.args.rows.now.params c.args.rows.now.receipts.now c.args.rows.now.demand.now c.args.rows.now.edges.now c.args.plans.now
+    c.requires.draft.within
 
 pub add_asked-requires-clause-within : goal.add_asked-requires-clause-within
 add_asked-requires-clause-within c =
     subst (λ (row : List ℕ). (t : ℕ) → t < length row → slice_index row t + asked_by c.args.plans.now c.args.rows.now.edges.now t ≤ MOST)
     (sym c.copy_pieces-2.ensures)
-    (gross_within c.args.rows.now.params c.args.rows.now.came.now c.args.rows.now.called.now c.args.rows.now.edges.now c.args.plans.now c.requires.draft.within)
+    (gross_within c.args.rows.now.params c.args.rows.now.receipts.now c.args.rows.now.demand.now c.args.rows.now.edges.now c.args.plans.now
+    c.requires.draft.within)
 
 pub plan_pair-requires-clause-within : goal.plan_pair-requires-clause-within
 plan_pair-requires-clause-within c =
-    let gross : c.add_asked.new.gross ≡ grossed c.args.rows.now.called.now c.args.rows.now.edges.now c.args.plans.now =
-    asked_added c.args.rows.now.called.now c.copy_pieces-2.new.self c.add_asked.new.gross c.args.rows.now.edges.now c.args.plans.now c.copy_pieces-2.ensures
+    let gross : c.add_asked.new.gross ≡ grossed c.args.rows.now.demand.now c.args.rows.now.edges.now c.args.plans.now =
+    asked_added c.args.rows.now.demand.now c.copy_pieces-2.new.self c.add_asked.new.gross c.args.rows.now.edges.now c.args.plans.now c.copy_pieces-2.ensures
     c.add_asked.ensures.size c.add_asked.ensures.each in
     subst (λ (row : List ℕ). IsWithin c.args.rows.now.params row c.add_asked.new.gross) (sym c.copy_pieces.ensures)
-    (subst (λ (row : List ℕ). IsWithin c.args.rows.now.params c.args.rows.now.came.now row) (sym gross) c.requires.draft.within)
+    (subst (λ (row : List ℕ). IsWithin c.args.rows.now.params c.args.rows.now.receipts.now row) (sym gross) c.requires.draft.within)
 
 pub returns-clause-plan : goal.returns-clause-plan
 returns-clause-plan c =
-    let gross : c.add_asked.new.gross ≡ grossed c.args.rows.now.called.now c.args.rows.now.edges.now c.args.plans.now =
-    asked_added c.args.rows.now.called.now c.copy_pieces-2.new.self c.add_asked.new.gross c.args.rows.now.edges.now c.args.plans.now c.copy_pieces-2.ensures
+    let gross : c.add_asked.new.gross ≡ grossed c.args.rows.now.demand.now c.args.rows.now.edges.now c.args.plans.now =
+    asked_added c.args.rows.now.demand.now c.copy_pieces-2.new.self c.add_asked.new.gross c.args.rows.now.edges.now c.args.plans.now c.copy_pieces-2.ensures
     c.add_asked.ensures.size c.add_asked.ensures.each in
     c.plan_pair.ensures
     ∙ ap (λ (row : List ℕ). one c.args.rows.now.params row c.add_asked.new.gross) c.copy_pieces.ensures
-    ∙ ap (λ (row : List ℕ). one c.args.rows.now.params c.args.rows.now.came.now row) gross
+    ∙ ap (λ (row : List ℕ). one c.args.rows.now.params c.args.rows.now.receipts.now row) gross
 
 pub copy_pieces-requires-clause-periods : goal.copy_pieces-requires-clause-periods
 copy_pieces-requires-clause-periods c = c.requires.incoming

@@ -24,8 +24,8 @@ get-requires-clause-within c = (edges_rise c.args.view.now c.requires.edges c.re
 pub bounds-pairs-place : goal.bounds-pairs-place
 bounds-pairs-place c = subst (λ (z : List PlantPair). c.args.place < length z) (sym c.pairs.ensures) c.requires.place
 
-pub returns-clause-came : goal.returns-clause-came
-returns-clause-came c = c.part_of.ensures ∙ ap (λ (h : ℕ). part_at h c.args.place c.args.came.now) (c.get-periods.ensures.value ∙ c.horizon.ensures)
+pub returns-clause-receipts : goal.returns-clause-receipts
+returns-clause-receipts c = c.part_of.ensures ∙ ap (λ (h : ℕ). part_at h c.args.place c.args.receipts.now) (c.get-periods.ensures.value ∙ c.horizon.ensures)
 
-pub returns-clause-called : goal.returns-clause-called
-returns-clause-called c = c.part_of-2.ensures ∙ ap (λ (h : ℕ). part_at h c.args.place c.args.called.now) (c.get-periods.ensures.value ∙ c.horizon.ensures)
+pub returns-clause-demand : goal.returns-clause-demand
+returns-clause-demand c = c.part_of-2.ensures ∙ ap (λ (h : ℕ). part_at h c.args.place c.args.demand.now) (c.get-periods.ensures.value ∙ c.horizon.ensures)

@@ -5,22 +5,18 @@ use Rattle.mrp_run.specs.Steps.{clock}
 use Rattle.mrp_run.proofs.Offered.{given_is_next, goes_out, refused_kept, sent_kept}
 use Rattle.mrp_run.proofs.offering.offer_next.Goals as goal
 
-pub next_out-requires : goal.next_out-requires
-next_out-requires g c =
+pub next_at-requires : goal.next_at-requires
+next_at-requires g c =
     let p = c.args.plant.now in
-    record {
-      outgoing = goes_out p.agent p.sends.items p.takes.items c.requires.work c.args.k c.lane-lane.result.0 c.index.result.now c.requires.lane
-          c.index.ensures c.lane-lane.ensures.value;
-    }
+    record { outgoing = goes_out p.agent p.sends.items p.takes.items c.requires.work c.args.k c.requires.lane }
 
 pub offer_at-requires : goal.offer_at-requires
 offer_at-requires g c =
     let p = c.args.plant.now in
     record {
       stamp = refl;
-      legal = given_is_next p.agent p.sends.items p.takes.items c.args.k c.lane-lane.result.0 c.index.result.now c.index_mut.result.now c.in-Some.entry
-          c.requires.lane c.index.ensures
-          c.index_mut.ensures.value c.lane-lane.ensures.value c.requires.work c.in-Some.ensures.given;
+      legal = given_is_next p.agent p.sends.items p.takes.items c.args.k c.index_mut.result.now c.in-Some.next.entry c.requires.lane
+          c.index_mut.ensures.value c.requires.work c.in-Some.ensures.given;
     }
 
 pub returns-in-Err : goal.returns-in-Err
@@ -31,11 +27,13 @@ returns-in-Err g c =
           c.offer_at.ensures.name c.in-Err.ensures.unchanged c.in-Err.ensures.unstamped;
     }
 
-pub sent-requires-clause-outgoing : goal.sent-requires-clause-outgoing
-sent-requires-clause-outgoing g c =
+pub sent_at-requires-clause-outgoing : goal.sent_at-requires-clause-outgoing
+sent_at-requires-clause-outgoing g c =
     let p = c.args.plant.now in
-    goes_out p.agent p.sends.items p.takes.items c.requires.work c.args.k c.lane-lane.result.0 c.index.result.now c.requires.lane c.index.ensures
-    c.lane-lane.ensures.value
+    goes_out p.agent p.sends.items p.takes.items c.requires.work c.args.k c.requires.lane
+
+pub sent_at-requires-clause-given : goal.sent_at-requires-clause-given
+sent_at-requires-clause-given g c = sym c.next_at.ensures.exact ∙ c.in-Some.is
 
 pub returns : goal.returns
 returns g c =
@@ -43,10 +41,7 @@ returns g c =
     let end : End = c.index_mut.result.now in
     let stamped = c.in_default-offer_at.ensures.stamped ∙ ap (λ (P : Plant). end.stamps ++ clock P ∷ []) c.of-before.ensures in
     record {
-      kept = sent_kept p.agent p.sends.items p.takes.items c.args.k c.lane-lane.result.0 c.index.result.now c.index_mut.result.now c.in-Some.entry
-          c.requires.lane c.index.ensures
-          c.index_mut.ensures.value c.lane-lane.ensures.value c.offer_at.new.end c.offer_at.ensures.name c.in_default-offer_at.ensures.sent stamped
-          c.in-Some.ensures.given
-          c.sent.new.self c.sent.ensures.view
-          (c.sent.ensures.appended c.in-Some.entry (sym c.in-Some.ensures.exact));
+      kept = sent_kept p.agent p.sends.items p.takes.items c.args.k c.index_mut.result.now c.in-Some.next.entry c.requires.lane
+          c.index_mut.ensures.value c.offer_at.new.end c.offer_at.ensures.name c.in_default-offer_at.ensures.sent stamped c.in-Some.ensures.given
+          c.sent_at.new.self c.sent_at.ensures.view c.sent_at.ensures.appended;
     }

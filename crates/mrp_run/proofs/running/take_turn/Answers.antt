@@ -1,43 +1,59 @@
 use Rattle.std.proofs.Common.{sym, ap, ◌∙◌}
-use Rattle.std.proofs.lemmas.Result.{IfErr-at_err}
 use Rattle.mrp_plant_view.specs.View.{PlantRows}
-use Rattle.mrp_crew.specs.Shut.{WasShutToWorker as WasWorkerShut}
-use Rattle.mrp_run.specs.Faults.{IsOf, never_spent}
-use Rattle.mrp_run.proofs.Keeping.{keeps_on, works_on}
-use Rattle.mrp_run.proofs.StopRules.{handed_on}
+use Rattle.mrp_crew.specs.Shut.{WasShutToWorker}
+use Rattle.mrp_run.proofs.CrewFaults.{crew_is_of}
+use Rattle.mrp_run.specs.declared.plant.Plant.{Plant}
+use Rattle.mrp_run.proofs.Keeping.{can_plan, keeps_on, planned_kept, still_works, works_on}
 use Rattle.mrp_run.proofs.running.take_turn.Goals as goal
 
-pub move_all-came-requires : goal.move_all-came-requires
-move_all-came-requires g c = record { work = c.requires.work }
+pub move_records-booked-requires : goal.move_records-booked-requires
+move_records-booked-requires g c = record { work = c.requires.work }
 
-pub plan_all-requires-clause-work : goal.plan_all-requires-clause-work
-plan_all-requires-clause-work g c κs within = works_on c.args.plant.now c.move_all-came.new.plant c.move_all-came.ensures.kept c.requires.work
+pub plan_ready-requires-clause-plannable : goal.plan_ready-requires-clause-plannable
+plan_ready-requires-clause-plannable g c κs within =
+    let p = c.move_records-booked.new.plant in
+    can_plan p.agent p.sends.items p.takes.items (works_on c.args.plant.now p c.move_records-booked.ensures.kept c.requires.work)
 
-pub plan_all-requires-clause-horizon : goal.plan_all-requires-clause-horizon
-plan_all-requires-clause-horizon g c κs within = c.requires.horizon ∙ sym (ap (λ (V : PlantRows). V.horizon) c.move_all-came.ensures.kept.view)
+pub plan_ready-requires-clause-horizon : goal.plan_ready-requires-clause-horizon
+plan_ready-requires-clause-horizon g c κs within =
+    c.requires.horizon ∙ sym (ap (λ (V : PlantRows). V.horizon) c.move_records-booked.ensures.kept.view)
 
-pub returns-in_err-planned-clause-crew : goal.returns-in_err-planned-clause-crew
-returns-in_err-planned-clause-crew g c = c.plan_all.ensures.crew
+pub move_records-sent-requires : goal.move_records-sent-requires
+move_records-sent-requires g c =
+    let p = c.move_records-booked.new.plant in
+    let xs = c.plan_ready.ensures.planned in
+    record {
+      work = still_works p.agent p.sends.items p.takes.items c.plan_ready.new.agent p.sends.items p.takes.items
+          (planned_kept p.agent p.sends.items p.takes.items c.plan_ready.new.agent xs.0 xs.1)
+          (works_on c.args.plant.now p c.move_records-booked.ensures.kept c.requires.work);
+    }
 
-pub returns-in_err-planned-clause-kept : goal.returns-in_err-planned-clause-kept
-returns-in_err-planned-clause-kept g c = keeps_on c.args.plant.now c.move_all-came.new.plant c.plan_all.new.plant c.move_all-came.ensures.kept
-    c.plan_all.ensures.kept
+pub returns-in-Err-clause-crew : goal.returns-in-Err-clause-crew
+returns-in-Err-clause-crew g c = c.plan_ready.ensures.crew
 
-pub returns-in_err-planned-clause-fault : goal.returns-in_err-planned-clause-fault
-returns-in_err-planned-clause-fault g c =
-    let Fault = IsOf (WasWorkerShut g.G.Gate.worker_shut c.args.crew.now.workers) never_spent c.args.number in
-    handed_on Fault c.from_residual.result _ c.from_residual.ensures.1 (IfErr-at_err Fault c.in_err-planned.was c.plan_all.ensures.fault)
+pub returns-in-Err-clause-kept : goal.returns-in-Err-clause-kept
+returns-in-Err-clause-kept g c =
+    let p = c.move_records-booked.new.plant in
+    let xs = c.plan_ready.ensures.planned in
+    keeps_on c.args.plant.now p (record { agent = c.plan_ready.new.agent; sends = p.sends; takes = p.takes }) c.move_records-booked.ensures.kept
+    (planned_kept p.agent p.sends.items p.takes.items c.plan_ready.new.agent xs.0 xs.1)
 
-pub move_all-sent-requires : goal.move_all-sent-requires
-move_all-sent-requires g c = record {
-  work = works_on c.move_all-came.new.plant c.plan_all.new.plant c.plan_all.ensures.kept
-      (works_on c.args.plant.now c.move_all-came.new.plant c.move_all-came.ensures.kept c.requires.work);
-}
+pub returns-in-Err-clause-fault : goal.returns-in-Err-clause-fault
+returns-in-Err-clause-fault g c =
+    crew_is_of (WasShutToWorker g.G.Gate.worker_shut c.args.crew.now.workers) c.args.number c.in-Err.fault c.of_crew.result c.of_crew.ensures
+    c.in-Err.ensures.shut
 
 pub returns-clause-crew : goal.returns-clause-crew
-returns-clause-crew g c = c.plan_all.ensures.crew
+returns-clause-crew g c = c.plan_ready.ensures.crew
 
 pub returns-clause-kept : goal.returns-clause-kept
 returns-clause-kept g c =
-    let planned = keeps_on c.args.plant.now c.move_all-came.new.plant c.plan_all.new.plant c.move_all-came.ensures.kept c.plan_all.ensures.kept in
-    keeps_on c.args.plant.now c.plan_all.new.plant c.move_all-sent.new.plant planned c.move_all-sent.ensures.kept
+    let p = c.move_records-booked.new.plant in
+    let q : Plant = record { agent = c.plan_ready.new.agent; sends = p.sends; takes = p.takes } in
+    let xs = c.plan_ready.ensures.planned in
+    keeps_on c.args.plant.now q c.move_records-sent.new.plant
+    (keeps_on c.args.plant.now p q c.move_records-booked.ensures.kept (planned_kept p.agent p.sends.items p.takes.items c.plan_ready.new.agent xs.0 xs.1))
+    c.move_records-sent.ensures.kept
+
+pub returns-in-Err-clause-by_crew : goal.returns-in-Err-clause-by_crew
+returns-in-Err-clause-by_crew g c = (c.in-Err.fault, c.of_crew.ensures)

@@ -1,115 +1,32 @@
-use Rattle.std.proofs.Common.{◌≡◌, ◌<◌, ◌≤◌, ◌==◌, Some, List, [], ◌∷◌, ◌++◌, ℕ, length, set, sym, ap, ◌∙◌, subst, arith}
-use Rattle.std.specs.List.{count_by, position_or_len}
-use Rattle.std.proofs.lemmas.Result.{err_from_is_err_and}
-use Rattle.std.proofs.lemmas.List.{set-get_or}
-use Rattle.mrp_plant_view.specs.declared.view.IncomingLane.{IncomingLane}
+use Rattle.std.proofs.Common.{◌<◌, List, [], ◌∷◌, ◌++◌, ◌≡◌, ℕ, Bool, OnOk, IfErr, length, sym, ap, ◌∙◌, subst}
 use Rattle.mrp_record.specs.declared.record.Record.{Record}
-use Rattle.mrp_record.specs.Form.{IsInForm}
-use Rattle.mrp_book.specs.declared.fault.BookFault.{BookFault}
-use Rattle.mrp_book.specs.Faults.{first_fault}
-use Rattle.mrp_book.specs.Figures.{Figures, figures}
-use Rattle.mrp_agent.specs.Fields.{indexes_of}
-use Rattle.mrp_agent.specs.Kept.{IsKept}
-use Rattle.mrp_agent.specs.State.{AgentState, incoming_at, incoming_place}
-use Rattle.mrp_agent.specs.Shows.{form_of, BooksShow, ShowsHistory}
-use Rattle.mrp_agent.specs.contracts.agent.Agent.{the_view}
-use Rattle.mrp_agent.proofs.BookCalls.{HasAdded, IsOnLane, ends, kept_now, shows_now, refused_is}
+use Rattle.mrp_protocol.specs.State.{changed}
+use Rattle.mrp_agent.specs.Sent.{IsRefused}
+use Rattle.mrp_agent.specs.State.{AgentState, incoming_at}
+use Rattle.mrp_agent.specs.Shows.{BooksShow, ShowsHistory}
+use Rattle.mrp_agent.proofs.Placed.{in_number}
 use Rattle.mrp_agent.proofs.agent.Agent.book.Goals as goal
-use Rattle.mrp_agent.proofs.agent.Agent.book.Goals.{After-end_block, After-index_mut, In_err-book}
+use Rattle.mrp_agent.proofs.agent.Agent.book.Goals.{After-in_place-k}
 
-on_lane : (c : After-index_mut) → IsOnLane (the_view c.self.inside) (indexes_of c.self.inside) c.args.lane.0 c.incoming_near-k.result c.index_mut.result.now
-on_lane c = record {
-  kept = c.self.invariant;
-  within = subst (λ (a : AgentState). incoming_place a.view c.args.lane.0 < length a.view.incoming) (sym c.self.view_is) c.requires.incoming;
-  at = c.incoming_near-k.ensures ∙ ap (λ (z : List IncomingLane). position_or_len (λ (k : IncomingLane). k.number.0 == c.args.lane.0) z) c.incoming.ensures;
-  read = c.index_mut.ensures.value;
-}
+-- the number at the place that was found
+number_there : (c : After-in_place-k) → (incoming_at c.args.self.now.view c.in_place-k.result).number.0 ≡ c.args.lane.0
+number_there c =
+    ap (λ (n : ℕ). (incoming_at c.args.self.now.view n).number.0) c.in_place-k.ensures ∙ in_number c.args.self.now.view c.args.lane.0 c.requires.incoming
 
-added : (c : After-end_block) → HasAdded (the_view c.self.inside)
-    (indexes_of c.self.inside) c.incoming_near-k.result c.args.entry.now c.incoming-2.result.now c.index-incoming-k.result
-    c.add_entry.new.came.items c.add_entry.new.called.items c.end_block.new.progress
-added c = record { lanes_are = c.incoming-2.ensures; comes = c.add_entry.ensures.came; calls = c.add_entry.ensures.called; ended = c.end_block.ensures }
-
-pub end_block-requires : goal.end_block-requires
-end_block-requires c = ends (on_lane (goal.at.end_block-requires c).After-index_mut) c.args.entry.now c.in_ok-book.ensures.booked
-
-pub invariant_of-self-2 : goal.invariant_of-self-2
-invariant_of-self-2 c =
-    let at = goal.at.invariant_of-self-2 c in kept_now (on_lane at.After-index_mut) c.args.entry.now c.in_ok-book.ensures.booked (added at.After-end_block)
+pub book_at-requires : goal.book_at-requires
+book_at-requires c =
+    record { incoming = subst (λ (n : ℕ). n < length c.args.self.now.view.incoming) (sym c.in_place-k.ensures) c.requires.incoming }
 
 pub returns-clause-booked : goal.returns-clause-booked
 returns-clause-booked c =
-    let at = goal.at.returns-clause-booked c in
-    λ sent taken planned shows.
-    shows_now (on_lane at.After-index_mut) c.args.entry.now c.in_ok-book.ensures.booked (added at.After-end_block) sent taken planned
-    (subst (λ (a : AgentState). ShowsHistory a sent taken planned) (sym c.self.view_is) shows)
+    subst (λ (n : ℕ). OnOk c.book_at.result ((sent taken : ℕ → List Record) (planned : ℕ → Bool) → ShowsHistory c.args.self.now sent taken planned
+    → ShowsHistory c.book_at.new.self sent (changed taken n (taken n ++ c.args.entry.now ∷ [])) planned))
+    (number_there (goal.at.returns-clause-booked c).After-in_place-k) c.book_at.ensures.booked
 
-pub returns-in_err-book-clause-refused : goal.returns-in_err-book-clause-refused
-returns-in_err-book-clause-refused c =
-    let l : ℕ = c.args.lane.0 in
-    let p = err_from_is_err_and c.from_residual.result c.from_residual.ensures.1 in
-    let fault : BookFault = c.in_err-book.field-0.0 in
-    let P : AgentState → Type 0 = λ a. (taken : ℕ → List Record) → BooksShow a taken
-    → (first_fault (figures (form_of a.view (incoming_at a.view (incoming_place a.view l))) (taken l)) c.args.entry.now ≡ Some fault)
-    × (IsInForm (form_of a.view (incoming_at a.view (incoming_place a.view l))) (taken l ++ c.args.entry.now ∷ []) → ⊥) in
-    let on = on_lane (goal.at.returns-in_err-book-clause-refused c).After-index_mut in
-    rw (p.1, p.2) (subst P c.self.view_is (refused_is on c.args.entry.now fault c.in_err-book.ensures.refused))
-
-pub index_mut-requires : goal.index_mut-requires
-index_mut-requires c =
-    let at : c.incoming_near-k.result ≡ incoming_place (the_view c.self.inside).view c.args.lane.0 =
-    c.incoming_near-k.ensures ∙ ap (λ (z : List IncomingLane). position_or_len (λ (k : IncomingLane). k.number.0 == c.args.lane.0) z) c.incoming.ensures in
-    let within : incoming_place (the_view c.self.inside).view c.args.lane.0 < length (the_view c.self.inside).view.incoming =
-    subst (λ (a : AgentState). incoming_place a.view c.args.lane.0 < length a.view.incoming) (sym c.self.view_is) c.requires.incoming in
-    omega (arith, at, within, c.self.invariant.rooms.books, c.self.inside.lanes.books.ok.0)
-
-pub bounds-incoming-k : goal.bounds-incoming-k
-bounds-incoming-k c =
-    let on = on_lane (goal.at.bounds-incoming-k c).After-index_mut in
-    subst (λ (z : List IncomingLane). c.incoming_near-k.result < length z) (sym c.incoming-2.ensures)
-    (subst (λ (n : ℕ). n < length (the_view c.self.inside).view.incoming) (sym on.at) on.within)
-
-pub bounds-incoming-k-in_ok-book : goal.bounds-incoming-k-in_ok-book
-bounds-incoming-k-in_ok-book c =
-    let on = on_lane (goal.at.bounds-incoming-k-in_ok-book c).After-index_mut in
-    subst (λ (z : List IncomingLane). c.incoming_near-k.result < length z) (sym c.incoming-2.ensures)
-    (subst (λ (n : ℕ). n < length (the_view c.self.inside).view.incoming) (sym on.at) on.within)
-
-pub add_entry-requires-clause-items : goal.add_entry-requires-clause-items
-add_entry-requires-clause-items c = c.self.invariant.indexes.items
-
-pub add_entry-requires-clause-came : goal.add_entry-requires-clause-came
-add_entry-requires-clause-came c = c.self.invariant.rooms.came
-
-pub add_entry-requires-clause-called : goal.add_entry-requires-clause-called
-add_entry-requires-clause-called c = c.self.invariant.rooms.called
-
--- a book that refuses a record is as it was
-unchanged : (c : In_err-book) → record (the_view c.self.inside) { books = set c.self.inside.lanes.books.items c.incoming_near-k.result c.book.new.self }
-    ≡ the_view c.self.inside
-unchanged c =
-    let A : AgentState = the_view c.self.inside in
-    let j : ℕ = c.incoming_near-k.result in
-    let same : set A.books j c.book.new.self ≡ A.books =
-    ap (λ (b : Figures). set A.books j b) (c.in_err-book.ensures.unchanged ∙ c.index_mut.ensures.value) ∙ set-get_or A.books j c.index_mut.result.now in
-    ap (λ (z : List Figures). record A { books = z }) same
-
-pub invariant_of-self : goal.invariant_of-self
-invariant_of-self c =
-    subst (λ (a : AgentState). IsKept a (indexes_of c.self.inside)) (sym (unchanged (goal.at.invariant_of-self c).In_err-book)) c.self.invariant
-
-pub returns-in_err-book-clause-view : goal.returns-in_err-book-clause-view
-returns-in_err-book-clause-view c = ap (λ (a : AgentState). a.view) c.self.view_is
-
-pub returns-clause-view : goal.returns-clause-view
-returns-clause-view c = ap (λ (a : AgentState). a.view) c.self.view_is
-
-pub returns-in_err-book-clause-unchanged : goal.returns-in_err-book-clause-unchanged
-returns-in_err-book-clause-unchanged c =
-    let p = err_from_is_err_and c.from_residual.result c.from_residual.ensures.1 in
-    rw p.1 (unchanged (goal.at.returns-in_err-book-clause-unchanged c).In_err-book ∙ c.self.view_is)
-
-pub incoming_near-k-requires : goal.incoming_near-k-requires
-incoming_near-k-requires c =
-    subst (λ (z : List IncomingLane). count_by (λ l. l.number.0 == c.args.lane.0) z ≤ 1) (sym c.incoming.ensures)
-    (c.self.invariant.view.incoming_once c.args.lane.0)
+pub returns-clause-refused : goal.returns-clause-refused
+returns-clause-refused c =
+    let A : AgentState = c.args.self.now in
+    let Q : ℕ → ℕ → Type 0 = λ j n. IfErr c.book_at.result (λ fault. (taken : ℕ → List Record) → BooksShow A taken
+    → IsRefused A.view j (taken n) c.args.entry.now fault) in
+    subst (λ (j : ℕ). Q j c.args.lane.0) c.in_place-k.ensures
+    (subst (Q c.in_place-k.result) (number_there (goal.at.returns-clause-refused c).After-in_place-k) c.book_at.ensures.refused)

@@ -12,13 +12,13 @@ use Rattle.mrp_agent.proofs.agent.Agent.mark_planned.Goals.{After-queue_item}
 pub of-requires : goal.of-requires
 of-requires c = components_known (the_view c.self.inside) (indexes_of c.self.inside) c.self.invariant c.args.place (free_before c.self.view_is c.requires.free)
 
-pub settle-requires-clause-known : goal.settle-requires-clause-known
-settle-requires-clause-known c =
+pub count_planned-requires-clause-known : goal.count_planned-requires-clause-known
+count_planned-requires-clause-known c =
     components_within (the_view c.self.inside) (indexes_of c.self.inside) c.self.invariant c.args.place
     (free_before c.self.view_is c.requires.free) c.of.result.now c.of.ensures
 
-pub settle-requires-clause-waits : goal.settle-requires-clause-waits
-settle-requires-clause-waits c =
+pub count_planned-requires-clause-waits : goal.count_planned-requires-clause-waits
+count_planned-requires-clause-waits c =
     components_are_waiting (the_view c.self.inside) (indexes_of c.self.inside) c.self.invariant c.args.place
     (free_before c.self.view_is c.requires.free) c.of.result.now c.of.ensures
 
@@ -42,7 +42,7 @@ queue_item-requires c =
     (queues_are A (indexes_of c.self.inside) c.self.invariant c.args.place free c.get.ensures)
 
 marked : (c : After-queue_item) → IsMarked (the_view c.self.inside) c.args.place
-    (record (the_view c.self.inside) { progress = c.settle.new.self; outs = c.queue_item.new.outs.items })
+    (record (the_view c.self.inside) { progress = c.count_planned.new.self; outs = c.queue_item.new.outs.items })
 marked c =
     let A : AgentState = the_view c.self.inside in
     let free = free_before c.self.view_is c.requires.free in
@@ -50,12 +50,12 @@ marked c =
     record {
       same = refl;
       settled = record {
-        numbers = c.settle.ensures.numbers;
-        planned = c.settle.ensures.planned;
-        left = c.settle.ensures.left;
-        size = c.settle.ensures.fewer.size;
-        others = c.settle.ensures.others;
-        counts = λ blocks. c.settle.ensures.counts (joins_of A.view) blocks components;
+        numbers = c.count_planned.ensures.numbers;
+        planned = c.count_planned.ensures.planned;
+        left = c.count_planned.ensures.left;
+        size = c.count_planned.ensures.fewer.size;
+        others = c.count_planned.ensures.others;
+        counts = λ blocks. c.count_planned.ensures.counts (joins_of A.view) blocks components;
       };
       queued =
           outs_settled A (indexes_of c.self.inside) c.self.invariant c.args.place free
@@ -65,10 +65,11 @@ marked c =
 pub invariant_of-self : goal.invariant_of-self
 invariant_of-self c =
     let now = marked (goal.at.invariant_of-self c).After-queue_item in
-    kept_marked (the_view c.self.inside) (indexes_of c.self.inside) c.args.place _ c.settle.new.self c.queue_item.new.outs.items c.self.invariant now.settled
+    kept_marked (the_view c.self.inside) (indexes_of c.self.inside) c.args.place _ c.count_planned.new.self c.queue_item.new.outs.items c.self.invariant
+    now.settled
     now.queued
 
 pub returns : goal.returns
 returns c =
-    let new : AgentState = record (the_view c.self.inside) { progress = c.settle.new.self; outs = c.queue_item.new.outs.items } in
+    let new : AgentState = record (the_view c.self.inside) { progress = c.count_planned.new.self; outs = c.queue_item.new.outs.items } in
     subst (λ (a : AgentState). IsMarked a c.args.place new) c.self.view_is (marked (goal.at.returns c).After-queue_item)

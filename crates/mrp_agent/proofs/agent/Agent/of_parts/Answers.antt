@@ -7,18 +7,18 @@ use Rattle.mrp_agent.proofs.agent.Agent.of_parts.Goals as goal
 use Rattle.mrp_agent.proofs.agent.Agent.of_parts.Goals.{In_ok-amounts}
 
 opens : (c : In_ok-amounts)
-    → agent_of c.args.view c.in_ok-lanes.lanes.books.items c.in_ok-amounts.amounts.came.items c.in_ok-amounts.amounts.called.items
+    → agent_of c.args.view c.in_ok-lanes.lanes.books.items c.in_ok-amounts.amounts.scheduled_receipts.items c.in_ok-amounts.amounts.outside_demand.items
     c.in_ok-amounts.amounts.plans.items
     c.in_ok-structure.structure.progress c.in_ok-lanes.lanes.outs.items
     ≡ opened c.args.view c.in_ok-structure.structure.progress c.in_ok-lanes.lanes.outs.items
 opens c =
-    agent_opened c.args.view c.in_ok-lanes.lanes.books.items c.in_ok-amounts.amounts.came.items c.in_ok-amounts.amounts.called.items
+    agent_opened c.args.view c.in_ok-lanes.lanes.books.items c.in_ok-amounts.amounts.scheduled_receipts.items c.in_ok-amounts.amounts.outside_demand.items
     c.in_ok-amounts.amounts.plans.items
     c.in_ok-structure.structure.progress c.in_ok-lanes.lanes.outs.items
     (record {
       books_are = c.in_ok-lanes.ensures.books;
-      came_is = c.in_ok-amounts.ensures.came;
-      called_is = c.in_ok-amounts.ensures.called;
+      receipts_are = c.in_ok-amounts.ensures.scheduled_receipts;
+      demand_is = c.in_ok-amounts.ensures.outside_demand;
       plans_are = c.in_ok-amounts.ensures.plans;
     })
 

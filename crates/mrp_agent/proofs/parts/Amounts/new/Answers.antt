@@ -6,11 +6,11 @@ use Rattle.mrp_netting.specs.Plan.{nothing_planned}
 use Rattle.mrp_agent.specs.Making.{AreFit}
 use Rattle.mrp_agent.proofs.parts.Amounts.new.Goals as goal
 
-pub returns-clause-came : goal.returns-clause-came
-returns-clause-came c = c.requires.came
+pub returns-clause-scheduled_receipts : goal.returns-clause-scheduled_receipts
+returns-clause-scheduled_receipts c = c.requires.scheduled_receipts
 
-pub returns-clause-called : goal.returns-clause-called
-returns-clause-called c = c.requires.called
+pub returns-clause-outside_demand : goal.returns-clause-outside_demand
+returns-clause-outside_demand c = c.requires.outside_demand
 
 pub returns-clause-plans : goal.returns-clause-plans
 returns-clause-plans c =
@@ -22,7 +22,7 @@ pub returns-clause-room : goal.returns-clause-room
 returns-clause-room c = ap (λ (plan : PlanRows). length plan.gross) c.in_ok-room.ensures ∙ length-replicate c.horizon-2.result 0 ∙ c.horizon-2.ensures
 
 pub returns-clause-receipts : goal.returns-clause-receipts
-returns-clause-receipts c = subst AreFit (c.deref.ensures.value ∙ c.requires.came) c.are_fit.ensures
+returns-clause-receipts c = subst AreFit (c.deref.ensures.value ∙ c.requires.scheduled_receipts) c.are_fit.ensures
 
 pub returns-clause-demands : goal.returns-clause-demands
-returns-clause-demands c = subst AreFit (c.deref-2.ensures.value ∙ c.requires.called) c.are_fit-2.ensures
+returns-clause-demands c = subst AreFit (c.deref-2.ensures.value ∙ c.requires.outside_demand) c.are_fit-2.ensures

@@ -28,8 +28,8 @@ returns-in_err-drafts-clause-shut g c =
     let p = err_from_is_err_and c.from_residual-in_err-drafts.result c.from_residual-in_err-drafts.ensures.1 in
     rw p.1 (λ is. absurd (memory_is_no_gate p.0 p.2 is))
 
-pub settle_all-open-requires-clause-drafts : goal.settle_all-open-requires-clause-drafts
-settle_all-open-requires-clause-drafts g c = c.in_ok-drafts.ensures.drafts
+pub keep_drafts-open-requires-clause-drafts : goal.keep_drafts-open-requires-clause-drafts
+keep_drafts-open-requires-clause-drafts g c = c.in_ok-drafts.ensures.drafts
 
 pub refill-requires : goal.refill-requires
 refill-requires g c = record { rooms = c.self.invariant.2 }
@@ -65,11 +65,11 @@ invariant_of-self-in_err-drafts g c =
 pub returns-in_err-drafts-clause-crew : goal.returns-in_err-drafts-clause-crew
 returns-in_err-drafts-clause-crew g c = c.self.view_is
 
-pub settle_all-open-requires-clause-plannable : goal.settle_all-open-requires-clause-plannable
-settle_all-open-requires-clause-plannable g c = c.requires.plannable
+pub keep_drafts-open-requires-clause-plannable : goal.keep_drafts-open-requires-clause-plannable
+keep_drafts-open-requires-clause-plannable g c = c.requires.plannable
 
-pub settle_all-open-requires-clause-rooms : goal.settle_all-open-requires-clause-rooms
-settle_all-open-requires-clause-rooms g c = c.in_ok-drafts.ensures.free
+pub keep_drafts-open-requires-clause-rooms : goal.keep_drafts-open-requires-clause-rooms
+keep_drafts-open-requires-clause-rooms g c = c.in_ok-drafts.ensures.free
 
 pub returns-clause-crew : goal.returns-clause-crew
 returns-clause-crew g c = c.self.view_is
@@ -77,16 +77,16 @@ returns-clause-crew g c = c.self.view_is
 pub invariant_of-self-2 : goal.invariant_of-self-2
 invariant_of-self-2 g c =
     let same = ap (λ (crew : CrewState). crew.horizon) c.self.view_is ∙ c.requires.horizon in
-    (c.self.invariant.0, c.self.invariant.1, subst (λ h. All (IsRoom h) c.settle_all-open.new.rooms.items) (sym same) c.settle_all-open.ensures.rooms)
+    (c.self.invariant.0, c.self.invariant.1, subst (λ h. All (IsRoom h) c.keep_drafts-open.new.rooms.items) (sym same) c.keep_drafts-open.ensures.rooms)
 
 pub returns-clause-planned : goal.returns-clause-planned
 returns-clause-planned g c =
-    let p = c.settle_all-open.ensures.planned in
+    let p = c.keep_drafts-open.ensures.planned in
     let some = c.in_ok-drafts.ensures.some in (
       p.0,
       p.1,
       where_ok c.wave_end.result _ _ c.wave_end.ensures.planned (λ whole.
-          let each = when_true c.settle_all-open.result _ p.2 whole.1 in
+          let each = when_true c.keep_drafts-open.result _ p.2 whole.1 in
           omega (arith, each, some whole.0)),
     )
 
@@ -94,9 +94,9 @@ pub returns-clause-shut : goal.returns-clause-shut
 returns-clause-shut g c =
     where_err c.wave_end.result _ _ c.wave_end.ensures.shut (λ fault shut is.
     subst (λ (crew : CrewState). WasShutToWorker g.G.Gate.worker_shut crew.workers c.args.plant) c.self.view_is
-    (shut_to_one (WasShutToWorker g.G.Gate.worker_shut c.self.inside.workers c.args.plant) c.in_ok-drafts.drafts.works.items c.settle_all-open.result
+    (shut_to_one (WasShutToWorker g.G.Gate.worker_shut c.self.inside.workers c.args.plant) c.in_ok-drafts.drafts.works.items c.keep_drafts-open.result
     c.in_ok-drafts.ensures.shut
-    c.settle_all-open.ensures.let_in (shut is)))
+    c.keep_drafts-open.ensures.let_in (shut is)))
 
 pub returns-in_err-refill-clause-refused : goal.returns-in_err-refill-clause-refused
 returns-in_err-refill-clause-refused g c =
