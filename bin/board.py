@@ -1,8 +1,8 @@
 """The parts of the page that bin/page writes: lists of what is to be done, and records, as HTML."""
-import functools
 import html
-from datetime import date
+from datetime import timedelta
 
+import mrp
 import reports
 
 # At most so many rows of a list, so many late orders of a pair in it, and so many demands that are hit.
@@ -15,15 +15,6 @@ IN_TIME = (
     f"{reports.WITH_DELAYS.lower()} counts each one from when it comes, and is red where it is below zero. "
     "Late orders are marked where they are due, and requirements by how late a demand in them is at worst.</p>"
 )
-
-
-@functools.lru_cache
-def calendar_day(text):
-    """Returns the day that a report says."""
-    try:
-        return date.fromisoformat(text)
-    except ValueError:
-        raise reports.Refused(f"the report has a day {text}, which is none") from None
 
 
 def grouped(rows, *columns):
@@ -63,29 +54,30 @@ class Board:
 
     def __init__(self, outline, dates):
         self.outline, self.names, self.dates = outline, outline.names, dates
-        length = (calendar_day(dates[1]) - calendar_day(dates[0])).days if len(dates) > 1 else 0
-        self.unit, self.month = {1: "day", 7: "week"}.get(length, "period"), -(-MONTH // length) if length else 1
+        # (of a plan of one period nobody knows how long that is)
+        calendar = mrp.Calendar.of_report(dates) if len(dates) > 1 else None
+        self.unit = {1: "day", 7: "week"}.get(calendar.days, "period") if calendar else "period"
+        self.month = calendar.period(dates[0] + timedelta(days=MONTH - 1)) + 1 if calendar else 1
         self.late, self.messages, self.released, self.hit = (
-            grouped(outline.rows[it], "plant", "item") for it in (reports.Late, reports.Advice, reports.Order, reports.Hit)
+            grouped(outline.rows[it], "plant", "item") for it in (mrp.Late, mrp.Advice, mrp.Order, mrp.Hit)
         )
-        self.hits = grouped(outline.rows[reports.Hit], "by_plant", "by_item")
+        self.hits = grouped(outline.rows[mrp.Hit], "by_plant", "by_item")
 
     # What parts are made of.
 
     def first(self):
         """Returns the first day in full."""
-        day = calendar_day(self.dates[0])
-        return f"{day.day} {day:%B} {self.dates[0][:4]}, W{day.isocalendar().week:02}"
+        day = self.dates[0]
+        return f"{day.day} {day:%B} {day.year}, W{day.isocalendar().week:02}"
 
-    def day(self, text):
+    def day(self, day):
         """Returns a day with its week, and with its year where the same day of the plan's first year could be meant."""
-        day = calendar_day(text)
-        year = f" {day.year}" if (day - calendar_day(self.dates[0])).days > 330 else ""
-        return f'<time datetime="{text}">{day.day} {day:%b}{year} <small>W{day.isocalendar().week:02}</small></time>'
+        year = f" {day.year}" if (day - self.dates[0]).days > 330 else ""
+        return f'<time datetime="{day}">{day.day} {day:%b}{year} <small>W{day.isocalendar().week:02}</small></time>'
 
-    def dated(self, text):
+    def dated(self, day):
         """Returns a cell with a day, that is sorted by it."""
-        return self.day(text), text
+        return self.day(day), str(day)
 
     def lateness(self, periods):
         """Returns a cell that says by how much something is late, marked, and from a month on with the strongest mark."""
@@ -106,9 +98,10 @@ class Board:
 
     def supply(self, text):
         """Returns how an item is supplied: make, buy, or from which plants."""
-        word, *rest = text.split(":")
-        shares = [f" {int(it) / 10:g}%" for it in rest[1::2]] or [""]
-        return f"{word} " + ", ".join(f"{self.plant(plant)}{share}" for plant, share in zip(rest[::2], shares)) if rest else word
+        sources = mrp.sources(text)
+        if len(sources) < 2:
+            return " ".join([text.partition(":")[0], *(self.plant(plant) for plant, _ in sources)])
+        return "from " + ", ".join(f"{self.plant(plant)} {share / 10:g}%" for plant, share in sources)
 
     def section(self, name, title, content, empty):
         """Returns a section. One without content says so, where the reports would have had it."""
@@ -121,15 +114,16 @@ class Board:
     def summary(self):
         """Returns how many there are of what the page is about."""
         rows = self.outline.rows
-        counts = [(len(self.outline.pairs), "pair"), (len(self.dates), self.unit), (len(rows[reports.Late]), "late order")]
-        counts += [(len(rows[kind]), word) for kind, word in ((reports.Hit, "demand"), (reports.Order, "order"), (reports.Advice, "open order"))]
+        counts = [(len(self.outline.pairs), "pair"), (len(self.dates), self.unit), (len(rows[mrp.Late]), "late order")]
+        counted = (mrp.Hit, "demand"), (mrp.Order, "order"), (mrp.Advice, "open order")
+        counts += [(len(rows[kind]), word) for kind, word in counted]
         ends = ["", "", "", " hit", " to release", " to be moved"]
         return ", ".join(reports.counted(*it) + end for it, end in zip(counts, ends) if it[0] or not end)
 
     def releases(self):
         """Returns the orders to release now, a list for each plant, the late ones first."""
         lists = []
-        for (plant,), orders in grouped(self.outline.rows[reports.Order], "plant").items():
+        for (plant,), orders in grouped(self.outline.rows[mrp.Order], "plant").items():
             orders.sort(key=lambda it: -it.late)
             rows = [[self.item(plant, it.item), it.quantity, self.lateness(it.late), self.dated(it.due_date), self.supply(it.supply)] for it in orders]
             lists.append(f'<div><h3>{self.plant(plant)}</h3>{sortable(["Item", "Quantity", "Late", "Due", "Supply"], rows, " stack")}</div>')
@@ -170,11 +164,11 @@ class Board:
     def moves(self):
         """Returns the open orders that are to be moved."""
         rows = []
-        for it in self.outline.rows[reports.Advice]:
+        for it in self.outline.rows[mrp.Advice]:
             comes = self.day(it.date) + self.notes(it.kind, it.plant, it.item, it.period)
             needed = self.dated(it.needed_date) if it.needed_date else ("never", "never")
             kind = f"in transit from {self.plant(it.supplier)}" if it.supplier else "receipt"
-            rows.append([f"<b>{it.action}</b>", self.plant(it.plant), self.item(it.plant, it.item), it.quantity, (comes, it.date), needed, kind])
+            rows.append([f"<b>{it.action}</b>", self.plant(it.plant), self.item(it.plant, it.item), it.quantity, (comes, str(it.date)), needed, kind])
         heads = ["Message", "Plant", "Item", "Quantity", "Comes", "Needed", "Kind"]
         return self.section("moves", "Open orders to expedite, defer, cancel", sortable(heads, rows, " stack") if rows else "", "Each comes when it is needed.")
 
@@ -200,7 +194,7 @@ class Board:
 
     def lanes(self):
         """Returns the figures between plants: what the despatch lane and the schedule lane of a supplier and a customer say of an item."""
-        lanes = self.outline.rows[reports.Lane]
+        lanes = self.outline.rows[mrp.Lane]
         schedule = {(it.receiver, it.sender, it.item): it for it in lanes if it.kind == "schedule"}
         rows = []
         for out in lanes:
@@ -242,19 +236,19 @@ class Board:
 
     def safety(self, record):
         """Returns the safety stock of a pair, or 0 where it isn't known."""
-        *_, safety = (self.outline.facts or {}).get((record.plant, record.item), "0")
-        return int(safety)
+        found = (self.outline.facts or {}).get((record.plant, record.item))
+        return found.safety if found else 0
 
     def facts(self, record):
         """Returns what is known of a pair, in a line."""
         found, stock = (self.outline.facts or {}).get((record.plant, record.item)), f"{record.on_hand():,} on hand"
         if not found:
             return stock
-        supply, rule, lead, _, safety = found
-        kind, *sizes = rule.split(":")
+        kind, *sizes = found.rule.split(":")
         rule = RULES[kind].format(*(f"{int(it):,}" for it in sizes), self.unit)
-        ends = [f"safety stock {int(safety):,}"] if safety != "0" else []
-        return ", ".join([self.supply(supply), rule, f"lead time {reports.counted(int(lead), self.unit)}", stock, *ends])
+        ends = [f"safety stock {found.safety:,}"] if found.safety else []
+        lead = f"lead time {reports.counted(found.lead, self.unit)}"
+        return ", ".join([self.supply(found.supply), rule, lead, stock, *ends])
 
     def to_do(self, record):
         """Returns what is to be done about a pair: its orders to release, else its late orders, and its messages."""
@@ -269,11 +263,11 @@ class Board:
 
     def heads(self):
         """Returns the heads of the periods: the year where it is another one, the week and the day."""
-        heads, year = [], ""
-        for period, text in enumerate(self.dates):
-            day, front = calendar_day(text), f"{text[:4]}<br>" if text[:4] != year else ""
-            heads.append(f'<th title="period {period}, {text}">{front}W{day.isocalendar().week:02}<br>{day.day} {day:%b}</th>')
-            year = text[:4]
+        heads, year = [], None
+        for period, day in enumerate(self.dates):
+            week = f"{day.year}<br>" * (day.year != year) + f"W{day.isocalendar().week:02}"
+            heads.append(f'<th title="period {period}, {day}">{week}<br>{day.day} {day:%b}</th>')
+            year = day.year
         return "".join(heads)
 
     def lines(self, record, late):

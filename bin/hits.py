@@ -1,17 +1,14 @@
 """Which demands late orders hit: what waits for what, from each late order up to the demands. For bin/hit and bin/page."""
-import csv
 import graphlib
 import subprocess
 import sys
 from array import array
 from bisect import bisect_left
-from datetime import date, timedelta
 from itertools import accumulate
 
+import mrp
 import reports
 
-# How the rows of a table begin that are read of it; one may begin with a quote.
-READ = ("run,", "pair,", "bill,", "receipt,", "ship,", '"')
 # Of so many late pairs that stand in no hit it is found what waits for them too: a word has a bit for each.
 MOST_OTHERS = 60
 
@@ -25,7 +22,8 @@ def report(words, table):
 
 
 def hits(table):
-    """Returns the demands that late orders of the table at a path hit, each a reports.Hit: the worst first, then by period, then in table order."""
+    """Returns the demands that late orders of the table at a path hit, each an mrp.Hit: the worst first, then by period,
+    then in table order."""
     return firm_and_hits(table)[1]
 
 
@@ -37,24 +35,26 @@ def hits_and_others(table):
 
 def firm_and_hits(table):
     orders = Orders(report("orders", table))
-    with open(table, encoding="utf-8-sig", newline="") as rows:
-        firm = Firm(rows, orders)
+    with mrp.open_table(table) as lines:
+        firm = Firm(lines, orders)
     firm.take_pegs(report("pegs", table))
     found = sorted(firm.hits(), key=lambda it: (-it.late_at_worst, it.period, firm.places[it.plant, it.item]))
     return firm, found
 
 
 class Orders:
-    """The planned orders of each pair, four figures each: due, quantity, release, and periods late. And the pairs that have late ones."""
+    """The planned orders of each pair, four figures each: due, quantity, release, and periods late. And the pairs that
+    have late ones."""
 
-    def __init__(self, rows):
+    READ = staticmethod(mrp.columns(mrp.Order, "plant", "item", "due", "quantity", "release", "late"))
+
+    def __init__(self, lines):
         self.of, self.late = {}, set()
-        for number, row in enumerate(rows, 1):
-            plant, item, _, quantity, release, _, due, _, late = reports.fields(reports.ORDER, row, number)
-            pair = plant.decode(), item.decode()
-            self.of.setdefault(pair, array("q")).extend((int(due), int(quantity), int(release), int(late)))
-            if late != b"0":
-                self.late.add(pair)
+        for number, line in enumerate(lines, 1):
+            plant, item, *figures = self.READ(line.decode(), number)
+            self.of.setdefault((plant, item), array("q")).extend(map(int, figures))
+            if figures[-1] != "0":
+                self.late.add((plant, item))
 
     def rows(self, pair):
         figures = iter(self.of.get(pair, ()))
@@ -67,10 +67,11 @@ class Firm:
     `takes` has of each pair what goes into it: the components and the suppliers' pairs, each with the periods, as bits, in which a release takes of it.
     """
 
-    def __init__(self, rows, orders):
+    def __init__(self, lines, orders):
+        """Takes the lines of the table, and its Orders."""
         self.orders, self.leads, self.comes_in, self.takes = orders, {}, {}, {}
-        for row in csv.reader(it for it in rows if it.startswith(READ)):
-            self.take(*row)
+        for row in mrp.table_rows(lines, mrp.Run, mrp.Pair, mrp.Bill, mrp.Receipt, mrp.Ship):
+            self.take(row)
         self.pairs = [*self.leads]
         self.places = {pair: place for place, pair in enumerate(self.pairs)}
         self.order = [*graphlib.TopologicalSorter(self.takes).static_order()]
@@ -81,35 +82,38 @@ class Firm:
             self.ends[pair] = self.leads[pair] + below if below or pair in orders.late else 0
         self.gross, self.demand = ({pair: array("q", [0]) * min(end, self.periods) for pair, end in self.ends.items() if end} for _ in "12")
 
-    def take(self, kind, first, second, third, fourth, fifth, on_hand, _):
+    def take(self, row):
         """Takes over a row of the table."""
-        if kind == "run":
-            self.first, self.days, self.periods = date.fromisoformat(first), int(second), int(third)
-        elif kind == "pair":
-            self.leads[first, second], self.comes_in[first, second] = int(fifth), {0: int(on_hand)}
-            self.takes[first, second] = {(plant, second): 0 for plant in third.split(":")[1::2]}
-        elif kind == "bill":
-            self.takes[first, second][first, third] = 0
-        elif kind in ("receipt", "ship"):
-            pair, period, quantity = ((first, second), third, fourth) if kind == "receipt" else ((second, third), fourth, fifth)
-            self.comes_in[pair][int(period)] = self.comes_in[pair].get(int(period), 0) + int(quantity)
+        if isinstance(row, (mrp.Receipt, mrp.Ship)):
+            comes = self.comes_in[row.pair]
+            comes[row.period] = comes.get(row.period, 0) + row.quantity
+        elif isinstance(row, mrp.Bill):
+            self.takes[row.plant, row.parent][row.plant, row.component] = 0
+        elif isinstance(row, mrp.Pair):
+            pair = row.plant, row.item
+            self.leads[pair], self.comes_in[pair] = row.lead, {0: row.on_hand}
+            self.takes[pair] = {(plant, row.item): 0 for plant, _ in mrp.sources(row.supply)}
+        else:
+            self.calendar, self.periods = mrp.calendar_of(row), row.periods
 
-    def take_pegs(self, rows):
+    PEG = staticmethod(mrp.columns(mrp.Peg, "plant", "item", "period", "source", "by_plant", "by_item", "quantity"))
+
+    def take_pegs(self, lines):
         """Takes over the report of pegging, and passes over what can't wait."""
         passed = None
-        for number, row in enumerate(rows, 1):
-            if passed and row.startswith(passed):
+        for number, line in enumerate(lines, 1):
+            if passed and line.startswith(passed):
                 continue
-            plant, item, period, source, by_plant, by_item, _, _, quantity = reports.fields(reports.PEGS, row, number)
-            pair, period = (plant.decode(), item.decode()), int(period)
+            plant, item, period, source, by_plant, by_item, quantity = self.PEG(line.decode(), number)
+            pair, period = (plant, item), int(period)
             if period >= self.ends[pair]:
-                passed = b"pegs,%s,%s," % (plant, item)
+                passed = f"pegs,{plant},{item},".encode()
                 continue
             self.gross[pair][period] += int(quantity)
-            if source == b"demand":
+            if source == "demand":
                 self.demand[pair][period] = int(quantity)
             else:
-                self.takes[by_plant.decode(), by_item.decode()][pair] |= 1 << period
+                self.takes[by_plant, by_item][pair] |= 1 << period
 
     def hits(self):
         """Yields the demands that wait, from components and suppliers up."""
@@ -120,8 +124,8 @@ class Firm:
             waits[pair] = self.waits(pair, waits)
             for period, (quantity, periods, place) in enumerate(zip(self.demand[pair], *waits[pair])):
                 if quantity and periods:
-                    day = self.first + timedelta(days=self.days * period)
-                    yield reports.Hit(*pair, period, str(day), quantity, periods, *self.pairs[place])
+                    day = self.calendar.first_day(period)
+                    yield mrp.Hit(*pair, period, day, quantity, periods, *self.pairs[place])
 
     def waits(self, pair, waits):
         """Returns how many periods the requirements of a pair wait at worst, by period, and the place of the pair whose late order makes it so.

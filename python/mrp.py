@@ -2,57 +2,393 @@
 
     import datetime, mrp
 
-    table = mrp.Table([mrp.Run(datetime.date(2026, 1, 5), 7, 4), mrp.Plant("P1"), mrp.Pair("P1", "BIKE", "make", "lot", 1, 0, 0),
+    table = mrp.Table([mrp.Run(datetime.date(2026, 1, 5), 7, 4), mrp.Plant("P1"),
+                       mrp.Pair("P1", "BIKE", "make", "lot", 1, 0, 0),
                        mrp.Demand("P1", "BIKE", datetime.date(2026, 1, 26), 10)])
     for order in mrp.orders(table, until=0):
         print(order.item, order.quantity, order.due_date)
 
-It needs this file and either the library or the program. The library is the shared object that MRP_LIBRARY names, or libmrp.so beside
-this file; the program is the one that MRP names, else the mrp on the path, else bin/mrp of the sources. Both answer with the same bytes.
-What is refused raises Fault.
+It needs this file and either the library or the program. The library is the shared object that MRP_LIBRARY names, or
+libmrp.so beside this file; the program is the one that MRP names, else the mrp on the path, else the one beside this
+file or in bin/ of the sources. Both answer with the same bytes. What is refused raises Fault.
+
+Tables, reports and dates are read without either. The tools for planners read by this module: here stand the columns
+of each row of a table and of a report, once, with how each is spelled and what it is read as.
 """
 import csv
-import ctypes
 import functools
 import io
+import operator
 import os
 import re
 import shutil
 import subprocess
-from collections import namedtuple
-from datetime import date, datetime
+from bisect import bisect_right
+from datetime import date, datetime, timedelta
+from typing import NamedTuple
 
 HERE = os.path.dirname(os.path.abspath(__file__))
-LAST_PERIOD, DATE = 103, functools.lru_cache(4096)(date.fromisoformat)
+LAST_PERIOD, FIELDS = 103, 8
 
 
-# The rows of a table. A date may stand in the place of a period.
-Run = namedtuple("Run", "first days periods")
-Plant = namedtuple("Plant", "plant")
-Pair = namedtuple("Pair", "plant item supply rule lead on_hand safety")
-Bill = namedtuple("Bill", "plant parent component per")
-Demand = namedtuple("Demand", "plant item period quantity")
-Receipt = namedtuple("Receipt", "plant item period quantity")
-Ship = namedtuple("Ship", "sender receiver item period quantity")
-Cum = namedtuple("Cum", "sender receiver item figure")
-Reset = namedtuple("Reset", "sender receiver item period")
-KINDS = (Run, Plant, Pair, Bill, Demand, Receipt, Ship, Cum, Reset)
-# The rows of reports. Dates are dates, TEXTS are texts, and all else are numbers; what a row hasn't is None.
-Plan = namedtuple("Plan", "plant item period date gross incoming order release available")
-Late = namedtuple("Late", "plant item period quantity by")
-Order = namedtuple("Order", "plant item supply quantity release release_date due due_date late")
-Schedule = namedtuple("Schedule", "kind supplier customer item period date quantity cumulative")
-Code = namedtuple("Code", "plant item code")
-Lane = namedtuple("Lane", "kind sender receiver item opening shipped received transit")
-Peg = namedtuple("Peg", "plant item period source by_plant by_item release per quantity")
-Advice = namedtuple("Advice", "action kind plant item supplier period date quantity needed needed_date")
-ROWS = {"plan": Plan, "late": Late, "order": Order, "schedule": Schedule, "code": Code, "lane": Lane, "pegs": Peg, "advice": Advice}
-TEXTS = {"action", "by_item", "by_plant", "customer", "item", "kind", "plant", "receiver", "sender", "source", "supplier", "supply"}
+class Refused(Exception):
+    """The input is refused. The text says why, in a line."""
+
+
+# How fields are spelled.
+
+
+@functools.lru_cache(4096)
+def day_of(text):
+    """Returns the day that a text spells, as 2026-01-05."""
+    try:
+        return date.fromisoformat(text)
+    except ValueError:
+        raise Refused(f"{text} is no day") from None
+
+
+class Spelling:
+    """How a field is spelled, as a pattern, and what its text is read as. One that may be empty is then None."""
+
+    def __init__(self, pattern, read=str, is_period=False, may_be_empty=False):
+        self.pattern, self.read, self.is_period, self.may_be_empty = pattern, read, is_period, may_be_empty
+
+    def __call__(self, text):
+        """Returns what a text is read as."""
+        return self.read(text) if text else None
+
+    def or_empty(self):
+        return Spelling(self.pattern, self.read, self.is_period, True)
+
+    def group(self):
+        """Returns the pattern of the field in that of a row."""
+        return f"({self.pattern}){'?' if self.may_be_empty else ''}"
+
+
+def one_of(*words):
+    return Spelling("|".join(words))
+
+
+NAME = Spelling("[A-Za-z0-9._-]{1,20}")
+NUMBER = Spelling("0|[1-9][0-9]{0,15}", int)
+# (in a table a date may stand in the place of a period)
+PERIOD = Spelling(NUMBER.pattern, int, is_period=True)
+# Pieces of a component in a parent.
+PER = Spelling(NUMBER.pattern, int)
+DATE = Spelling("[0-9]{4}-[0-9]{2}-[0-9]{2}", day_of)
+SUPPLY = Spelling("make|buy|from:[A-Za-z0-9._:-]{1,99}")
+RULE = Spelling("lot|(?:fixed|periods|min):[0-9:]{1,27}")
+
+
+# The rows of a table, in the order of their kinds. The word of a kind is the name of its class in small letters.
+
+
+class Run(NamedTuple):
+    """The first day of the plan, the days of a period, and how many periods there are."""
+
+    first: DATE
+    days: NUMBER
+    periods: NUMBER
+
+
+class Plant(NamedTuple):
+    """A plant."""
+
+    plant: NAME
+
+
+class Pair(NamedTuple):
+    """An item at a plant: how it is supplied, in which lots, how many periods that takes, and what is there of it."""
+
+    plant: NAME
+    item: NAME
+    supply: SUPPLY
+    rule: RULE
+    lead: NUMBER
+    on_hand: NUMBER
+    safety: NUMBER
+
+
+class Bill(NamedTuple):
+    """So many pieces of a component go into each parent."""
+
+    plant: NAME
+    parent: NAME
+    component: NAME
+    per: PER
+
+
+class Demand(NamedTuple):
+    """Pieces that customers want in a period."""
+
+    plant: NAME
+    item: NAME
+    period: PERIOD
+    quantity: NUMBER
+
+
+class Receipt(NamedTuple):
+    """An open order, which comes in a period."""
+
+    plant: NAME
+    item: NAME
+    period: PERIOD
+    quantity: NUMBER
+
+    @property
+    def pair(self):
+        """The pair that it comes in for."""
+        return self.plant, self.item
+
+
+class Ship(NamedTuple):
+    """Pieces that are under way between two plants, and come in a period."""
+
+    sender: NAME
+    receiver: NAME
+    item: NAME
+    period: PERIOD
+    quantity: NUMBER
+
+    @property
+    def pair(self):
+        """The pair that it comes in for."""
+        return self.receiver, self.item
+
+
+class Cum(NamedTuple):
+    """The cumulative figure that a receiver has booked of an item from a sender."""
+
+    sender: NAME
+    receiver: NAME
+    item: NAME
+    figure: NUMBER
+
+
+class Reset(NamedTuple):
+    """The period in which the cumulative figures of an item between two plants start anew."""
+
+    sender: NAME
+    receiver: NAME
+    item: NAME
+    period: PERIOD
+
+
+# The kinds of rows, by the names of their lists in a table.
+LISTS = {"runs": Run, "plants": Plant, "pairs": Pair, "bills": Bill, "demands": Demand}
+LISTS |= {"receipts": Receipt, "ships": Ship, "cums": Cum, "resets": Reset}
+KINDS = tuple(LISTS.values())
+
+
+# The rows of reports. Dates are dates, and what a row hasn't is None.
+
+
+class Plan(NamedTuple):
+    """The plan of a pair in a period."""
+
+    plant: NAME
+    item: NAME
+    period: NUMBER
+    date: DATE
+    gross: NUMBER
+    incoming: NUMBER
+    order: NUMBER
+    release: NUMBER
+    available: NUMBER
+
+
+class Late(NamedTuple):
+    """A late order: due in `period`, which is `by` periods before it can come."""
+
+    plant: NAME
+    item: NAME
+    period: NUMBER
+    quantity: NUMBER
+    by: NUMBER
+
+
+class Order(NamedTuple):
+    """A planned order: the periods of its release and due date, and their first days; `late` periods are missing."""
+
+    plant: NAME
+    item: NAME
+    supply: SUPPLY
+    quantity: NUMBER
+    release: NUMBER
+    release_date: DATE
+    due: NUMBER
+    due_date: DATE
+    late: NUMBER
+
+
+class Schedule(NamedTuple):
+    """A row of a delivery schedule: its opening, without period and date, a call, or a reset, without a quantity."""
+
+    kind: one_of("opening", "call", "reset")
+    supplier: NAME
+    customer: NAME
+    item: NAME
+    period: NUMBER.or_empty()
+    date: DATE.or_empty()
+    quantity: NUMBER.or_empty()
+    cumulative: NUMBER
+
+
+class Code(NamedTuple):
+    """The low-level code of a pair."""
+
+    plant: NAME
+    item: NAME
+    code: NUMBER
+
+
+class Lane(NamedTuple):
+    """The cumulative figures of an item on a lane between two plants."""
+
+    kind: one_of("despatch", "schedule")
+    sender: NAME
+    receiver: NAME
+    item: NAME
+    opening: NUMBER
+    shipped: NUMBER
+    received: NUMBER
+    transit: NUMBER
+
+
+class Term(NamedTuple):
+    """A term of the gross requirement that `mrp peg` was asked for, and the pair that asks for it."""
+
+    source: one_of("demand", "bill", "plant")
+    plant: NAME
+    item: NAME
+    release: NUMBER
+    per: PER
+    quantity: NUMBER
+
+
+class Peg(NamedTuple):
+    """A term of the gross requirement of a pair in a period, and the pair that asks for it."""
+
+    plant: NAME
+    item: NAME
+    period: NUMBER
+    source: one_of("demand", "bill", "plant")
+    by_plant: NAME
+    by_item: NAME
+    release: NUMBER
+    per: PER
+    quantity: NUMBER
+
+
+class Advice(NamedTuple):
+    """A message for an open order that comes in `period`. One to cancel is never needed; a receipt has no supplier."""
+
+    action: one_of("expedite", "defer", "cancel")
+    kind: one_of("receipt", "ship")
+    plant: NAME
+    item: NAME
+    supplier: NAME.or_empty()
+    period: NUMBER
+    date: DATE
+    quantity: NUMBER
+    needed: NUMBER.or_empty()
+    needed_date: DATE.or_empty()
+
+
+class Hit(NamedTuple):
+    """A row of bin/hit: a demand that late orders delay, by how many periods at worst, and the pair that does it."""
+
+    plant: NAME
+    item: NAME
+    period: NUMBER
+    date: DATE
+    quantity: NUMBER
+    late_at_worst: NUMBER
+    by_plant: NAME
+    by_item: NAME
+
+
+# The rows of reports by their words; and of each report whose columns --header names, the kind of its rows.
+ROWS = {"plan": Plan, "late": Late, "order": Order, "schedule": Schedule, "code": Code, "lane": Lane, "peg": Term}
+ROWS |= {"pegs": Peg, "advice": Advice, "hit": Hit}
+REPORTS = {"check": Code, "peg": Term, "cums": Lane, "orders": Order, "schedule": Schedule}
+REPORTS |= {"pegs": Peg, "advice": Advice, "hit": Hit}
+
+
+class Form:
+    """What the description of a kind says: the word of its rows, and the spellings of its fields."""
+
+    def __init__(self, word, kind):
+        self.word, self.kind, self.spellings = word, kind, [*kind.__annotations__.values()]
+        self.reads = [it.read for it in self.spellings]
+        self.fullmatch = re.compile(",".join([word, *(it.group() for it in self.spellings)]) + "\r?\n").fullmatch
+
+    def is_period(self, place):
+        """Says whether a field is a period."""
+        return any(it.is_period for it in self.spellings[place : place + 1])
+
+    def texts(self, line, number):
+        """Returns the texts of a row's fields from its line in a report, or None for one that is empty."""
+        found = self.fullmatch(line)
+        if not found:
+            raise Refused(f"row {number} is no row of a report: {line[:60].rstrip()!r}")
+        return found.groups()
+
+    def row(self, texts):
+        """Returns a row from the texts of its fields."""
+        return self.kind._make([read(it) if it else None for read, it in zip(self.reads, texts)])
+
+
+TABLE_FORMS = {it.__name__.lower(): Form(it.__name__.lower(), it) for it in KINDS}
+REPORT_FORMS = {word: Form(word, kind) for word, kind in ROWS.items()}
+WORDS = {kind: word for word, kind in ROWS.items()}
+
+
+# Dates.
+
+
+def day(value):
+    """Returns a day, which may be given with a time, or as 2026-01-05."""
+    if isinstance(value, str):
+        return day_of(value)
+    return value.date() if isinstance(value, datetime) else value
+
+
+class Calendar:
+    """The days of a plan's periods.
+
+    It takes some periods with their first days, from period 0 on, and how many days a period lasts. One whose first day
+    isn't among these follows the period before it by as many days.
+    """
+
+    def __init__(self, starts, days):
+        self.periods, self.starts = map(list, zip(*starts))
+        self.days = days
+
+    @classmethod
+    def of_report(cls, dates):
+        """Returns the calendar of a pair's plan rows. The last period is taken to be as long as the one before it."""
+        return cls(enumerate(dates), max(1, (dates[-1] - dates[-2]).days) if len(dates) > 1 else 1)
+
+    def first_day(self, period):
+        """Returns the first day of a period, which may lie behind the plan."""
+        known = bisect_right(self.periods, period) - 1
+        return self.starts[known] + timedelta(days=self.days * (period - self.periods[known]))
+
+    def period(self, value):
+        """Returns the period that a day is in; before the plan it is below 0, and behind it above the last one."""
+        value = day(value)
+        known = max(0, bisect_right(self.starts, value) - 1)
+        found = self.periods[known] + (value - self.starts[known]).days // self.days
+        return min([found, *(it - 1 for it in self.periods[known + 1 : known + 2])])
+
+
+# Tables.
 
 
 class Fault(Exception):
-    """The table or the question is refused, or memory was. `text` is the line of mrp and `name` the fault's name in it; `row` is the number
-    of the row that it names, from 1 as in `table.rows[row - 1]`, or None."""
+    """The table or the question is refused, or memory was. `text` is the line of mrp and `name` the fault's name in it;
+    `row` is the number of the row that it names, from 1 as in `table.rows[row - 1]`, or None."""
 
     def __init__(self, row, name, text):
         super().__init__(row, name, text)
@@ -65,72 +401,212 @@ class Fault(Exception):
 class Table:
     """The table of a firm, from its rows in the order of their kinds, the run row first.
 
-    A row is one of the named tuples above, or a plain one that begins with the word of its kind, as ("plant", "P1"). A date in the place
-    of a period counts as the period that it is in; one outside the plan is refused by mrp, as BadNumber.
+    A row is one of the named tuples above, or a plain one that begins with the word of its kind, as ("plant", "P1").
+    A date in the place of a period counts as the period that it is in; one outside the plan is refused by mrp, as
+    BadNumber. What is no kind is refused by mrp too.
+
+    The rows of a kind are read by name: `table.demands[0].quantity`, `table.run.days`.
     """
 
     def __init__(self, rows):
         self.rows = [(type(it).__name__.lower(), *it) if isinstance(it, KINDS) else tuple(it) for it in rows if it]
 
+    @classmethod
+    def read(cls, lines):
+        """Returns the table of some lines, as of a file that `open_table` opens. A row of no kind is refused."""
+        table = cls(fields_of(lines))
+        for number, (word, *_) in enumerate(table.rows, 1):
+            if word not in TABLE_FORMS:
+                raise Refused(f"row {number}: no kind of row is {word!r}")
+        return table
+
+    def __getattr__(self, name):
+        if name not in LISTS:
+            raise AttributeError(name)
+        return self.of(LISTS[name])
+
+    def of(self, kind):
+        """Returns the rows of a kind by name."""
+        form = TABLE_FORMS[kind.__name__.lower()]
+        rows = (self.fields(it) for it in self.rows if it[0] == form.word)
+        return [form.row("" if it is None else str(it) for it in fields) for fields in rows]
+
+    @property
+    def run(self):
+        """The run row."""
+        return self.runs[0]
+
     def __bytes__(self):
         """Returns the table as mrp reads it."""
         text = io.StringIO()
         writer = csv.writer(text, lineterminator="\n")
-        for kind, *fields in self.rows:
-            texts = [self.field(kind, it) for it in fields]
-            writer.writerow([kind, *texts, *[""] * (7 - len(texts))])
+        for row in self.rows:
+            writer.writerow([row[0], *self.fields(row), *[""] * (FIELDS - len(row))])
         return text.getvalue().encode(errors="surrogateescape")
 
-    def field(self, kind, value):
-        if not isinstance(value, date):
-            return value
-        value = day(value)
-        return value if kind == "run" else (value - self.first).days // self.days
+    def fields(self, row):
+        """Returns the fields of a row, in which a date in the place of a period is that period."""
+        word, *fields = row
+        for place, it in enumerate(fields):
+            if isinstance(it, date):
+                is_period = word in TABLE_FORMS and TABLE_FORMS[word].is_period(place)
+                fields[place] = self.calendar.period(it) if is_period else day(it)
+        return fields
 
     @functools.cached_property
-    def first(self):
-        """The first day of the plan."""
-        return day(self.rows[0][1])
-
-    @functools.cached_property
-    def days(self):
-        """The days of a period."""
-        return int(self.rows[0][2])
+    def calendar(self):
+        """The days of the periods."""
+        return calendar_of(self.run)
 
 
-def day(value):
-    """Returns a day, which may be given with a time, or as 2026-01-05."""
-    if isinstance(value, str):
-        return date.fromisoformat(value)
-    return value.date() if isinstance(value, datetime) else value
+def calendar_of(run):
+    """Returns the calendar that a run row says."""
+    return Calendar([(0, run.first)], run.days)
+
+
+def open_table(path):
+    """Opens a table, which may have been saved by a spreadsheet, for `table_rows`."""
+    return open(path, encoding="utf-8-sig", newline="")
+
+
+def fields_of(lines):
+    """Yields the fields of each row that isn't empty, as csv spells them."""
+    return (it for it in csv.reader(lines) if it)
+
+
+def table_rows(lines, *kinds):
+    """Yields the rows of some kinds, by name, from the lines of a table. A row of no kind is refused.
+
+    Rows of other kinds are passed over by their first bytes, so that many of them take little.
+    """
+    reads = {word: form.row for word, form in TABLE_FORMS.items() if form.kind in kinds}
+    passed = tuple(f"{word}," for word in TABLE_FORMS if word not in reads)
+    for fields in fields_of(it for it in lines if not it.startswith(passed)):
+        word = fields[0]
+        if word in reads:
+            yield reads[word](fields[1:])
+        elif word not in TABLE_FORMS:
+            raise Refused(f"no kind of row is {word!r}")
+
+
+def sources(supply):
+    """Returns the plants that a supply names, each with its share in thousandths."""
+    _, *parts = supply.split(":")
+    return [(plant, int(share)) for plant, share in zip(parts[::2], parts[1::2] or [1000])]
+
+
+# Reports.
+
+
+def line_of(row):
+    """Returns a row of a report as a line, without its end."""
+    return ",".join((WORDS[type(row)], *("" if it is None else str(it) for it in row)))
+
+
+def header(kind):
+    """Returns the names of the columns of a kind of rows, as --header writes them above a report."""
+    return ",".join(("row", *kind._fields))
+
+
+def report_row(line, number):
+    """Returns a row of a report, by the names of its columns, from its line, which has that number and its end."""
+    form = REPORT_FORMS.get(line.partition(",")[0], REPORT_FORMS["late"])
+    return form.row(form.texts(line, number))
+
+
+def columns(kind, *names):
+    """Returns a function that reads some columns of a report's rows, as texts in the order of their names, from a line
+    and its number. Of millions of rows this takes much less than `report_row`."""
+    form, these = REPORT_FORMS[WORDS[kind]], operator.itemgetter(*map(kind._fields.index, names))
+    return lambda line, number: these(form.texts(line, number))
 
 
 def rows_of(text):
-    """Yields the rows of a report."""
-    reader = lambda name: str if name in TEXTS else DATE if name.endswith("date") else int
-    reads = {word: (kind, [*map(reader, kind._fields)]) for word, kind in ROWS.items()}
+    """Yields the rows of a report that mrp has written."""
     for line in text.decode().splitlines():
         word, *fields = line.split(",")
-        kind, read = reads[word]
-        yield kind(*(of(it) if it else None for of, it in zip(read, fields)))
+        yield REPORT_FORMS[word].row(fields)
+
+
+# Names.
+
+
+class Names:
+    """What a file of bin/sheets --names says: the names of plants and items in the sheets, descriptions, and notes.
+    Without a file names are the table's."""
+
+    COLUMNS = ["row", "plant", "item", "period", "date", "quantity", "name", "description", "note"]
+
+    def __init__(self, path=None):
+        self.plants, self.pairs, self.rows, self.is_given = {}, {}, {}, path is not None
+        if self.is_given:
+            try:
+                with open(path, encoding="utf-8", newline="") as file:
+                    rows = csv.reader(file)
+                    if next(rows, None) != self.COLUMNS:
+                        raise ValueError
+                    for it in rows:
+                        self.take(*it)
+            except (TypeError, ValueError, csv.Error):
+                raise Refused(f"{path} is no file that bin/sheets --names has written") from None
+
+    def take(self, kind, plant, item, period, date, quantity, name, description, note):
+        """Takes a row over."""
+        if kind == "plant":
+            self.plants[plant] = name
+        elif kind == "pair":
+            self.pairs[plant, item] = name, description
+        else:
+            said = f"{quantity} of {date}" + (f": {note}" if note else "")
+            self.rows.setdefault((kind, plant, item, int(period)), []).append(said)
+
+    def plant(self, plant):
+        return self.plants.get(plant, plant)
+
+    def item(self, plant, item):
+        """Returns the name of an item at a plant, with its description in brackets."""
+        name, description = self.pairs.get((plant, item), (item, ""))
+        return f"{name} ({description})" if description else name
+
+    def pair(self, plant, item):
+        return f"{self.plant(plant)} {self.item(plant, item)}"
+
+    def meant(self, plant, item):
+        """Returns the names in the table of a plant and an item, which may be those of the sheets."""
+        plants = {name: it for it, name in self.plants.items()}
+        items = {name: it for (_, it), (name, _) in self.pairs.items()}
+        return plants.get(plant, plant), items.get(item, item)
+
+    def of(self, kind, plant, item, period):
+        """Returns what stood beside the rows of a pair in a period, demand, receipt or ship."""
+        return self.rows.get((kind, plant, item, period), [])
+
+
+# Who answers.
 
 
 class Library:
     """The planner in this process, by a shared object (include/mrp.h)."""
 
     def __init__(self, path):
-        self.calls, library = {}, ctypes.CDLL(path)
+        # (who reads reports alone needs none of it)
+        import ctypes
+
+        self.ctypes, self.calls, library = ctypes, {}, ctypes.CDLL(path)
         name, flag, size = [ctypes.c_char_p, ctypes.c_size_t], ctypes.c_bool, ctypes.c_size_t
-        options = {"plan": [], "orders": [flag, ctypes.c_uint64, flag], "schedule": [*name, *name, flag], "check": [flag], "cums": [flag]}
+        options = {"plan": [], "orders": [flag, ctypes.c_uint64, flag], "schedule": [*name, *name, flag]}
+        options |= {"check": [flag], "cums": [flag]}
         for it, types in options.items():
             call = self.calls[it] = library[f"mrp_{it}"]
-            call.argtypes, call.restype = [*name, *types, ctypes.c_char_p, size, ctypes.POINTER(size)], ctypes.c_uint32
+            call.argtypes = [*name, *types, ctypes.c_char_p, size, ctypes.POINTER(size)]
+            call.restype = ctypes.c_uint32
 
     def ask(self, name, table, until=None, supplier=None, customer=None):
         """Returns the status and the text of a call."""
         plants = [(it or "").encode() for it in (supplier, customer)]
         names = [it for plant in plants for it in (plant, len(plant))]
-        options = {"plan": [], "orders": [until is not None, until or 0, False], "schedule": [*names, False]}.get(name, [False])
+        options = {"plan": [], "orders": [until is not None, until or 0, False], "schedule": [*names, False]}
+        options, ctypes = options.get(name, [False]), self.ctypes
         size = ctypes.c_size_t(4 * len(table) + 4096)
         while True:
             room = size.value
@@ -148,7 +624,8 @@ class Program:
 
     def ask(self, name, table, until=None, supplier=None, customer=None):
         """Returns the status and what the program writes."""
-        options = {"--until": until if until is None else min(until, LAST_PERIOD), "--from": supplier or None, "--to": customer or None}
+        options = {"--until": until if until is None else min(until, LAST_PERIOD)}
+        options |= {"--from": supplier or None, "--to": customer or None}
         words = [name, *(f"{word}={it}" for word, it in options.items() if it is not None)]
         done = subprocess.run([self.path, *words], input=table, capture_output=True, check=False)
         return done.returncode, done.stderr if done.returncode else done.stdout
@@ -163,7 +640,9 @@ def library():
 
 def program():
     """Returns the program."""
-    return Program(os.environ.get("MRP") or shutil.which("mrp") or f"{os.path.dirname(HERE)}/bin/mrp")
+    beside = f"{HERE}/mrp"
+    here = beside if os.path.isfile(beside) else f"{os.path.dirname(HERE)}/bin/mrp"
+    return Program(os.environ.get("MRP") or shutil.which("mrp") or here)
 
 
 def report(by, name, table, **options):
@@ -183,12 +662,12 @@ def plan(table):
 
 
 def orders(table, until=None):
-    """Returns the planned orders, each as an Order: with `until` those that are released in that period or before it."""
+    """Returns the planned orders, each as an Order: with `until` those that are released up to that period."""
     return report(library() or program(), "orders", table, until=until)
 
 
 def schedule(table, supplier=None, customer=None):
-    """Returns the delivery schedules, row by row: those from one plant and to one, where their names are given."""
+    """Returns the delivery schedules, row by row: those from one plant and to one, where these are named."""
     return report(library() or program(), "schedule", table, supplier=supplier, customer=customer)
 
 

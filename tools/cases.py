@@ -5,7 +5,10 @@ import os
 import re
 import subprocess
 
-TOP = os.path.dirname(os.path.dirname(os.path.realpath(__file__)))
+from crates import TOP  # (which lets the modules of bin/ be found)
+
+import mrp
+
 COMMANDS = ("check", "plan", "plan --single", "peg A X 0", "cums", "orders", "schedule --from none", "pegs", "advice")
 # The words that ask for the reports that are stored beside the tables of examples/, by the ends of their names.
 STORED = {"plan": "plan", "cums": "cums", **{it: f"{it} --header" for it in ("orders", "schedule", "pegs", "advice")}}
@@ -246,11 +249,13 @@ def long_names_make_long_reports(program):
 
 def pegs_are_those_of_each_pair_and_period(program):
     """The pegging of the whole plan is what each question is answered, with the pair and the period before it."""
-    with open(f"{TOP}/examples/three_plants.csv", encoding="utf-8") as file:
-        table = file.read()
-    pairs = [it.split(",")[1:3] for it in table.splitlines() if it.startswith("pair,")]
-    asked = ((plant, item, t, answer(program, f"peg {plant} {item} {t}", table)) for plant, item in pairs for t in range(6))
-    expect(program, "pegs", table, "".join(f"pegs,{plant},{item},{t},{it[4:]}\n" for plant, item, t, rows in asked for it in rows.splitlines()))
+    with mrp.open_table(f"{TOP}/examples/three_plants.csv") as lines:
+        firm = mrp.Table.read(lines)
+    wanted = ""
+    for it, period in itertools.product(firm.pairs, range(firm.run.periods)):
+        terms = answer(program, f"peg {it.plant} {it.item} {period}", bytes(firm))
+        wanted += "".join(f"pegs,{it.plant},{it.item},{period},{term.removeprefix('peg,')}\n" for term in terms.splitlines())
+    expect(program, "pegs", bytes(firm), wanted)
 
 
 def each_of_20000_pairs_has_an_open_order(program):

@@ -2,6 +2,8 @@
 
 A firm is tools/oracle.py's, with its plans.
 """
+import crates  # noqa: F401  (which lets the modules of bin/ be found)
+import mrp
 
 
 class Waits:
@@ -80,7 +82,7 @@ def demands_above(firm, pair):
         due = [t for t, quantity in enumerate(firm.plans[pair].order) if quantity]
         for first, end in zip(due, [*due[1:], firm.periods]):
             if max(0, first - firm.pairs[pair].lead) == release:
-                terms = [(t, *it) for t in range(first, end) for it in firm.terms(pair, t)]
-                found.update((*pair, t) for t, source, *_ in terms if source == "demand")
-                left += [((plant, item), t) for t, source, plant, item, *_ in terms if source != "demand"]
+                terms = [(t, mrp.Term(*it)) for t in range(first, end) for it in firm.terms(pair, t)]
+                found.update((*pair, t) for t, it in terms if it.source == "demand")
+                left += [((it.plant, it.item), t) for t, it in terms if it.source != "demand"]
     return found

@@ -1,4 +1,6 @@
 """Firms made from a source of chance, and damage to their tables: for tools/torture."""
+import crates  # noqa: F401  (which lets the modules of bin/ be found)
+import mrp
 
 NAMES = ("A", "B", "S", "NORTH", "south", "P-1", "-", "--help", ".", "_x", "007", "1E5", "plan", "a.b-c_d", "X" * 20, "Q2", "Y", "z9", "W", "from")
 QUANTITIES = (1, 2, 5, 7, 30, 99, 1000, 10**6)
@@ -17,10 +19,10 @@ def table(chance, plants=12, pairs=30):
     periods = chance.choice((1, 2, 3, 4, 6, 12, 12, 26, 104))
     quantities = QUANTITIES if chance.random() < 0.9 else (10**12, 1, 10**11)
     firm = Draft(chance, kept, periods, quantities)
-    run = ("run", chance.choice(("2026-01-05", "1970-01-01", "2028-02-28")), chance.randint(1, 31), periods)
-    rows = [run, *(("plant", it) for it in names), *firm.pair_rows(), *firm.bill_rows()]
-    rows += [*firm.period_rows("demand", kept), *firm.period_rows("receipt", kept), *firm.lane_rows()]
-    return "".join(",".join(map(str, it)) + "," * (8 - len(it)) + "\n" for it in rows).encode()
+    run = mrp.Run(chance.choice(("2026-01-05", "1970-01-01", "2028-02-28")), chance.randint(1, 31), periods)
+    rows = [run, *map(mrp.Plant, names), *firm.pair_rows(), *firm.bill_rows()]
+    rows += [*firm.period_rows(mrp.Demand, kept), *firm.period_rows(mrp.Receipt, kept), *firm.lane_rows()]
+    return bytes(mrp.Table(rows))
 
 
 class Draft:
@@ -59,18 +61,18 @@ class Draft:
     def pair_rows(self):
         for pair in self.kept:
             stock = [self.chance.choice((0, 0, *self.quantities)) for _ in "12"]
-            yield "pair", *pair, self.supply(pair), self.rule(), self.chance.choice((0, 0, 1, 1, 2, 3, 104)), *stock
+            yield mrp.Pair(*pair, self.supply(pair), self.rule(), self.chance.choice((0, 0, 1, 1, 2, 3, 104)), *stock)
 
     def bill_rows(self):
         for pair in self.kept:
             parts = self.above(pair, 0) if pair in self.made else []
             for _, component in self.chance.sample(parts, min(self.chance.randint(0, 3), len(parts))):
-                yield "bill", *pair, component, self.chance.choice((1, 1, 2, 3, 12, self.quantities[0] // 10**6 or 1))
+                yield mrp.Bill(*pair, component, self.chance.choice((1, 1, 2, 3, 12, self.quantities[0] // 10**6 or 1)))
 
     def period_rows(self, kind, pairs):
-        """Yields demand or receipt rows, some of them twice."""
+        """Yields rows of demand or receipts, some of them twice."""
         for _ in range(self.chance.randint(0, 2 * len(pairs))):
-            row = kind, *self.chance.choice(pairs), self.chance.randrange(self.periods), self.chance.choice(self.quantities)
+            row = kind(*self.chance.choice(pairs), self.chance.randrange(self.periods), self.chance.choice(self.quantities))
             yield from [row] * self.chance.choice((1, 1, 1, 2))
 
     def lane_rows(self):
@@ -78,14 +80,15 @@ class Draft:
         lanes = [(source, *pair) for pair in self.kept for source in self.sources[pair]]
         anew = {it for it in lanes if self.chance.random() < 0.3}
         ships = [
-            ("ship", *it, self.chance.randrange(self.periods), self.chance.choice(self.quantities))
+            mrp.Ship(*it, self.chance.randrange(self.periods), self.chance.choice(self.quantities))
             for it in lanes
             for _ in range(self.chance.choice((0, 0, 1, 2, 5)))
         ]
         self.chance.shuffle(ships)
-        ships.sort(key=lambda it: it[4] if it[1:4] in anew else 0)
-        cums = [("cum", *it, self.chance.choice((0, 8, 100, 999 * self.quantities[0]))) for it in lanes if self.chance.random() < 0.4]
-        return [*ships, *cums, *(("reset", *it, self.chance.randrange(self.periods)) for it in lanes if it in anew)]
+        ships.sort(key=lambda it: it.period if (it.sender, it.receiver, it.item) in anew else 0)
+        figures = 0, 8, 100, 999 * self.quantities[0]
+        cums = [mrp.Cum(*it, self.chance.choice(figures)) for it in lanes if self.chance.random() < 0.4]
+        return [*ships, *cums, *(mrp.Reset(*it, self.chance.randrange(self.periods)) for it in lanes if it in anew)]
 
 
 def damaged(chance, text):

@@ -6,9 +6,9 @@
 BEGIN;
 SELECT to_regclass('plan_rows') IS NULL AS is_first \gset
 \if :is_first
-CREATE TABLE plan_rows (kind TEXT, plant TEXT, item TEXT, period INTEGER, date DATE,
+CREATE TABLE plan_rows ("row" TEXT, plant TEXT, item TEXT, period INTEGER, date DATE,
     gross BIGINT, incoming BIGINT, "order" BIGINT, release BIGINT, available BIGINT);
-CREATE TABLE lane_rows (kind TEXT, lane TEXT, sender TEXT, receiver TEXT, item TEXT,
+CREATE TABLE lane_rows ("row" TEXT, kind TEXT, sender TEXT, receiver TEXT, item TEXT,
     opening BIGINT, shipped BIGINT, received BIGINT, transit BIGINT);
 CREATE TABLE order_rows ("row" TEXT, plant TEXT, item TEXT, supply TEXT, quantity BIGINT,
     release INTEGER, release_date DATE, due INTEGER, due_date DATE, late INTEGER);
@@ -44,7 +44,7 @@ SELECT despatch.sender AS supplier, despatch.receiver AS customer, despatch.item
     despatch.shipped - despatch.opening AS in_transit, schedule.shipped - despatch.shipped AS still_to_be_shipped
 FROM lane_rows AS despatch
 JOIN lane_rows AS schedule ON schedule.sender = despatch.receiver AND schedule.receiver = despatch.sender AND schedule.item = despatch.item
-WHERE despatch.lane = 'despatch' AND schedule.lane = 'schedule';
+WHERE despatch.kind = 'despatch' AND schedule.kind = 'schedule';
 CREATE VIEW delivery_schedule AS
 SELECT supplier, customer, item, kind, date AS leaves, quantity, cumulative FROM schedule_rows;
 CREATE VIEW pegging AS

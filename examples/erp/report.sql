@@ -12,9 +12,9 @@ DROP TABLE IF EXISTS order_rows;
 DROP TABLE IF EXISTS schedule_rows;
 DROP TABLE IF EXISTS pegs_rows;
 DROP TABLE IF EXISTS advice_rows;
-CREATE TABLE plan_rows (kind TEXT, plant TEXT, item TEXT, period INTEGER, date TEXT,
+CREATE TABLE plan_rows ("row" TEXT, plant TEXT, item TEXT, period INTEGER, date TEXT,
     gross INTEGER, incoming INTEGER, "order" INTEGER, release INTEGER, available INTEGER);
-CREATE TABLE lane_rows (kind TEXT, lane TEXT, sender TEXT, receiver TEXT, item TEXT,
+CREATE TABLE lane_rows ("row" TEXT, kind TEXT, sender TEXT, receiver TEXT, item TEXT,
     opening INTEGER, shipped INTEGER, received INTEGER, transit INTEGER);
 CREATE TABLE order_rows ("row" TEXT, plant TEXT, item TEXT, supply TEXT, quantity INTEGER,
     release INTEGER, release_date TEXT, due INTEGER, due_date TEXT, late INTEGER);
@@ -87,7 +87,7 @@ SELECT despatch.sender AS supplier, despatch.receiver AS customer, despatch.item
     despatch.shipped - despatch.opening AS in_transit, schedule.shipped - despatch.shipped AS still_to_be_shipped
 FROM lane_rows AS despatch
 JOIN lane_rows AS schedule ON schedule.sender = despatch.receiver AND schedule.receiver = despatch.sender AND schedule.item = despatch.item
-WHERE despatch.lane = 'despatch' AND schedule.lane = 'schedule';
+WHERE despatch.kind = 'despatch' AND schedule.kind = 'schedule';
 
 -- what each supplier is to ship and when, with the cumulative figure in force; a reset closes a figure and has no quantity
 DROP VIEW IF EXISTS delivery_schedule;
