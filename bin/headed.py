@@ -10,7 +10,12 @@ import os
 import re
 import unicodedata
 
-MOST_SLIPS, DIGITS = 100, re.compile("-?[0-9]{1,99}")
+MOST_SLIPS, DIGITS = 100, re.compile("-?(0|[1-9][0-9]{0,98})")
+# A number with marks between thousands, with decimals, or with both.
+MARKED = re.compile(r"-?(?P<whole>[0-9]{1,3}(?:(?P<group>[.,' \u2019\u00a0\u202f])[0-9]{3}(?:(?P=group)[0-9]{3})*)?|[0-9]+)"
+                    r"(?:(?P<mark>[.,])(?P<decimals>[0-9]+))?")
+# What is said of a part of a piece.
+SMALLER = "plan the item in a smaller unit (docs/limits.md, fractions)"
 # What is written for letters where a keyboard hasn't them, if that isn't the letter without its mark.
 LETTERS = {"ä": "ae", "ö": "oe", "ü": "ue", "ß": "ss", "æ": "ae", "œ": "oe", "þ": "th", **dict(zip("øłđðħŧı", "olddhti"))}
 # What columns are headed too, in English, German, French and Spanish, as `key` has it.
@@ -33,6 +38,8 @@ LEAD += " delai delaidelivraison delaidapprovisionnement plazo plazodeentrega ti
 UNITS = {"period periods periode perioden periodes periodo periodos": 0, "week weeks woche wochen semaine semaines semana semanas": 7}
 UNITS |= {"day days tag tage tagen jour jours dia dias": 1}
 LEADS = {front + link + unit: days for units, days in UNITS.items() for front, link, unit in itertools.product(LEAD.split(), ("", "in", "en"), units.split())}
+# The columns that name things. A row in which two cells are empty, and one of these is, may be a sum.
+NAMING = {"Plant", "Item", "Parent", "Component", "From", "To"}
 # The columns of each sheet, and what else they are headed.
 SHEETS = {
     "firm.csv": {
@@ -128,12 +135,35 @@ def known_keys():
     return {it for columns in SHEETS.values() for column in columns.items() for it in keys(*column)}.union(DESCRIBED)
 
 
-def number(least, most):
-    """Returns what reads a whole number between two."""
+def instead(text, part):
+    """Returns what to write for a text that is no whole number: what is said of a part, where it has one or may have one."""
+    found = MARKED.fullmatch(text)
+    if not found or found["group"] and found["group"] == found["mark"]:
+        return "write one as 1200"
+    whole, group, decimals = found["whole"], found["group"], found["decimals"] or ""
+    digits = "-" * text.startswith("-") + re.sub("[^0-9]", "", whole)
+    if not int(digits) and not decimals.strip("0"):
+        return "write it as 0"
+    if decimals.strip("0") or group and whole.startswith("0"):
+        return part
+    if not group or decimals or group not in ".," or whole.count(group) > 1:
+        return f"write it as {int(digits)}"
+    # (with three digits behind one point or comma, which may be decimals)
+    if whole.endswith("000"):
+        return f"write {digits} or {digits[:-3]}, whichever is meant"
+    return f"write {digits} if that is meant" + (f", else {part}" if part else "")
+
+
+def number(least, most, part=SMALLER):
+    """Returns what reads a whole number between two, and for a part of one says what is given."""
 
     def read(text):
         if not DIGITS.fullmatch(text):
-            raise Slip(f"{text!r} is no whole number; write its digits alone")
+            if re.fullmatch("-?0[0-9]+", text):
+                sign, digits = text[: text.startswith("-")], text.lstrip("-")
+                meant = f", or where {sign}0.{digits[1:]} is meant {part}" if part else ""
+                raise Slip(f"{text!r} begins with a 0; write {int(text)}{meant}")
+            raise Slip(f"{text!r} is no whole number" + (f"; {more}" if (more := instead(text, part)) else ""))
         if not least <= int(text) <= most:
             raise Slip(f"{text!r} is not from {least} to {most}")
         return int(text)
@@ -263,4 +293,10 @@ class Sheet:
             if any(cells[wide:]):
                 self.slip(place, f": it has more cells than headings, as {next(filter(None, cells[wide:]))!r}; a separator within a cell wants quotes")
             if any(cells):
-                yield Row(self, place, cells + [""] * (wide - len(cells)))
+                row = Row(self, place, cells + [""] * (wide - len(cells)))
+                empty = [it for it in self.places if not row.text(it)]
+                if len(empty) > 1 and NAMING.intersection(empty):
+                    *heads, last = map(self.heading, empty)
+                    self.slip(place, f": {', '.join(heads)} and {last} are empty; delete the row if it is a sum")
+                else:
+                    yield row

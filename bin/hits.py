@@ -1,4 +1,7 @@
-"""Which demands late orders hit: what waits for what, from each late order up to the demands. For bin/hit and bin/page."""
+"""Which demands late orders hit: what waits for what, from each late order up to the demands. For bin/hit and bin/page.
+
+What waits for what is what the table says: a receipt waits for nothing, be it of an order whose components stand among the demands.
+"""
 import graphlib
 import subprocess
 import sys

@@ -1,0 +1,556 @@
+"""What leads planners into a wrong act is told: by bin/sheets, bin/counts, bin/renew and the nights of docs/integrate.md.
+
+The program is the one that MRP names, or the proved one where it is built of the sources; without, the nights are skipped.
+"""
+import datetime
+import hashlib
+import os
+import re
+import shutil
+import subprocess
+
+import pytest
+
+TOP = os.path.dirname(os.path.dirname(os.path.dirname(os.path.realpath(__file__))))
+# The sheets of examples/bicycle.csv, of a firm that has nothing on order; its period 0 holds MONDAY.
+MONDAY = "2026-01-05"
+BICYCLE = {
+    "firm.csv": "First day,Days,Periods\n2026-01-05,7,4\n",
+    "items.csv": "Plant,Item,Supply,Lot rule,Lead (periods),On hand,Safety stock\n"
+    "P1,BIKE,make,lot,1,0,0\nP1,WHEEL,buy,lot,1,0,0\n",
+    "bills.csv": "Plant,Parent,Component,Per\nP1,BIKE,WHEEL,2\n",
+    "demands.csv": "Plant,Item,Due,Quantity\nP1,BIKE,2026-01-26,10\n",
+    "receipts.csv": "Plant,Item,Due,Quantity\n",
+}
+TABLE = """\
+run,2026-01-05,7,4,,,,
+plant,P1,,,,,,
+pair,P1,BIKE,make,lot,1,0,0
+pair,P1,WHEEL,buy,lot,1,0,0
+bill,P1,BIKE,WHEEL,2,,,
+demand,P1,BIKE,3,10,,,
+"""
+SMALLER = "plan the item in a smaller unit (docs/limits.md, fractions)"
+REFUSED = "bin/sheets: 1 slip; nothing is written\n"
+STRICT = "bin/sheets: by --strict these are slips; nothing is written\n"
+
+
+def program():
+    """Returns the path of the program, or skips the test where there is none."""
+    if os.environ.get("MRP"):
+        return os.path.abspath(os.environ["MRP"])
+    if subprocess.run([f"{TOP}/tools/built", "--ask", "mrp", "mrp"], check=False).returncode:
+        pytest.fail("no program") if os.environ.get("CI") == "true" else pytest.skip("no program")
+    return f"{TOP}/crates/mrp/out/mrp"
+
+
+def run(folder, *words, given="", **more):
+    """Runs a tool, and returns its status, its output and its errors."""
+    variables = {**os.environ, "PYTHONDONTWRITEBYTECODE": "1"}
+    how = {"input": given, "capture_output": True, "text": True, "timeout": 600, "env": variables, "check": False, **more}
+    done = subprocess.run([f"{TOP}/{words[0]}", *words[1:]], cwd=folder, **how)
+    return done.returncode, done.stdout, done.stderr
+
+
+def sheets(folder, found, *words):
+    """Runs bin/sheets on some sheets, on the day of their period 0."""
+    shutil.rmtree(folder / "firm", ignore_errors=True)
+    (folder / "firm").mkdir()
+    for name, text in found.items():
+        (folder / "firm" / name).write_text(text, encoding="utf-8")
+    return run(folder, "bin/sheets", "--today", MONDAY, *words, "firm")
+
+
+def test_a_good_folder_is_silent(tmp_path):
+    assert sheets(tmp_path, BICYCLE) == (0, TABLE, "")
+    assert sheets(tmp_path, BICYCLE, "--strict") == (0, TABLE, "")
+
+
+@pytest.mark.parametrize(
+    "text, told",
+    [
+        ("0,25", f"is no whole number; {SMALLER}"),
+        ("4,2", f"is no whole number; {SMALLER}"),
+        ("1.5", f"is no whole number; {SMALLER}"),
+        ("-0.5", f"is no whole number; {SMALLER}"),
+        ("0,250", f"is no whole number; {SMALLER}"),
+        ("1.200,50", f"is no whole number; {SMALLER}"),
+        ("1,250", f"is no whole number; write 1250 if that is meant, else {SMALLER}"),
+        ("12,000", "is no whole number; write 12000 or 12, whichever is meant"),
+        ("12.0", "is no whole number; write it as 12"),
+        ("12,00", "is no whole number; write it as 12"),
+        ("0,000", "is no whole number; write it as 0"),
+        ("1 200", "is no whole number; write it as 1200"),
+        ("1'200", "is no whole number; write it as 1200"),
+        ("1.200.300", "is no whole number; write it as 1200300"),
+        ("1.200,00", "is no whole number; write it as 1200"),
+        ("1E+06", "is no whole number; write one as 1200"),
+        ("12 Stk", "is no whole number; write one as 1200"),
+        ("1.234.5", "is no whole number; write one as 1200"),
+        ("025", f"begins with a 0; write 25, or where 0.25 is meant {SMALLER}"),
+        ("00", f"begins with a 0; write 0, or where 0.0 is meant {SMALLER}"),
+    ],
+)
+def test_what_to_write_for_what_is_no_whole_number(tmp_path, text, told):
+    said = f"bills.csv row 2, Per: {text!r} {told}\n{REFUSED}"
+    assert sheets(tmp_path, {**BICYCLE, "bills.csv": f'Plant,Parent,Component,Per\nP1,BIKE,WHEEL,"{text}"\n'}) == (1, "", said)
+
+
+@pytest.mark.parametrize(
+    "sheet, old, new, told",
+    [
+        ("demands.csv", ",10", ",010", f"Quantity: '010' begins with a 0; write 10, or where 0.10 is meant {SMALLER}"),
+        ("items.csv", "BIKE,make,lot,1,0", "BIKE,make,lot,1,05", f"On hand: '05' begins with a 0; write 5, or where 0.5 is meant {SMALLER}"),
+        ("items.csv", "BIKE,make,lot", "BIKE,make,fixed:025", f"Lot rule: 'fixed:025': '025' begins with a 0; write 25, or where 0.25 is meant {SMALLER}"),
+        ("items.csv", "BIKE,make,lot", "BIKE,make,fixed:2.5", f"Lot rule: 'fixed:2.5': '2.5' is no whole number; {SMALLER}"),
+        ("items.csv", "BIKE,make,lot", "BIKE,make,periods:02", "Lot rule: 'periods:02': '02' begins with a 0; write 2"),
+        ("items.csv", "BIKE,make,lot,1", "BIKE,make,lot,1.5", "Lead (periods): '1.5' is no whole number; round it up, or head the column Lead (days)"),
+        ("firm.csv", ",7,", ",07,", "Days: '07' begins with a 0; write 7"),
+        ("firm.csv", ",4", ",4.5", "Periods: '4.5' is no whole number"),
+    ],
+)
+def test_each_number_cell_refuses_parts_and_a_0_in_front(tmp_path, sheet, old, new, told):
+    said = f"{sheet} row 2, {told}\n{REFUSED}"
+    assert sheets(tmp_path, {**BICYCLE, sheet: BICYCLE[sheet].replace(old, new, 1)}) == (1, "", said)
+
+
+@pytest.mark.parametrize(
+    "row, told",
+    [
+        ("Total,,,,17", "Item and Due are empty"),
+        (",,,Total,17", "Plant, Item and Due are empty"),
+        ("P1,,2026-01-26,,", "Item and Quantity are empty"),
+    ],
+)
+def test_a_sum_is_one_slip(tmp_path, row, told):
+    demands = f"Plant,Item,Due,Order,Quantity\nP1,BIKE,2026-01-26,,10\n{row}\n"
+    said = f"demands.csv row 3: {told}; delete the row if it is a sum\n{REFUSED}"
+    assert sheets(tmp_path, {**BICYCLE, "demands.csv": demands}) == (1, "", said)
+
+
+def test_one_empty_cell_is_the_slip_that_it_was(tmp_path):
+    said = f"demands.csv row 3, Item: nothing stands here\n{REFUSED}"
+    assert sheets(tmp_path, {**BICYCLE, "demands.csv": BICYCLE["demands.csv"] + "P1,,2026-01-26,10\n"}) == (1, "", said)
+
+
+def test_rows_of_0_are_left_out_and_told_once(tmp_path):
+    """Whatever else stands in them, and in no count of overdue rows."""
+    demands = BICYCLE["demands.csv"] + "P1,BIKE,2025-01-05,0\nP1,GONE,2026-01-05,0\n"
+    ships = "From,To,Item,Arrives,Quantity\nP1,P2,BIKE,2026-01-05,0\n"
+    found = {**BICYCLE, "demands.csv": demands, "receipts.csv": "Plant,Item,Due,Quantity\nP1,WHEEL,,0\n", "shipments.csv": ships}
+    said = "demands.csv: 2 rows of 0 left out (rows 3, 4)\nreceipts.csv: 1 row of 0 left out (row 2)\n"
+    said += "shipments.csv: 1 row of 0 left out (row 2)\n"
+    assert sheets(tmp_path, found) == (0, TABLE, said)
+    assert sheets(tmp_path, found, "--strict") == (1, "", said + STRICT)
+    found["demands.csv"] = BICYCLE["demands.csv"] + "P1,BIKE,2026-01-05,-1\n"
+    assert sheets(tmp_path, found) == (1, "", f"demands.csv row 3, Quantity: '-1' is not from 1 to 1000000000000\n{REFUSED}")
+
+
+def test_stock_below_0_is_a_demand_of_period_0(tmp_path):
+    items = BICYCLE["items.csv"].replace("WHEEL,buy,lot,1,0", "WHEEL,buy,lot,1,-4")
+    said = "items.csv: stock below 0 (row 3): 0 on hand, and what is missing is a demand of period 0\n"
+    table = TABLE.replace("demand,", "demand,P1,WHEEL,0,4,,,\ndemand,", 1)
+    assert sheets(tmp_path, {**BICYCLE, "items.csv": items}, "--names", "names.csv") == (0, table, said)
+    assert "\ndemand,P1,WHEEL,0,2026-01-05,4,,,On hand -4\n" in (tmp_path / "names.csv").read_text()
+    assert sheets(tmp_path, {**BICYCLE, "items.csv": items}, "--strict") == (1, "", said + STRICT)
+    items = BICYCLE["items.csv"].replace("WHEEL,buy,lot,1,0,0", "WHEEL,buy,lot,1,0,-4")
+    said = f"items.csv row 3, Safety stock: '-4' is not from 0 to 1000000000000\n{REFUSED}"
+    assert sheets(tmp_path, {**BICYCLE, "items.csv": items}) == (1, "", said)
+
+
+@pytest.mark.parametrize(
+    "today, first",
+    [
+        ("2026-01-04", "2025-12-29"),
+        ("2026-01-05", None),
+        ("11.01.2026", None),
+        ("2026-01-12", "2026-01-12"),
+        ("2026-03-01", "2026-02-23"),
+    ],
+)
+def test_the_first_period_is_to_hold_today(tmp_path, today, first):
+    day = "-".join(reversed(today.split("."))) if "." in today else today
+    said = f"firm.csv row 2, First day: the period from 2026-01-05 on doesn't hold today, {day}; the one that does begins on {first}\n"
+    assert sheets(tmp_path, BICYCLE, "--today", today) == (0, TABLE, said if first else "")
+    assert sheets(tmp_path, BICYCLE, "--today", today, "--strict") == ((1, "", said + STRICT) if first else (0, TABLE, ""))
+
+
+def test_the_clock_says_which_day_is_today(tmp_path):
+    for back in (0, 8):
+        first = datetime.date.today() - datetime.timedelta(back)
+        firm = f"First day,Days,Periods\n{first},7,4\n"
+        sheets(tmp_path, {**BICYCLE, "firm.csv": firm, "demands.csv": f"Plant,Item,Due,Quantity\nP1,BIKE,{first},10\n"})
+        status, table, said = run(tmp_path, "bin/sheets", "firm")
+        assert (status, table) == (0, TABLE.replace(MONDAY, str(first)).replace("BIKE,3,10", "BIKE,0,10"))
+        assert ("doesn't hold today" in said) == (back > 0)
+    for bad, why in (("soon", "'soon' is no date; write it as 2026-12-01"), ("0001-01-01", "'0001-01-01' is not within the years 1970 to 2199")):
+        assert run(tmp_path, "bin/sheets", "--today", bad, "firm") == (2, "", f"bin/sheets: argument --today: {why}\n")
+
+
+# A firm that makes, buys, and takes from another plant.
+BOTH = {
+    **BICYCLE,
+    "items.csv": BICYCLE["items.csv"] + "P2,BIKE,from:P1,lot,1,0,0\n",
+    "demands.csv": "Plant,Item,Due,Quantity\nP2,BIKE,2026-01-26,10\n",
+    "shipments.csv": "From,To,Item,Arrives,Quantity\n",
+}
+NO_DEMAND = "demands.csv: it is missing, and nothing is asked for\n"
+
+
+@pytest.mark.parametrize(
+    "name, said",
+    [
+        ("demands.csv", NO_DEMAND),
+        ("bills.csv", "bills.csv: it is missing, and 1 item is made; nothing is planned of what goes into them\n"),
+        ("receipts.csv", "receipts.csv: it is missing, and 1 item is bought; what is on order is planned again\n"),
+        ("shipments.csv", "shipments.csv: it is missing, and 1 item is taken from another plant; what is on its way is planned again\n"),
+    ],
+)
+def test_a_sheet_that_is_missing_is_told(tmp_path, name, said):
+    """Once, by its name: what follows of it for each item isn't told besides, but for what nothing takes without bills."""
+    more = "items.csv row 3: P1 WHEEL has no demand, and nothing takes it\n" * (name == "bills.csv")
+    found = {it: text for it, text in BOTH.items() if it != name}
+    status, table, errors = sheets(tmp_path, found)
+    assert (status, errors) == (0, said + more)
+    assert sheets(tmp_path, found, "--strict") == (1, "", said + more + STRICT)
+    # (with headings alone a sheet says that there is nothing, but a firm without demands plans nothing)
+    found[name] = BOTH[name].split("\n")[0] + "\n"
+    told = {"demands.csv": "demands.csv: it has no rows to plan, and nothing is asked for\n"}
+    told["bills.csv"] = "items.csv row 2: P1 BIKE is made and has no bill\n" + more
+    assert sheets(tmp_path, found) == (0, table, told.get(name, ""))
+
+
+def test_sheets_that_a_firm_may_lack(tmp_path):
+    """Of plants, figures and resets none is told; nor what it has no items for."""
+    assert sheets(tmp_path, BOTH)[2] == ""
+    only = "Plant,Item,Supply,Lot rule,Lead (periods),On hand,Safety stock\nP1,BIKE,buy,lot,1,0,0\n"
+    found = {it: BICYCLE[it] for it in ("firm.csv", "demands.csv", "receipts.csv")}
+    table = TABLE.replace("make", "buy").replace("pair,P1,WHEEL,buy,lot,1,0,0\nbill,P1,BIKE,WHEEL,2,,,\n", "")
+    assert sheets(tmp_path, {**found, "items.csv": only}) == (0, table, "")
+
+
+def test_a_sheet_of_another_name_is_told(tmp_path):
+    found = {"bom.csv" if name == "bills.csv" else name: text for name, text in BICYCLE.items()}
+    said = "not read, for no sheet has this name: bom.csv\n"
+    said += "bills.csv: it is missing, and 1 item is made; nothing is planned of what goes into them\n"
+    said += "items.csv row 3: P1 WHEEL has no demand, and nothing takes it\n"
+    assert sheets(tmp_path, found) == (0, TABLE.replace("bill,P1,BIKE,WHEEL,2,,,\n", ""), said)
+    assert sheets(tmp_path, found, "--strict") == (1, "", said + STRICT)
+    # (one that is nearly the name of a sheet was a slip before)
+    found["bill.csv"] = found.pop("bom.csv")
+    assert sheets(tmp_path, found) == (1, "", f"bill.csv: no sheet has this name (bills.csv?)\n{REFUSED}")
+
+
+def test_a_receipt_of_what_is_made_is_told(tmp_path):
+    """But not where something that goes into it is asked for, and not of what is bought."""
+    found = {**BICYCLE, "receipts.csv": "Order,Plant,Item,Due,Quantity\nFA-7,P1,BIKE,2026-01-12,4\n,P1,BIKE,2026-01-19,4\nB-2,P1,WHEEL,2026-01-12,4\n"}
+    table = TABLE + "receipt,P1,BIKE,1,4,,,\nreceipt,P1,BIKE,2,4,,,\nreceipt,P1,WHEEL,1,4,,,\n"
+    said = "receipts.csv row 2: P1 BIKE is made; what the order still takes (Order FA-7) belongs in demands.csv\n"
+    said += "receipts.csv row 3: P1 BIKE is made; what the order still takes belongs in demands.csv\n"
+    assert sheets(tmp_path, found) == (0, table, said)
+    assert sheets(tmp_path, found, "--strict") == (1, "", said + STRICT)
+    found["demands.csv"] += "P1,WHEEL,2026-01-05,8\n"
+    assert sheets(tmp_path, found)[2] == ""
+    found = {**BICYCLE, "receipts.csv": "Plant,Item,Due,Quantity\n" + "P1,BIKE,2026-01-12,4\n" * 25}
+    lines = sheets(tmp_path, found)[2].splitlines()
+    assert (len(lines), lines[-1]) == (21, "receipts.csv: of items that are made: 5 more")
+
+
+def test_a_vendor_that_is_a_plant_has_no_warning(tmp_path):
+    """Its lead time of 0 is right; that of an item that no plant takes is told."""
+    items = BICYCLE["items.csv"].replace("P1,WHEEL,buy,lot,1", "P1,WHEEL,from:V,lot,1") + "V,WHEEL,buy,lot,0,0,0\n"
+    assert sheets(tmp_path, {**BICYCLE, "items.csv": items, "shipments.csv": BOTH["shipments.csv"]})[2] == ""
+    items = BICYCLE["items.csv"].replace("P1,WHEEL,buy,lot,1", "P1,WHEEL,buy,lot,0")
+    assert sheets(tmp_path, {**BICYCLE, "items.csv": items})[2] == "items.csv row 3: P1 WHEEL has a lead time of 0\n"
+
+
+def test_what_became_of_rows_is_no_slip_by_strict(tmp_path):
+    demands = "Plant,Item,Due,Quantity\nP1,BIKE/28,2026-01-04,1\nP1,BIKE/28,2026-01-26,10\nP1,BIKE/28,2026-02-02,1\n"
+    found = {name: text.replace("BIKE", "BIKE/28") for name, text in BICYCLE.items()}
+    said = "items.csv: 1 name written otherwise, as BIKE_28 for BIKE/28\n"
+    said += "demands.csv: 1 overdue row in period 0, 1 row beyond 2026-02-01 left out (row 4)\n"
+    table = TABLE.replace("BIKE", "BIKE_28").replace("demand,", "demand,P1,BIKE_28,0,1,,,\ndemand,")
+    assert sheets(tmp_path, {**found, "demands.csv": demands}, "--strict") == (0, table, said)
+
+
+def test_strict_keeps_the_old_files(tmp_path):
+    for name in ("table.csv", "names.csv"):
+        (tmp_path / name).write_text("last week\n")
+    words = "--strict", "--out", "table.csv", "--names", "names.csv"
+    found = {it: text for it, text in BICYCLE.items() if it != "demands.csv"}
+    assert sheets(tmp_path, found, *words) == (1, "", NO_DEMAND + STRICT)
+    assert [(tmp_path / name).read_text() for name in ("table.csv", "names.csv")] == ["last week\n"] * 2
+    assert sheets(tmp_path, BICYCLE, *words) == (0, "", "")
+    assert (tmp_path / "table.csv").read_text() == TABLE
+    # (slips are told as they are without, and no warning beside them)
+    found["bills.csv"] = "Plant,Parent,Component,Per\nP1,BIKE,WHEEL,x\n"
+    said = f"bills.csv row 2, Per: 'x' is no whole number; write one as 1200\n{REFUSED}"
+    assert sheets(tmp_path, found, "--strict") == sheets(tmp_path, found) == (1, "", said)
+
+
+def test_names_and_out_are_two_files(tmp_path):
+    (tmp_path / "link.csv").symlink_to("same.csv")
+    for out in ("same.csv", "./same.csv", "link.csv"):
+        assert sheets(tmp_path, BICYCLE, "--names", "same.csv", "--out", out) == (2, "", "bin/sheets: --names and --out are one file\n")
+    assert not (tmp_path / "same.csv").exists()
+
+
+def test_long_names_that_are_cut_alike(tmp_path):
+    """With a file of names each has digits of its own, wherever it stands; without they are a slip."""
+    screws = ["SCHRAUBE DIN 933 M8x30", "SCHRAUBE DIN 933 M8x25"]
+    codes = [f"SCHRAUBE_DIN_93-{hashlib.sha256(it.encode()).hexdigest()[:4]}" for it in screws]
+    head = BICYCLE["items.csv"].split("\n")[0] + "\n"
+    demands = BICYCLE["demands.csv"].split("\n")[0] + "\n" + "".join(f"P1,{it},2026-01-05,{place}\n" for place, it in enumerate(screws, 1))
+    for order in (screws, screws[::-1]):
+        found = {"firm.csv": BICYCLE["firm.csv"], "demands.csv": demands, "receipts.csv": BICYCLE["receipts.csv"]}
+        found["items.csv"] = head + "".join(f"P1,{it},buy,lot,1,0,0\n" for it in order)
+        status, table, said = sheets(tmp_path, found, "--names", "names.csv")
+        first = codes[screws.index(order[0])]
+        told = f"items.csv: 2 names written otherwise, as {first} for {order[0]}\n"
+        told += f"items.csv: 2 of them end in digits, for cut they are alike, as {first} for {order[0]}\n"
+        assert (status, said) == (0, told)
+        assert [it for it in table.splitlines() if it.startswith("demand")] == [f"demand,P1,{it},0,{place},,," for place, it in enumerate(codes, 1)]
+        names = (tmp_path / "names.csv").read_text()
+        assert all(f"\npair,P1,{code},,,,{name},,\n" in names for code, name in zip(codes, screws))
+        status, table, said = sheets(tmp_path, found)
+        alike = f"{order[1]!r} and {order[0]!r} are both SCHRAUBE_DIN_933_M8x in the table"
+        assert (status, table, said) == (1, "", f"items.csv row 3, Item: {alike}; rename one, or give --names FILE\n{REFUSED}")
+    # (one that is as long as it may be keeps its name, and a long one that is alone is cut as before)
+    for other, code in (("SCHRAUBE_DIN_933_M8x", codes[0]), ("SCHRAUBE", "SCHRAUBE_DIN_933_M8x")):
+        found["items.csv"] = f"{head}P1,{screws[0]},buy,lot,1,0,0\nP1,{other},buy,lot,1,0,0\n"
+        found["demands.csv"] = BICYCLE["demands.csv"].split("\n")[0] + "\n"
+        table = sheets(tmp_path, found, "--names", "names.csv")[1]
+        assert [it.split(",")[2] for it in table.splitlines() if it.startswith("pair")] == [code, other]
+    # (and short ones that meet are a slip)
+    found["items.csv"] = f"{head}P1,A/B,buy,lot,1,0,0\nP1,A_B,buy,lot,1,0,0\n"
+    said = f"items.csv row 3, Item: 'A_B' and 'A/B' are both A_B in the table; rename one\n{REFUSED}"
+    assert sheets(tmp_path, found, "--names", "names.csv") == (1, "", said)
+
+
+# The firm of examples/three_plants.csv: how many rows each kind has, by hand.
+THREE = {"run": 1, "plant": 3, "pair": 9, "pair with stock": 8, "pair with safety stock": 2, "bill": 4, "demand": 6, "receipt": 1, "ship": 2, "cum": 3}
+KEPT = "kind,rows\n" + "".join(f"{kind},{rows}\n" for kind, rows in THREE.items())
+NEW = "bin/counts: counts.csv is new, so nothing was compared\n"
+AS_IT_WAS = "bin/counts: counts.csv is as it was; if the table is right, --accept takes it\n"
+
+
+def three_plants():
+    with open(f"{TOP}/examples/three_plants.csv", encoding="utf-8") as file:
+        return file.read()
+
+
+def counts(folder, table, *words):
+    """Runs bin/counts, and returns its status, its errors and what the file has then."""
+    status, out, said = run(folder, "bin/counts", *words, "counts.csv", given=table)
+    kept = folder / "counts.csv"
+    assert out == "" and not (folder / "counts.csv.new").exists()
+    return status, said, kept.read_text() if kept.exists() else None
+
+
+def test_counts_keeps_the_numbers_of_the_first_table(tmp_path):
+    assert counts(tmp_path, three_plants(), "--check") == (0, "", None)
+    assert counts(tmp_path, three_plants()) == (0, NEW, KEPT)
+    assert counts(tmp_path, three_plants()) == (0, "", KEPT)
+    quoted = "\ufeff" + re.sub("(?m)^([a-z]+)", r'"\1"', three_plants()).replace("\n", "\r\n")
+    assert counts(tmp_path, quoted) == (0, "", KEPT)
+
+
+@pytest.mark.parametrize("kind", ["plant", "pair", "bill", "demand", "receipt", "ship", "cum"])
+def test_counts_refuses_a_table_without_a_kind(tmp_path, kind):
+    counts(tmp_path, three_plants())
+    less = re.sub(f"(?m)^{kind},.*\n", "", three_plants())
+    said = "".join(
+        f"{it}: {rows} row{'s' * (rows > 1)} before, none now\n" for it, rows in THREE.items() if it.split()[0] == kind
+    )
+    for fall in ((), ("--fall", "100"), ("--check",)):
+        assert counts(tmp_path, less, *fall) == (1, said + AS_IT_WAS, KEPT)
+    # (nothing is lost on the way back, once it is taken)
+    status, told, kept = counts(tmp_path, less, "--accept")
+    gone = [f"{it},{rows}" for it, rows in THREE.items() if it.split()[0] == kind]
+    assert (status, told, [it for it in KEPT.splitlines() if it not in kept]) == (0, "", gone)
+    assert counts(tmp_path, three_plants())[:2] == (0, "")
+
+
+def test_counts_sees_stock_and_safety_stock_that_are_gone(tmp_path):
+    counts(tmp_path, three_plants())
+    less = re.sub("(?m)^(pair,.*,)[0-9]+(,[0-9]+)$", r"\g<1>0\2", three_plants())
+    assert counts(tmp_path, less) == (1, f"pair with stock: 8 rows before, none now\n{AS_IT_WAS}", KEPT)
+    less = re.sub("(?m)^(pair,.*,)[0-9]+$", r"\g<1>0", three_plants())
+    assert counts(tmp_path, less) == (1, f"pair with safety stock: 2 rows before, none now\n{AS_IT_WAS}", KEPT)
+
+
+def test_counts_refuses_what_fell_by_more_than_the_share(tmp_path):
+    """Ten demands: seven are 30 in a hundred less, six are 40."""
+    head, demand = "run,2026-01-05,7,4,,,,\nplant,P1,,,,,,\n", "demand,P1,BIKE,1,5,,,\n"
+    for fall, left, is_refused in (
+        ((), 7, False),
+        ((), 6, True),
+        (("--fall", "40"), 6, False),
+        (("--fall", "39"), 6, True),
+        (("--fall", "0"), 9, True),
+        (("--fall", "0"), 10, False),
+        (("--fall", "100"), 1, False),
+        ((), 11, False),
+    ):
+        (tmp_path / "counts.csv").write_text("kind,rows\nrun,1\nplant,1\ndemand,10\n")
+        said = f"demand: 10 rows before, {left} now\n{AS_IT_WAS}" if is_refused else ""
+        kept = f"kind,rows\nrun,1\nplant,1\ndemand,{10 if is_refused else left}\n"
+        assert counts(tmp_path, head + demand * left, *fall) == (int(is_refused), said, kept)
+
+
+def test_counts_refuses_what_is_no_table(tmp_path):
+    said = "bin/counts: this is no table: its first row is 'plant' in place of run\n"
+    headless = three_plants().partition("\n")[2]
+    assert counts(tmp_path, "") == (1, "bin/counts: the table is empty\n", None)
+    assert counts(tmp_path, headless) == counts(tmp_path, headless, "--accept") == (1, said, None)
+    counts(tmp_path, three_plants())
+    assert counts(tmp_path, headless) == (1, f"run: 1 row before, none now\n{AS_IT_WAS}", KEPT)
+    assert counts(tmp_path, "", "--accept") == (1, "bin/counts: the table is empty\n", KEPT)
+    for text in ("", "kind,rows\nrun\n", "kind,rows\nrun,-1\n", "row,plant\n", three_plants()):
+        (tmp_path / "counts.csv").write_text(text)
+        assert counts(tmp_path, three_plants()) == (1, "bin/counts: counts.csv is no file that bin/counts has written; it is as it was\n", text)
+
+
+def test_counts_refuses_bad_words(tmp_path):
+    for words, why in (
+        ((), "the following arguments are required: KEPT"),
+        (("--fall", "101", "counts.csv"), "argument --fall: '101' is not from 0 to 100"),
+        (("--fall", "03", "counts.csv"), "argument --fall: '03' is not from 0 to 100"),
+        (("--check", "--accept", "counts.csv"), "argument --accept: not allowed with argument --check"),
+        (("--none", "counts.csv"), "unrecognized arguments: --none"),
+    ):
+        assert run(tmp_path, "bin/counts", *words, given=three_plants()) == (2, "", f"bin/counts: {why}\n")
+    assert os.listdir(tmp_path) == []
+    assert run(tmp_path, "bin/counts", "--help")[1].startswith("usage: bin/counts [OPTION..] KEPT < table\n")
+    status, _, said = run(tmp_path, "bin/counts", "none/counts.csv", given=three_plants())
+    assert (status, said.count("\n"), said.startswith("bin/counts: ")) == (1, 1, True)
+
+
+def night(folder, section):
+    """Writes night.sh as a section of docs/integrate.md has it into a folder that looks like the repository, and returns what runs it."""
+    with open(f"{TOP}/docs/integrate.md", encoding="utf-8") as file:
+        part = file.read().split(f"\n## {section}\n")[1].split("\n## ")[0]
+    (folder / "night.sh").write_text(re.search("(?ms)^cat > night.sh <<'END'\n(.*?)^END\n", part)[1])
+    for it in ("bin", "examples"):
+        (folder / it).symlink_to(f"{TOP}/{it}")
+    variables = {**os.environ, "MRP": program()}
+
+    def runs():
+        done = subprocess.run(["sh", "night.sh"], cwd=folder, capture_output=True, text=True, timeout=600, env=variables, check=False)
+        return done.returncode, done.stdout, done.stderr
+
+    return runs
+
+
+def files(folder):
+    """Returns what the files of a night have that are to stay where the table is refused."""
+    names = "table counts plan cums orders schedule advice".split() + ["names", "pegs"]
+    return {it: (folder / f"{it}.csv").read_text() for it in names if (folder / f"{it}.csv").exists()}
+
+
+@pytest.mark.parametrize(
+    "sheet, said",
+    [
+        ("firm.csv", "firm.csv: it has 0 rows below the headings in place of 1\n" + REFUSED),
+        ("items.csv", "items.csv: it has no items\n" + REFUSED),
+        ("bills.csv", f"bill: 2 rows before, none now\n{AS_IT_WAS}"),
+        ("demands.csv", f"demand: 4 rows before, none now\n{AS_IT_WAS}"),
+        ("receipts.csv", f"receipt: 1 row before, none now\n{AS_IT_WAS}"),
+        ("shipments.csv", f"ship: 1 row before, none now\n{AS_IT_WAS}"),
+        ("cums.csv", f"cum: 1 row before, none now\n{AS_IT_WAS}"),
+        ("resets.csv", f"reset: 1 row before, none now\n{AS_IT_WAS}"),
+    ],
+)
+def test_a_night_from_sheets_refuses_an_empty_sheet(tmp_path, sheet, said):
+    """Of headings alone or no sheet at all: it is told, and all files stay. Without plants.csv the plants are those of items.csv."""
+    runs = night(tmp_path, "From sheets")
+    shutil.copytree(f"{TOP}/examples/sheets", tmp_path / "sheets")
+    (tmp_path / "sheets" / "plants.csv").write_text("Plant\nDEPOT\nWORKS\n")
+    assert runs() == (0, "", NEW)
+    old = files(tmp_path)
+    assert len(old) == 8
+    path = tmp_path / "sheets" / sheet
+    good = path.read_text()
+    path.write_text(good.split("\n")[0] + "\n")
+    assert (runs(), files(tmp_path)) == ((1, "", said), old)
+    path.unlink()
+    if sheet in ("firm.csv", "items.csv"):
+        said = f"{sheet}: it is missing\n{REFUSED}"
+    assert (runs(), files(tmp_path)) == ((1, "", said), old)
+    path.write_text(good)
+    (tmp_path / "sheets" / "plants.csv").write_text("Plant\n")
+    assert runs() == (0, "", "")
+    # (but for the order in which names.csv has them)
+    now = files(tmp_path)
+    assert sorted(now.pop("names").splitlines()) == sorted(old.pop("names").splitlines())
+    assert now == old
+
+
+@pytest.mark.parametrize(
+    "table, lost",
+    [
+        ("calendar", "run demand receipt ship"),
+        ("plants", "plant"),
+        ("items", "pair,pair with stock,pair with safety stock"),
+        ("bills", "bill"),
+        ("stock", "pair with stock"),
+        ("forecasts", "demand"),
+        ("open_orders", "receipt"),
+        ("shipments", "ship cum"),
+    ],
+)
+@pytest.mark.skipif(not shutil.which("sqlite3"), reason="no sqlite3")
+def test_a_night_from_a_database_refuses_an_empty_table(tmp_path, table, lost):
+    runs, base = night(tmp_path, "From a database"), "sqlite3 firm.db"
+    ask = "SELECT * FROM record; SELECT * FROM planned_order; SELECT * FROM exception_message"
+    shell = {"cwd": tmp_path, "shell": True, "text": True, "check": True}
+    subprocess.run(f"{base} < examples/erp/firm.sql", **shell)
+    assert runs() == (0, "", NEW)
+    old, plan = files(tmp_path), subprocess.check_output(f"{base} '{ask}'", cwd=tmp_path, shell=True)
+    assert len(old) == 8 and plan.count(b"\n") > 54
+    subprocess.run(f"cp firm.db good.db && {base} 'DELETE FROM {table}'", **shell)
+    kinds = lost.split("," if "," in lost else None)
+    if table == "stock":
+        kinds = [lost]
+    said = "".join(f"{it}: {THREE[it]} row{'s' * (THREE[it] > 1)} before, none now\n" for it in kinds)
+    assert (runs(), files(tmp_path)) == ((1, "", said + AS_IT_WAS), old)
+    assert subprocess.check_output(f"{base} '{ask}'", cwd=tmp_path, shell=True) == plan
+    subprocess.run("mv good.db firm.db", **shell)
+    assert (runs(), files(tmp_path)) == ((0, "", ""), old)
+
+
+@pytest.mark.skipif(not shutil.which("sqlite3"), reason="no sqlite3")
+def test_a_night_goes_by_the_last_good_one(tmp_path):
+    """A third of the demands less is refused, a sixth isn't; a table that mrp refuses is no measure; what is accepted is."""
+    runs = night(tmp_path, "From a database")
+    shell = {"cwd": tmp_path, "shell": True, "text": True, "check": True}
+    subprocess.run("sqlite3 firm.db < examples/erp/firm.sql", **shell)
+    assert runs() == (0, "", NEW)
+    old = files(tmp_path)
+    subprocess.run("""sqlite3 firm.db "INSERT INTO forecasts VALUES ('NORTH', 'BI KE', '2026-01-30', 10)" """, **shell)
+    said = "mrp: row 24: BadName\nrow 24 is demand,NORTH,BI KE,3,10,,,\nbin/renew: plan.csv is as it was\n"
+    assert (runs(), files(tmp_path)) == ((1, "", said), old)
+    subprocess.run("sqlite3 firm.db \"DELETE FROM forecasts WHERE item = 'BI KE' OR plant = 'NORTH' OR plant = 'SOUTH'\"", **shell)
+    assert (runs(), files(tmp_path)) == ((1, "", f"demand: 6 rows before, 4 now\n{AS_IT_WAS}"), old)
+    subprocess.run("""sqlite3 firm.db "INSERT INTO forecasts VALUES ('NORTH', 'BIKE', '2026-01-30', 10)" """, **shell)
+    assert runs() == (0, "", "")
+    assert (tmp_path / "counts.csv").read_text() == KEPT.replace("demand,6", "demand,5")
+    subprocess.run("sqlite3 firm.db 'DELETE FROM open_orders'", **shell)
+    assert runs() == (1, "", f"receipt: 1 row before, none now\n{AS_IT_WAS}")
+    subprocess.run("bin/counts --accept counts.csv < table.new", **shell)
+    assert runs() == (0, "", "")
+
+
+def test_renew_says_in_a_line_that_it_has_no_table(tmp_path):
+    (tmp_path / "plan.csv").write_text("last week\n")
+    said = "bin/renew: standard input is a directory, or closed; plan.csv is as it was\n"
+    for end in ("< .", "<&-"):
+        done = subprocess.run(f"{TOP}/bin/renew plan.csv plan {end}", cwd=tmp_path, shell=True, capture_output=True, text=True, check=False)
+        assert (done.returncode, done.stdout, done.stderr) == (1, "", said)
+    assert ((tmp_path / "plan.csv").read_text(), os.listdir(tmp_path)) == ("last week\n", ["plan.csv"])
+
+
+def test_hit_says_what_it_does_not_know(tmp_path):
+    status, out, _ = run(tmp_path, "bin/hit", "--help")
+    assert status == 0
+    assert "A firm order written as a receipt, with demands for what it takes, breaks the chain:" in out
