@@ -18,7 +18,6 @@ of each row of a table and of a report, once, with how each is spelled and what 
 import csv
 import functools
 import io
-import operator
 import os
 import re
 import shutil
@@ -60,9 +59,9 @@ class Spelling:
     def or_empty(self):
         return Spelling(self.pattern, self.read, self.is_period, True)
 
-    def group(self):
-        """Returns the pattern of the field in that of a row."""
-        return f"({self.pattern}){'?' if self.may_be_empty else ''}"
+    def group(self, is_read=True):
+        """Returns the pattern of the field in that of a row, as a group where it is read."""
+        return f"({'' if is_read else '?:'}{self.pattern}){'?' if self.may_be_empty else ''}"
 
 
 def one_of(*words):
@@ -320,8 +319,20 @@ class Form:
 
     def __init__(self, word, kind):
         self.word, self.kind, self.spellings = word, kind, [*kind.__annotations__.values()]
-        self.reads = [it.read for it in self.spellings]
-        self.fullmatch = re.compile(",".join([word, *(it.group() for it in self.spellings)]) + "\r?\n").fullmatch
+        self.reads, self.size = [it.read for it in self.spellings], len(self.spellings)
+        # (a text that is never empty stays what it is)
+        self.read = [(place, it) for place, it in enumerate(self.spellings) if it.read is not str or it.may_be_empty]
+        self.read = [(place, it.read) for place, it in self.read]
+
+    @functools.cached_property
+    def match(self):
+        """Finds all fields in a line of a report."""
+        return self.matcher(self.kind._fields)
+
+    def matcher(self, names):
+        """Returns the function that finds these fields in a line of a report, each as a group, or finds no row."""
+        spelled = (it.group(name in names) for name, it in zip(self.kind._fields, self.spellings))
+        return re.compile(",".join([self.word, *spelled]) + "\r?\n").fullmatch
 
     def is_period(self, place):
         """Says whether a field is a period."""
@@ -329,14 +340,14 @@ class Form:
 
     def texts(self, line, number):
         """Returns the texts of a row's fields from its line in a report, or None for one that is empty."""
-        found = self.fullmatch(line)
-        if not found:
-            raise Refused(f"row {number} is no row of a report: {line[:60].rstrip()!r}")
-        return found.groups()
+        return (self.match(line) or refuse(line, number)).groups()
 
     def row(self, texts):
-        """Returns a row from the texts of its fields."""
-        return self.kind._make([read(it) if it else None for read, it in zip(self.reads, texts)])
+        """Returns a row from the texts of its fields, and what may stand behind them."""
+        fields = [*texts[: self.size]]
+        for place, read in self.read:
+            fields[place] = read(fields[place]) if fields[place] else None
+        return self.kind._make(fields)
 
 
 TABLE_FORMS = {it.__name__.lower(): Form(it.__name__.lower(), it) for it in KINDS}
@@ -508,6 +519,11 @@ def header(kind):
     return ",".join(("row", *kind._fields))
 
 
+def refuse(line, number):
+    """Refuses a line that is no row of a report."""
+    raise Refused(f"row {number} is no row of a report: {line[:60].rstrip()!r}")
+
+
 def report_row(line, number):
     """Returns a row of a report, by the names of its columns, from its line, which has that number and its end."""
     form = REPORT_FORMS.get(line.partition(",")[0], REPORT_FORMS["late"])
@@ -517,8 +533,10 @@ def report_row(line, number):
 def columns(kind, *names):
     """Returns a function that reads some columns of a report's rows, as texts in the order of their names, from a line
     and its number. Of millions of rows this takes much less than `report_row`."""
-    form, these = REPORT_FORMS[WORDS[kind]], operator.itemgetter(*map(kind._fields.index, names))
-    return lambda line, number: these(form.texts(line, number))
+    match = REPORT_FORMS[WORDS[kind]].matcher(names)
+    order = sorted(names, key=kind._fields.index)
+    places = [order.index(it) + 1 for it in names]
+    return lambda line, number: (match(line) or refuse(line, number)).group(*places)
 
 
 def rows_of(text):

@@ -1,4 +1,4 @@
-"""What python/mrp.py says of tables, reports and dates: against the program, its help and the databases, and by hand."""
+"""What python/mrp.py says of tables, reports and dates, against the program, its help, the databases, and by hand."""
 import datetime
 import io
 import os
