@@ -440,7 +440,7 @@ class Table:
         """Returns the rows of a kind by name."""
         form = TABLE_FORMS[kind.__name__.lower()]
         rows = (self.fields(it) for it in self.rows if it[0] == form.word)
-        return [form.row("" if it is None else str(it) for it in fields) for fields in rows]
+        return [form.row(["" if it is None else str(it) for it in fields]) for fields in rows]
 
     @property
     def run(self):
