@@ -8,6 +8,15 @@ import time
 from support import read_terminal, TOP, wants
 
 
+def test_completions_are_of_the_help(room, program):
+    """The files are what the tool writes; another one is refused by its name, and written again."""
+    assert room.run("tools/completions --check") == ""
+    room.run(f"mkdir tree && cp -r {TOP}/bin {TOP}/tools {TOP}/completions tree && sed -i s/--until/--till/ tree/completions/_mrp")
+    said = "tools/completions: completions/_mrp is not what the program's help says: tools/completions writes it\n"
+    assert room.run("tree/tools/completions --check", status=1) == said
+    assert room.run(f"tree/tools/completions; diff -r tree/completions {TOP}/completions") == ""
+
+
 def test_completes_in_bash(room):
     line = "source {0}; COMP_WORDS=(mrp {1}); COMP_CWORD={2}; _mrp; echo ${{COMPREPLY[@]}}"
     path = f"{TOP}/completions/mrp.bash"
