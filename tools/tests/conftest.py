@@ -10,8 +10,6 @@ sys.dont_write_bytecode = True
 sys.path[:0] = [os.path.dirname(HERE), HERE]
 import support  # noqa: E402
 
-pytest.register_assert_rewrite("cases")
-
 
 @pytest.fixture
 def room(tmp_path):

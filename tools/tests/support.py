@@ -68,13 +68,13 @@ class Room:
             file.write(text)
         os.chmod(file.name, 0o755)
 
-    def stand_in(self, name, of, **words):
+    def stand_in(self, path, of, **words):
         """Puts a program of stand_ins/ into a place, with words in the place of their names between @."""
         with open(f"{STAND_INS}/{of}", encoding="utf-8") as file:
             text = file.read()
         for word, value in words.items():
             text = text.replace(f"@{word}@", value)
-        self.write(name, text)
+        self.write(path, text)
 
     def run(self, command, status=0):
         """Runs a command by bash, and returns what it wrote; on standard error too where another status is wanted."""
