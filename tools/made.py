@@ -52,7 +52,11 @@ class Made:
         seen, (of, bytes_kept, time, seen_before) = self.seen(), self.kept()
         if seen == seen_before:
             return True
-        now, bytes_now, time_now = sum_of_sources(self.crate), sum_of_file(self.path), str(os.stat(self.path).st_mtime_ns)
+        now, bytes_now, time_now = (
+            sum_of_sources(self.crate),
+            sum_of_file(self.path),
+            str(os.stat(self.path).st_mtime_ns),
+        )
         is_kept = bytes_now == bytes_kept and of == now
         if not is_kept and (bytes_now, time_now) != (bytes_kept, time):
             is_kept = self.is_newest()
@@ -69,7 +73,9 @@ class Made:
         """Returns which files there are, and when the status of each was changed last: no tool sets that time back."""
         status = {it: os.stat(it) for it in (self.path, *(f"{crates.TOP}/{it}" for it in sources(self.crate)))}
         listed = crates.lines_of_list()
-        return sum_of_texts([*listed.values(), *(f"{it.st_ino} {it.st_ctime_ns} {path}" for path, it in status.items())])
+        return sum_of_texts(
+            [*listed.values(), *(f"{it.st_ino} {it.st_ctime_ns} {path}" for path, it in status.items())]
+        )
 
     def kept(self):
         """Returns what is kept: of which sources the file is, its sum, when it was written, and what was seen."""
@@ -94,12 +100,16 @@ class Made:
 
 
 def files(crate, folder):
-    """Returns the names of what a crate makes beside its library, as far as it is in a folder's out/: a program, or a library for C."""
+    """Returns the names of what a crate makes beside its library, as far as it is in a folder's out/: a program, or a
+    library for C.
+    """
     return [it for it in (crate, f"lib{crate}.a") if os.path.isfile(f"{folder}/out/{it}")]
 
 
 def is_other(room, own):
-    """Tells whether what a check left in a room is other than what the crate keeps: a library has a stamp, and all else is made in the room."""
+    """Tells whether what a check left in a room is other than what the crate keeps: a library has a stamp, and all
+    else is made in the room.
+    """
     stamps = [f"{it}/out/rlib/stamp" for it in (room, own)]
     times = [os.stat(it).st_mtime_ns if os.path.isfile(it) else None for it in stamps]
     return times[0] != times[1] or bool(files(os.path.basename(room), room))

@@ -31,7 +31,9 @@ def read(path):
 
 def files(pattern):
     """Returns the files of the repository that a pattern finds, sorted."""
-    return sorted(it for it in glob.glob(pattern, root_dir=crates.TOP, recursive=True) if os.path.isfile(f"{crates.TOP}/{it}"))
+    return sorted(
+        it for it in glob.glob(pattern, root_dir=crates.TOP, recursive=True) if os.path.isfile(f"{crates.TOP}/{it}")
+    )
 
 
 def has_tests(crate):
@@ -40,7 +42,9 @@ def has_tests(crate):
 
 
 def functions(text):
-    """Yields each function of a source: the type that it belongs to or nothing, its name, the number of its first line, and its lines."""
+    """Yields each function of a source: the type that it belongs to or nothing, its name, the number of its first
+    line, and its lines.
+    """
     owner, lines = "", text.split("\n")
     for at, line in enumerate(lines):
         if line and not line.startswith((" ", "}")):
@@ -48,7 +52,11 @@ def functions(text):
         head = FUNCTION.match(line)
         if head:
             # (one that is only declared ends before the next, or with its trait)
-            stops = (it for it in range(at + 1, len(lines)) if re.match(rf"(?:{head[1]})?\}}", lines[it]) or FUNCTION.match(lines[it]))
+            stops = (
+                it
+                for it in range(at + 1, len(lines))
+                if re.match(rf"(?:{head[1]})?\}}", lines[it]) or FUNCTION.match(lines[it])
+            )
             last = at if line.endswith("}") else next(stops, len(lines) - 1)
             yield owner if head[1] else "", head[2], at + 1, lines[at : last + 1]
 
@@ -71,7 +79,9 @@ def clauses(path, function, name):
 
 
 def declaration(path, head):
-    """Returns the place in its file and the text of what a source declares by a line that begins so, with docstring and without attributes, or nothing."""
+    """Returns the place in its file and the text of what a source declares by a line that begins so, with docstring
+    and without attributes, or nothing.
+    """
     lines = read(path).split("\n")
     place = next((place for place, it in enumerate(lines) if re.match(head, it)), None)
     if place is None:
@@ -92,7 +102,9 @@ def imports(text, begin=""):
     for module, listed in re.findall(rf"^\s*{begin}use Rattle\.(\S+?)\.\{{([^}}]*)\}}", text, re.MULTILINE):
         pairs = (it.strip().partition(" as ") for it in listed.split(","))
         names |= {own or real: f"{module}.{real}" for real, _, own in pairs if real}
-    return names, {own: module for module, own in re.findall(rf"^\s*{begin}use Rattle\.([^\s{{]+) as (\w+)", text, re.MULTILINE)}
+    return names, {
+        own: module for module, own in re.findall(rf"^\s*{begin}use Rattle\.([^\s{{]+) as (\w+)", text, re.MULTILINE)
+    }
 
 
 def module_of(path):
@@ -101,7 +113,10 @@ def module_of(path):
 
 
 def definitions(path):
-    """Yields each definition of a file of specs/: its name, its comment, its lines, and the number of its first. A comment belongs to what it stands over."""
+    """Yields each definition of a file of specs/: its name, its comment, its lines, and the number of its first.
+
+    A comment belongs to what it stands over.
+    """
     notes, lines, own = [], read(path).split("\n"), None
     for place, line in enumerate(lines, 1):
         head = DEFINITION.match(line)

@@ -30,7 +30,10 @@ def pytest_runtest_makereport(item):
     """With CI=true a test that can't be run has failed, in a line that says what it wants."""
     report = (yield).get_result()
     if report.skipped and os.environ.get("CI") == "true":
-        report.outcome, report.longrepr = "failed", f"failed {report.longrepr[2].removeprefix('Skipped: ')}: {item.name}"
+        report.outcome, report.longrepr = (
+            "failed",
+            f"failed {report.longrepr[2].removeprefix('Skipped: ')}: {item.name}",
+        )
 
 
 def pytest_unconfigure(config):
@@ -38,6 +41,8 @@ def pytest_unconfigure(config):
     reporter = config.pluginmanager.get_plugin("terminalreporter")
     if hasattr(config, "workerinput") or not reporter:
         return
-    passed, failed, errors, skipped = (len(reporter.stats.get(it, ())) for it in ("passed", "failed", "error", "skipped"))
+    passed, failed, errors, skipped = (
+        len(reporter.stats.get(it, ())) for it in ("passed", "failed", "error", "skipped")
+    )
     print(f"{passed} passed, {failed + errors} failed" + (f", {skipped} skipped" if skipped else ""), flush=True)
     shutil.rmtree(f"{HERE}/__pycache__", ignore_errors=True)

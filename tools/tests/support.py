@@ -60,7 +60,12 @@ class Room:
             os.symlink(self.program, self.mrp)
         else:
             self.stand_in("words/mrp", "mrp", examples=f"{TOP}/examples")
-        self.variables = {**os.environ, "MRP": self.mrp, "PATH": f"{folder}/words:{os.environ['PATH']}", "PYTHONDONTWRITEBYTECODE": "1"}
+        self.variables = {
+            **os.environ,
+            "MRP": self.mrp,
+            "PATH": f"{folder}/words:{os.environ['PATH']}",
+            "PYTHONDONTWRITEBYTECODE": "1",
+        }
 
     def write(self, name, text):
         """Writes a file that can be run."""
@@ -107,9 +112,10 @@ demand,A,X,4,6,,,
 demand,A,Y,1,5,,,
 demand,A,Y,4,7,,,
 """
-# By hand. X: 10 - 4 = 6; 6 - 7 = -1, so 3 are ordered up to its safety stock of 2; 2 - 5 = -3, so 5; 2; 2 - 6 = -4, so 6, which are released in period 1,
-# a lead time of 3 before. The 3 and the 5 should have been released before period 0.
-# Y: 9; 9 - 5 = 4, below its safety stock of 5, so a lot of 8: 12; 12; 12; 12 - 7 = 5. The 8 are due in period 1, and a lead time is 6.
+# By hand. X: 10 - 4 = 6; 6 - 7 = -1, so 3 are ordered up to its safety stock of 2; 2 - 5 = -3, so 5; 2; 2 - 6 = -4, so
+# 6, which are released in period 1, a lead time of 3 before. The 3 and the 5 should have been released before period 0.
+# Y: 9; 9 - 5 = 4, below its safety stock of 5, so a lot of 8: 12; 12; 12; 12 - 7 = 5. The 8 are due in period 1, and a
+# lead time is 6.
 DELAYED_PLAN = """\
 plan,A,X,0,2026-01-05,4,0,0,8,6
 plan,A,X,1,2026-01-12,7,0,3,6,2
@@ -130,18 +136,22 @@ late,A,X,1,3,2
 late,A,X,2,5,1
 late,A,Y,1,8,5
 """
-# With delays, by hand. X: 6; 6 - 7 = -1; -1 - 5 = -6; in period 3, a lead time from now, the 3 and the 5 come: -6 + 3 + 5 = 2; 2 + 6 - 6 = 2.
-# Y: the 8 would come in period 6, after the last: 9; 9 - 5 = 4; 4; 4; 4 - 7 = -3.
+# With delays, by hand. X: 6; 6 - 7 = -1; -1 - 5 = -6; in period 3, a lead time from now, the 3 and the 5 come: -6 + 3 +
+# 5 = 2; 2 + 6 - 6 = 2. Y: the 8 would come in period 6, after the last: 9; 9 - 5 = 4; 4; 4; 4 - 7 = -3.
 WITH_DELAYS = {"X": (6, -1, -6, 2, 2), "Y": (9, 4, 4, 4, -3)}
 
 
 def plan_rows(first, days, orders, late=(), gross=None, incoming=None):
-    """Returns a report in which plant A has these orders of some items, by period, and if given a gross requirement in period 0, and what comes in."""
+    """Returns a report in which plant A has these orders of some items, by period, and if given a gross requirement in
+    period 0, and what comes in.
+    """
     start, rows = datetime.date.fromisoformat(first), []
     for item, row in orders.items():
         wanted, comes = (gross or {}).get(item, 0), (incoming or {}).get(item, [0] * len(row))
         for t, it in enumerate(row):
-            rows.append(f"plan,A,{item},{t},{start + datetime.timedelta(days=days * t)},{0 if t else wanted},{comes[t]},{it},0,0\n")
+            rows.append(
+                f"plan,A,{item},{t},{start + datetime.timedelta(days=days * t)},{0 if t else wanted},{comes[t]},{it},0,0\n"
+            )
     return "".join(rows + [f"late,A,{item},{t},{orders[item][t]},{by}\n" for item, t, by in late])
 
 
@@ -172,7 +182,10 @@ class Tags(html.parser.HTMLParser):
 def listed(text, name):
     """Returns the cells of a list of the page, by rows, as they are read."""
     section = re.search(f'<section id="{name}">(.*?)</section>', text, re.DOTALL)[1]
-    return [[re.sub("<[^>]*>", "", it) for it in re.findall("<td[^>]*>(.*?)</td>", row)] for row in re.findall("<tr>(<td.*?)</tr>", section)]
+    return [
+        [re.sub("<[^>]*>", "", it) for it in re.findall("<td[^>]*>(.*?)</td>", row)]
+        for row in re.findall("<tr>(<td.*?)</tr>", section)
+    ]
 
 
 def module_of(name, folder="tools"):
@@ -210,14 +223,19 @@ def some_tables():
 
 
 def reads_each_report(program, mrp, by, names):
-    """Has python/mrp.py read these reports of many tables by a program or a library: the report, or a fault with the program's line and row."""
+    """Has python/mrp.py read these reports of many tables by a program or a library: the report, or a fault with the
+    program's line and row.
+    """
     words = {kind: word for word, kind in mrp.ROWS.items()}
     counts = [0, 0]
     for text, name in itertools.product(some_tables(), names):
         wanted = subprocess.run([program, name], input=text, capture_output=True, check=False)
         try:
             rows = mrp.report(by, name, text)
-            got = "".join(",".join((words[type(it)], *("" if field is None else str(field) for field in it))) + "\n" for it in rows)
+            got = "".join(
+                ",".join((words[type(it)], *("" if field is None else str(field) for field in it))) + "\n"
+                for it in rows
+            )
             assert (wanted.returncode, got) == (0, wanted.stdout.decode())
         except mrp.Fault as fault:
             named = re.search(r"row (\d+)", fault.text)
@@ -239,7 +257,9 @@ def postgresql(room):
         if os.getuid() == 0:
             own = "setpriv --reuid=nobody --regid=nogroup --clear-groups"
             shutil.chown(folder, "nobody")
-        control = f"cd {folder} && {own} {os.path.dirname(os.path.realpath(shutil.which(found)))}/pg_ctl -s -D {folder}/data"
+        control = (
+            f"cd {folder} && {own} {os.path.dirname(os.path.realpath(shutil.which(found)))}/pg_ctl -s -D {folder}/data"
+        )
         room.run(f"{control} init -o '-A trust -U postgres -E UTF8 --locale=C -N'")
         room.run(f"""{control} start -w -l {folder}/log -o "-k {folder} -c listen_addresses=''" """)
         kept, room.variables = room.variables, {**room.variables, "PGHOST": folder, "PGUSER": "postgres"}

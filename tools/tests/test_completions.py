@@ -11,7 +11,9 @@ from support import read_terminal, TOP, wants
 def test_completions_are_of_the_help(room, program):
     """The files are what the tool writes; another one is refused by its name, and written again."""
     assert room.run("tools/completions --check") == ""
-    room.run(f"mkdir tree && cp -r {TOP}/bin {TOP}/tools {TOP}/completions tree && sed -i s/--until/--till/ tree/completions/_mrp")
+    room.run(
+        f"mkdir tree && cp -r {TOP}/bin {TOP}/tools {TOP}/completions tree && sed -i s/--until/--till/ tree/completions/_mrp"
+    )
     said = "tools/completions: completions/_mrp is not what the program's help says: tools/completions writes it\n"
     assert room.run("tree/tools/completions --check", status=1) == said
     assert room.run(f"tree/tools/completions; diff -r tree/completions {TOP}/completions") == ""
@@ -35,7 +37,13 @@ def test_completes_in_zsh(room):
     """By the completion that a reader gets who presses the tabulator key at a terminal."""
     wants("zsh")
     room.run(f"zsh -n {TOP}/completions/_mrp")
-    shown = {"mrp p": ["peg", "pegs", "plan"], "mrp plan --s": ["--single"], "mrp --": ["--help", "--version"], "mrp help o": ["orders"], "mrp check --": ["--header", "--help"]}
+    shown = {
+        "mrp p": ["peg", "pegs", "plan"],
+        "mrp plan --s": ["--single"],
+        "mrp --": ["--help", "--version"],
+        "mrp help o": ["orders"],
+        "mrp check --": ["--header", "--help"],
+    }
     for line, words in (*shown.items(), ("mrp schedule --", ["--from", "--header", "--help", "--to"])):
         assert shown_by_zsh(room, line) == words, line
 
@@ -45,7 +53,9 @@ def shown_by_zsh(room, line):
     begin = f"PS1=; fpath=({TOP}/completions $fpath); autoload -Uz compinit; compinit -u -D; bindkey '^I' list-choices; print rea''dy"
     end, own = pty.openpty()
     variables = {**room.variables, "HOME": room.folder, "ZDOTDIR": room.folder, "TERM": "dumb"}
-    with subprocess.Popen(["zsh", "-f", "-i"], stdin=own, stdout=own, stderr=own, env=variables, start_new_session=True) as child:
+    with subprocess.Popen(
+        ["zsh", "-f", "-i"], stdin=own, stdout=own, stderr=own, env=variables, start_new_session=True
+    ) as child:
         os.close(own)
         os.write(end, f"{begin}\n".encode())
         hear(end, b"ready\r\n", 30)
@@ -68,11 +78,19 @@ def hear(end, last, seconds):
 
 def test_completes_in_fish(room):
     wants("fish")
-    said = room.run(f"HOME={room.folder} fish -c 'source {TOP}/completions/mrp.fish; complete -C \"mrp p\"; complete -C \"mrp plan --s\"; complete -C \"mrp --v\"'")
+    said = room.run(
+        f'HOME={room.folder} fish -c \'source {TOP}/completions/mrp.fish; complete -C "mrp p"; complete -C "mrp plan --s"; complete -C "mrp --v"\''
+    )
     assert [it.split("\t")[0] for it in said.splitlines()] == ["peg", "pegs", "plan", "--single", "--version"]
-    said = room.run(f"HOME={room.folder} fish -c 'source {TOP}/completions/mrp.fish; complete -C \"mrp check --\"; complete -C \"mrp plan --workers \"'")
+    said = room.run(
+        f'HOME={room.folder} fish -c \'source {TOP}/completions/mrp.fish; complete -C "mrp check --"; complete -C "mrp plan --workers "\''
+    )
     assert [it.split("\t")[0] for it in said.splitlines()] == ["--header", "--help"]
-    said = room.run(f"HOME={room.folder} fish -c 'source {TOP}/completions/mrp.fish; complete -C \"mrp schedule --\"; complete -C \"mrp schedule --to \"'")
+    said = room.run(
+        f'HOME={room.folder} fish -c \'source {TOP}/completions/mrp.fish; complete -C "mrp schedule --"; complete -C "mrp schedule --to "\''
+    )
     assert [it.split("\t")[0] for it in said.splitlines()] == ["--from", "--header", "--help", "--to"]
-    said = room.run(f"HOME={room.folder} fish -c 'source {TOP}/completions/mrp.fish; complete -C \"mrp help o\"; complete -C \"mrp he\"'")
+    said = room.run(
+        f'HOME={room.folder} fish -c \'source {TOP}/completions/mrp.fish; complete -C "mrp help o"; complete -C "mrp he"\''
+    )
     assert [it.split("\t")[0] for it in said.splitlines()] == ["orders", "help"]

@@ -2,9 +2,14 @@ from support import TOP
 
 
 def test_gate_has_what_tests_want(room):
-    """By stand-ins of rt and apt-get, on a path without fish: root installs it, with CI=true the gate names it, and elsewhere it goes on."""
+    """By stand-ins of rt and apt-get, on a path without fish: root installs it, with CI=true the gate names it, and
+    elsewhere it goes on.
+    """
     gate = gate_of_stand_ins(room)
-    began, rest = "rt ci\n50 passed, 0 failed\n", "tests with crates/mrp/out/mrp\n7 passed, 0 failed\n57 passed, 0 failed\n"
+    began, rest = (
+        "rt ci\n50 passed, 0 failed\n",
+        "tests with crates/mrp/out/mrp\n7 passed, 0 failed\n57 passed, 0 failed\n",
+    )
     went = f"{began}{rest}"
     assert room.run(f"CI= WHO=7 {gate}") == f"{began}library\n{rest}"
     assert room.run(f"CI= WHO=7 {gate}") == went
@@ -40,9 +45,26 @@ def test_gate_ends_with_one_line_of_counts(room):
 
 
 def gate_of_stand_ins(room):
-    """Makes the folder `tree` with a gate and stand-ins of what it runs, on a path without fish, and returns the command that runs it."""
+    """Makes the folder `tree` with a gate and stand-ins of what it runs, on a path without fish, and returns the
+    command that runs it.
+    """
     room.run(f"mkdir -p tree/.ci tree/tools only && cp {TOP}/.ci/run tree/.ci")
-    for it in ("bash", "env", "dirname", "nproc", "awk", "sed", "sh", "cat", "chmod", "tee", "mktemp", "rm", "grep", "tail"):
+    for it in (
+        "bash",
+        "env",
+        "dirname",
+        "nproc",
+        "awk",
+        "sed",
+        "sh",
+        "cat",
+        "chmod",
+        "tee",
+        "mktemp",
+        "rm",
+        "grep",
+        "tail",
+    ):
         room.run(f"ln -s $(command -v {it}) only/{it}")
     for it in ("chromium", "zsh", "sqlite3", "cc", "git", "initdb", "pytest-3"):
         room.stand_in(f"only/{it}", "silent")
@@ -54,9 +76,16 @@ def gate_of_stand_ins(room):
 
 
 def test_skipped_tests_are_counted(room):
-    """In the last line; with CI=true they have failed. Any test runs by its name, and nothing is left in the work tree."""
-    room.run(f"mkdir -p tree/tools/tests && cp -r {TOP}/bin tree && cp {TOP}/tools/*.py {TOP}/tools/test-tools tree/tools")
-    room.run(f"cp {TOP}/tools/tests/{{conftest.py,support.py,pytest.ini}} tree/tools/tests && cp -r {TOP}/tools/tests/stand_ins tree/tools/tests")
+    """In the last line; with CI=true they have failed.
+
+    Any test runs by its name, and nothing is left in the work tree.
+    """
+    room.run(
+        f"mkdir -p tree/tools/tests && cp -r {TOP}/bin tree && cp {TOP}/tools/*.py {TOP}/tools/test-tools tree/tools"
+    )
+    room.run(
+        f"cp {TOP}/tools/tests/{{conftest.py,support.py,pytest.ini}} tree/tools/tests && cp -r {TOP}/tools/tests/stand_ins tree/tools/tests"
+    )
     room.stand_in("tree/tools/tests/test_small.py", "small_tests.py")
     room.run("rm -r tree/bin/__pycache__ tree/tools/__pycache__ || true; find tree | sort > before")
     said = room.run("CI= tree/tools/test-tools").splitlines()

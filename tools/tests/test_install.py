@@ -18,13 +18,23 @@ def test_install_puts_and_removes(room):
 
 def test_installed_tools_need_no_checkout(room):
     """By a checkout that is gone, and a program that is beside the tools and not on the path."""
-    room.run(f"mkdir tree && cp -r {TOP}/bin {TOP}/docs {TOP}/completions tree && cp -L words/mrp own && MRP=own tree/bin/install here && rm -r tree")
+    room.run(
+        f"mkdir tree && cp -r {TOP}/bin {TOP}/docs {TOP}/completions tree && cp -L words/mrp own && MRP=own tree/bin/install here && rm -r tree"
+    )
     room.run("mkdir only && ln -s $(command -v python3) only")
-    assert room.run("here/bin/mrp-record P1 BIKE < examples/bicycle.plan.csv").splitlines()[0] == "P1 BIKE: 0 on hand before 2026-01-05"
+    assert (
+        room.run("here/bin/mrp-record P1 BIKE < examples/bicycle.plan.csv").splitlines()[0]
+        == "P1 BIKE: 0 on hand before 2026-01-05"
+    )
     assert len(Tags(room.run("here/bin/mrp-page < examples/bicycle.plan.csv")).articles) == 2
     plans = "examples/bicycle.plan.csv examples/bicycle.plan.csv"
     assert room.run(f"here/bin/mrp-compare {plans}") == "0 changes in 0 pairs; late orders: none before, none now.\n"
-    assert room.run("MRP= PATH=only here/bin/mrp-renew plan.csv plan < examples/bicycle.csv; cmp plan.csv examples/bicycle.plan.csv") == ""
+    assert (
+        room.run(
+            "MRP= PATH=only here/bin/mrp-renew plan.csv plan < examples/bicycle.csv; cmp plan.csv examples/bicycle.plan.csv"
+        )
+        == ""
+    )
     for tool in ("record", "page", "why", "hit", "compare", "renew", "sheets"):
         assert f"usage: mrp-{tool} " in room.run(f"here/bin/mrp-{tool} --help")
         assert room.run(f"here/bin/mrp-{tool} --none", status=2).startswith(f"mrp-{tool}: ")
@@ -32,4 +42,7 @@ def test_installed_tools_need_no_checkout(room):
     said = room.run("MRP= PATH=only here/bin/mrp-why P1 WHEEL 1 < examples/bicycle.csv")
     assert "P1 WHEEL: 20 released in period 1" in said
     assert "10 demand" in said
-    assert room.run("MRP= PATH=only here/bin/mrp-hit < examples/three_plants.csv") == "hit,EAST,BIKE,5,2026-02-09,12,1,SOUTH,TUBE\n"
+    assert (
+        room.run("MRP= PATH=only here/bin/mrp-hit < examples/three_plants.csv")
+        == "hit,EAST,BIKE,5,2026-02-09,12,1,SOUTH,TUBE\n"
+    )

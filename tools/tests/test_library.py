@@ -8,9 +8,19 @@ from support import answered, module_of, proved, reads_each_report, skip, some_t
 
 def exported():
     """Returns the calls that crates/mrp_c_api exports, each with the types of its arguments as C has them."""
-    types = {"&[u8]": "uint8_t* size_t", "&mut [u8]": "uint8_t* size_t", "&mut usize": "size_t*", "bool": "bool", "u64": "uint64_t", "Global": ""}
+    types = {
+        "&[u8]": "uint8_t* size_t",
+        "&mut [u8]": "uint8_t* size_t",
+        "&mut usize": "size_t*",
+        "bool": "bool",
+        "u64": "uint64_t",
+        "Global": "",
+    }
     found = rattle.exported("crates/mrp_c_api/src/lib.rt").items()
-    return {name: " ".join(types[it.partition(": ")[2].strip()] for it in words.split(",") if it.strip()).split() for name, words in found}
+    return {
+        name: " ".join(types[it.partition(": ")[2].strip()] for it in words.split(",") if it.strip()).split()
+        for name, words in found
+    }
 
 
 def test_header_declares_what_is_exported(room):
@@ -28,9 +38,13 @@ def test_header_declares_what_is_exported(room):
 
 
 def test_library_is_made_of_what_is_proved(room):
-    """By stand-ins of rt's kit and tools/prove: the shared object has the calls of the header alone; what is of other sources is proved again."""
+    """By stand-ins of rt's kit and tools/prove: the shared object has the calls of the header alone; what is of other
+    sources is proved again.
+    """
     wants("cc")
-    room.run(f"mkdir -p tree/crates/mrp_c_api/{{src,out}} kit/bin kit/c && cp -r {TOP}/include {TOP}/bin {TOP}/tools tree")
+    room.run(
+        f"mkdir -p tree/crates/mrp_c_api/{{src,out}} kit/bin kit/c && cp -r {TOP}/include {TOP}/bin {TOP}/tools tree"
+    )
     room.stand_in("kit/bin/rt", "silent")
     room.stand_in("tree/tools/prove", "library/prove")
     room.stand_in("memory.c", "library/memory.c")
@@ -62,17 +76,27 @@ def library(room):
 
 
 def test_library_answers_memory_where_it_is_refused(room):
-    """Each allocation refused in turn, and some of them with all behind: what is right, or that memory is missing, also for the line of a fault."""
+    """Each allocation refused in turn, and some of them with all behind: what is right, or that memory is missing,
+    also for the line of a fault.
+    """
     library(room)
     room.run("cc -O2 -shared -fPIC tools/refuse.c -o refuse.so -ldl")
     bicycle = room.run("cat examples/bicycle.csv")
     loop = bicycle.replace("WHEEL,buy", "WHEEL,make").replace("demand", "bill,P1,WHEEL,BIKE,1,,,\ndemand")
-    for words, table, status in (("plan", bicycle, 0), ("orders --header", bicycle, 0), ("cums", loop, 1), ("schedule", "run\n", 1)):
+    for words, table, status in (
+        ("plan", bicycle, 0),
+        ("orders --header", bicycle, 0),
+        ("cums", loop, 1),
+        ("schedule", "run\n", 1),
+    ):
         right, place, lacking = answered(room, words, table.encode(), {}, f"{room.folder}/report"), 0, set()
         assert right[0] == status
         while True:
             place += 1
-            refused = {"LD_PRELOAD": f"{room.folder}/refuse.so", "REFUSE": f"memory {place} {place if place % 9 else 10**9} fail 0"}
+            refused = {
+                "LD_PRELOAD": f"{room.folder}/refuse.so",
+                "REFUSE": f"memory {place} {place if place % 9 else 10**9} fail 0",
+            }
             said = answered(room, words, table.encode(), refused, f"{room.folder}/report")
             if said == right and place % 9 == 0:
                 break
@@ -87,11 +111,20 @@ def test_library_answers_as_the_program(room, program):
     library(room)
     for words in ("orders --until 0", "plan --header x", "none", ""):
         assert "report: " in room.run(f"./report {words} < examples/bicycle.csv", status=2)
-    assert room.run("./report plan < examples/bicycle.csv > /dev/full", status=3) == "report: the report can't be written\n"
+    assert (
+        room.run("./report plan < examples/bicycle.csv > /dev/full", status=3)
+        == "report: the report can't be written\n"
+    )
     assert room.run("./report plan < /", status=3) == "report: the table can't be read\n"
     for table in some_tables():
-        for words in (["plan"], *([it, *more] for it in ("orders", "schedule", "check", "cums") for more in ([], ["--header"]))):
-            got, wanted = (subprocess.run([it, *words], input=table, capture_output=True, check=False) for it in (f"{room.folder}/report", program))
+        for words in (
+            ["plan"],
+            *([it, *more] for it in ("orders", "schedule", "check", "cums") for more in ([], ["--header"])),
+        ):
+            got, wanted = (
+                subprocess.run([it, *words], input=table, capture_output=True, check=False)
+                for it in (f"{room.folder}/report", program)
+            )
             assert (got.returncode, got.stdout, got.stderr) == (wanted.returncode, wanted.stdout, wanted.stderr), words
 
 
@@ -121,9 +154,15 @@ def test_library_takes_options(room, program):
     mrp = module_of("mrp.py", "python")
     table = room.run("cat examples/pumps.csv").encode()
     asks = [("orders", {"until": it}) for it in (None, 0, 3, 103, 10**6)]
-    asks += [("schedule", {"supplier": one, "customer": other}) for one in (None, "FOUNDRY", "NONE", "-") for other in (None, "WORKS", "DEPOT", "\xdc")]
+    asks += [
+        ("schedule", {"supplier": one, "customer": other})
+        for one in (None, "FOUNDRY", "NONE", "-")
+        for other in (None, "WORKS", "DEPOT", "\xdc")
+    ]
     for name, options in asks:
-        got, wanted = (by.ask(name, table, **options) for by in (mrp.Library(f"{room.folder}/lib/libmrp.so"), mrp.Program(program)))
+        got, wanted = (
+            by.ask(name, table, **options) for by in (mrp.Library(f"{room.folder}/lib/libmrp.so"), mrp.Program(program))
+        )
         assert got == wanted, (name, options)
 
 
@@ -131,4 +170,6 @@ def test_python_reads_each_report_of_the_library(room, program):
     """As by the program."""
     library(room)
     mrp = module_of("mrp.py", "python")
-    reads_each_report(program, mrp, mrp.Library(f"{room.folder}/lib/libmrp.so"), ("plan", "check", "cums", "orders", "schedule"))
+    reads_each_report(
+        program, mrp, mrp.Library(f"{room.folder}/lib/libmrp.so"), ("plan", "check", "cums", "orders", "schedule")
+    )

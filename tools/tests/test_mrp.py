@@ -26,7 +26,16 @@ def test_program_answers_where_an_end_fails(room, program):
         said = room.run(f"{{ mrp {command} < table.csv || echo ended with $? >&2; }} 2> said | head -n 1; cat said")
         assert said.splitlines()[1:] == ["mrp: WriteFault", "ended with 3"]
     of_three = ("cums", "schedule --from NORTH", "schedule --to NORTH --header", "advice", "advice --header")
-    of_one = ("plan", "plan --single", "check", "peg P1 WHEEL 2", "orders", "orders --until 0 --header", "pegs", "pegs --header")
+    of_one = (
+        "plan",
+        "plan --single",
+        "check",
+        "peg P1 WHEEL 2",
+        "orders",
+        "orders --until 0 --header",
+        "pegs",
+        "pegs --header",
+    )
     for command in (*of_one, *of_three):
         table = "examples/three_plants.csv" if command in of_three else "examples/bicycle.csv"
         for to in (">&-", "> /dev/full"):
@@ -57,7 +66,15 @@ def test_program_plans_each_plant_in_a_thread(room, program):
     """Where there is no room for the stacks of 64 threads, and enough for all else on one thread."""
     room.write("table.csv", firm_of_64())
     assert room.run("mrp plan --single < table.csv") == room.run("mrp plan < table.csv")
-    chosen = ["", "--workers 2", "--workers 3", "--workers 4", "--capacity 1", "--capacity 256", "--workers 3 --capacity 2"]
+    chosen = [
+        "",
+        "--workers 2",
+        "--workers 3",
+        "--workers 4",
+        "--capacity 1",
+        "--capacity 256",
+        "--workers 3 --capacity 2",
+    ]
     for limit in (30_000, 50_000, 100_000):
         room.run(f"ulimit -v {limit}; mrp plan --single < table.csv")
         for words in chosen:
@@ -69,7 +86,8 @@ def test_program_plans_each_plant_in_a_thread(room, program):
 def test_program_ends_where_threads_are_refused(room, program):
     """Whichever thread is refused, and though the plants before the last wait for it."""
     room.write("table.csv", firm_of_64())
-    # (where 64 stacks of 8 MB have room and a 65th has none, the threads of all plants begin, and none of a worker of the last)
+    # (where 64 stacks of 8 MB have room and a 65th has none, the threads of all plants begin, and none of a worker of
+    # the last)
     limits = [*range(10_000, 500_000, 50_000), *range(500_000, 600_000, 4_000), 2_000_000]
     run = "export MALLOC_ARENA_MAX=1; ulimit -s 8192; ulimit -v {}; timeout 60 mrp plan --workers {} < table.csv 2>&1 | head -n 1"
     said = {room.run(f"({run.format(limit, workers)}) || true") for limit in limits for workers in (1, 4)}
@@ -101,11 +119,19 @@ def test_program_answers_memory_where_it_is_refused(room, program):
     with open(f"{TOP}/examples/three_plants.csv", "rb") as file:
         firm = file.read()
     asked = [("check", loop), ("plan --single", bicycle), ("peg P1 WHEEL 2", bicycle), ("pegs --header", bicycle)]
-    for words, table in (*asked, ("schedule --from NORTH --to EAST", firm), ("schedule --to none", firm), ("advice", firm)):
+    for words, table in (
+        *asked,
+        ("schedule --from NORTH --to EAST", firm),
+        ("schedule --to none", firm),
+        ("advice", firm),
+    ):
         right, place = answered(room, words, table, {}), 0
         while True:
             place += 1
-            refused = {"LD_PRELOAD": f"{room.folder}/refuse.so", "REFUSE": f"memory {place} {place if place % 9 else 10**9} fail 0"}
+            refused = {
+                "LD_PRELOAD": f"{room.folder}/refuse.so",
+                "REFUSE": f"memory {place} {place if place % 9 else 10**9} fail 0",
+            }
             said = answered(room, words, table, refused)
             if said == right and place % 9 == 0:
                 break
@@ -127,19 +153,71 @@ def test_program_runs_under_any_name(room, program):
 def test_program_says_why_words_are_refused(room, program):
     """Once, and on standard error."""
     more = "\nFor more information, try '--help'.\n"
-    assert room.run("mrp plan --workers 0", status=2) == f"error: invalid value '0' for '--workers <W>': 0 is not in 1..=64\n{more}"
-    assert room.run("mrp plam", status=2) == f"error: unrecognized subcommand 'plam'\n\n  tip: a similar subcommand exists: 'plan'\n\nUsage: mrp <COMMAND>\n{more}"
-    assert "error: unexpected argument 'seventh' found\n" in room.run("mrp plan --workers 1 --capacity 2 --single seventh", status=2)
-    refused = ("make", "plan --workers 65", "plan --capacity 0", "plan --capacity 65537", "plan --worker 2", "plan --workers", "plan --single=1")
-    refused += ("plan --single --single", "peg P1 WHEEL", "peg P1 WHEEL 104", "peg P1 WHEEL 01 2", "check now", "cums A")
-    refused += ("orders --until 104", "orders --until -1", "orders --until", "orders 3", "plan --header", "check --until 1", "cums --header=1")
-    refused += ("schedule P1", "schedule --from", "schedule --to", "schedule --from P1 --from P1", "schedule --until 1", "cums --from P1", "plan --to P1")
-    refused += ("pegs P1 WHEEL 2", "pegs --to P1", "pegs --header=1", "advice P1", "advice --until 1", "advice --from P1")
+    assert (
+        room.run("mrp plan --workers 0", status=2)
+        == f"error: invalid value '0' for '--workers <W>': 0 is not in 1..=64\n{more}"
+    )
+    assert (
+        room.run("mrp plam", status=2)
+        == f"error: unrecognized subcommand 'plam'\n\n  tip: a similar subcommand exists: 'plan'\n\nUsage: mrp <COMMAND>\n{more}"
+    )
+    assert "error: unexpected argument 'seventh' found\n" in room.run(
+        "mrp plan --workers 1 --capacity 2 --single seventh", status=2
+    )
+    refused = (
+        "make",
+        "plan --workers 65",
+        "plan --capacity 0",
+        "plan --capacity 65537",
+        "plan --worker 2",
+        "plan --workers",
+        "plan --single=1",
+    )
+    refused += (
+        "plan --single --single",
+        "peg P1 WHEEL",
+        "peg P1 WHEEL 104",
+        "peg P1 WHEEL 01 2",
+        "check now",
+        "cums A",
+    )
+    refused += (
+        "orders --until 104",
+        "orders --until -1",
+        "orders --until",
+        "orders 3",
+        "plan --header",
+        "check --until 1",
+        "cums --header=1",
+    )
+    refused += (
+        "schedule P1",
+        "schedule --from",
+        "schedule --to",
+        "schedule --from P1 --from P1",
+        "schedule --until 1",
+        "cums --from P1",
+        "plan --to P1",
+    )
+    refused += (
+        "pegs P1 WHEEL 2",
+        "pegs --to P1",
+        "pegs --header=1",
+        "advice P1",
+        "advice --until 1",
+        "advice --from P1",
+    )
     for words in refused:
         said = room.run(f"mrp {words} < examples/bicycle.csv", status=2)
         assert "error: " in said
         assert "\nFor more information, try '--help'.\n" in said
-    taken = ("plan --single --workers 64 --capacity=65536", "plan --capacity 1", "peg P1 WHEEL 3", "cums", "orders --until 103 --header")
+    taken = (
+        "plan --single --workers 64 --capacity=65536",
+        "plan --capacity 1",
+        "peg P1 WHEEL 3",
+        "cums",
+        "orders --until 103 --header",
+    )
     taken += ("schedule --from P1 --to=P1 --header", "pegs --header", "advice --header")
     for words in taken:
         room.run(f"mrp {words} < examples/bicycle.csv")
@@ -172,7 +250,13 @@ def test_program_helps(room, program):
 def test_program_says_that_it_awaits_a_table(room, program):
     """With each command, on a terminal alone; control-D ends the table."""
     plan = b"plan,A,X,0,2026-01-05,0,0,0,0,0\n"
-    reports = {"check": b"code,A,X,0\n", "plan": plan, "plan --single": plan, "peg A X 0": b"", **dict.fromkeys(COMMANDS[3:], b"")}
+    reports = {
+        "check": b"code,A,X,0\n",
+        "plan": plan,
+        "plan --single": plan,
+        "peg A X 0": b"",
+        **dict.fromkeys(COMMANDS[3:], b""),
+    }
     both = {"stdout": subprocess.PIPE, "stderr": subprocess.PIPE, "env": room.variables}
     for command, report in reports.items():
         end, own = pty.openpty()
@@ -188,7 +272,9 @@ def test_program_says_that_it_awaits_a_table(room, program):
         assert said_where_it_shows(room, words, "stderr") == b""
     end, own = pty.openpty()
     for words in ("--help", "--version", "plam"):
-        said = subprocess.run([room.mrp, words], stdin=own, env=room.variables, capture_output=True, timeout=60, check=False).stderr
+        said = subprocess.run(
+            [room.mrp, words], stdin=own, env=room.variables, capture_output=True, timeout=60, check=False
+        ).stderr
         assert b"awaited" not in said, words
     os.close(own)
     os.close(end)
@@ -210,7 +296,11 @@ def test_program_names_what_is_wrong_in_whole_lines(room, program):
     """Rows of many digits, and names that begin with one or are as long as names may be."""
     head = "run,2026-01-05,7,1,,,,\nplant,40017-B,,,,,,\n"
     pairs = "".join(f"pair,40017-B,{number},buy,lot,0,0,0\n" for number in range(1231))
-    assert answered(room, "check", f"{head}{pairs}pair,40017-B,X,sell,lot,0,0,0\n".encode(), {}) == (1, b"", b"mrp: row 1234: BadSupply\n")
+    assert answered(room, "check", f"{head}{pairs}pair,40017-B,X,sell,lot,0,0,0\n".encode(), {}) == (
+        1,
+        b"",
+        b"mrp: row 1234: BadSupply\n",
+    )
     long, most = "A-NAME-OF-20-LETTERS", "1000000000000"
     both = f"pair,40017-B,{long},make,lot,0,0,0\npair,40017-B,7734,make,lot,0,0,0\n"
     bills = f"bill,40017-B,{long},7734,1000000,,,\n"
@@ -226,8 +316,12 @@ def test_program_reads_nothing_behind_a_fault(room, program):
     """Each command ends while more of its table may come."""
     first = "plant,A,,,,,,\nrun,"
     third = "run,2026-01-05,7,1,,,,\nplant,A,,,,,,\npair,A,X,sell,lot,0,0,0\npair,"
-    for rows, words in itertools.product((first, third), ("check", "plan", "plan --single", "peg A X 0", *COMMANDS[3:], "schedule --to none")):
-        with subprocess.Popen([room.mrp, *words.split()], stdin=subprocess.PIPE, stderr=subprocess.PIPE, env=room.variables) as child:
+    for rows, words in itertools.product(
+        (first, third), ("check", "plan", "plan --single", "peg A X 0", *COMMANDS[3:], "schedule --to none")
+    ):
+        with subprocess.Popen(
+            [room.mrp, *words.split()], stdin=subprocess.PIPE, stderr=subprocess.PIPE, env=room.variables
+        ) as child:
             child.stdin.write(rows.encode())
             child.stdin.flush()
             assert child.wait(timeout=60) == 1

@@ -3,7 +3,9 @@ from support import DELAYED, DELAYED_PLAN, WITH_DELAYS
 
 def test_record_is_as_planners_know_it(room):
     said = room.run("bin/record NORTH WHEEL < examples/three_plants.plan.csv")
-    assert said == """\
+    assert (
+        said
+        == """\
 NORTH WHEEL: 40 on hand before 2026-01-05
 
 Period                           0           1           2           3           4           5
@@ -14,7 +16,10 @@ Projected available             32          32          54          15          
 Planned order receipts                                  50
 Planned order releases                      50
 """
-    assert "\nLate orders\n  9 due in period 1 (2026-01-12), 1 period late" in room.run("bin/record SOUTH TUBE < examples/three_plants.plan.csv")
+    )
+    assert "\nLate orders\n  9 due in period 1 (2026-01-12), 1 period late" in room.run(
+        "bin/record SOUTH TUBE < examples/three_plants.plan.csv"
+    )
 
 
 def test_delays_are_worked_by_hand(room, program):
@@ -29,7 +34,12 @@ def test_record_has_late_orders_when_they_come(room):
     for item, figures in WITH_DELAYS.items():
         lines = room.run(f"bin/record A {item} < plan.csv").splitlines()
         place = next(it for it, line in enumerate(lines) if line.startswith("Projected available"))
-        assert lines[place + 1].split() == ["Available", "with", "delays", *(f"!{it}" if it < 0 else str(it) for it in figures)]
+        assert lines[place + 1].split() == [
+            "Available",
+            "with",
+            "delays",
+            *(f"!{it}" if it < 0 else str(it) for it in figures),
+        ]
     assert "with delays" not in room.run("bin/record A Z < plan.csv")
 
 

@@ -3,15 +3,23 @@ def test_why_has_each_requirement_once(room, program):
     assert "SOUTH TUBE: 9 released in period 0, due in period 1 (2026-01-12), 1 period late\n" in said
     assert "    12 demand\n" in said
     assert "1 requirement not followed (..)" in room.run("bin/why --depth 2 SOUTH TUBE 0 < examples/three_plants.csv")
-    assert "1 requirement not followed (..)" in room.run("bin/why --questions 1 SOUTH TUBE 0 < examples/three_plants.csv")
-    assert "no order of EAST BIKE is released in period 0; releases are in 1, 4\n" in room.run("bin/why EAST BIKE 0 < examples/three_plants.csv", status=1)
-    assert "no order of NORTH RIM is released in period 3; it has none\n" in room.run("bin/why NORTH RIM 3 < examples/three_plants.csv", status=1)
+    assert "1 requirement not followed (..)" in room.run(
+        "bin/why --questions 1 SOUTH TUBE 0 < examples/three_plants.csv"
+    )
+    assert "no order of EAST BIKE is released in period 0; releases are in 1, 4\n" in room.run(
+        "bin/why EAST BIKE 0 < examples/three_plants.csv", status=1
+    )
+    assert "no order of NORTH RIM is released in period 3; it has none\n" in room.run(
+        "bin/why NORTH RIM 3 < examples/three_plants.csv", status=1
+    )
     assert "no pair A X" in room.run("bin/why A X 0 < examples/three_plants.csv", status=1)
     assert "mrp: row 1" in room.run("bin/why A X 0 < examples/bicycle.plan.csv", status=1)
 
 
 def test_why_asks_for_two_reports(room, program):
-    """However many requirements it follows, and whether the table's names stand between quotes; what is on hand, and comes in now, is the table's."""
+    """However many requirements it follows, and whether the table's names stand between quotes; what is on hand, and
+    comes in now, is the table's.
+    """
     room.stand_in("words/asked", "asked", program=program)
     rows = "pair,A,X,buy,lot,0,1,9\npair,A,Y,make,lot,1,0,0\nbill,A,Y,X,2,,,\ndemand,A,Y,1,5,,,\nreceipt,A,X,0,2,,,\nreceipt,A,X,1,3,,,\n"
     # (9 are to be kept of 1 on hand and 2 that come in in period 0: 6 are short, and 5 in period 1 take 10 in period 0)
@@ -33,7 +41,9 @@ def test_why_tells_late_orders_apart(room, program):
     """Three orders that are released in period 0, and one piece of safety stock that is missing."""
     demands = "".join(f"demand,A,X,{period},{quantity},,,\n" for period, quantity in enumerate((5, 7, 6)))
     room.write("table.csv", f"run,2026-01-05,7,4,,,,\nplant,A,,,,,,\npair,A,X,buy,lot,2,4,5\n{demands}")
-    assert room.run("bin/why A X 0 < table.csv") == """\
+    assert (
+        room.run("bin/why A X 0 < table.csv")
+        == """\
 A X: 19 released in period 0
   6, due in period 0 (2026-01-05), 2 periods late
     1 for safety stock
@@ -46,3 +56,4 @@ A X: 19 released in period 0
     6 required in period 2
       6 demand
 """
+    )
