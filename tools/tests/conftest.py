@@ -7,7 +7,8 @@ import pytest
 
 HERE = os.path.dirname(os.path.realpath(__file__))
 sys.dont_write_bytecode = True
-sys.path[:0] = [os.path.dirname(HERE), HERE]
+TOOLS = os.path.dirname(HERE)
+sys.path[:0] = [HERE, TOOLS, f"{os.path.dirname(TOOLS)}/bin"]
 import support  # noqa: E402
 
 

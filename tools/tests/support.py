@@ -12,6 +12,7 @@ import random
 import re
 import shutil
 import subprocess
+import sys
 import tempfile
 
 import cases
@@ -56,6 +57,8 @@ class Room:
         for name in ("bin", "completions", "crates", "docs", "examples", "include", "python", "tools"):
             os.symlink(f"{TOP}/{name}", f"{folder}/{name}")
         os.mkdir(f"{folder}/words")
+        # (the tools run by the Python that runs the tests)
+        os.symlink(sys.executable, f"{folder}/words/python3")
         if self.program:
             os.symlink(self.program, self.mrp)
         else:
