@@ -1,3 +1,4 @@
+"""bin/compare."""
 import itertools
 import random
 

@@ -1,3 +1,4 @@
+"""tools/completions, and what it writes for bash, zsh and fish."""
 import os
 import pty
 import re

@@ -1,3 +1,6 @@
+"""tools/costs."""
+
+
 def test_costs_are_by_function(room):
     """By a stand-in of rt, which leaves what a check leaves."""
     room.stand_in("words/rt", "rt_costs")

@@ -1,3 +1,4 @@
+"""The list of crates."""
 import glob
 import os
 import re

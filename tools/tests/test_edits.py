@@ -1,3 +1,4 @@
+"""tools/edits, and the edits of all crates."""
 import re
 
 from support import module_of, TOP

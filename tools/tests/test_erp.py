@@ -1,3 +1,4 @@
+"""The queries of examples/erp/, and the run at night of docs/integrate.md."""
 from support import postgresql, skip, TOP, wants, write_from_recipe
 
 

@@ -1,3 +1,4 @@
+""".ci/run and tools/test-tools, by stand-ins of what they run."""
 from support import TOP
 
 

@@ -1,3 +1,4 @@
+"""bin/hit."""
 import array
 import random
 

@@ -1,3 +1,4 @@
+"""bin/install."""
 import os
 
 from support import Tags, TOP

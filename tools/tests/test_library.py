@@ -1,3 +1,4 @@
+"""tools/library, the library for C and its header."""
 import ctypes
 import re
 import subprocess

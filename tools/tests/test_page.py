@@ -1,3 +1,4 @@
+"""bin/page, also as a browser shows it."""
 import datetime
 import re
 

@@ -1,3 +1,4 @@
+"""tools/prove, and bin/mrp, which asks it whether the program is of the sources."""
 import os
 import pty
 import re

@@ -1,3 +1,4 @@
+"""python/mrp.py."""
 import csv
 import datetime
 

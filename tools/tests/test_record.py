@@ -1,3 +1,4 @@
+"""bin/record."""
 from support import DELAYED, DELAYED_PLAN, WITH_DELAYS
 
 

@@ -1,3 +1,4 @@
+"""bin/release."""
 import os
 import re
 

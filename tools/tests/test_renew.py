@@ -1,3 +1,6 @@
+"""bin/renew."""
+
+
 def test_renew_keeps_the_old_report(room):
     """Where the table is refused, with its row and without one, and where the program fails after it has written
     something.

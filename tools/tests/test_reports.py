@@ -1,3 +1,4 @@
+"""bin/reports.py, by which the tools read reports."""
 import itertools
 import os
 

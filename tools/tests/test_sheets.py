@@ -1,3 +1,4 @@
+"""bin/sheets, and the names of its sheets in other tools."""
 import csv
 import datetime
 import io

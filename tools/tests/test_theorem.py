@@ -1,3 +1,4 @@
+"""tools/theorem, and the page that it writes."""
 import re
 
 from support import module_of, TOP

@@ -1,3 +1,4 @@
+"""tools/torture."""
 import re
 import shutil
 

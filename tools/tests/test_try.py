@@ -1,3 +1,6 @@
+"""tools/try."""
+
+
 def test_try_runs_the_sources(room):
     """By a stand-in of rt, for the true one takes a minute."""
     room.stand_in("words/rt", "rt_try")

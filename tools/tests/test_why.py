@@ -1,3 +1,6 @@
+"""bin/why."""
+
+
 def test_why_has_each_requirement_once(room, program):
     said = room.run("bin/why SOUTH TUBE 0 < examples/three_plants.csv")
     assert "SOUTH TUBE: 9 released in period 0, due in period 1 (2026-01-12), 1 period late\n" in said

@@ -1,3 +1,4 @@
+"""What all tools have in common: help, bad words, bad input, and the program that they find."""
 import os
 
 from support import TOP
