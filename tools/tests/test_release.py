@@ -162,8 +162,8 @@ def test_release_is_of_a_proved_program(room):
     for it in ("prove", "library"):
         room.stand_in(f"tree/tools/{it}", f"release/{it}")
     release = "MRP= MRP_LIBRARY= tree/bin/release new"
-    said = "bin/release: the work tree is not that of its commit: commit or remove what git status lists\n"
-    assert room.run(release, status=1) == said
+    differs = "bin/release: the work tree is not that of its commit: commit or remove what git status lists\n"
+    assert room.run(release, status=1) == differs
     commit(room, "With a stand-in")
     version = room.run("./own --version").split()[1].rstrip(",")
     assert room.run(release) == f"new/mrp-{version}-linux-x86_64.tar.gz\nnew/mrp_{version}_amd64.deb\nnew/SHA256SUMS\n"
@@ -179,7 +179,7 @@ def test_release_is_of_a_proved_program(room):
     said = room.run(f"LOGIC=ff {release}", status=1)
     assert "bin/release: the program names logic " in said
     assert ", and the kit here is kit logic ff\n" in said
-    assert room.run(f"echo more >> tree/README.md; {release}", status=1) == said
+    assert room.run(f"echo more >> tree/README.md; {release}", status=1) == differs
     said = room.run(f"git -C tree checkout -q README.md; echo echo > own; {release}", status=1)
     assert "bin/release: " in said
     assert "/out/mrp says no version: \n" in said
