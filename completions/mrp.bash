@@ -1,4 +1,4 @@
-# The words of mrp in bash.
+# The words of mrp in bash. tools/completions writes this file from what mrp says in its help.
 _mrp() {
     local word=${COMP_WORDS[COMP_CWORD]} before=${COMP_WORDS[COMP_CWORD - 1]} words=
     case $before in
@@ -6,18 +6,19 @@ _mrp() {
     esac
     if [ "$COMP_CWORD" -eq 1 ]; then
         words="plan check peg cums orders schedule pegs advice help --help --version"
-    elif [ "${COMP_WORDS[1]}" = plan ]; then
-        words="--single --workers --capacity --help"
-    elif [ "${COMP_WORDS[1]}" = orders ]; then
-        words="--until --header --help"
-    elif [ "${COMP_WORDS[1]}" = schedule ]; then
-        words="--from --to --header --help"
-    elif [ "${COMP_WORDS[1]}" = help ]; then
-        words="plan check peg cums orders schedule pegs advice"
-    elif [[ ${COMP_WORDS[1]} =~ ^(check|peg|cums|pegs|advice)$ ]]; then
-        words="--header --help"
     else
-        words="--help"
+        case ${COMP_WORDS[1]} in
+            plan) words="--workers --capacity --single --help" ;;
+            check) words="--header --help" ;;
+            peg) words="--header --help" ;;
+            cums) words="--header --help" ;;
+            orders) words="--until --header --help" ;;
+            schedule) words="--from --to --header --help" ;;
+            pegs) words="--header --help" ;;
+            advice) words="--header --help" ;;
+            help) words="plan check peg cums orders schedule pegs advice" ;;
+            *) words="--help" ;;
+        esac
     fi
     mapfile -t COMPREPLY < <(compgen -W "$words" -- "$word")
 }

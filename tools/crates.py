@@ -17,16 +17,16 @@ PARTS = ("src", "specs", "proofs")
 RUNNING, STOPPED, REMOVERS = set(), threading.Event(), []
 
 
-def lines_of_list():
+def lines_of_list(top=TOP):
     """Returns the line of crates.txt of each crate by its name, lowest layer first."""
-    with open(f"{TOP}/crates.txt", encoding="utf-8") as file:
+    with open(f"{top}/crates.txt", encoding="utf-8") as file:
         lines = [it.partition("#")[0].strip() for it in file]
     return {re.split(r"[\s:]", it)[0]: it for it in lines if it}
 
 
-def libraries_below():
+def libraries_below(top=TOP):
     """Returns, by the name of each crate, the libraries of this repository that it stands on, directly or through others, lowest first."""
-    lines = lines_of_list()
+    lines = lines_of_list(top)
     direct = {name: [it for it in line.partition(":")[2].split() if it in lines] for name, line in lines.items()}
 
     def below(name):

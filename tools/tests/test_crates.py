@@ -1,16 +1,15 @@
-"""What crates.txt and the imports of the crates forbid: a run by threads that copies the plan from one that was made otherwise.
+"""The list of crates: what it names, and what it and the imports forbid: a run by threads that copies a plan that was made otherwise.
 
 Contracts say that a run answers the one plan, and not how it came to it. What plans the network as a whole (`mrp_plan`), and what drives
 all plants in one thread (`mrp_world`), answer the same plan. So a run that asks its gate and then copies theirs would meet every clause on
 a network without lanes. It can't, since what it stands on has no such call.
 """
+import glob
 import os
 import re
-import sys
 
-sys.dont_write_bytecode = True
-sys.path.insert(0, os.path.dirname(os.path.dirname(os.path.realpath(__file__))))
-import crates  # noqa: E402
+import crates
+from support import TOP
 
 OTHER_PLANNERS = {"mrp_plan", "mrp_world"}
 PLANNER = f"{crates.TOP}/crates/mrp_planner/src"
@@ -78,3 +77,22 @@ def test_a_copied_plan_is_found():
     }
     for name, (first, second, found) in wrong.items():
         assert (name, copies("run.rt", {"run.rt": first, "fault.rt": second})) == (name, found)
+
+
+def test_crates_list_what_their_files_name(room):
+    """rt reads the files below a crate once for each way down the list, so one that lists what no file of its names
+    costs minutes.
+    """
+    listed = {name: line.partition(":")[2].split() for name, line in crates.lines_of_list().items()}
+    for name, libraries in listed.items():
+        files = (
+            it
+            for part in crates.PARTS
+            for it in glob.glob(f"{TOP}/crates/{name}/{part}/**", recursive=True)
+            if os.path.isfile(it)
+        )
+        named = set()
+        for it in files:
+            with open(it, encoding="utf-8") as file:
+                named.update(re.findall(r"\b(?:Rattle\.)?(\w+)(?:::|\.)", file.read()))
+        assert [it for it in libraries if it not in named] == [], name

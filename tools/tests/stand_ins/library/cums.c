@@ -1,0 +1,30 @@
+/* A library that answers a line, as that for C does. */
+#include <stdbool.h>
+#include <stddef.h>
+#include <stdint.h>
+#include <string.h>
+uint32_t mrp_cums(const uint8_t *table, size_t table_size, bool header, uint8_t *buffer, size_t buffer_size, size_t *size)
+{
+    *size = 9;
+    return memcpy(buffer, "mrp: one\n", 9), 1;
+}
+
+uint32_t mrp_plan(void)
+{
+    return 0;
+}
+
+uint32_t mrp_orders(void)
+{
+    return 0;
+}
+
+uint32_t mrp_schedule(void)
+{
+    return 0;
+}
+
+uint32_t mrp_check(void)
+{
+    return 0;
+}

@@ -1,0 +1,166 @@
+"""bin/hit."""
+import array
+import datetime
+import random
+
+import delays
+import firms
+import hits
+import mrp
+import oracle
+import reports
+from support import DELAYED
+
+# By hand, with the orders of DELAYED_PLAN. X has 10 for the 11 of period 1 and the 16 of period 2, until the 3 and the
+# 5 come in period 3. Y has 9 for the 5 of period 1, though the order for its safety stock is late, and for the 12 of
+# period 4, until the 8 come in period 6.
+DELAYED_HITS = "hit,A,X,1,2026-01-12,7,2,A,X\nhit,A,Y,4,2026-02-02,7,2,A,Y\nhit,A,X,2,2026-01-19,5,1,A,X\n"
+
+
+def reports_from_files(room, table, *words):
+    """Writes a table, and reports of it that tools/oracle.py makes, for the program words/files."""
+    room.write("table.csv", table)
+    room.stand_in("words/files", "from_files")
+    for it in words:
+        room.write(f"{it}.csv", oracle.Oracle(table.encode()).answer(it).out.decode())
+
+
+def test_hit_is_worked_by_hand(room):
+    """By two reports, whatever a table's rows look like, and read back by name."""
+    for table in (
+        DELAYED,
+        "\ufeff" + DELAYED.replace("pair,A,X", 'pair,"A","X"').replace("demand", '"demand"').replace("\n", "\r\n"),
+    ):
+        reports_from_files(room, table, "orders", "pegs")
+        assert room.run("rm -f asked; MRP=words/files bin/hit < table.csv") == DELAYED_HITS
+        assert room.run("cat asked") == "orders\npegs\n"
+    assert (
+        room.run("MRP=words/files bin/hit --header < table.csv")
+        == f"row,plant,item,period,date,quantity,late_at_worst,by_plant,by_item\n{DELAYED_HITS}"
+    )
+    rows = [*reports.parts(it.encode() for it in DELAYED_HITS.splitlines(keepends=True))]
+    assert rows[1] == mrp.Hit("A", "Y", 4, datetime.date(2026, 2, 2), 7, 2, "A", "Y")
+    assert (
+        room.run("sed -i 's/^demand,A,[XY].*//' table.csv; : > orders.csv; MRP=words/files bin/hit < table.csv") == ""
+    )
+
+
+def test_hit_says_what_the_program_refuses(room, program):
+    """In the program's line, with status 1; and what bin/why shows of the late order has the demands."""
+    assert room.run("bin/hit < examples/bicycle.plan.csv", status=1) == room.run(
+        "mrp pegs < examples/bicycle.plan.csv", status=1
+    )
+    found = [it.split(",") for it in room.run("bin/hit < examples/pumps.csv").splitlines()]
+    assert (len(found), {(it[7], it[8]) for it in found}) == (9, {("FOUNDRY", "CASTING")})
+    said = room.run("bin/why FOUNDRY CASTING 0 < examples/pumps.csv")
+    for it in found:
+        assert f" {it[5]} demand\n" in said
+
+
+def test_hits_are_what_others_find(room):
+    """Of random firms: from each demand down, and by plans that are played, in which no demand waits longer; and
+    bin/why leads from the late order to it.
+    """
+    count, longest, followed, shared = 0, 0, 0, 0
+    for seed in range(400):
+        table = firms.table(random.Random(seed), 6, 14)
+        firm = oracle.Oracle(table).firm
+        if not firm or firm.periods > 26:
+            continue
+        waiting = firm_of_hits(table)
+        found = [*waiting.hits()]
+        for pair, also in waiting.others(found).items():
+            # (what its late orders alone would hit waits for them)
+            alone = [*firm_of_hits(table, pair).hits()]
+            assert {it[:3] for it in alone} - {it[:3] for it in also} == set(), (seed, pair)
+            shared += len(alone)
+        waits = {(it.plant, it.item, it.period): it.late_at_worst for it in found}
+        assert waits == delays.Waits(firm).demands(), seed
+        assert [(it.date, it.quantity) for it in found] == [
+            (firm.day(it.period), firm.demand[it.plant, it.item][it.period]) for it in found
+        ], seed
+        # (where a source of several has no part of a release, its order may come before one that is due before)
+        if all(len(it.sources) < 2 for it in firm.pairs.values()):
+            assert [it for it in found if it[:3] not in delays.demands_above(firm, it[-2:])] == [], seed
+            followed += len(found)
+        played = delays.played(firm, random.Random(seed))
+        assert len(played) == sum(1 for demands in firm.demand.values() for it in demands if it), seed
+        assert [it for it, met in played.items() if met > it[2] + waits.get(it, 0)] == [], seed
+        count, longest = count + len(found), longest + sum(
+            played[it] == it[2] + periods for it, periods in waits.items()
+        )
+    # (nearly all wait as long as they may, in one play)
+    assert count > 400
+    assert longest > 0.9 * count
+    assert followed > 200
+    assert shared > 200
+
+
+def test_hit_goes_up_a_long_chain(room):
+    """Of 20,000 pairs, each of which waits for the next: in a second, and not in the room that so many periods would
+    take.
+    """
+    room.stand_in("words/files", "from_files")
+    pairs, last = range(20_000), 19_999
+    rows = [f"pair,P,I{it},{'make' if it < last else 'buy'},lot,104,0,0" for it in pairs] + [
+        f"bill,P,I{it - 1},I{it},1,,," for it in pairs[1:]
+    ]
+    room.write("table.csv", "\n".join(["run,2026-01-05,7,104,,,,", "plant,P,,,,,,", *rows, "demand,P,I0,3,7,,,"]))
+    room.write(
+        "orders.csv",
+        "".join(
+            f"order,P,I{it},make,7,0,2026-01-05,{0 if it else 3},2026-01-05,{104 if it else 101}\n" for it in pairs
+        ),
+    )
+    room.write(
+        "pegs.csv",
+        "pegs,P,I0,3,demand,P,I0,7,1,7\n" + "".join(f"pegs,P,I{it},0,bill,P,I{it - 1},7,1,7\n" for it in pairs[1:]),
+    )
+    assert (
+        room.run("ulimit -v 400000; MRP=words/files bin/hit < table.csv")
+        == f"hit,P,I0,3,2026-01-26,7,{104 * 20_000 - 3},P,I{last}\n"
+    )
+
+
+def firm_of_hits(table, late=None):
+    """Returns the firm of a table for its hits, by the reports of tools/oracle.py; with the late orders of one pair
+    alone where it is given.
+    """
+    answers = [oracle.Oracle(table).answer(it).out.splitlines(keepends=True) for it in ("orders", "pegs")]
+    orders = hits.Orders(answers[0])
+    for pair in orders.late - {late} if late else ():
+        orders.of[pair][3::4] = array.array("q", [0] * (len(orders.of[pair]) // 4))
+    orders.late = {late} if late else orders.late
+    firm = hits.Firm(table.decode().splitlines(keepends=True), orders)
+    firm.take_pegs(answers[1])
+    return firm
+
+
+# By hand: of the sheets of the example without motors, on hand or on order. 20 are due in period 0 and come in period
+# 2. 14 go into pumps in period 1, and wait a period; so do the 17 pumps that are asked for in period 2, of which 2 go
+# to the depot and are asked for there in period 3.
+WITHOUT_MOTORS = """\
+WORKS 100/250-A (Pump, 2.5 kW): 15 in period 2 (2026-12-14), 1 period late at worst by WORKS MOTOR (Motor 2.5 kW)
+  8 of 2026-12-16: Order 4720, Customer Grundmann
+  7 of 2026-12-18: Order 4722, Customer Weber
+DEPOT 100/250-A (Pump, 2.5 kW): 6 in period 3 (2026-12-21), 1 period late at worst by WORKS MOTOR (Motor 2.5 kW)
+  6 of 2026-12-22: Order 4725, Customer Spares
+"""
+
+
+def test_hit_shows_the_demands_of_sheets(room):
+    """With --names in lines to read, with order numbers and customers; else in rows, which have the names of the
+    table.
+    """
+    room.run("cp -r examples/sheets firm && rm firm/receipts.csv && sed -i '/MOTOR/s/,8,2$/,0,2/' firm/items.csv")
+    room.run("bin/sheets --names names.csv firm > table.csv 2> said")
+    said = room.run("bin/hit --header --names names.csv < table.csv", status=2)
+    assert said == "bin/hit: argument --names: not allowed with argument --header\n"
+    room.needs_program()
+    assert room.run("bin/hit --names names.csv < table.csv") == WITHOUT_MOTORS
+    rows = "hit,WORKS,100_250-A,2,2026-12-14,15,1,WORKS,MOTOR\nhit,DEPOT,100_250-A,3,2026-12-21,6,1,WORKS,MOTOR\n"
+    assert room.run("bin/hit < table.csv") == rows
+    # (of what no sheet says anything, the names of the table)
+    room.run("sed -i '3,$d' names.csv")
+    wanted = "DEPOT 100_250-A: 6 in period 3 (2026-12-21), 1 period late at worst by WORKS MOTOR"
+    assert room.run("bin/hit --names names.csv < table.csv").splitlines()[1] == wanted

@@ -1,0 +1,243 @@
+"""bin/page, also as a browser shows it."""
+import datetime
+import re
+
+import reports
+from support import DELAYED_PLAN, listed, plan_rows, Tags, wants, WITH_DELAYS
+
+
+def test_page_has_late_orders_when_they_come(room):
+    """Red below zero, in the record and in its picture."""
+    room.write("plan.csv", DELAYED_PLAN)
+    text = room.run("bin/page < plan.csv")
+    assert len(Tags(text).articles) == 3
+    for figures in WITH_DELAYS.values():
+        cells = "".join(f'<td class="late">{it}</td>' if it < 0 else f"<td>{it}</td>" for it in figures)
+        assert f'<tr class="stock"><th class="name">Available with delays</th>{cells}</tr>' in text
+    assert text.count("Available with delays") == 2
+    # (X from 6 at the height of 0 down to -6 at 100: zero is at 50, and -1 at 7 / 12; Z without a red line)
+    assert '<path class="delayed" d="M0 0.0V0.0H1V58.33H2V100.0H3V33.33H4V33.33H5"/>' in text
+    assert '<path class="zero" d="M0 50.0H5"/>' in text
+    assert text.count('class="delayed"') == 2
+
+
+def test_page_has_each_record(room):
+    text = room.run("bin/page --cums examples/three_plants.cums.csv < examples/three_plants.plan.csv")
+    assert len(Tags(text).articles) == 9
+    due = '9 due <time datetime="2026-01-12">12 Jan <small>W03</small></time>'
+    assert "NORTH FRAME</h3><span>10 on hand" in text
+    assert "Between plants" in text
+    assert '<td class="late">9<small>1&nbsp;week late</small></td>' in text
+    assert f'<p>{due}, <b class="late">1 week</b> late</p>' in text
+    assert (
+        f'<a href="#r0">TUBE</a></td><td data-by="1"><b class="late">1 week</b></td><td class="name">{due}</td>' in text
+    )
+    assert re.findall('<section id="([a-z]+)"', text) == ["late", "lanes", "records"]
+    # (the page asks for nothing outside)
+    assert not re.search(r"(src|href)=[\"'](?!#)|url\(|https?:", text)
+    assert room.run("cat examples/three_plants.plan.csv examples/three_plants.cums.csv | bin/page") == text
+
+
+def test_page_says_what_it_leaves_out(room):
+    text = room.run("bin/page --pairs 2 < examples/three_plants.plan.csv")
+    assert Tags(text).articles == [("SOUTH", "TUBE"), ("NORTH", "BIKE")]
+    assert "The page has 2 of 9 pairs" in text
+    assert Tags(room.run("bin/page --plant EAST --item WHEEL < examples/three_plants.plan.csv")).articles == [
+        ("EAST", "WHEEL")
+    ]
+
+
+def open_page(room, name):
+    """Opens a page in a browser, and returns what stands on it then."""
+    browser = wants("chromium", "chromium-browser", "google-chrome")
+    words = f"{browser} --headless --no-sandbox --disable-gpu --user-data-dir={room.folder}/browser --enable-logging=stderr --dump-dom"
+    text = room.run(f"{words} file://{room.folder}/{name} 2> said")
+    with open(f"{room.folder}/said", encoding="utf-8", errors="replace") as said:
+        faults = [it for it in said if "CONSOLE" in it]
+    assert faults == []
+    return text
+
+
+def test_page_sorts_and_finds(room):
+    """The words of a reader, said by a script: sort by item, and find the wheels of the east."""
+    room.run("bin/page --cums examples/three_plants.cums.csv < examples/three_plants.plan.csv > page.html")
+    script = "item.value = 'wHEEL'; plant.value = 'EAST'; find(); document.querySelector('#lanes th:nth-child(5) button').click();"
+    room.run(f'sed "s/^find();$/find(); {script}/" page.html > asked.html')
+    text = open_page(room, "asked.html")
+    assert "1 of 9 records" in text
+    assert '<th aria-sort="descending"><button type="button">In transit' in text
+    lanes = text[text.index('id="lanes"') :]
+    assert re.findall(r"<td>(\d+)</td><td>\d+</td><td>\d+</td></tr>", lanes)[:3] == ["5", "4", "0"]
+
+
+# The reports of pumps, of which the stored ones have names of columns, and the plan two kinds of rows.
+PUMPS = "cat examples/pumps.plan.csv examples/pumps.orders.csv examples/pumps.advice.csv examples/pumps.schedule.csv"
+
+
+def test_page_says_what_is_to_be_done(room):
+    """Of the reports of pumps: orders to release, those to move, and three deliveries of each item on a lane, with the
+    figure that a reset closes.
+    """
+    text = room.run(f"{PUMPS} | bin/page")
+    Tags(text)
+    assert "10 pairs, 8 weeks, 4 late orders, 8 orders to release, 6 open orders to be moved" in text
+    rows = listed(text, "release")
+    assert [it[0] for it in rows] == [
+        "PUMP",
+        "CASTING",
+        "CASTING",
+        "HOUSING",
+        "IMPELLER",
+        "BRASS",
+        "IMPELLER",
+        "IMPELLER",
+    ]
+    assert (rows[1], rows[6]) == (
+        ["CASTING", "50", "5 weeks", "30 Nov W49", "buy"],
+        ["IMPELLER", "1", "1 week", "7 Dec W50", "from WORKS 70%, FOUNDRY 30%"],
+    )
+    orders = "50 due 30 Nov W49, 5 weeks50 due 7 Dec W50, 4 weeksor expedite 60 of 28 Dec W53"
+    assert listed(text, "late")[:2] == [
+        ["FOUNDRY", "CASTING", "5 weeks", orders],
+        ["FOUNDRY", "HOUSING", "1 week", "40 due 7 Dec W50"],
+    ]
+    rows = listed(text, "moves")
+    assert [it[0] for it in rows] == ["expedite", "defer", "defer", "defer", "defer", "cancel"]
+    assert rows[0] == ["expedite", "FOUNDRY", "CASTING", "60", "28 Dec W53", "30 Nov W49", "receipt"]
+    assert (rows[2][6], rows[5][4:6]) == ("in transit from FOUNDRY", ["18 Jan W03", "never"])
+    rows = [it[1:] for it in listed(text, "deliveries") if it[0] == "HOUSING"]
+    called = [["7 Dec W50", "25", "1,000"], ["21 Dec W52", "44", "1,044"], ["4 Jan W01", "14", "141,044 closed"]]
+    assert rows == [["in transit", "15", "975"], *called]
+
+
+def test_page_of_a_table_has_its_reports(room, program):
+    """What the reports of the table say, with the demands that are hit and what the table says of pairs; a refused
+    table is refused in the program's line.
+    """
+    text = room.run("bin/page < examples/pumps.csv | tee page.html")
+    Tags(text)
+    assert text.count('<article id="r') == 10
+    given = room.run(f"({PUMPS}; bin/hit < examples/pumps.csv) | bin/page")
+    for name in ("release", "moves", "deliveries"):
+        assert listed(text, name) == listed(given, name)
+    assert [it[:4] for it in listed(text, "late")] == [it[:4] for it in listed(given, "late")]
+    row = listed(text, "late")[0]
+    assert (row[4], row[5].startswith("20 WORKS PUMP of 21 Dec W52, 5 weeks5 DEPOT PUMP of 28 Dec W53, 5 weeks")) == (
+        "9",
+        True,
+    )
+    # (the castings that its housings wait for come later than these; what the depot's impeller waits for hits no
+    # demand)
+    assert [it[4:] for it in listed(text, "late")[1:]] == [["", "also 9, worse by CASTING"], ["0", ""]]
+    assert "CASTING</h3><span>buy, at least 50, by 10, lead time 5 weeks, 35 on hand, safety stock 10</span>" in text
+    # (of the works' 27 pumps in period 3 the demand for 20 is hit, and the depot's 5 in period 4)
+    assert '<td class="late">27<small>5&nbsp;weeks late</small></td>' in text
+    assert '<td class="late">5<small>5&nbsp;weeks late</small></td>' in text
+    # (seven of the ten pairs have safety stock)
+    assert (text.count('<path class="safety"'), given.count('<path class="safety"')) == (7, 0)
+    assert {it[1] for it in listed(room.run("bin/page --plant DEPOT < examples/pumps.csv"), "moves")} == {"DEPOT"}
+    text = room.run("bin/page < examples/bicycle.csv")
+    assert "<p>Nothing.</p>" in text
+    assert "<p>No order is late.</p>" in text
+    assert "<p>Each comes when it is needed.</p>" in text
+    assert "<p>There are none.</p>" in text
+    for table in ("<(tail -n 3 examples/pumps.csv)", "README", "<(sed s/,PUMP,make/,PUMP,makes/ examples/pumps.csv)"):
+        room.write("README", "no table\n")
+        assert room.run(f"bin/page < {table}", status=1) == room.run(f"mrp plan < {table}", status=1)
+
+
+def test_page_folds_what_can_wait(room):
+    """The records stand worst first. Without an order in the first month they are folded, and a link unfolds them."""
+    rows = {
+        "LATER": (0, 0, 0, 0, 0, 0, 7),
+        "SOON": (0, 0, 0, 0, 7, 0, 0),
+        "LATE": (0, 3, 0, 0, 0, 0, 0),
+        "NEVER": (0,) * 7,
+    }
+    plan = plan_rows("2026-11-30", 7, rows, [("LATE", 1, 2)])
+    releases = {("SOON", 4), ("LATER", 5), ("LATE", 0)}
+    lines = [it.split(",") for it in plan.splitlines()]
+    released = (
+        ",".join([*it[:8], "7" if (it[2], int(it[3])) in releases else "0", *it[9:]]) + "\n"
+        for it in lines
+        if it[0] == "plan"
+    )
+    room.write("plan.csv", "".join(released))
+    room.write("late.csv", plan[plan.index("late,") :])
+    room.run("cat plan.csv late.csv | bin/page > page.html")
+    text = room.run("cat page.html")
+    assert re.findall('data-item="([A-Z]+)"[^>]*><details( open)?>', text) == [
+        ("LATE", " open"),
+        ("LATER", ""),
+        ("SOON", " open"),
+        ("NEVER", ""),
+    ]
+    assert 'next release <time datetime="2027-01-04">4 Jan <small>W01</small></time></span>' in text
+    assert "NEVER</h3><span>0 on hand, no order</span>" in text
+    room.run(
+        "sed \"s/^unfold();$/item.value = 'SOON'; find(); location.hash = '#r1'; unfold();/\" page.html > asked.html"
+    )
+    text = open_page(room, "asked.html")
+    assert "4 of 4 records" in text
+    assert 'data-item="LATER"><details open' in text
+
+
+# What a reader sees of a page in a frame, said to the page around it: how many weeks of the first record; and whether
+# nothing stands out of the window, the first picture is whole, and the lateness of the first order to release and of
+# the first late one can be read, on a phone without lists that scroll.
+SEEN = """
+const within = (it, outer) => it.left >= outer.left && it.right <= outer.right + 1, place = (words) => document.querySelector(words).getBoundingClientRect();
+const window_ = { left: 0, right: innerWidth }, scroll = place("article .scroll"), whole = (words) => within(place(words), window_);
+const weeks = [...document.querySelectorAll("article:first-of-type thead th:not(.name)")].filter((it) => within(it.getBoundingClientRect(), scroll)).length;
+const fits = (it) => it.scrollWidth <= it.clientWidth && it.scrollHeight <= it.clientHeight;
+const lists = innerWidth > 400 || [...document.querySelectorAll(".list")].every(fits);
+const seen = ["#release b.late", "#release time", "#late b.late"].every((it) => within(place(it), place(it.split(" ")[0] + " .list")) && whole(it)) && lists;
+parent.postMessage([innerWidth, weeks, document.documentElement.scrollWidth <= innerWidth, whole("article svg"), seen].join(" "), "*");
+"""
+FRAMES = """<body><script>addEventListener("message", (it) => document.body.append("seen " + it.data + ";"));</script>
+<iframe src="asked.html" width="1300" height="1400"></iframe><iframe src="asked.html" width="390" height="800"></iframe></body>
+"""
+
+
+def test_page_fits_a_screen_and_a_phone(room):
+    """Of 26 weeks 18 at 1300 pixels; at 390 pictures are whole, and lateness and what is due are seen, with
+    descriptions too.
+    """
+    start = datetime.date(2026, 11, 30)
+    days = [start + datetime.timedelta(days=7 * it) for it in range(26)]
+    figures = [
+        f"{t},{day},{1200 if t % 3 else 0},0,{1250 if t % 2 else 0},1250,{1400 + t}" for t, day in enumerate(days)
+    ]
+    rows = [f"plan,HAM,PUMP-{item},{it}\n" for item in range(3) for it in figures]
+    rows += ["late,HAM,PUMP-1,1,1250,9\n", f"order,HAM,PUMP-1,from:BRN:700:LYO:300,1250,0,{days[0]},1,{days[1]},9\n"]
+    rows += [f"advice,expedite,receipt,HAM,PUMP-1,,6,{days[6]},60,0,{days[0]}\n"] * 40 + [
+        f"hit,HAM,PUMP-0,3,{days[3]},1200,8,HAM,PUMP-1\n"
+    ]
+    room.write("reports.csv", "".join(rows))
+    names = [
+        ",".join(reports.Names.COLUMNS),
+        "plant,HAM,,,,,Hamburg Nord,,",
+        'pair,HAM,PUMP-1,,,,100/250-A,"Pump, 2.5 kW",',
+        "",
+    ]
+    room.write("names.csv", "\n".join(names))
+    room.write("seen.html", f"<script>{SEEN}</script>")
+    room.write("frames.html", FRAMES)
+    for words in ("", "--names names.csv"):
+        room.run(f"bin/page {words} < reports.csv | cat - seen.html > asked.html")
+        seen = sorted(it.split() for it in re.findall(r"seen (\d[^;]*);", open_page(room, "frames.html")))
+        assert [(it[0], int(it[1]) >= least, *it[2:]) for it, least in zip(seen, (18, 4))] == [
+            (it, True, "true", "true", "true") for it in ("1300", "390")
+        ]
+
+
+def test_page_has_200_pairs_at_once(room):
+    rows = "".join(
+        f"plan,P,I{pair},{t},2026-01-05,{t * pair % 90},0,0,{pair},{t * pair % 70}\n"
+        for pair in range(201)
+        for t in range(104)
+    )
+    room.write("large.csv", rows)
+    text = room.run("bin/page < large.csv | tee page.html")
+    assert "The page has 200 of 201 pairs" in text
+    assert "200 of 200 records" in open_page(room, "page.html")

@@ -1,0 +1,99 @@
+"""python/mrp.py."""
+import csv
+import datetime
+
+import cases
+from support import COMMANDS, module_of, reads_each_report, some_tables, wants
+
+
+def test_python_reads_each_report(program):
+    """By the program: what is read of a report is the report, and what is refused is a fault with the program's line
+    and row.
+    """
+    mrp = module_of("mrp.py", "python")
+    reads_each_report(program, mrp, mrp.Program(program), [it for it in COMMANDS if it != "peg"])
+
+
+def test_python_writes_tables(room):
+    """From rows that were read, the same bytes; dates count into periods; a row may be a named tuple."""
+    mrp = module_of("mrp.py", "python")
+    for seed, text in enumerate(some_tables()):
+        if (seed - len(cases.examples())) % 3:
+            assert bytes(mrp.Table(csv.reader(text.decode().splitlines()))).decode() == text.decode()
+    first, one = datetime.date(2026, 1, 5), ("A", "X")
+    rows = [
+        mrp.Run(first, 7, 4),
+        mrp.Plant("A"),
+        mrp.Pair(*one, "from:B", "lot", 1, 0, 0),
+        ("pair", "B", "X", "buy", "fixed:7", 0, 0, 0),
+    ]
+    rows += [
+        mrp.Demand(*one, it, 5)
+        for it in (0, first, datetime.date(2026, 1, 11), datetime.datetime(2026, 1, 12, 8), datetime.date(2026, 1, 4))
+    ]
+    rows += [mrp.Bill("A", "X", "Y", 2), mrp.Receipt(*one, 1, 2), mrp.Ship("B", *one, first, 8), mrp.Cum("B", *one, 9)]
+    rows += [mrp.Reset("B", *one, datetime.date(2026, 2, 1))]
+    assert bytes(mrp.Table(rows)).decode() == WRITTEN
+    assert (
+        bytes(
+            mrp.Table(
+                [
+                    ("run", "2026-01-05", "7", 4),
+                    (),
+                    ("plant", 'a,"b'),
+                    ("demand", "A", "X", datetime.date(2026, 1, 19), 1),
+                ]
+            )
+        ).decode()
+        == RUN_AS_TEXT
+    )
+
+
+# By hand.
+WRITTEN = """\
+run,2026-01-05,7,4,,,,
+plant,A,,,,,,
+pair,A,X,from:B,lot,1,0,0
+pair,B,X,buy,fixed:7,0,0,0
+demand,A,X,0,5,,,
+demand,A,X,0,5,,,
+demand,A,X,0,5,,,
+demand,A,X,1,5,,,
+demand,A,X,-1,5,,,
+bill,A,X,Y,2,,,
+receipt,A,X,1,2,,,
+ship,B,A,X,0,8,,
+cum,B,A,X,9,,,
+reset,B,A,X,3,,,
+"""
+RUN_AS_TEXT = """\
+run,2026-01-05,7,4,,,,
+plant,"a,""b",,,,,,
+demand,A,X,2,1,,,
+"""
+
+
+def test_python_finds_who_answers(room):
+    """The library that MRP_LIBRARY names or that lies beside; else the program that MRP names, or the one on the path,
+    or bin/mrp.
+    """
+    room.run(
+        "mkdir -p tree/python tree/bin path only && cp python/mrp.py tree/python && ln -s $(command -v python3) only"
+    )
+    for name in ("tree/bin/mrp", "path/mrp", "named"):
+        room.stand_in(name, "says_its_name", name=f"mrp: {name}")
+    room.stand_in("ask.py", "ask.py")
+    for variables, wanted in (
+        ("MRP=./named PATH=path:only", "named"),
+        ("MRP= PATH=path:only", "path/mrp"),
+        ("MRP= PATH=only", "tree/bin/mrp"),
+    ):
+        assert room.run(f"{variables} python3 ask.py") == f"Fault(None, '{wanted}', 'mrp: {wanted}')\n"
+    wants("cc")
+    room.stand_in("one.c", "library/cums.c")
+    room.run("cc -Iinclude -shared -fPIC one.c -o tree/python/libmrp.so && cp tree/python/libmrp.so other.so")
+    assert room.run("MRP=./named python3 ask.py") == "Fault(None, 'one', 'mrp: one')\n"
+    assert (
+        room.run("rm tree/python/libmrp.so; MRP_LIBRARY=./other.so python3 ask.py")
+        == "Fault(None, 'one', 'mrp: one')\n"
+    )

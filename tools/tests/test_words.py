@@ -1,0 +1,134 @@
+"""What all tools have in common: help, bad words, bad input, and the program that they find."""
+import os
+
+from support import TOP
+
+# (bin/mrp has the words of the program, and the other files of both folders are read by the tools)
+TOOLS = [
+    "bin/record",
+    "bin/page",
+    "bin/why",
+    "bin/hit",
+    "bin/compare",
+    "bin/renew",
+    "bin/sheets",
+    "bin/counts",
+    "bin/install",
+    "bin/release",
+]
+TOOLS += [
+    "tools/try",
+    "tools/prove",
+    "tools/library",
+    "tools/staticlib",
+    "tools/edits",
+    "tools/costs",
+    "tools/torture",
+    "tools/theorem",
+    "tools/completions",
+    "tools/test-tools",
+]
+
+
+def test_words_of_tools(room):
+    """Each tool has a help, and refuses bad words in a line with status 2."""
+    files = (f"{folder}/{it}" for folder in ("bin", "tools") for it in os.listdir(f"{TOP}/{folder}"))
+    assert {it for it in files if os.access(f"{TOP}/{it}", os.X_OK) and os.path.isfile(f"{TOP}/{it}")} == {
+        *TOOLS,
+        "bin/mrp",
+    }
+    for tool in TOOLS:
+        assert tool in room.run(f"{tool} --help")
+    bad = [
+        "bin/record",
+        "bin/record A",
+        "bin/page --pairs 0",
+        "bin/page x",
+        "bin/why A X",
+        "bin/why A X y",
+        "bin/hit A",
+    ]
+    bad += ["bin/compare one", "bin/compare --within 0 one two", "bin/compare --last x one two"]
+    bad += ["bin/sheets", "bin/sheets --dates y/m/d examples/sheets", "bin/counts", "bin/counts --fall 101 counts.csv"]
+    bad += [
+        "bin/install a b",
+        "bin/install --all",
+        "bin/release",
+        "bin/release a b",
+        "bin/release --all",
+        "bin/release named",
+    ]
+    bad += ["bin/renew", "bin/renew plan.csv", "tools/try", "tools/torture x", "tools/torture --seed 0"]
+    bad += [
+        "tools/edits none",
+        "tools/edits --jobs 0",
+        "tools/edits --none",
+        "tools/prove none",
+        "tools/prove --none",
+        "tools/test-tools x",
+    ]
+    bad += ["tools/library", "tools/library a b", "tools/library --none", "tools/staticlib x", "tools/staticlib --none"]
+    bad += [
+        "tools/prove --ask",
+        "tools/prove --ask mrp",
+        "tools/prove --ask none mrp",
+        "tools/prove --ask --none mrp mrp",
+        "tools/try --test none",
+    ]
+    bad += ["tools/torture --trials 0", "tools/torture --kind none", "tools/completions x", "tools/completions --none"]
+    bad += [
+        "tools/costs",
+        "tools/costs none",
+        "tools/costs --most 0 mrp_qty",
+        "tools/theorem x",
+        "tools/theorem --none",
+        "tools/theorem --check x",
+    ]
+    for words in bad:
+        said = room.run(words, status=2)
+        assert (said.count("\n"), said.startswith(f"{words.split()[0]}: ")) == (1, True), f"{words} said\n{said}"
+
+
+def test_bad_input(room):
+    """Each tool refuses a report or table that is none in a line with status 1."""
+    plan = "examples/bicycle.plan.csv"
+    commands = (
+        "record P1 BIKE < /dev/null",
+        "record P1 BIKE < examples/bicycle.csv",
+        f"record P1 CAR < {plan}",
+        f"record P1 BIKE < <(head -c 60 {plan})",
+        f"record P1 BIKE < <(tail -n 7 {plan})",
+        f"record P1 BIKE < <(cat {plan}; echo late,P1,BIKE,4,1,1)",
+        f"page < <(cat {plan}; echo late,P1,BIKE,4,1,1)",
+        f"page < <(sed 's/BIKE/<b>/' {plan})",
+        "page < examples/firm_of_two.cums.csv",
+        "page < examples/pumps.orders.csv",
+        "record WORKS PUMP < examples/pumps.pegs.csv",
+        "record WORKS PUMP < <(sed 's/,call,/,calls,/' examples/pumps.schedule.csv)",
+        f"page --plant P2 < {plan}",
+        f"page --cums none < {plan}",
+        f"compare {plan} none",
+        f"compare {plan} examples/bicycle.csv",
+        "renew none/plan.csv plan < examples/bicycle.csv",
+        "sheets none",
+        "sheets --names none/names.csv examples/sheets 2> >(tail -n 1 >&2)",
+        "install /proc/none",
+    )
+    for command in (*(f"bin/{it}" for it in commands), "tools/torture --program none"):
+        said = room.run(command, status=1)
+        assert said.count("\n") == 1, f"{command} said\n{said}"
+
+
+def test_tools_find_the_program(room):
+    """The one that MRP names, else the one on the path, else bin/mrp: by programs that say which they are."""
+    room.run(f"mkdir tree path only && cp -rL {TOP}/bin tree && ln -s $(command -v python3) only")
+    for name in ("tree/bin/mrp", "path/mrp", "named"):
+        room.stand_in(name, "says_its_name", name=name)
+    for tool in ("why P1 WHEEL 1", "hit", "renew plan.csv plan"):
+        for variables, wanted in (
+            ("MRP=./named PATH=path:only", "named"),
+            ("MRP= PATH=path:only", "path/mrp"),
+            ("MRP= PATH=only", "tree/bin/mrp"),
+        ):
+            said = room.run(f"{variables} tree/bin/{tool} < examples/bicycle.csv 2>&1 || true")
+            assert said.splitlines()[:1] == [wanted], tool
