@@ -3,8 +3,8 @@
 //! An agent is given what its plant sees and nothing else of the network. It books the records of the
 //! lanes that come in, plans a pair once nothing is missing for it, and sends what its plans and its
 //! shipments say. Contracts speak of every history that an agent shows: the lists of records sent and
-//! taken, and the planned pairs. None of the lists is stored. The plans of all plants' pairs are gathered to the plan of
-//! the network.
+//! taken, and the planned pairs. None of the lists is stored. The plans of all plants' pairs are gathered to the
+//! plan of the network.
 //!
 //! Which pairs can be planned is kept event by event. A pair is named by its place among the pairs of its plant. It
 //! waits for each join to a demander at the plant that isn't planned yet, and for each block of records that it
