@@ -27,4 +27,5 @@ returns-clause-gate g c =
 pub returns-in_err-outcome-clause-gate : goal.returns-in_err-outcome-clause-gate
 returns-in_err-outcome-clause-gate g c =
     gate_fails g.G.Gate.turn_open g.G.Gate.turn_shut g.G.Gate.worker_shut c.args.settings.workers MOST_TURNS c.in_ok-net.net.network c.args.network.now
-    c.from_residual-in_err-outcome.result c.in_err-outcome.field-0.0 c.in_ok-net.ensures.network c.from_residual-in_err-outcome.ensures.1 c.in_err-outcome.ensures.gate.shut
+    c.from_residual-in_err-outcome.result c.in_err-outcome.field-0.0 c.in_ok-net.ensures.network c.from_residual-in_err-outcome.ensures.1
+    c.in_err-outcome.ensures.gate.shut

@@ -42,7 +42,8 @@ loop-done-preserved c =
     let N = c.args.network.now in record {
       settled = settle.paired_more N c.args.plants.now c.lanes-lanes.result
           (length (lanes N)) c.loop-done.done c.loop-done.all.items c.push.new.self.items c.join_last-joined.result
-          (pushed c.loop-done.all.items c.push.new.self.items c.join_last-joined.result _ c.push.ensures.items (ap is_ok c.unwrap.ensures)) c.lanes-lanes.ensures
+          (pushed c.loop-done.all.items c.push.new.self.items c.join_last-joined.result _ c.push.ensures.items (ap is_ok c.unwrap.ensures))
+          c.lanes-lanes.ensures
           (record {
             settled = c.join_last-joined.ensures.settled;
             of = ran.of_before N c.args.plants.now c.loop-done.plants _ c.join_last-joined.result c.loop-done.invariant.left_of c.join_last-joined.ensures.of;
@@ -51,7 +52,8 @@ loop-done-preserved c =
       room = omega (arith, c.loop-done.invariant.room, c.push.ensures.capacity);
       left = pair.left_next N c.join_last-joined.new.plants c.lanes-lanes.result c.loop-done.done c.lanes-lanes.ensures c.loop-done-test.true
           c.join_last-joined.ensures.left;
-      left_of = ran.left_of_left c.args.plants.now c.loop-done.plants c.join_last-joined.new.plants c.loop-done.invariant.left_of c.join_last-joined.ensures.left_of;
+      left_of = ran.left_of_left c.args.plants.now c.loop-done.plants c.join_last-joined.new.plants c.loop-done.invariant.left_of
+          c.join_last-joined.ensures.left_of;
     }
 
 pub returns-clause-lanes : goal.returns-clause-lanes
