@@ -4,6 +4,7 @@ use Rattle.std.proofs.lemmas.List.{get_or_default, get_or_read}
 use Rattle.mrp_table_rows.specs.declared.numbers.ItemNo.{ItemNo}
 use Rattle.mrp_net.specs.declared.lane.LaneKind.{LaneKind}
 use Rattle.mrp_plant_view.specs.declared.view.IncomingLane.{IncomingLane}
+use Rattle.mrp_plant_view.specs.View.{PlantRows}
 use Rattle.mrp_record.specs.declared.record.Record.{Record}
 use Rattle.mrp_record.specs.Form.{LaneForm, IsInForm}
 use Rattle.mrp_book.specs.declared.fault.BookFault.{BookFault}
@@ -88,8 +89,9 @@ module _ {A : AgentState} {I : Indexes} {k : ℕ} {was : Figures} (on : IsOnLane
       kept_now = subst (λ (z : AgentState). IsKept z I) (sym new_is)
           (booked_kept A on.kept.view on.kept.rooms k on.within r now progress on_lane I on.kept ended_is)
 
-      pub shows_now : (sent taken : ℕ → List Record) (planned : ℕ → Bool) → ShowsHistory A sent taken planned
-          → ShowsHistory New sent (with_taken A.view taken k r) planned
-      shows_now sent taken planned shows =
-          subst (λ (z : AgentState). ShowsHistory z sent (with_taken A.view taken k r) planned) (sym new_is)
-          (booked_shows A on.kept.view on.kept.rooms k on.within r now progress on_lane ended_is sent taken planned shows)
+      pub shows_now : (V : PlantRows) → A.view ≡ V → (sent taken : ℕ → List Record) (planned : ℕ → Bool) → ShowsHistory A sent taken planned
+          → ShowsHistory New sent (with_taken V taken k r) planned
+      shows_now V seen sent taken planned shows =
+          subst (λ (W : PlantRows). ShowsHistory New sent (with_taken W taken k r) planned) seen
+          (subst (λ (z : AgentState). ShowsHistory z sent (with_taken A.view taken k r) planned) (sym new_is)
+          (booked_shows A on.kept.view on.kept.rooms k on.within r now progress on_lane ended_is sent taken planned shows))

@@ -30,12 +30,12 @@ pub rows_read : {A : AgentState} {I : Indexes} {x : PairNo} {place : ℕ} {param
     → params ≡ (plant_pair_at A.view place).params → receipts ≡ part_at A.view.horizon place all_receipts → demand ≡ part_at A.view.horizon place all_demand
     → edges ≡ edges_at A.view place
     → HasRead A I x place params receipts demand edges plans
-rows_read {A} {I} {x} {place} placed can receipts_are demand_is plans_are params_are receipts_are demand_are edges_are = record {
+rows_read {A} {I} {x} {place} placed can all_receipts_are all_demand_are plans_are params_are receipts_are demand_are edges_are = record {
   placed = placed;
   can = can;
   params_are = params_are;
-  receipts_are = receipts_are ∙ ap (part_at A.view.horizon place) receipts_are;
-  demand_are = demand_are ∙ ap (part_at A.view.horizon place) demand_is;
+  receipts_are = receipts_are ∙ ap (part_at A.view.horizon place) all_receipts_are;
+  demand_are = demand_are ∙ ap (part_at A.view.horizon place) all_demand_are;
   edges_are = edges_are;
   plans_are = plans_are;
 }

@@ -9,7 +9,7 @@ use Rattle.mrp_agent.specs.Fields.{indexes_of}
 use Rattle.mrp_agent.specs.Kept.{IsKept}
 use Rattle.mrp_agent.specs.State.{AgentState, incoming_at}
 use Rattle.mrp_agent.specs.Shows.{BooksShow, ShowsHistory}
-use Rattle.mrp_agent.specs.Sent.{IsRefused, with_taken}
+use Rattle.mrp_agent.specs.Sent.{IsRefused}
 use Rattle.mrp_agent.specs.contracts.agent.Agent.{the_view}
 use Rattle.mrp_agent.proofs.BookCalls.{HasAdded, IsOnLane, ends, kept_now, shows_now, refused_is}
 use Rattle.mrp_agent.proofs.agent.Agent.book_at.Goals as goal
@@ -38,9 +38,9 @@ pub returns-clause-booked : goal.returns-clause-booked
 returns-clause-booked c =
     let at = goal.at.returns-clause-booked c in
     λ sent taken planned shows.
-    subst (λ (a : AgentState). ShowsHistory _ sent (with_taken a.view taken c.args.k c.args.entry.now) planned) c.self.view_is
-    (shows_now (on_lane at.After-index_mut) c.args.entry.now c.in_ok-book.ensures.booked (added at.After-end_block) sent taken planned
-    (subst (λ (a : AgentState). ShowsHistory a sent taken planned) (sym c.self.view_is) shows))
+    shows_now (on_lane at.After-index_mut) c.args.entry.now c.in_ok-book.ensures.booked (added at.After-end_block) c.args.self.now.view
+    (ap (λ (a : AgentState). a.view) c.self.view_is) sent taken planned
+    (subst (λ (a : AgentState). ShowsHistory a sent taken planned) (sym c.self.view_is) shows)
 
 pub returns-in_err-book-clause-refused : goal.returns-in_err-book-clause-refused
 returns-in_err-book-clause-refused c =
