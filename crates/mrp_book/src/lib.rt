@@ -3,7 +3,7 @@
 //!
 //! Contracts speak of every list of records that a book shows; none is stored.
 //!
-//! Used by agents, and by reports for the figures of lanes.
+//! Used by agents, lanes and worlds, and by reports for the figures of lanes.
 //! Keeps true: a book takes a record exactly where the list with it is in form, and else names its first fault.
 #![tactic(auto)]
 

@@ -95,7 +95,7 @@ lane,KIND,SENDER,RECEIVER,ITEM,OPENING,SHIPPED,RECEIVED,TRANSIT";
 
 const CUMS_EXAMPLE: &str = "Example: mrp cums < firm.csv";
 
-const ORDERS: &str = "Write the planned orders, with their releases and their suppliers";
+const ORDERS: &str = "Write the planned orders, with their releases and how they are supplied";
 
 const ORDERS_LONG: &str =
     "Writes the planned orders of each pair, those alone that are released in PERIOD\n\
@@ -277,7 +277,7 @@ fn workers_option<'a>(alloc: Global) -> Arg<'a>
 fn capacity_option<'a>(alloc: Global) -> Arg<'a>
     ensures { IsRuled rule.capacity result }
 {
-    let help = "Records that wait between two plants at most, 1 to 65536";
+    let help = "Messages that wait between two plants at most, 1 to 65536";
     number_option(alloc, "capacity", "C", MOST_CAPACITY, "64", help)
 }
 

@@ -4,7 +4,7 @@
 //! A row ends with a line feed. Names, numbers, dates and the words of a report need no quotes, so no field
 //! gets any. The room is taken before the first byte is sent: where it is refused, the writer is as it was.
 //!
-//! Used by all reports and by what writes their fault lines.
+//! Used by all reports, by the rows of lane records, and by what writes fault lines.
 //! Keeps true: no field needs quotes, and a writer has the whole report or a prefix of it.
 #![tactic(auto)]
 

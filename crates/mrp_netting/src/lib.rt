@@ -6,7 +6,7 @@
 //! releases, projected available balance), into a [`PairPlan`], which is used again from pair to
 //! pair. Contracts see a [`PairPlan`] as its five rows and the list of its late orders.
 //!
-//! Used by the plan of a network and by agents.
+//! Used by the plan of a network, by agents and those who drive them, and by reports.
 //! Keeps true: the rows of a `PairPlan` are those of the definition in `mrp_lot`, period by period.
 #![tactic(auto)]
 

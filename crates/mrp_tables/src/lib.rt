@@ -5,7 +5,7 @@
 //! accepted are the [`Tables`](mrp_table_rows::Tables) of its rows. The grammar is in `specs/`: what each row says,
 //! which rows make which table, and which fault a text has first. Its laws are functions that do nothing.
 //!
-//! Used by `mrp_planner`, and by tests.
+//! Used by `mrp_planner` and `mrp_record_csv`, and by tests.
 //! Keeps true: bytes make one table or have one first fault, and a table is read back from its own rows.
 #![tactic(auto)]
 
