@@ -52,7 +52,7 @@ def test_a_run_by_threads_stands_on_no_other_planner():
 
 def test_the_list_is_followed_through_others(monkeypatch):
     lines = {"mrp_plan": "mrp_plan: thiserror", "mrp_agent": "mrp_agent: mrp_plan", "mrp_run": "mrp_run: mrp_agent thiserror"}
-    monkeypatch.setattr(crates, "lines_of_list", lambda: lines)
+    monkeypatch.setattr(crates, "lines_of_list", lambda top: lines)
     assert crates.libraries_below()["mrp_run"] == ["mrp_plan", "mrp_agent"]
 
 

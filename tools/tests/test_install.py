@@ -20,7 +20,7 @@ def test_install_puts_and_removes(room):
 def test_installed_tools_need_no_checkout(room):
     """By a checkout that is gone, and a program that is beside the tools and not on the path."""
     room.run(
-        f"mkdir tree && cp -rL {TOP}/bin {TOP}/docs {TOP}/completions tree && cp -L words/mrp own && MRP=own tree/bin/install here && rm -r tree"
+        f"mkdir tree && cp -r {TOP}/bin {TOP}/python {TOP}/docs {TOP}/completions tree && cp -L words/mrp own && MRP=own tree/bin/install here && rm -r tree"
     )
     room.run("mkdir only && ln -s $(command -v python3) only")
     assert (

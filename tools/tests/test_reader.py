@@ -7,13 +7,9 @@ import shutil
 import subprocess
 import sys
 
+import mrp
 import pytest
-
-TOP = os.path.dirname(os.path.dirname(os.path.dirname(os.path.realpath(__file__))))
-sys.dont_write_bytecode = True
-if f"{TOP}/bin" not in sys.path:
-    sys.path.append(f"{TOP}/bin")
-import mrp  # noqa: E402
+from support import TOP
 
 # How each report of the program is asked for, and of which table.
 ASKED = {it: ([it], "three_plants") for it in mrp.REPORTS if it not in ("peg", "hit")}
@@ -30,17 +26,11 @@ def text_of(path):
 
 
 @pytest.fixture(name="run")
-def run_of_program():
-    """Returns what runs the program that MRP names, or the one that is built, and returns what it writes."""
-    path = os.environ.get("MRP")
-    if not path:
-        built = subprocess.run([f"{TOP}/tools/built", "--ask", "mrp", "mrp"], capture_output=True, check=False)
-        path = None if built.returncode else f"{TOP}/crates/mrp/out/mrp"
-    if not path:
-        (pytest.fail if os.environ.get("CI") == "true" else pytest.skip)("for want of the program")
+def run_of_program(program):
+    """Returns what runs the program, and returns what it writes."""
 
     def run(words, table):
-        done = subprocess.run([os.path.abspath(path), *words], input=table, capture_output=True, check=True)
+        done = subprocess.run([program, *words], input=table, capture_output=True, check=True)
         return done.stdout.decode()
 
     return run

@@ -10,8 +10,9 @@ import shutil
 import subprocess
 
 import pytest
+import support
+from support import TOP
 
-TOP = os.path.dirname(os.path.dirname(os.path.dirname(os.path.realpath(__file__))))
 # The sheets of examples/bicycle.csv, of a firm that has nothing on order; its period 0 holds MONDAY.
 MONDAY = "2026-01-05"
 BICYCLE = {
@@ -33,15 +34,6 @@ demand,P1,BIKE,3,10,,,
 SMALLER = "plan the item in a smaller unit (docs/limits.md, fractions)"
 REFUSED = "bin/sheets: 1 slip; nothing is written\n"
 STRICT = "bin/sheets: by --strict these are slips; nothing is written\n"
-
-
-def program():
-    """Returns the path of the program, or skips the test where there is none."""
-    if os.environ.get("MRP"):
-        return os.path.abspath(os.environ["MRP"])
-    if subprocess.run([f"{TOP}/tools/built", "--ask", "mrp", "mrp"], check=False).returncode:
-        pytest.fail("no program") if os.environ.get("CI") == "true" else pytest.skip("no program")
-    return f"{TOP}/crates/mrp/out/mrp"
 
 
 def run(folder, *words, given="", **more):
@@ -433,7 +425,7 @@ def night(folder, section):
     (folder / "night.sh").write_text(re.search("(?ms)^cat > night.sh <<'END'\n(.*?)^END\n", part)[1])
     for it in ("bin", "examples"):
         (folder / it).symlink_to(f"{TOP}/{it}")
-    variables = {**os.environ, "MRP": program()}
+    variables = {**os.environ, "MRP": support.program() or support.skip("the program")}
 
     def runs():
         done = subprocess.run(["sh", "night.sh"], cwd=folder, capture_output=True, text=True, timeout=600, env=variables, check=False)
