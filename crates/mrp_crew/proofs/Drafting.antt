@@ -20,7 +20,7 @@ use Rattle.mrp_crew.proofs.Fronts.{All-front, All-from_map, All-reverse, AllPair
 pub drafted_periods : (A : AgentState) (x : PairNo) → length (drafted A x).gross ≡ A.view.horizon
 drafted_periods A x =
     ap length (one-gross (pair_owned A.view x).params (drafted_incoming A x) (drafted_gross A x))
-    ∙ length-map-range_with_len (λ t. amount_at A.view A.called x t + asked_within A.view (plans_of A) x t) 0 A.view.horizon
+    ∙ length-map-range_with_len (λ t. amount_at A.view A.outside_demand x t + asked_within A.view (plans_of A) x t) 0 A.view.horizon
 
 -- what the workers bring back, in the order of the pairs
 pub drafts_settle : (A : AgentState) (pairs : List PairNo) → All (CanDraft A) pairs → AllPairs (λ x y. x ≢ y) pairs
