@@ -2,8 +2,8 @@
 import html
 from datetime import timedelta
 
-import mrp
 import reports
+import mrp
 
 # At most so many rows of a list, so many late orders of a pair in it, and so many demands that are hit.
 MOST_ROWS, MOST_ORDERS, MOST_LINES = 1000, 4, 20

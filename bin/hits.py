@@ -9,8 +9,8 @@ from array import array
 from bisect import bisect_left
 from itertools import accumulate
 
-import mrp
 import reports
+import mrp
 
 # Of so many late pairs that stand in no hit it is found what waits for them too: a word has a bit for each.
 MOST_OTHERS = 60

@@ -7,11 +7,13 @@ import re
 import sys
 from typing import NamedTuple
 
-import mrp
-from mrp import Names, Refused
-
 HERE = os.path.dirname(os.path.realpath(__file__))
 TOP = os.path.dirname(HERE)
+# (mrp.py stands in python/, or beside this file where bin/install put both: so this module is imported before it)
+sys.path.append(f"{TOP}/python")
+import mrp  # noqa: E402
+from mrp import Names, Refused  # noqa: E402
+
 # (bin/install puts the tools for planners elsewhere, and links to them)
 FOLDER = os.path.basename(os.path.dirname(os.path.realpath(sys.argv[0])))
 TOOL = (f"{FOLDER}/" if FOLDER in ("bin", "tools") else "") + os.path.basename(sys.argv[0])

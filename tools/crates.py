@@ -12,7 +12,7 @@ import threading
 
 TOP = os.path.dirname(os.path.dirname(os.path.realpath(__file__)))
 # (the tools beside this file speak as those of bin/ do, by its module reports, and import this one before it)
-sys.path.append(f"{TOP}/bin")
+sys.path += [f"{TOP}/bin", f"{TOP}/python"]
 PARTS = ("src", "specs", "proofs")
 RUNNING, STOPPED, REMOVERS = set(), threading.Event(), []
 

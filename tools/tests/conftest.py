@@ -8,7 +8,7 @@ import pytest
 HERE = os.path.dirname(os.path.realpath(__file__))
 sys.dont_write_bytecode = True
 TOOLS = os.path.dirname(HERE)
-sys.path[:0] = [HERE, TOOLS, f"{os.path.dirname(TOOLS)}/bin"]
+sys.path[:0] = [HERE, TOOLS, f"{os.path.dirname(TOOLS)}/bin", f"{os.path.dirname(TOOLS)}/python"]
 import support  # noqa: E402
 
 

@@ -13,7 +13,7 @@ def test_completions_are_of_the_help(room, program):
     """The files are what the tool writes; another one is refused by its name, and written again."""
     assert room.run("tools/completions --check") == ""
     room.run(
-        f"mkdir tree && cp -rL {TOP}/bin {TOP}/tools {TOP}/completions tree && sed -i s/--until/--till/ tree/completions/_mrp"
+        f"mkdir tree && cp -r {TOP}/bin {TOP}/python {TOP}/tools {TOP}/completions tree && sed -i s/--until/--till/ tree/completions/_mrp"
     )
     said = "tools/completions: completions/_mrp is not what the program's help says: tools/completions writes it\n"
     assert room.run("tree/tools/completions --check", status=1) == said

@@ -10,7 +10,7 @@ def test_edits_are_judged_again(room):
     """
     room.stand_in("words/rt", "prover")
     room.run(
-        f"mkdir -p tree/crates/one/{{src,edits}} && cp -rL {TOP}/bin {TOP}/tools tree && echo one: > tree/crates.txt"
+        f"mkdir -p tree/crates/one/{{src,edits}} && cp -r {TOP}/bin {TOP}/python {TOP}/tools tree && echo one: > tree/crates.txt"
     )
     functions = ("strong", "weak", "told", "renamed", "loose", "bare", "by_hand")
     source = "\n".join(f"pub fn {it}() -> u32 {{\n    1 // {it}\n}}\n" for it in functions)

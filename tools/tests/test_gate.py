@@ -82,7 +82,7 @@ def test_skipped_tests_are_counted(room):
     Any test runs by its name, and nothing is left in the work tree.
     """
     room.run(
-        f"mkdir -p tree/tools/tests && cp -rL {TOP}/bin tree && cp {TOP}/tools/*.py {TOP}/tools/test-tools tree/tools"
+        f"mkdir -p tree/tools/tests && cp -r {TOP}/bin {TOP}/python tree && cp {TOP}/tools/*.py {TOP}/tools/test-tools tree/tools"
     )
     room.run(
         f"cp {TOP}/tools/tests/{{conftest.py,support.py,pytest.ini}} tree/tools/tests && cp -r {TOP}/tools/tests/stand_ins tree/tools/tests"

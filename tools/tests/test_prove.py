@@ -25,7 +25,7 @@ def tree_that_builds(room):
         "mkdir -p tree/crates/mrp/{src,specs,proofs} && echo mrp: > tree/crates.txt && echo one > tree/crates/mrp/src/main.rt"
     )
     room.run(
-        f"mkdir tree/bin tree/tools && cp {TOP}/bin/{{mrp,reports.py}} tree/bin && cp {TOP}/tools/{{prove,crates.py,made.py}} tree/tools"
+        f"mkdir tree/bin tree/tools && cp {TOP}/bin/{{mrp,reports.py}} {TOP}/python/mrp.py tree/bin && cp {TOP}/tools/{{prove,crates.py,made.py}} tree/tools"
     )
     room.stand_in("words/rt", "rt_run")
     room.variables |= {"PROVED": f"{room.folder}/proved", "SOURCE": f"{room.folder}/tree/crates/mrp/src/main.rt"}
@@ -80,7 +80,7 @@ def test_prove_says_how_far_it_is(room):
     room.stand_in("words/rt", "rt_prove")
     seen = f"{room.folder}/seen"
     room.variables["SEEN"] = seen
-    room.run(f"mkdir tree && cp -rL {TOP}/bin {TOP}/tools {TOP}/crates.txt tree")
+    room.run(f"mkdir tree && cp -r {TOP}/bin {TOP}/python {TOP}/tools {TOP}/crates.txt tree")
     for crate in ("mrp_qty", "mrp_cal"):
         room.run(f"mkdir -p tree/crates/{crate} && cp -r {TOP}/crates/{crate}/{{src,specs,proofs}} tree/crates/{crate}")
     said = room.run("touch seen; tree/tools/prove mrp_cal 2>&1; rm seen")

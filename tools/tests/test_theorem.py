@@ -9,7 +9,7 @@ def test_theorem_is_of_the_sources(room):
     refused by its name.
     """
     assert room.run("tools/theorem --check") == ""
-    room.run(f"mkdir -p tree/docs && cp -rL {TOP}/bin {TOP}/tools tree && ln -s {TOP}/crates tree")
+    room.run(f"mkdir -p tree/docs && cp -r {TOP}/bin {TOP}/python {TOP}/tools tree && ln -s {TOP}/crates tree")
     room.run("sed 's/≤ MOST/< MOST/' docs/theorem.md > tree/docs/theorem.md")
     said = (
         "tools/theorem: docs/theorem.md is not the page of these sources: tools/theorem > docs/theorem.md writes it\n"

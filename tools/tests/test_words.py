@@ -121,7 +121,7 @@ def test_bad_input(room):
 
 def test_tools_find_the_program(room):
     """The one that MRP names, else the one on the path, else bin/mrp: by programs that say which they are."""
-    room.run(f"mkdir tree path only && cp -rL {TOP}/bin tree && ln -s $(command -v python3) only")
+    room.run(f"mkdir tree path only && cp -r {TOP}/bin {TOP}/python tree && ln -s $(command -v python3) only")
     for name in ("tree/bin/mrp", "path/mrp", "named"):
         room.stand_in(name, "says_its_name", name=name)
     for tool in ("why P1 WHEEL 1", "hit", "renew plan.csv plan"):

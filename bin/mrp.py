@@ -1,1 +1,0 @@
-../python/mrp.py
