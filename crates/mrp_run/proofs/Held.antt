@@ -1,5 +1,5 @@
 -- The ends of a plant's lanes: each lane has one of them.
-use Rattle.std.proofs.Common.{◌≡◌, ◌≢◌, ℕ, ◌<◌, Bool, List, [], ◌∷◌, ◌++◌, inl, inr, length, get_or, set, sym, ap, ◌∙◌, subst, arith}
+use Rattle.std.proofs.Common.{◌≡◌, ◌≢◌, ℕ, ◌<◌, Bool, List, [], ◌∷◌, ◌++◌, inl, inr, length, get_or, set, sym, ap, ◌∙◌, subst, arith, Contains}
 use Rattle.std.specs.List.{AllPairs, filter}
 use Rattle.std.proofs.lemmas.Bool.{cases_eq, cases_lt}
 use Rattle.std.proofs.lemmas.List.{get_or-map, get_or-set_same, get_or-set_other, length-map, length-set, set-get_or}
@@ -55,6 +55,12 @@ module _ (N : Table) (ls : List ℕ) (lists : ℕ → List Record) (ends : List 
 
   pub lane_is : (k : ℕ) (d : End) (e : ℕ) → k < length ends → (get_or ends k d).name.lane ≡ get_or ls k e
   lane_is k d e within = sym (get_or-map (λ (z : End). z.name.lane) ends k d e within) ∙ ap (λ (z : List ℕ). get_or z k e) are.lanes
+
+  pub lane_there : (k : ℕ) (d : End) → k < length ends → Contains ls (get_or ends k d).name.lane
+  lane_there k d within =
+      let l : ℕ = (get_or ends k d).name.lane in
+      let inside : k < length ls = omega (arith, within, all_lanes) in
+      (k, inside, sym (lane_is k d l within))
 
 -- ---- one record more
 
