@@ -21,8 +21,7 @@ def test_torture_makes_the_trials_that_are_asked_for(room, program):
     """So many of one kind, and the same from the same seed."""
     said = [room.run("tools/torture --kind damaged-tables --trials 1 --seed 3").splitlines()[-4:] for _ in "12"]
     runs, trials, answers, last = said[0]
-    # (the firm that is damaged 80 times is a table, too)
-    assert re.fullmatch(r"80 runs of 81 tables in \d+ s", runs)
+    assert re.fullmatch(r"80 runs of 80 tables in \d+ s", runs)
     assert trials == "trials   damaged tables 80"
     assert (answers, last) == (said[1][2], "0 findings, seed 3")
 
