@@ -145,6 +145,8 @@ def test_stock_below_0_is_a_demand_of_period_0(tmp_path):
     assert sheets(tmp_path, {**BICYCLE, "items.csv": items}, "--names", "names.csv") == (0, table, said)
     assert "\ndemand,P1,WHEEL,0,2026-01-05,4,,,On hand -4\n" in (tmp_path / "names.csv").read_text()
     assert sheets(tmp_path, {**BICYCLE, "items.csv": items}, "--strict") == (1, "", said + STRICT)
+    found = {it: text for it, text in BICYCLE.items() if it != "demands.csv"}
+    assert sheets(tmp_path, {**found, "items.csv": items})[2].startswith(NO_DEMAND)
     items = BICYCLE["items.csv"].replace("WHEEL,buy,lot,1,0,0", "WHEEL,buy,lot,1,0,-4")
     said = f"items.csv row 3, Safety stock: '-4' is not from 0 to 1000000000000\n{REFUSED}"
     assert sheets(tmp_path, {**BICYCLE, "items.csv": items}) == (1, "", said)
