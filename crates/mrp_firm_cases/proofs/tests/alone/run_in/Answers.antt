@@ -1,4 +1,4 @@
-use Rattle.std.proofs.Common.{◌≡◌, length, ap, ◌∙◌, arith}
+use Rattle.std.proofs.Common.{◌≡◌, length, ap, arith}
 use Rattle.mrp_table_rows.specs.Table.{Table}
 use Rattle.mrp_net.specs.Lanes.{lanes}
 use Rattle.mrp_firm_cases.proofs.tests.alone.run_in.Goals as goal
@@ -6,4 +6,4 @@ use Rattle.mrp_firm_cases.proofs.tests.alone.run_in.Goals as goal
 pub run-requires : goal.run-requires
 run-requires g c =
     let same : length (lanes c.network.result.now) ≡ length (lanes c.in_ok-net.net.network) = ap (λ (M : Table). length (lanes M)) c.network.ensures.value in
-    record { lanes = omega (arith, same, c.lanes.ensures) }
+    (c.type_bounds.sync-R, (c.type_bounds.sync-G, omega (arith, same, c.lanes.ensures, c.if-lanes-gt0.false)))
