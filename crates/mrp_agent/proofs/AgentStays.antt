@@ -2,10 +2,10 @@
 use Rattle.std.proofs.Common.{◌≡◌, ℕ, ◌+◌, ◌-◌, ◌<◌, true, List, [], ◌∷◌, ◌++◌, length, get_or, map, refl, sym, ap, ◌∙◌, subst, All}
 use Rattle.std.specs.List.{flat_map, range_with_len}
 use Rattle.std.proofs.lemmas.List.Elements.{All-filter, All-contains, All-head, All-tail}
-use Rattle.mrp_lot.specs.One.{PlanRows, one}
-use Rattle.mrp_table_rows.specs.declared.numbers.ItemNo.{ItemNo}
-use Rattle.mrp_table_rows.specs.declared.numbers.PairNo.{PairNo}
-use Rattle.mrp_table_rows.specs.Table.{Table}
+use Rattle.mrp_netting.specs.One.{PlanRows, one}
+use Rattle.mrp_planning_data.specs.declared.numbers.ItemNo.{ItemNo}
+use Rattle.mrp_planning_data.specs.declared.numbers.PairNo.{PairNo}
+use Rattle.mrp_planning_data.specs.Table.{Table}
 use Rattle.mrp_net.specs.declared.lane.LaneKind.{LaneKind}
 use Rattle.mrp_net.specs.declared.lane.LaneKind.TheVariants.{Despatch, Schedule}
 use Rattle.mrp_net.proofs.Covering.{sum_by-same}
@@ -22,7 +22,7 @@ use Rattle.mrp_book.specs.Figures as book
 use Rattle.mrp_protocol.specs.State.{State}
 use Rattle.mrp_record.specs.Cursor.{Goods}
 use Rattle.mrp_record.specs.Shows.{ShowsSent}
-use Rattle.mrp_agent.specs.Counts.{Awaited, AreCounts, open_blocks}
+use Rattle.mrp_readiness.specs.Counts.{Awaited, AreCounts, open_blocks}
 use Rattle.mrp_protocol.proofs.Seeing.{pairs_are_at}
 use Rattle.mrp_protocol.specs.Goods.{goods_by, goods_of, schedule_goods, IsSendable}
 use Rattle.mrp_protocol.specs.LocalPlans.{amount_at, asked_within, booked_on, is_of_kind, lanes_in, local_gross, local_incoming}

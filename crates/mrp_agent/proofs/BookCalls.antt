@@ -1,7 +1,7 @@
 -- What an agent's method of booking knows.
 use Rattle.std.proofs.Common.{◌≡◌, ℕ, ◌<◌, Bool, Some, IfSome, List, [], ◌∷◌, ◌++◌, length, get_or, set, sym, ap, ◌∙◌, subst, arith}
 use Rattle.std.proofs.lemmas.List.{get_or_default, get_or_read}
-use Rattle.mrp_table_rows.specs.declared.numbers.ItemNo.{ItemNo}
+use Rattle.mrp_planning_data.specs.declared.numbers.ItemNo.{ItemNo}
 use Rattle.mrp_net.specs.declared.lane.LaneKind.{LaneKind}
 use Rattle.mrp_plant_view.specs.declared.view.IncomingLane.{IncomingLane}
 use Rattle.mrp_plant_view.specs.View.{PlantRows}
@@ -11,7 +11,7 @@ use Rattle.mrp_book.specs.declared.fault.BookFault.{BookFault}
 use Rattle.mrp_book.specs.Faults.{first_fault}
 use Rattle.mrp_book.specs.Figures as book
 use Rattle.mrp_book.specs.Figures.{Figures, figures}
-use Rattle.mrp_agent.specs.Progress.{Progress}
+use Rattle.mrp_readiness.specs.Progress.{Progress}
 use Rattle.mrp_agent.specs.State.{AgentState, book_at, incoming_at, no_book, no_incoming}
 use Rattle.mrp_agent.specs.After.{after_booked, receipts_after, demand_after, ended_place, items_of, BlockEnded, IsAwaited}
 use Rattle.mrp_agent.specs.Kept.{Indexes, IsKept}

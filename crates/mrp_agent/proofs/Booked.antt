@@ -5,8 +5,8 @@ use Rattle.std.specs.List.{Contains, fold, sum_by, filter_map, list_any, range_w
 use Rattle.std.proofs.lemmas.Bool.{both_ways, cases_eq, cases_lt, eq-eqb, false_from_ne_true, le-ltb, lt-ltb}
 use Rattle.std.proofs.lemmas.List.{get_or-map, get_or-set_same, get_or-set_other, length-map, length-set}
 use Rattle.std.proofs.lemmas.List.Elements.{All-contains}
-use Rattle.mrp_lot.specs.One.{PlanRows, one}
-use Rattle.mrp_table_rows.specs.declared.numbers.ItemNo.{ItemNo}
+use Rattle.mrp_netting.specs.One.{PlanRows, one}
+use Rattle.mrp_planning_data.specs.declared.numbers.ItemNo.{ItemNo}
 use Rattle.mrp_net.specs.declared.lane.LaneKind.{LaneKind}
 use Rattle.mrp_net.specs.declared.lane.LaneKind.TheVariants.{Despatch, Schedule}
 use Rattle.mrp_plant_view.specs.declared.view.IncomingItem.{IncomingItem}
@@ -26,8 +26,8 @@ use Rattle.mrp_book.specs.Figures as book
 use Rattle.mrp_book.specs.Figures.{Figures}
 use Rattle.mrp_record.specs.Cursor.{Goods}
 use Rattle.mrp_record.proofs.Queues.{looks_at_queued}
-use Rattle.mrp_agent.specs.Counts.{open_blocks}
-use Rattle.mrp_agent.specs.Progress.{Progress, is_planned}
+use Rattle.mrp_readiness.specs.Counts.{open_blocks}
+use Rattle.mrp_readiness.specs.Progress.{Progress, is_planned}
 use Rattle.mrp_protocol.specs.Goods.{goods_by, goods_of, called_for, by_period_from, IsSendable}
 use Rattle.mrp_protocol.specs.LocalPlans.{amount_at, asked_within, booked_on, is_of_kind, lanes_in, local_gross, local_incoming, local_plan, local_row}
 use Rattle.mrp_protocol.specs.LocalPlans.{AwaitsNothing, Carries, IsLocal, IsPlannedLocally}

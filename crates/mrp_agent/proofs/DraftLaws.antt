@@ -6,9 +6,9 @@ use Rattle.std.proofs.lemmas.List.{get_or-map, length-map}
 use Rattle.std.proofs.lemmas.List.FromFn.{get_or-map-range_with_len, length-map-range_with_len}
 use Rattle.std.proofs.lemmas.List.Sums.{get_or-le-sum_by, passes_at_first}
 use Rattle.mrp_qty.specs.declared.quantity.TheConstants.{MOST}
-use Rattle.mrp_lot.specs.One.{PlanRows, one}
-use Rattle.mrp_lot.specs.Bound.{IsWithin}
-use Rattle.mrp_table_rows.specs.Table.{Table}
+use Rattle.mrp_netting.specs.One.{PlanRows, one}
+use Rattle.mrp_netting.specs.Bound.{IsWithin}
+use Rattle.mrp_planning_data.specs.Table.{Table}
 use Rattle.mrp_net.specs.declared.lane.LaneKind.TheVariants.{Schedule}
 use Rattle.mrp_net.proofs.Members.{Contains-from_in}
 use Rattle.mrp_plant_view.specs.declared.view.PlantPair.{PlantPair}

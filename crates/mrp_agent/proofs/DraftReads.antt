@@ -1,8 +1,8 @@
 -- What a call reads of an agent to draft a pair, and what is drafted from that.
 use Rattle.std.proofs.Common.{◌≡◌, ℕ, List, length, sym, ap, ◌∙◌, subst}
-use Rattle.mrp_lot.specs.One.{PlanRows, one}
-use Rattle.mrp_lot.specs.declared.params.PairParams.{PairParams}
-use Rattle.mrp_table_rows.specs.declared.numbers.PairNo.{PairNo}
+use Rattle.mrp_netting.specs.One.{PlanRows, one}
+use Rattle.mrp_netting.specs.declared.params.PairParams.{PairParams}
+use Rattle.mrp_planning_data.specs.declared.numbers.PairNo.{PairNo}
 use Rattle.mrp_agent.specs.declared.edges.ParentEdge.{ParentEdge}
 use Rattle.mrp_agent.specs.Asking.{HasDraft, grossed}
 use Rattle.mrp_agent.specs.Drafts.{CanDraft, drafted}

@@ -4,8 +4,8 @@ use Rattle.std.proofs.Common.{length, get_or, position, refl, sym, ap, ◌∙◌
 use Rattle.std.specs.List.{count_by, sum_by, flat_map}
 use Rattle.std.proofs.lemmas.Bool.{cases_Bool, eq-eqb, ne_eqb, or_right}
 use Rattle.std.proofs.lemmas.List.Sums.{sum_by-cons, sum_by-append}
-use Rattle.mrp_table_rows.specs.declared.numbers.ItemNo.{ItemNo}
-use Rattle.mrp_table_rows.specs.declared.numbers.PairNo.{PairNo}
+use Rattle.mrp_planning_data.specs.declared.numbers.ItemNo.{ItemNo}
+use Rattle.mrp_planning_data.specs.declared.numbers.PairNo.{PairNo}
 use Rattle.mrp_plant_view.specs.declared.view.IncomingItem.{IncomingItem}
 use Rattle.mrp_plant_view.specs.declared.view.IncomingLane.{IncomingLane}
 use Rattle.mrp_plant_view.specs.Seen.{IsView, IsOwnOf, IsIncomingLane}
@@ -15,9 +15,9 @@ use Rattle.mrp_record.specs.declared.record.Record.{Record}
 use Rattle.mrp_record.specs.declared.record.Record.TheVariants.{Line, ItemEnd, Reset, Close}
 use Rattle.mrp_record.specs.Entries.{LineOf, EndOf, ResetOf, content, contents, is_ended}
 use Rattle.mrp_record.specs.Form.{EntryFits}
-use Rattle.mrp_agent.specs.declared.join.Join.{Join}
-use Rattle.mrp_agent.specs.Counts.{Awaited, AreCounts, IsOneEnded, open_blocks}
-use Rattle.mrp_agent.specs.Progress.{Progress}
+use Rattle.mrp_readiness.specs.declared.join.Join.{Join}
+use Rattle.mrp_readiness.specs.Counts.{Awaited, AreCounts, IsOneEnded, open_blocks}
+use Rattle.mrp_readiness.specs.Progress.{Progress}
 use Rattle.mrp_agent.specs.State.{incoming_at, pair_place, no_incoming}
 use Rattle.mrp_agent.specs.After.{items_of, place_among, ended_place, Falls, IsAwaited}
 use Rattle.mrp_agent.specs.Shows.{form_of, awaited, awaited_on, block_awaited}

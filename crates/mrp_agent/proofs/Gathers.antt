@@ -8,9 +8,9 @@ use Rattle.std.proofs.lemmas.Bool.{cases_Bool, eqb-true, eq-eqb, false≢true}
 use Rattle.std.proofs.lemmas.List.{map-append, take_at, take_more, take_all, length-reverse, reverse-append, reverse-reverse, length-set, get_or-set_same}
 use Rattle.std.proofs.lemmas.List.{get_or-set_other}
 use Rattle.std.proofs.lemmas.List.Elements.{filter-append}
-use Rattle.mrp_lot.specs.One.{PlanRows}
+use Rattle.mrp_netting.specs.One.{PlanRows}
 use Rattle.mrp_netting.specs.declared.plan.PairPlan.{PairPlan}
-use Rattle.mrp_table_rows.specs.Table.{Table, IsPair}
+use Rattle.mrp_planning_data.specs.Table.{Table, IsPair}
 use Rattle.mrp_grouping.proofs.Grouping.{range-suc}
 use Rattle.mrp_net.specs.Plan.{rows_at, no_rows, plan_of}
 use Rattle.mrp_net.specs.Sums.{pair_at, no_pair as no_row}

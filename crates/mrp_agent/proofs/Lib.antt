@@ -1,7 +1,3 @@
-pub mod Counting
-pub mod Grouping
-pub mod Listing
-pub mod ReadyPlacing
 pub mod AgentStays
 pub mod Arriving
 pub mod Asked

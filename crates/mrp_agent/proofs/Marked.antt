@@ -6,7 +6,7 @@ use Rattle.std.proofs.lemmas.List.{length-set}
 use Rattle.std.proofs.lemmas.List.Elements.{All-filter, All-map}
 use Rattle.std.proofs.lemmas.List.FromFn.{get_or-map-range_with_len, length-map-range_with_len}
 use Rattle.std.proofs.lemmas.Option.{get_or_from_slice_get}
-use Rattle.mrp_table_rows.specs.declared.numbers.ItemNo.{ItemNo}
+use Rattle.mrp_planning_data.specs.declared.numbers.ItemNo.{ItemNo}
 use Rattle.mrp_net.specs.declared.lane.LaneKind.{LaneKind}
 use Rattle.mrp_net.specs.declared.lane.LaneKind.TheVariants.{Despatch, Schedule}
 use Rattle.mrp_plant_view.specs.declared.view.OutgoingLane.{OutgoingLane}
@@ -14,10 +14,10 @@ use Rattle.mrp_plant_view.specs.declared.view.PlantEdge.{PlantEdge}
 use Rattle.mrp_plant_view.specs.Seen.{IsPlantEdge}
 use Rattle.mrp_record.specs.Cursor.{OutFigures}
 use Rattle.mrp_grouping.proofs.Sorting.{IsGrouped-within}
-use Rattle.mrp_agent.specs.declared.join.Join.{Join}
-use Rattle.mrp_agent.specs.Counts.{components_of, open_blocks}
-use Rattle.mrp_agent.specs.Progress.{IsFree, Progress, times}
-use Rattle.mrp_agent.proofs.Counting.{components_wait}
+use Rattle.mrp_readiness.specs.declared.join.Join.{Join}
+use Rattle.mrp_readiness.specs.Counts.{components_of, open_blocks}
+use Rattle.mrp_readiness.specs.Progress.{IsFree, Progress, times}
+use Rattle.mrp_readiness.proofs.Counting.{components_wait}
 use Rattle.mrp_agent.specs.declared.queues.QueuePlace.{QueuePlace}
 use Rattle.mrp_agent.specs.After.{AreOutsSettled, PairSettled, items_of, place_among, queued_at, queued_by}
 use Rattle.mrp_agent.specs.Kept.{Indexes, IsKept}

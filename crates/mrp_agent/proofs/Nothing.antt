@@ -6,9 +6,9 @@ use Rattle.std.proofs.lemmas.List.{get_or_default}
 use Rattle.std.proofs.lemmas.List.Elements.{Contains-get_or}
 use Rattle.std.proofs.lemmas.List.Sums.{passes_at_first}
 use Rattle.mrp_qty.specs.declared.quantity.TheConstants.{MOST}
-use Rattle.mrp_lot.specs.One.{one}
-use Rattle.mrp_table_rows.specs.declared.numbers.ItemNo.{ItemNo}
-use Rattle.mrp_table_rows.specs.declared.numbers.PairNo.{PairNo}
+use Rattle.mrp_netting.specs.One.{one}
+use Rattle.mrp_planning_data.specs.declared.numbers.ItemNo.{ItemNo}
+use Rattle.mrp_planning_data.specs.declared.numbers.PairNo.{PairNo}
 use Rattle.mrp_net.specs.declared.lane.LaneKind.TheVariants.{Schedule}
 use Rattle.mrp_net.proofs.Members.{In, In-from_contains, In-map, In-flat_map, All-in, map_only}
 use Rattle.mrp_plant_view.specs.declared.view.IncomingItem.{IncomingItem}
@@ -19,11 +19,11 @@ use Rattle.mrp_plant_view.specs.Seen.{IsView, IsOwnPair, IsIncomingItem}
 use Rattle.mrp_plant_view.specs.View.{PlantRows}
 use Rattle.mrp_record.specs.declared.record.Record.{Record}
 use Rattle.mrp_record.specs.Entries.{contents, is_ended}
-use Rattle.mrp_agent.specs.declared.join.Join.{Join}
-use Rattle.mrp_agent.specs.Counts.{Awaited}
-use Rattle.mrp_agent.specs.ReadinessLaws.{NothingIsOpen}
-use Rattle.mrp_agent.specs.Progress.{IsListed, is_planned}
-use Rattle.mrp_agent.proofs.Counting.{ready_where_nothing_is_open}
+use Rattle.mrp_readiness.specs.declared.join.Join.{Join}
+use Rattle.mrp_readiness.specs.Counts.{Awaited}
+use Rattle.mrp_readiness.specs.ReadinessLaws.{NothingIsOpen}
+use Rattle.mrp_readiness.specs.Progress.{IsListed, is_planned}
+use Rattle.mrp_readiness.proofs.Counting.{ready_where_nothing_is_open}
 use Rattle.mrp_protocol.specs.State.{changed}
 use Rattle.mrp_protocol.specs.LocalPlans.{amount_at, asked_within, booked_on, local_incoming, local_gross}
 use Rattle.mrp_protocol.specs.LocalPlans.{local_plan, local_row, AwaitsNothing, Carries, HasCome}

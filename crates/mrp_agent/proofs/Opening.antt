@@ -8,7 +8,7 @@ use Rattle.std.proofs.lemmas.List.{get_or-map, get_or-replicate, length-map, len
 use Rattle.std.proofs.lemmas.List.Elements.{All-get_or, All-map, All-replicate}
 use Rattle.std.proofs.lemmas.List.Sums.{sum_by-append, sum_by-cons}
 use Rattle.mrp_qty.specs.declared.quantity.TheConstants.{MOST}
-use Rattle.mrp_lot.specs.One.{PlanRows}
+use Rattle.mrp_netting.specs.One.{PlanRows}
 use Rattle.mrp_net.specs.declared.lane.LaneKind.{LaneKind}
 use Rattle.mrp_net.specs.declared.lane.LaneKind.TheVariants.{Despatch, Schedule}
 use Rattle.mrp_plant_view.specs.declared.view.IncomingItem.{IncomingItem}
@@ -27,9 +27,9 @@ use Rattle.mrp_book.specs.Figures.{Figures}
 use Rattle.mrp_book.proofs.Opening.{empty_in_form, items_once}
 use Rattle.mrp_record.specs.Cursor.{OutFigures}
 use Rattle.mrp_record.proofs.Lists.{range_below, range_has}
-use Rattle.mrp_agent.specs.declared.join.Join.{Join}
-use Rattle.mrp_agent.specs.Counts.{Awaited, AreCounts, open_blocks}
-use Rattle.mrp_agent.specs.Progress.{Progress, is_planned, times}
+use Rattle.mrp_readiness.specs.declared.join.Join.{Join}
+use Rattle.mrp_readiness.specs.Counts.{Awaited, AreCounts, open_blocks}
+use Rattle.mrp_readiness.specs.Progress.{Progress, is_planned, times}
 use Rattle.mrp_protocol.specs.Goods.{goods_of, IsSendable}
 use Rattle.mrp_protocol.specs.LocalPlans.{amount_at, booked_on, lanes_in}
 use Rattle.mrp_agent.specs.State.{AgentState, incoming_at, outgoing_at, book_at, out_at, no_book, no_incoming, pair_place, plans_of}

@@ -1,10 +1,10 @@
 -- An agent after one of its pairs is planned.
 use Rattle.std.proofs.Common.{◌≡◌, ℕ, ◌+◌, ◌<◌, Bool, true, List, length, get_or, set, get_or-set_same, sym, ap, ◌∙◌, arith}
 use Rattle.std.specs.List.{Contains}
-use Rattle.mrp_table_rows.specs.declared.numbers.PairNo.{PairNo}
+use Rattle.mrp_planning_data.specs.declared.numbers.PairNo.{PairNo}
 use Rattle.mrp_net.specs.Plan.{no_rows}
 use Rattle.mrp_record.specs.declared.record.Record.{Record}
-use Rattle.mrp_agent.specs.Progress.{IsListed, left_of}
+use Rattle.mrp_readiness.specs.Progress.{IsListed, left_of}
 use Rattle.mrp_protocol.specs.State.{changed}
 use Rattle.mrp_agent.specs.Drafts.{CanDraft, drafted, ready_numbers}
 use Rattle.mrp_agent.specs.Kept.{Indexes}

@@ -6,8 +6,8 @@ use Rattle.std.proofs.lemmas.Bool.{cases_eq, cases_Bool, eqb-true}
 use Rattle.std.proofs.lemmas.List.{get_or-set_same, get_or-set_other}
 use Rattle.std.proofs.lemmas.List.Elements.{All-head, All-tail}
 use Rattle.std.proofs.lemmas.List.Sums.{sum_by-cons}
-use Rattle.mrp_lot.specs.One.{PlanRows, one}
-use Rattle.mrp_table_rows.specs.declared.numbers.PairNo.{PairNo}
+use Rattle.mrp_netting.specs.One.{PlanRows, one}
+use Rattle.mrp_planning_data.specs.declared.numbers.PairNo.{PairNo}
 use Rattle.mrp_net.specs.declared.lane.LaneKind.TheVariants.{Schedule}
 use Rattle.mrp_net.specs.Plan.{no_rows}
 use Rattle.mrp_plant_view.specs.declared.view.PlantEdge.{PlantEdge}
@@ -16,7 +16,7 @@ use Rattle.mrp_plant_view.specs.Seen.{IsOwnPair}
 use Rattle.mrp_plant_view.specs.View.{PlantRows}
 use Rattle.mrp_record.specs.declared.record.Record.{Record}
 use Rattle.mrp_record.specs.Cursor.{OutFigures}
-use Rattle.mrp_agent.specs.Progress.{Progress, is_planned}
+use Rattle.mrp_readiness.specs.Progress.{Progress, is_planned}
 use Rattle.mrp_protocol.specs.State.{changed}
 use Rattle.mrp_protocol.specs.LocalPlans.{amount_at, booked_on, local_incoming, local_gross, local_plan, local_row}
 use Rattle.mrp_agent.specs.State.{AgentState, pair_place, plans_of}

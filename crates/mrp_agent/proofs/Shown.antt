@@ -3,15 +3,15 @@ use Rattle.std.proofs.Common.{◌≡◌, ◌↔◌, ℕ, ◌<◌, Bool, true, fa
 use Rattle.std.specs.List.{All, Contains}
 use Rattle.std.proofs.lemmas.Bool.{cases_eq, both_ways}
 use Rattle.std.proofs.lemmas.List.Elements.{Contains-get_or}
-use Rattle.mrp_table_rows.specs.declared.numbers.PairNo.{PairNo}
+use Rattle.mrp_planning_data.specs.declared.numbers.PairNo.{PairNo}
 use Rattle.mrp_plant_view.specs.declared.view.OutgoingLane.{OutgoingLane}
 use Rattle.mrp_plant_view.specs.declared.view.PlantPair.{PlantPair}
 use Rattle.mrp_plant_view.specs.Seen.{IsOwnPair}
 use Rattle.mrp_record.specs.declared.record.Record.{Record}
 use Rattle.mrp_record.specs.Cursor.{OutFigures}
 use Rattle.mrp_record.specs.Shows.{ShowsSent}
-use Rattle.mrp_agent.specs.Progress.{IsListed, Progress}
-use Rattle.mrp_agent.specs.Counts.{open_blocks}
+use Rattle.mrp_readiness.specs.Progress.{IsListed, Progress}
+use Rattle.mrp_readiness.specs.Counts.{open_blocks}
 use Rattle.mrp_protocol.specs.State.{changed}
 use Rattle.mrp_protocol.specs.Goods.{goods_of, IsSendable}
 use Rattle.mrp_protocol.specs.LocalPlans.{AwaitsNothing, IsPlannedLocally, IsLocal}

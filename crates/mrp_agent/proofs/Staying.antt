@@ -4,16 +4,16 @@ use Rattle.std.specs.List.{All, Contains}
 use Rattle.std.proofs.lemmas.Bool.{both_ways}
 use Rattle.std.proofs.lemmas.List.{get_or-set_other}
 use Rattle.std.proofs.lemmas.List.Elements.{Contains-get_or}
-use Rattle.mrp_lot.specs.One.{PlanRows, one}
-use Rattle.mrp_table_rows.specs.declared.numbers.PairNo.{PairNo}
+use Rattle.mrp_netting.specs.One.{PlanRows, one}
+use Rattle.mrp_planning_data.specs.declared.numbers.PairNo.{PairNo}
 use Rattle.mrp_net.proofs.Members.{In, In-from_contains, In-map, All-in}
 use Rattle.mrp_net.specs.Plan.{no_rows}
 use Rattle.mrp_plant_view.specs.declared.view.PlantEdge.{PlantEdge}
 use Rattle.mrp_plant_view.specs.View.{PlantRows}
 use Rattle.mrp_record.specs.Cursor.{OutFigures}
-use Rattle.mrp_agent.specs.declared.join.Join.{Join}
-use Rattle.mrp_agent.specs.Progress.{IsListed, Progress, is_planned}
-use Rattle.mrp_agent.proofs.Counting.{ready_where_nothing_is_open}
+use Rattle.mrp_readiness.specs.declared.join.Join.{Join}
+use Rattle.mrp_readiness.specs.Progress.{IsListed, Progress, is_planned}
+use Rattle.mrp_readiness.proofs.Counting.{ready_where_nothing_is_open}
 use Rattle.mrp_protocol.specs.LocalPlans.{amount_at, asked_within}
 use Rattle.mrp_agent.specs.After.{after_settled}
 use Rattle.mrp_agent.specs.Drafts.{CanDraft, drafted, drafted_gross, drafted_incoming, ready_numbers}

@@ -4,8 +4,8 @@ use Rattle.std.specs.List.{All, AllPairs, Contains}
 use Rattle.std.proofs.lemmas.Bool.{eq-eqb}
 use Rattle.std.proofs.lemmas.List.{get_or-map, get_or_default, length-map}
 use Rattle.std.proofs.lemmas.List.Elements.{All-map, Contains-get_or}
-use Rattle.mrp_table_rows.specs.declared.numbers.ItemNo.{ItemNo}
-use Rattle.mrp_table_rows.specs.declared.numbers.PairNo.{PairNo}
+use Rattle.mrp_planning_data.specs.declared.numbers.ItemNo.{ItemNo}
+use Rattle.mrp_planning_data.specs.declared.numbers.PairNo.{PairNo}
 use Rattle.mrp_net.proofs.Members.{In-from_contains, Contains-from_in, In-map, map_only, In-flat_map, All-in}
 use Rattle.mrp_plant_view.specs.declared.view.IncomingItem.{IncomingItem}
 use Rattle.mrp_plant_view.specs.declared.view.IncomingLane.{IncomingLane}
@@ -16,12 +16,12 @@ use Rattle.mrp_plant_view.specs.View.{PlantRows}
 use Rattle.mrp_plant_view.proofs.Seeing.{All-flat_map}
 use Rattle.mrp_record.specs.declared.record.Record.{Record}
 use Rattle.mrp_record.specs.Entries.{contents, is_ended}
-use Rattle.mrp_agent.specs.declared.join.Join.{Join}
-use Rattle.mrp_agent.specs.Chosen.{AreApart, number_at}
-use Rattle.mrp_agent.specs.Counts.{Awaited}
-use Rattle.mrp_agent.specs.ReadinessLaws.{NothingIsOpen}
-use Rattle.mrp_agent.specs.Progress.{is_planned, IsListed}
-use Rattle.mrp_agent.proofs.Counting.{ready_where_nothing_is_open}
+use Rattle.mrp_readiness.specs.declared.join.Join.{Join}
+use Rattle.mrp_readiness.specs.Chosen.{AreApart, number_at}
+use Rattle.mrp_readiness.specs.Counts.{Awaited}
+use Rattle.mrp_readiness.specs.ReadinessLaws.{NothingIsOpen}
+use Rattle.mrp_readiness.specs.Progress.{is_planned, IsListed}
+use Rattle.mrp_readiness.proofs.Counting.{ready_where_nothing_is_open}
 use Rattle.mrp_protocol.specs.LocalPlans.{CanBePlanned, Carries, HasCome}
 use Rattle.mrp_agent.specs.State.{AgentState, pair_owned, pair_place, item_place, no_plant_pair}
 use Rattle.mrp_agent.specs.Drafts.{ready_numbers}

@@ -1,8 +1,8 @@
 -- The state of an agent after a record is sent or booked, or a pair's plan is settled.
 use Rattle.std.specs.Prelude.{◌≡◌, ℕ, ◌+◌, ◌*◌, ◌<◌, nat_lt, if◌then◌else◌, true, List, length}
 use Rattle.std.specs.Prelude.{map, Contains, position, slice_index, slice_index_or, slice_set, ◌==◌, Option, None, Some}
-use Rattle.mrp_lot.specs.One.{PlanRows}
-use Rattle.mrp_table_rows.specs.declared.numbers.ItemNo.{ItemNo}
+use Rattle.mrp_netting.specs.One.{PlanRows}
+use Rattle.mrp_planning_data.specs.declared.numbers.ItemNo.{ItemNo}
 use Rattle.mrp_net.specs.declared.lane.LaneKind.{LaneKind}
 use Rattle.mrp_net.specs.declared.lane.LaneKind.TheVariants.{Despatch, Schedule}
 use Rattle.mrp_plant_view.specs.declared.view.OutgoingLane.{OutgoingLane}
@@ -13,9 +13,9 @@ use Rattle.mrp_book.specs.Figures.{Figures}
 use Rattle.mrp_record.specs.declared.remainder.Remainder.{Remainder}
 use Rattle.mrp_record.specs.Cursor.{OutFigures}
 use Rattle.mrp_record.specs.Next.{stepped, queued}
-use Rattle.mrp_agent.specs.declared.join.Join.{Join}
-use Rattle.mrp_agent.specs.Counts.{AreCounts, IsOneEnded}
-use Rattle.mrp_agent.specs.Progress.{Progress, left_of}
+use Rattle.mrp_readiness.specs.declared.join.Join.{Join}
+use Rattle.mrp_readiness.specs.Counts.{AreCounts, IsOneEnded}
+use Rattle.mrp_readiness.specs.Progress.{Progress, left_of}
 use Rattle.mrp_agent.specs.State.{AgentState, incoming_at, out_at, no_out, no_outgoing}
 use Rattle.mrp_agent.specs.Sending.{left_at}
 use Rattle.mrp_agent.specs.Shows.{up_to_last}

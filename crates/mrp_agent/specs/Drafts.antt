@@ -1,10 +1,10 @@
 -- What an agent drafts for a pair: the plan by the rows that it has.
 use Rattle.std.specs.Prelude.{ℕ, ◌+◌, List, map, Contains}
-use Rattle.mrp_lot.specs.One.{PlanRows, one}
-use Rattle.mrp_lot.specs.Bound.{IsWithin}
-use Rattle.mrp_table_rows.specs.declared.numbers.PairNo.{PairNo}
+use Rattle.mrp_netting.specs.One.{PlanRows, one}
+use Rattle.mrp_netting.specs.Bound.{IsWithin}
+use Rattle.mrp_planning_data.specs.declared.numbers.PairNo.{PairNo}
 use Rattle.mrp_plant_view.specs.Seen.{IsOwnPair}
-use Rattle.mrp_agent.specs.Chosen.{number_at}
+use Rattle.mrp_readiness.specs.Chosen.{number_at}
 use Rattle.mrp_protocol.specs.LocalPlans.{amount_at, asked_within, local_row}
 use Rattle.mrp_agent.specs.State.{AgentState, plans_of, pair_owned}
 

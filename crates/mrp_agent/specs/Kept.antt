@@ -1,8 +1,8 @@
 -- What stays true of an agent, and its indexes.
 use Rattle.std.specs.Prelude.{◌≡◌, ℕ, ◌*◌, ◌<◌, ◌≤◌, List, length, map, slice_index_or, All}
 use Rattle.std.specs.List.{range_with_len}
-use Rattle.mrp_lot.specs.One.{PlanRows}
-use Rattle.mrp_table_rows.specs.declared.numbers.ItemNo.{ItemNo}
+use Rattle.mrp_netting.specs.One.{PlanRows}
+use Rattle.mrp_planning_data.specs.declared.numbers.ItemNo.{ItemNo}
 use Rattle.mrp_grouping.specs.Starts.{IsGrouped}
 use Rattle.mrp_plant_view.specs.declared.view.IncomingLane.{IncomingLane}
 use Rattle.mrp_plant_view.specs.declared.view.PlantEdge.{PlantEdge}
@@ -14,8 +14,8 @@ use Rattle.mrp_record.specs.Form.{LaneForm}
 use Rattle.mrp_book.specs.Figures as book
 use Rattle.mrp_book.specs.Figures.{Figures}
 use Rattle.mrp_record.specs.Cursor.{OutFigures}
-use Rattle.mrp_agent.specs.Counts.{components_of}
-use Rattle.mrp_agent.specs.Progress.{Progress}
+use Rattle.mrp_readiness.specs.Counts.{components_of}
+use Rattle.mrp_readiness.specs.Progress.{Progress}
 use Rattle.mrp_agent.specs.declared.edges.ParentEdge.{ParentEdge}
 use Rattle.mrp_agent.specs.declared.queues.QueuePlace.{QueuePlace}
 use Rattle.mrp_agent.specs.After.{items_of}

@@ -1,8 +1,3 @@
-pub mod Chosen
-pub mod Components
-pub mod Progress
-pub mod Counts
-pub mod ReadinessLaws
 pub mod After
 pub mod Asking
 pub mod Drafts

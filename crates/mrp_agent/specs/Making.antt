@@ -11,8 +11,8 @@ use Rattle.mrp_book.specs.Figures as book
 use Rattle.mrp_book.specs.Figures.{Figures}
 use Rattle.mrp_record.specs.Cursor.{OutFigures, Goods}
 use Rattle.mrp_record.specs.Shows.{ShowsSent}
-use Rattle.mrp_agent.specs.Counts.{AreCounts}
-use Rattle.mrp_agent.specs.Progress.{Progress, times}
+use Rattle.mrp_readiness.specs.Counts.{AreCounts}
+use Rattle.mrp_readiness.specs.Progress.{Progress, times}
 use Rattle.mrp_agent.specs.State.{pair_place, no_out, no_outgoing}
 use Rattle.mrp_agent.specs.Shows.{form_of, joins_of}
 

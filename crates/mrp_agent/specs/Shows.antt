@@ -14,9 +14,9 @@ use Rattle.mrp_record.specs.Form.{LaneForm}
 use Rattle.mrp_book.specs.declared.item.BookItem.{BookItem}
 use Rattle.mrp_book.specs.Figures as book
 use Rattle.mrp_record.specs.Shows.{ShowsSent}
-use Rattle.mrp_agent.specs.declared.join.Join.{Join}
-use Rattle.mrp_agent.specs.Counts.{Awaited, AreCounts, open_blocks}
-use Rattle.mrp_agent.specs.Progress.{is_planned, left_of}
+use Rattle.mrp_readiness.specs.declared.join.Join.{Join}
+use Rattle.mrp_readiness.specs.Counts.{Awaited, AreCounts, open_blocks}
+use Rattle.mrp_readiness.specs.Progress.{is_planned, left_of}
 use Rattle.mrp_protocol.specs.LocalPlans.{amount_at, booked_on, local_incoming, IsLocal}
 use Rattle.mrp_agent.specs.State.{AgentState, incoming_at, outgoing_at, book_at, out_at, pair_place, plans_of}
 use Rattle.mrp_protocol.specs.Goods.{goods_of, IsSendable}

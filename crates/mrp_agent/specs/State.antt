@@ -2,10 +2,10 @@
 -- that go out, and a pair one among the plant's pairs.
 use Rattle.std.specs.Prelude.{ℕ, ◌==◌, false, List, [], slice_index_or, None}
 use Rattle.std.specs.List.{position_or_len}
-use Rattle.mrp_lot.specs.One.{PlanRows}
+use Rattle.mrp_netting.specs.One.{PlanRows}
 use Rattle.mrp_lot.specs.declared.rule.Rule.TheVariants.{LotForLot}
-use Rattle.mrp_table_rows.specs.declared.numbers.ItemNo.{ItemNo}
-use Rattle.mrp_table_rows.specs.declared.numbers.PairNo.{PairNo}
+use Rattle.mrp_planning_data.specs.declared.numbers.ItemNo.{ItemNo}
+use Rattle.mrp_planning_data.specs.declared.numbers.PairNo.{PairNo}
 use Rattle.mrp_net.specs.declared.lane.LaneKind.TheVariants.{Despatch}
 use Rattle.mrp_net.specs.Plan.{no_rows}
 use Rattle.mrp_plant_view.specs.declared.view.IncomingLane.{IncomingLane}
@@ -14,7 +14,7 @@ use Rattle.mrp_plant_view.specs.declared.view.PlantPair.{PlantPair}
 use Rattle.mrp_plant_view.specs.View.{PlantRows}
 use Rattle.mrp_book.specs.Figures.{Figures}
 use Rattle.mrp_record.specs.Cursor.{OutFigures}
-use Rattle.mrp_agent.specs.Progress.{Progress}
+use Rattle.mrp_readiness.specs.Progress.{Progress}
 
 -- What it sees; the book of each lane that comes in; by pair and period what comes in and what is asked for
 -- beside the parents, as far as it has come; the plan of each pair; which pairs are planned or can be; and

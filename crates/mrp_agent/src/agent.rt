@@ -46,7 +46,7 @@ impl Agent {
     ghost use Rattle.std.specs.Prelude.{◌↔◌, ℕ, Bool, IfNone, IsSome, IsTrue, List, slice_get, ◌≢◌, AllPairs, Contains};
     ghost use Rattle.std.specs.Prelude.{length};
     ghost use Rattle.mrp_protocol.specs.State.{opening_state};
-    ghost use Rattle.mrp_agent.specs.Progress.{is_planned, left_of};
+    ghost use Rattle.mrp_readiness.specs.Progress.{is_planned, left_of};
     ghost use Rattle.mrp_record.specs.declared.record.Record.{Record};
     ghost use Rattle.mrp_plant_view.specs.declared.view.PlantPair.{PlantPair};
     ghost use Rattle.mrp_plant_view.specs.Seen.{IsOwnPair, IsView};

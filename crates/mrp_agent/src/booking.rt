@@ -6,7 +6,8 @@ ghost use Rattle.mrp_agent.specs.After.{receipts_after, demand_after, items_of, 
 ghost use Rattle.mrp_agent.specs.After.{BlockEnded, IsAwaited};
 
 use crate::places::ItemPlaces;
-use crate::{Agent, Readiness};
+use crate::Agent;
+use mrp_readiness::Readiness;
 use mrp_book::BookFault;
 use mrp_net::{LaneKind, LaneNo};
 use mrp_plant_view::{IncomingLane, PlantFrame};

@@ -2,7 +2,7 @@
 
 ghost use Rattle.std.specs.Prelude.{◌≡◌, ◌<◌, ◌≤◌, ◌+◌, ◌*◌, ℕ, All, length, map, slice_index};
 ghost use Rattle.mrp_qty.specs.declared.quantity.TheConstants.{MOST};
-ghost use Rattle.mrp_lot.specs.One.{one};
+ghost use Rattle.mrp_netting.specs.One.{one};
 ghost use Rattle.mrp_grouping.specs.Starts.{IsGrouped};
 ghost use Rattle.mrp_agent.specs.Asking.{ParentCanAsk, HasDraft, asked_by, asked_on, grossed};
 ghost use Rattle.mrp_agent.specs.Kept.{parent_edge};
@@ -12,7 +12,7 @@ ghost use Rattle.mrp_agent.specs.State.{plant_pair_at};
 use crate::Agent;
 use crate::edges::ParentEdge;
 use mrp_grouping::Groups;
-use mrp_lot::PairParams;
+use mrp_netting::PairParams;
 use mrp_net::PairNo;
 use mrp_netting::{PairPlan, plan_pair};
 use mrp_plant_view::PlantFrame;

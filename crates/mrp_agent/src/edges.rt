@@ -7,7 +7,7 @@ ghost use Rattle.mrp_agent.specs.State.{pair_place};
 ghost use Rattle.mrp_qty.specs.declared.limits.TheConstants.{MOST_PAIRS};
 ghost use Rattle.mrp_plant_view.specs.Seen.{IsOwnPair, IsPlantEdge};
 
-use crate::Join;
+use mrp_readiness::Join;
 use mrp_grouping::KeyOf;
 use mrp_net::PairNo;
 use mrp_plant_view::{PlantEdge, PlantFrame};

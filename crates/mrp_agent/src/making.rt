@@ -4,14 +4,15 @@ ghost use Rattle.std.specs.Prelude.{◌≡◌, ℕ, ◌++◌, ◌<◌, ◌≤◌
 ghost use Rattle.std.specs.List.{flat_map};
 ghost use Rattle.mrp_qty.specs.declared.quantity.TheConstants.{MOST};
 ghost use Rattle.mrp_book.specs.Figures.{BookShows};
-ghost use Rattle.mrp_agent.specs.Counts.{AreCounts};
-ghost use Rattle.mrp_agent.specs.Progress.{times};
+ghost use Rattle.mrp_readiness.specs.Counts.{AreCounts};
+ghost use Rattle.mrp_readiness.specs.Progress.{times};
 ghost use Rattle.mrp_plant_view.specs.Seen.{IsIncomingItem, IsIncomingLane};
 ghost use Rattle.mrp_agent.specs.Kept.{HasSmallItems};
 ghost use Rattle.mrp_agent.specs.Making.{AreFit, AreIdleOuts, new_figures, IsIdleOut, awaited_places, place_awaited};
 ghost use Rattle.mrp_agent.specs.Shows.{book_item, form_of};
 
-use crate::{Join, PairNo, Readiness, first_waits};
+use crate::PairNo;
+use mrp_readiness::{Join, Readiness, first_waits};
 use mrp_book::{Book, BookItem};
 use mrp_net::LaneKind;
 use mrp_plant_view::{IncomingItem, IncomingLane, OutgoingLane, PlantFrame};

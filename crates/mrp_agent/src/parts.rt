@@ -2,7 +2,7 @@
 
 ghost use Rattle.std.specs.Prelude.{◌≡◌, IfOk, length, map, replicate};
 ghost use Rattle.std.specs.List.{range_with_len};
-ghost use Rattle.mrp_agent.specs.Counts.{components_of};
+ghost use Rattle.mrp_readiness.specs.Counts.{components_of};
 ghost use Rattle.mrp_plant_view.specs.Seen.{IsView};
 ghost use Rattle.mrp_agent.specs.Kept.{parent_edge};
 ghost use Rattle.mrp_agent.specs.Making.{IsFirstProgress};
@@ -13,7 +13,7 @@ use crate::making::{are_fit, first_progress, idle_outs, new_books};
 use crate::places::ItemPlaces;
 use crate::queues::{QueuePlace, queues};
 use crate::room::Room;
-use crate::{Components, Join, Readiness};
+use mrp_readiness::{Components, Join, Readiness};
 use mrp_book::Book;
 use mrp_grouping::{Groups, group};
 use mrp_netting::{PairPlan, blank_plans};

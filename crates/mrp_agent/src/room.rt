@@ -1,7 +1,7 @@
 //! What the plan of a pair is drafted in.
 
 ghost use Rattle.std.specs.Prelude.{◌≡◌, IfOk, length};
-ghost use Rattle.mrp_lot.specs.One.{one};
+ghost use Rattle.mrp_netting.specs.One.{one};
 ghost use Rattle.mrp_netting.specs.Plan.{nothing_planned};
 ghost use Rattle.mrp_agent.specs.Asking.{HasDraft, grossed};
 ghost use Rattle.mrp_agent.specs.Drafts.{CanDraft, drafted};
@@ -25,7 +25,7 @@ pub struct Room {
 
 impl Model for Room {
     ghost use Rattle.std.specs.Prelude.{◌≡◌, length};
-    ghost use Rattle.mrp_lot.specs.One.{PlanRows};
+    ghost use Rattle.mrp_netting.specs.One.{PlanRows};
 
     ghost Value = { PlanRows };
 

@@ -1,7 +1,7 @@
 -- What a call answers, by what a text function wrote and what was told.
 use Rattle.std.proofs.Common.{◌≡◌, ℕ, List, [], ◌++◌, Some, Result, Ok, Err, IfErr, inl, inr, ⊎_elim, subst}
 use Rattle.std.specs.Io.KnownBytes.{Appends}
-use Rattle.mrp_table_rows.specs.Table.{Table}
+use Rattle.mrp_planning_data.specs.Table.{Table}
 use Rattle.mrp_planner.specs.declared.fault.TextFault.{TextFault}
 use Rattle.mrp_planner.specs.declared.fault.TextFault.TheVariants.{Memory, WriteFault}
 use Rattle.mrp_planner.specs.Refusals.{Question, Refuses}

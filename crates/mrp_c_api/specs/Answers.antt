@@ -2,7 +2,7 @@
 -- before the call and after it, and `size` is the length that was told.
 use Rattle.std.specs.Prelude.{◌≡◌, ◌≢◌, ℕ, ◌⊎◌, List, codes, Some, Result, Ok, Err, IsUtf8}
 use Rattle.mrp_commands.specs.declared.choice.Heading.{Heading}
-use Rattle.mrp_table_rows.specs.Table.{Table}
+use Rattle.mrp_planning_data.specs.Table.{Table}
 use Rattle.mrp_planner.specs.declared.fault.TextFault.{TextFault}
 use Rattle.mrp_planner.specs.declared.fault.TextFault.TheVariants.{Memory, WriteFault}
 use Rattle.mrp_planner.specs.Fault.{status_of}

@@ -2,7 +2,7 @@
 use Rattle.std.proofs.Common.{refl}
 use Rattle.std.specs.Fmt.{digits}
 use Rattle.mrp_cal.specs.Days.{date_at}
-use Rattle.mrp_lot.specs.One.{balance_before, greatest_need, one, order_at}
+use Rattle.mrp_netting.specs.One.{balance_before, greatest_need, one, order_at}
 use Rattle.mrp_csv_out.specs.Dates.{period_date}
 use Rattle.mrp_csv_out.specs.Rows.{row}
 use Rattle.mrp_report.specs.Lanes as lanes

@@ -3,9 +3,9 @@
 -- orders.
 use Rattle.std.specs.Prelude.{◌≡◌, [], ◌∷◌, ◌++◌, pos, codes}
 use Rattle.mrp_lot.specs.declared.rule.Rule.TheVariants.{Fixed, LotForLot, MinMultiple, Periods}
-use Rattle.mrp_table_rows.specs.declared.rows.Supply.TheVariants.{Buy, From, Make}
-use Rattle.mrp_table_rows.specs.Table.{Table}
-use Rattle.mrp_tables.specs.Written.{rows_of}
+use Rattle.mrp_planning_data.specs.declared.rows.Supply.TheVariants.{Buy, From, Make}
+use Rattle.mrp_planning_data.specs.Table.{Table}
+use Rattle.mrp_grammar.specs.Written.{rows_of}
 use Rattle.mrp_net.specs.Plan.{plan_of}
 use Rattle.mrp_report.specs.Report.{late_text, plan_text}
 

@@ -1,9 +1,9 @@
 -- Two tables that were worked by hand: the rows that say them, and the report of their plan.
 use Rattle.std.specs.Prelude.{◌≡◌, [], ◌∷◌, ◌++◌, pos, codes}
 use Rattle.mrp_lot.specs.declared.rule.Rule.TheVariants.{LotForLot}
-use Rattle.mrp_table_rows.specs.declared.rows.Supply.TheVariants.{Make, Buy, From}
-use Rattle.mrp_table_rows.specs.Table.{Table}
-use Rattle.mrp_tables.specs.Written.{rows_of}
+use Rattle.mrp_planning_data.specs.declared.rows.Supply.TheVariants.{Make, Buy, From}
+use Rattle.mrp_planning_data.specs.Table.{Table}
+use Rattle.mrp_grammar.specs.Written.{rows_of}
 use Rattle.mrp_net.specs.Plan.{plan_of}
 use Rattle.mrp_report.specs.Report.{late_text, plan_text}
 

@@ -14,7 +14,7 @@ use std::io::Write;
 /// [`ReportFault::WriteFault`] where a write fails or takes nothing; a prefix of the bytes is written.
 pub fn send<W: Write>(bytes: &[u8], out: &mut W) -> Result<(), ReportFault>
     ensures whole { OnOk result (Appends (W.contents out.old) (W.contents out.new) bytes.now) }
-    ensures front { OnErr result (AppendsPrefix (W.contents out.old) (W.contents out.new) bytes.now) }
+    ensures prefix { OnErr result (AppendsPrefix (W.contents out.old) (W.contents out.new) bytes.now) }
     ensures fault { IfErr result (λ fault. fault ≡ ReportFault.WriteFault) }
 {
     let mut sent = 0;

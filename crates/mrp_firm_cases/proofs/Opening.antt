@@ -2,7 +2,7 @@
 use Rattle.std.proofs.Common.{◌≡◌, ℕ, List, [], length, sym, ap, subst}
 use Rattle.std.specs.List.{filter, range_with_len}
 use Rattle.std.proofs.lemmas.List.Elements.{All-nil}
-use Rattle.mrp_table_rows.specs.Table.{Table}
+use Rattle.mrp_planning_data.specs.Table.{Table}
 use Rattle.mrp_net.specs.Lanes.{lane_at, lanes}
 use Rattle.mrp_plant_view.specs.Seen.{IsView}
 use Rattle.mrp_plant_view.specs.View.{comes_to, goes_from, plant_rows}
@@ -10,7 +10,7 @@ use Rattle.mrp_loops.specs.Sized.{IsSized}
 use Rattle.mrp_record.proofs.Beginnings.{empty_is_a_beginning}
 use Rattle.mrp_protocol.specs.Loads.{loads}
 use Rattle.mrp_protocol.specs.State.{opening_state}
-use Rattle.mrp_protocol.proofs.Passing.{IsUnused, opening_is_explained}
+use Rattle.mrp_history.proofs.Passing.{IsUnused, opening_is_explained}
 use Rattle.mrp_agent.specs.InNetwork.{WorksIn}
 use Rattle.mrp_agent.specs.Shows.{ShowsHistory}
 use Rattle.mrp_agent.specs.State.{AgentState}

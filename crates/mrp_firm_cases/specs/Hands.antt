@@ -1,6 +1,6 @@
 -- Agents that stand alone: what one of them sends is handed to the other plant's agent.
 use Rattle.std.specs.Prelude.{◌≡◌, ℕ, ◌≤◌, List, [], ◌∷◌}
-use Rattle.mrp_table_rows.specs.Table.{Table}
+use Rattle.mrp_planning_data.specs.Table.{Table}
 use Rattle.mrp_record.specs.declared.record.Record.{Record}
 use Rattle.mrp_protocol.specs.State.{State}
 use Rattle.mrp_agent.specs.State.{AgentState}

@@ -166,11 +166,11 @@ pub fn reconcile<R: Wait>(
         tally: sent,
     } = send;
     mailbox.absorb::<Meeting>(&mut pass, take.pass);
-    settle(rt, alloc, lane, &mailbox, pass, &sent, &take.tally)
+    reconciled(rt, alloc, lane, &mailbox, pass, &sent, &take.tally)
 }
 
 /// What went over the lane of a joined pass, by what the two ends counted.
-fn settle<R: Wait>(
+fn reconciled<R: Wait>(
     rt: &R,
     alloc: Global,
     lane: LaneNo,

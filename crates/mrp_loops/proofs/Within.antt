@@ -8,12 +8,12 @@ use Rattle.std.proofs.lemmas.List.Sums.{sum_by-cons, sum_by-le-sum_by, get_or-le
 use Rattle.std.proofs.Math.Nat.{mul-le-mul_left}
 use Rattle.mrp_qty.specs.declared.quantity.TheConstants.{MOST}
 use Rattle.mrp_lot.specs.Lot.{rule_quantities}
-use Rattle.mrp_lot.specs.One.{PlanRows}
-use Rattle.mrp_lot.specs.Bound.{IsWithin}
-use Rattle.mrp_lot.proofs.OneLaws.{one-gross, one-incoming, one-release_sum-le, one-within}
-use Rattle.mrp_table_rows.specs.declared.rows.CumRow.{CumRow}
-use Rattle.mrp_table_rows.specs.declared.rows.ShipRow.{ShipRow}
-use Rattle.mrp_table_rows.specs.Table.{Table, IsPair, horizon}
+use Rattle.mrp_netting.specs.One.{PlanRows}
+use Rattle.mrp_netting.specs.Bound.{IsWithin}
+use Rattle.mrp_netting.proofs.OneLaws.{one-gross, one-incoming, one-release_sum-le, one-within}
+use Rattle.mrp_planning_data.specs.declared.rows.CumRow.{CumRow}
+use Rattle.mrp_planning_data.specs.declared.rows.ShipRow.{ShipRow}
+use Rattle.mrp_planning_data.specs.Table.{Table, IsPair, horizon}
 use Rattle.mrp_net.specs.declared.edge.Edge.{Edge}
 use Rattle.mrp_net.specs.Edges.{demanders}
 use Rattle.mrp_net.specs.Lanes.{figure, shipped_from}

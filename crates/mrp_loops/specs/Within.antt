@@ -3,10 +3,10 @@ use Rattle.std.specs.Prelude.{ℕ, ◌+◌, ◌≤◌, List, sum, sum_by, slice_
 use Rattle.std.specs.List.{range_with_len}
 use Rattle.mrp_qty.specs.declared.quantity.TheConstants.{MOST}
 use Rattle.mrp_lot.specs.Lot.{rule_quantities}
-use Rattle.mrp_lot.specs.One.{PlanRows}
-use Rattle.mrp_lot.specs.Bound.{IsWithin}
-use Rattle.mrp_table_rows.specs.declared.rows.SourceRow.{SourceRow}
-use Rattle.mrp_table_rows.specs.Table.{Table, IsPair, horizon}
+use Rattle.mrp_netting.specs.One.{PlanRows}
+use Rattle.mrp_netting.specs.Bound.{IsWithin}
+use Rattle.mrp_planning_data.specs.declared.rows.SourceRow.{SourceRow}
+use Rattle.mrp_planning_data.specs.Table.{Table, IsPair, horizon}
 use Rattle.mrp_net.specs.declared.lane.Lane.{Lane}
 use Rattle.mrp_net.specs.Edges.{part, source_edge}
 use Rattle.mrp_net.specs.Lanes.{customer_of, supplier_of, item_of_source, taken_over, figure, shipped_from, opening}

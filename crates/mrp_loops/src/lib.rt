@@ -2,7 +2,7 @@
 //!
 //! A [`SizedNet`] is a network that passed both.
 //!
-//! Used by plans, reports and agents: each takes a `SizedNet`.
+//! Used by plans, reports, lanes, worlds and runs: each takes a `SizedNet`. Agents use its definitions alone.
 //! Keeps true: a `SizedNet` has no loop and no figure above 10^15 pieces, so it has exactly one plan.
 #![tactic(auto)]
 

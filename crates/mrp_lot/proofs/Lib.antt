@@ -1,4 +1,1 @@
 pub mod LotLaws
-pub mod OneLaws
-pub mod RangeLaws
-pub mod RulesLaws

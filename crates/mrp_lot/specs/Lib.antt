@@ -1,4 +1,2 @@
-pub mod Bound
 pub mod Lot
-pub mod One
 pub mod Rules

@@ -9,11 +9,11 @@ use Rattle.std.proofs.lemmas.List.FromFn.{get_or-map-range_with_len, length-map-
 use Rattle.std.proofs.lemmas.List.Sums.{sum_by-cons}
 use Rattle.std.proofs.lemmas.Nat.{mul-add-lt, mul-le}
 use Rattle.std.proofs.Math.Nat.{add-mul, mul-le-mul_right}
-use Rattle.mrp_lot.proofs.RangeLaws.{map-range-same}
+use Rattle.mrp_qty.proofs.RangeLaws.{map-range-same}
 use Rattle.mrp_qty.specs.declared.horizon.TheConstants.{LONGEST}
 use Rattle.mrp_qty.specs.declared.limits.TheConstants.{MOST_OF_A_KIND}
-use Rattle.mrp_table_rows.specs.declared.rows.ShipRow.{ShipRow}
-use Rattle.mrp_table_rows.specs.Table.{Table, IsTable, IsPair, horizon}
+use Rattle.mrp_planning_data.specs.declared.rows.ShipRow.{ShipRow}
+use Rattle.mrp_planning_data.specs.Table.{Table, IsTable, IsPair, horizon}
 use Rattle.mrp_grouping.specs.Added.{AddsAmounts, sum_in}
 use Rattle.mrp_net.specs.declared.incoming.Incoming.{Incoming}
 use Rattle.mrp_net.specs.Incoming.{AreCounted, AreRows, IsIncoming}

@@ -7,10 +7,10 @@ use Rattle.std.proofs.lemmas.List.{get_or-map, length-map}
 use Rattle.std.proofs.lemmas.List.Elements.{All-head, All-tail, All-filter, filter_passes, All-from_recursion, recursion_from_All}
 use Rattle.std.proofs.lemmas.List.Sums.{sum_by-cons, sum_by-append}
 use Rattle.std.proofs.lemmas.Map.Keys.{IsDistinct-head, IsDistinct-tail, IsDistinct-cons, IsDistinct-from_apart, apart_from_distinct}
-use Rattle.mrp_lot.specs.One.{one}
-use Rattle.mrp_table_rows.specs.declared.numbers.ItemNo.{ItemNo}
-use Rattle.mrp_table_rows.specs.declared.rows.SourceRow.{SourceRow}
-use Rattle.mrp_table_rows.specs.Table.{Table, IsTable, IsPair, IsSourceRow, horizon, is_same_source, pair_no}
+use Rattle.mrp_netting.specs.One.{one}
+use Rattle.mrp_planning_data.specs.declared.numbers.ItemNo.{ItemNo}
+use Rattle.mrp_planning_data.specs.declared.rows.SourceRow.{SourceRow}
+use Rattle.mrp_planning_data.specs.Table.{Table, IsTable, IsPair, IsSourceRow, horizon, is_same_source, pair_no}
 use Rattle.mrp_net.specs.declared.edge.Edge.{Edge}
 use Rattle.mrp_net.specs.Edges.{edge_need, demanders}
 use Rattle.mrp_grouping.specs.Groups.{group}

@@ -2,8 +2,8 @@
 -- releases of its demanders.
 use Rattle.std.specs.Prelude.{ℕ, ◌+◌, zero, suc, List, [], length, map, sum_by, slice_index, slice_index_or}
 use Rattle.std.specs.List.{range_with_len}
-use Rattle.mrp_lot.specs.One.{PlanRows, one}
-use Rattle.mrp_table_rows.specs.Table.{Table}
+use Rattle.mrp_netting.specs.One.{PlanRows, one}
+use Rattle.mrp_planning_data.specs.Table.{Table}
 use Rattle.mrp_net.specs.declared.edge.Edge.{Edge}
 use Rattle.mrp_net.specs.Edges.{demanders, edge_need}
 use Rattle.mrp_net.specs.Sums.{demand, incoming, params_at, row_of}

@@ -1,12 +1,12 @@
 -- What the rows of a network add up to for each pair. Rows that are equal all count.
 use Rattle.std.specs.Prelude.{ℕ, ◌+◌, ◌==◌, ◌&&◌, if◌then◌else◌, List, map, sum_by, slice_index_or}
 use Rattle.std.specs.List.{range_with_len}
-use Rattle.mrp_lot.specs.declared.params.PairParams.{PairParams}
+use Rattle.mrp_netting.specs.declared.params.PairParams.{PairParams}
 use Rattle.mrp_lot.specs.declared.rule.Rule.TheVariants.{LotForLot}
-use Rattle.mrp_table_rows.specs.declared.rows.PairRow.{PairRow}
-use Rattle.mrp_table_rows.specs.declared.rows.Supply.TheVariants.{Buy}
-use Rattle.mrp_table_rows.specs.Rows.{params_of}
-use Rattle.mrp_table_rows.specs.Table.{Table, horizon}
+use Rattle.mrp_planning_data.specs.declared.rows.PairRow.{PairRow}
+use Rattle.mrp_planning_data.specs.declared.rows.Supply.TheVariants.{Buy}
+use Rattle.mrp_planning_data.specs.Rows.{params_of}
+use Rattle.mrp_planning_data.specs.Table.{Table, horizon}
 
 -- what a look-up past the pairs of the table reads
 abbrev pub no_pair : PairRow

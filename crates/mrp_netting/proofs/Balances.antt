@@ -2,10 +2,10 @@
 use Rattle.std.proofs.Common.{◌≡◌, ℕ, ◌+◌, ◌-◌, ◌<◌, ◌≤◌, List, length, get_or, slice_index, suc, sym, ◌∙◌, ap, arith}
 use Rattle.std.proofs.lemmas.List.{get_or_read}
 use Rattle.mrp_qty.specs.declared.quantity.TheConstants.{MOST}
-use Rattle.mrp_lot.specs.declared.params.PairParams.{PairParams}
-use Rattle.mrp_lot.specs.One.{order_at, order_after, balance_before}
-use Rattle.mrp_lot.specs.Bound.{IsWithin}
-use Rattle.mrp_lot.proofs.OneLaws.{order_at-is, order_covers, balance_before-next, balance_before-le}
+use Rattle.mrp_netting.specs.declared.params.PairParams.{PairParams}
+use Rattle.mrp_netting.specs.One.{order_at, order_after, balance_before}
+use Rattle.mrp_netting.specs.Bound.{IsWithin}
+use Rattle.mrp_netting.proofs.OneLaws.{order_at-is, order_covers, balance_before-next, balance_before-le}
 
 pub record IsStep (pair : PairParams) (incoming gross : List ℕ) (t before came ordered needed : ℕ) : Type 0 where
   pub order : ordered ≡ order_at pair incoming gross t

@@ -1,3 +1,5 @@
+pub mod OneLaws
+pub mod RulesLaws
 pub mod Balances
 pub mod Compared
 pub mod Lates

@@ -5,8 +5,8 @@ use Rattle.std.specs.List.{range_with_len}
 use Rattle.std.proofs.lemmas.Bool.{cases_eq, cond-true, cond-false, cond_both}
 use Rattle.std.proofs.lemmas.Grind.{get_or-set_at}
 use Rattle.std.proofs.lemmas.List.Sums.{sum_by-le-sum_by, sum_by-take-le}
-use Rattle.mrp_lot.proofs.RangeLaws.{sum_by-range-more, sum_by-range-take, sum_take-suc}
-use Rattle.mrp_lot.specs.One.{released}
+use Rattle.mrp_qty.proofs.RangeLaws.{sum_by-range-more, sum_by-range-take, sum_take-suc}
+use Rattle.mrp_netting.specs.One.{released}
 
 -- what is released so far, with the next order, is within all orders
 pub released-le : (lead : ℕ) (order : List ℕ) (t u : ℕ) → released lead order t u + slice_index order t ≤ sum order

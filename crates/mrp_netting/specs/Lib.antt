@@ -1,1 +1,4 @@
+pub mod Bound
+pub mod One
+pub mod Rules
 pub mod Plan

@@ -1,9 +1,9 @@
 -- What a plan of one pair keeps.
 use Rattle.std.specs.Prelude.{◌≡◌, ℕ, ◌<◌, List, [], length, map, replicate, All}
 use Rattle.mrp_qty.specs.Row.{IsRow}
-use Rattle.mrp_lot.specs.declared.params.PairParams.{PairParams}
-use Rattle.mrp_lot.specs.declared.params.Late.{Late}
-use Rattle.mrp_lot.specs.One.{PlanRows, order_row, available_row, late_order}
+use Rattle.mrp_netting.specs.declared.params.PairParams.{PairParams}
+use Rattle.mrp_netting.specs.declared.params.Late.{Late}
+use Rattle.mrp_netting.specs.One.{PlanRows, order_row, available_row, late_order}
 
 -- five rows of one horizon
 pub record AreRows (rows : PlanRows) : Type 0 where

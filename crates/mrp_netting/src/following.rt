@@ -3,13 +3,13 @@
 ghost use Rattle.std.specs.Prelude.{◌≡◌, ◌≤◌, ◌<◌, ◌↔◌, IsTrue, Some, length, slice_get, sum};
 ghost use Rattle.mrp_qty.specs.declared.quantity.TheConstants.{MOST};
 ghost use Rattle.mrp_lot.specs.declared.rule.TheConstants.{LONGEST_LEAD};
-ghost use Rattle.mrp_lot.specs.One.{released, release_row, late_orders};
-ghost use Rattle.mrp_lot.specs.Bound.{IsWithin};
+ghost use Rattle.mrp_netting.specs.One.{released, release_row, late_orders};
+ghost use Rattle.mrp_netting.specs.Bound.{IsWithin};
 ghost use Rattle.mrp_netting.specs.Plan.{AreOrders};
 
 use crate::PairPlan;
 use crate::netting::order_and_balance;
-use mrp_lot::PairParams;
+use crate::PairParams;
 use mrp_qty::Qty;
 
 /// Whether the planned order receipts and the projected available are those of the plan.

@@ -1,22 +1,29 @@
 //! The plan of one pair: what is netted, ordered and released, period by period, where the gross
 //! requirements and the scheduled receipts are given.
 //!
-//! [`plan_pair`] writes the rows of Orlicky's material requirements planning, in the terms of the
-//! APICS Dictionary (gross requirements, scheduled receipts, planned order receipts, planned order
-//! releases, projected available balance), into a [`PairPlan`], which is used again from pair to
-//! pair. Contracts see a [`PairPlan`] as its five rows and the list of its late orders.
+//! `specs/` has its definition, the record of Orlicky's material requirements planning, in the terms of the APICS
+//! Dictionary: gross requirements, scheduled receipts, net requirements, planned order receipts, planned order
+//! releases, projected available balance. [`plan_pair`] writes its rows into a [`PairPlan`], which is used again from
+//! pair to pair. Contracts see a [`PairPlan`] as its five rows and the list of its late orders.
 //!
 //! Used by the plan of a network, by agents and those who drive them, and by reports.
-//! Keeps true: the rows of a `PairPlan` are those of the definition in `mrp_lot`, period by period.
+//! Keeps true: the rows of a `PairPlan` are those of the definition; nothing is ordered without a net requirement.
 #![tactic(auto)]
 
 mod blank;
 mod following;
 mod late;
+mod laws;
 mod netting;
+mod params;
 mod plan;
 mod release;
 
 pub use blank::blank_plans;
-pub use mrp_lot::{Late, PairParams};
+pub use laws::{
+    available_covers_safety, lot_for_lot_orders_the_need, nothing_is_ordered_without_a_need,
+    orders_are_released, orders_cover_the_need, periods_is_greatest, releases_are_bounded,
+    rows_stay_within, rules_have_one_plan,
+};
+pub use params::{Late, PairParams};
 pub use plan::{PairPlan, is_plan, plan_pair};

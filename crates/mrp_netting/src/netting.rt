@@ -2,10 +2,11 @@
 
 ghost use Rattle.std.specs.Prelude.{◌≡◌, ◌+◌, ◌-◌, ◌<◌, ◌≤◌, min, length, suc};
 ghost use Rattle.mrp_qty.specs.declared.quantity.TheConstants.{MOST};
-ghost use Rattle.mrp_lot.specs.One.{greatest_need, order_at, order_after, balance_before, order_row, available_row};
-ghost use Rattle.mrp_lot.specs.Bound.{IsWithin};
+ghost use Rattle.mrp_netting.specs.One.{greatest_need, order_at, order_after, balance_before, order_row, available_row};
+ghost use Rattle.mrp_netting.specs.Bound.{IsWithin};
 
-use mrp_lot::{PairParams, Rule, lot};
+use crate::PairParams;
+use mrp_lot::{Rule, lot};
 use mrp_qty::{Qty, Row};
 
 /// Writes the planned order receipts and the projected available, period by period.

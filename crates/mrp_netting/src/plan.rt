@@ -1,15 +1,15 @@
 //! The plan of one pair, its five rows and its late orders.
 
 ghost use Rattle.std.specs.Prelude.{◌≡◌, ◌<◌, ◌≤◌, ◌↔◌, length, IsTrue, IfOk, Some, slice_get, vec_capacity};
-ghost use Rattle.mrp_lot.specs.One.{PlanRows, one};
-ghost use Rattle.mrp_lot.specs.Bound.{IsWithin};
+ghost use Rattle.mrp_netting.specs.One.{PlanRows, one};
+ghost use Rattle.mrp_netting.specs.Bound.{IsWithin};
 ghost use Rattle.mrp_netting.specs.Plan.{AreRows, nothing_planned, late_orders_in, AreLate};
 
 use crate::following::{late_follow, orders_follow, releases_follow};
 use crate::late::note_late;
 use crate::netting::plan_orders;
 use crate::release::plan_releases;
-use mrp_lot::{Late, PairParams};
+use crate::{Late, PairParams};
 use mrp_qty::{Horizon, Memory, Row};
 use std::alloc::Global;
 use std::marker::Model;

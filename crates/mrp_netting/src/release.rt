@@ -2,7 +2,7 @@
 
 ghost use Rattle.std.specs.Prelude.{◌≡◌, ◌≤◌, length, sum};
 ghost use Rattle.mrp_qty.specs.declared.quantity.TheConstants.{MOST};
-ghost use Rattle.mrp_lot.specs.One.{release_row};
+ghost use Rattle.mrp_netting.specs.One.{release_row};
 
 use mrp_qty::{Qty, Row};
 

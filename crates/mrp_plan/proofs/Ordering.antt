@@ -5,11 +5,11 @@ use Rattle.std.specs.List.{filter, range_with_len, sum_by}
 use Rattle.std.proofs.lemmas.Bool.{and_from, and_left, and_right, cond_both, eqb-true, eq-eqb, le-ltb, lt-ltb, ltb-false, ltb-true, true≢false}
 use Rattle.std.proofs.lemmas.List.FromFn.{get_or-map-range_with_len, length-map-range_with_len}
 use Rattle.std.proofs.lemmas.List.Sums.{sum_by-cons}
-use Rattle.mrp_lot.specs.One.{PlanRows, is_late, late_order, late_orders, one, release_row, released}
-use Rattle.mrp_lot.specs.declared.params.Late.{Late}
-use Rattle.mrp_lot.specs.declared.params.PairParams.{PairParams}
-use Rattle.mrp_lot.proofs.OneLaws.{length-one-order}
-use Rattle.mrp_table_rows.specs.Table.{horizon}
+use Rattle.mrp_netting.specs.One.{PlanRows, is_late, late_order, late_orders, one, release_row, released}
+use Rattle.mrp_netting.specs.declared.params.Late.{Late}
+use Rattle.mrp_netting.specs.declared.params.PairParams.{PairParams}
+use Rattle.mrp_netting.proofs.OneLaws.{length-one-order}
+use Rattle.mrp_planning_data.specs.Table.{horizon}
 use Rattle.mrp_net.specs.Plan.{gross, pair_plan, rows_at}
 use Rattle.mrp_net.specs.Sums.{incoming, params_at, row_of}
 use Rattle.mrp_plan.specs.Orders.{has_order, planned_order}

@@ -8,11 +8,11 @@ use Rattle.std.proofs.lemmas.List.FromFn.{fill_by_all, get_or-map-range_with_len
 use Rattle.std.proofs.lemmas.List.Sums.{sum_by-cons, sum-map}
 use Rattle.std.proofs.Math.Nat.{mul-le-mul_left}
 use Rattle.mrp_lot.specs.Lot.{rule_quantities}
-use Rattle.mrp_lot.specs.One.{PlanRows, one}
-use Rattle.mrp_lot.specs.Bound.{IsWithin}
-use Rattle.mrp_lot.proofs.OneLaws.{release_at, releases-le, one-release, length-one-release}
-use Rattle.mrp_lot.proofs.RangeLaws.{map-range-same}
-use Rattle.mrp_table_rows.specs.Table.{Table, IsTable, horizon}
+use Rattle.mrp_netting.specs.One.{PlanRows, one}
+use Rattle.mrp_netting.specs.Bound.{IsWithin}
+use Rattle.mrp_netting.proofs.OneLaws.{release_at, releases-le, one-release, length-one-release}
+use Rattle.mrp_qty.proofs.RangeLaws.{map-range-same}
+use Rattle.mrp_planning_data.specs.Table.{Table, IsTable, horizon}
 use Rattle.mrp_net.specs.Edges.{demanders, edge_need}
 use Rattle.mrp_net.specs.Sums.{demand, demand_total, incoming, params_at, pair_at, row_of, no_pair}
 use Rattle.mrp_net.specs.Plan.{rows_at, no_rows, gross, pair_plan, asked}

@@ -2,8 +2,8 @@
 use Rattle.std.specs.Prelude.{ℕ, ◌-◌, ◌==◌, nat_le, Bool, true, not, if◌then◌else◌, List, map, filter, slice_index}
 use Rattle.std.specs.Prelude.{Option, Some, None}
 use Rattle.std.specs.List.{range_with_len}
-use Rattle.mrp_lot.specs.One.{PlanRows}
-use Rattle.mrp_table_rows.specs.Table.{Table, horizon}
+use Rattle.mrp_netting.specs.One.{PlanRows}
+use Rattle.mrp_planning_data.specs.Table.{Table, horizon}
 use Rattle.mrp_net.specs.Plan.{rows_at}
 use Rattle.mrp_net.specs.Sums.{params_at}
 use Rattle.mrp_plan.specs.declared.orders.PlannedOrder.{PlannedOrder}

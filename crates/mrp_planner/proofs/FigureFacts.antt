@@ -2,8 +2,8 @@
 use Rattle.std.proofs.Common.{◌≡◌, ◌+◌, ℕ, List, [], ◌∷◌, length, get_or, All, ap, sym}
 use Rattle.std.specs.List.{flat_map, range_with_len}
 use Rattle.std.proofs.lemmas.List.Elements.{All-append, All-map, All-nil}
-use Rattle.mrp_table_rows.specs.declared.numbers.ItemNo.{ItemNo}
-use Rattle.mrp_table_rows.specs.Table.{Table}
+use Rattle.mrp_planning_data.specs.declared.numbers.ItemNo.{ItemNo}
+use Rattle.mrp_planning_data.specs.Table.{Table}
 use Rattle.mrp_net.specs.Lanes.{lane_at, lane_items, lanes, opening}
 use Rattle.mrp_world.specs.Figures.{settled_figure, last_figures, last_on}
 use Rattle.mrp_schedules.proofs.Carried.{called_is_carried}

@@ -1,7 +1,7 @@
 -- What a fault of a run says of its gate, and that a gate that is always open is never answered as shut.
 use Rattle.std.proofs.Common.{◌≡◌, ℕ, Bool, true, false, length, List, Option, Result, Ok, Err, IfErr, IsErrAnd, ⊎_elim, subst, sym, refl}
 use Rattle.std.proofs.lemmas.Bool.{false≢true}
-use Rattle.mrp_table_rows.specs.Table.{Table}
+use Rattle.mrp_planning_data.specs.Table.{Table}
 use Rattle.mrp_run.specs.Faults.{AllTurned, WasShut, WasSpent}
 use Rattle.mrp_planner.specs.declared.fault.TextFault.{TextFault}
 use Rattle.mrp_planner.specs.declared.fault.TextFault.TheVariants as fault

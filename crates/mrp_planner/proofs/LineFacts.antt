@@ -6,9 +6,9 @@ use Rattle.std.specs.List.{flat_map}
 use Rattle.std.specs.Io.KnownBytes.{Appends}
 use Rattle.mrp_csv_out.specs.Sending.{AppendsPrefix, AppendsSome}
 use Rattle.mrp_csv_out.proofs.Fronts.{front-after, front-longer, some-front, some-whole, whole-after}
-use Rattle.mrp_tables.specs.declared.fault.TableFault.{TableFault}
-use Rattle.mrp_tables.specs.declared.fault.TableFaultKind.{TableFaultKind}
-use Rattle.mrp_tables.specs.declared.fault.TableFaultKind.TheVariants as kind
+use Rattle.mrp_grammar.specs.declared.fault.TableFault.{TableFault}
+use Rattle.mrp_grammar.specs.declared.fault.TableFaultKind.{TableFaultKind}
+use Rattle.mrp_grammar.specs.declared.fault.TableFaultKind.TheVariants as kind
 use Rattle.mrp_planner.specs.Lines.{SendsText, table_line_of, row_line}
 
 -- the pieces so far, the next, and the rest

@@ -1,7 +1,7 @@
 -- The pairs of a loop are pairs of the table.
 use Rattle.std.proofs.Common.{ℕ, zero, suc, List, [], ◌∷◌, map, All, arith}
-use Rattle.mrp_table_rows.specs.Table.{Table, IsTable, IsPair}
-use Rattle.mrp_table_rows.specs.declared.numbers.PairNo.{PairNo}
+use Rattle.mrp_planning_data.specs.Table.{Table, IsTable, IsPair}
+use Rattle.mrp_planning_data.specs.declared.numbers.PairNo.{PairNo}
 use Rattle.mrp_loops.specs.Loop.{IsLoop}
 use Rattle.mrp_loops.specs.Codes.{LeadsTo}
 use Rattle.mrp_loops.specs.LoopFaults.{IsLoopFault}

@@ -1,8 +1,8 @@
 -- The names of pairs, one after the other.
 use Rattle.std.proofs.Common.{ℕ, ◌+◌, ◌<◌, List, [], ◌∷◌, ◌++◌, length, map, take, get_or, subst, sym}
 use Rattle.std.proofs.lemmas.List.{map_more}
-use Rattle.mrp_table_rows.specs.declared.numbers.PairNo.{PairNo}
-use Rattle.mrp_table_rows.specs.Table.{Table}
+use Rattle.mrp_planning_data.specs.declared.numbers.PairNo.{PairNo}
+use Rattle.mrp_planning_data.specs.Table.{Table}
 use Rattle.mrp_planner.specs.declared.fault.PairName.{PairName}
 use Rattle.mrp_planner.specs.Refusals.{AreCalled, IsPairName}
 

@@ -2,15 +2,15 @@
 use Rattle.std.proofs.Common.{◌≡◌, ℕ, true, false, List, ◌++◌, Option, Some, None, Ok, Err, refl, sym, ap, ap₂, ◌∙◌, subst, ⊎_elim, arith}
 use Rattle.std.proofs.lemmas.Option.{get_or_from_slice_get, slice_get_within}
 use Rattle.csv.specs.Reading.{strip_bom, records, default_config}
-use Rattle.mrp_lot.specs.One.{PlanRows}
-use Rattle.mrp_table_rows.specs.declared.numbers.PlantNo.{PlantNo}
-use Rattle.mrp_table_rows.specs.Table.{Table, IsTable, pair_no}
+use Rattle.mrp_netting.specs.One.{PlanRows}
+use Rattle.mrp_planning_data.specs.declared.numbers.PlantNo.{PlantNo}
+use Rattle.mrp_planning_data.specs.Table.{Table, IsTable, pair_no}
 use Rattle.mrp_net.specs.Sums.{pair_at}
-use Rattle.mrp_tables.specs.declared.fault.TableFault.{TableFault}
-use Rattle.mrp_tables.specs.declared.fault.TableFaultKind.{TableFaultKind}
-use Rattle.mrp_tables.specs.declared.fault.TableFaultKind.TheVariants as kind
-use Rattle.mrp_tables.specs.Reading.{OfRows, Reads}
-use Rattle.mrp_tables.proofs.OneWay.{reads_one_way}
+use Rattle.mrp_grammar.specs.declared.fault.TableFault.{TableFault}
+use Rattle.mrp_grammar.specs.declared.fault.TableFaultKind.{TableFaultKind}
+use Rattle.mrp_grammar.specs.declared.fault.TableFaultKind.TheVariants as kind
+use Rattle.mrp_grammar.specs.Reading.{OfRows, Reads}
+use Rattle.mrp_grammar.proofs.OneWay.{reads_one_way}
 use Rattle.mrp_net.specs.Names.{IsNamed}
 use Rattle.mrp_net.specs.Plan.{plan_of}
 use Rattle.mrp_net.specs.PlanLaws.{Fits}

@@ -1,11 +1,11 @@
 -- The table of some bytes is the one that the grammar reads in them.
 use Rattle.std.proofs.Common.{◌≡◌, ◌↔◌, ℕ, List, length, Option, None, Some, Ok, option_map}
 use Rattle.csv.specs.Reading.{default_config, records, strip_bom}
-use Rattle.mrp_table_rows.specs.Table.{Table, IsTable}
-use Rattle.mrp_tables.specs.Reading.{Reads, TellsRows}
-use Rattle.mrp_tables.specs.Written.{OfRecords}
-use Rattle.mrp_tables.specs.Written.{AreNumbered, rows_of}
-use Rattle.mrp_tables.proofs.BackTable.{read_from_its_rows}
+use Rattle.mrp_planning_data.specs.Table.{Table, IsTable}
+use Rattle.mrp_grammar.specs.Reading.{Reads, TellsRows}
+use Rattle.mrp_grammar.specs.Written.{OfRecords}
+use Rattle.mrp_grammar.specs.Written.{AreNumbered, rows_of}
+use Rattle.mrp_grammar.proofs.BackTable.{read_from_its_rows}
 use Rattle.mrp_planner.specs.Laws.{TablesAreRead}
 use Rattle.mrp_planner.specs.Text.{IsTableOf}
 

@@ -1,7 +1,7 @@
 -- What became of a text that was sent, and what its refusals say.
 use Rattle.std.proofs.Common.{◌≡◌, ℕ, List, ◌++◌, Option, None, Some, Result, Ok, Err, IfErr, inl, inr, ⊎_elim, subst, sym, refl}
 use Rattle.std.specs.Io.KnownBytes.{Appends, Keeps}
-use Rattle.mrp_table_rows.specs.Table.{Table}
+use Rattle.mrp_planning_data.specs.Table.{Table}
 use Rattle.mrp_csv_out.specs.Sent.{SendsReport}
 use Rattle.mrp_csv_out.specs.declared.fault.ReportFault.{ReportFault}
 use Rattle.mrp_csv_out.specs.declared.fault.ReportFault.TheVariants as report

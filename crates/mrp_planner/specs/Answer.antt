@@ -1,6 +1,6 @@
 -- What is answered to a choice of words.
 use Rattle.std.specs.Prelude.{◌≢◌, ◌≤◌, ℕ, true, false, List, Result, Ok, Err}
-use Rattle.mrp_table_rows.specs.Table.{Table}
+use Rattle.mrp_planning_data.specs.Table.{Table}
 use Rattle.mrp_commands.specs.declared.choice.Choice.{Choice}
 use Rattle.mrp_commands.specs.declared.choice.Choice.TheVariants.{Plan, Check, Peg, Cums}
 use Rattle.mrp_commands.specs.declared.choice.Choice.TheVariants.{Orders, Schedule, Pegs, Advice}

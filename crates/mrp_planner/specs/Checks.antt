@@ -2,9 +2,9 @@
 -- bound are.
 use Rattle.std.specs.Prelude.{ℕ, List, map, All, Err, Option, option_map}
 use Rattle.csv.specs.Reading.{strip_bom}
-use Rattle.mrp_tables.specs.Reading.{TellsRows}
-use Rattle.mrp_tables.specs.Written.{OfRecords}
-use Rattle.mrp_table_rows.specs.Table.{Table, IsPair}
+use Rattle.mrp_grammar.specs.Reading.{TellsRows}
+use Rattle.mrp_grammar.specs.Written.{OfRecords}
+use Rattle.mrp_planning_data.specs.Table.{Table, IsPair}
 use Rattle.mrp_loops.specs.declared.loops.LoopFault.{LoopFault}
 use Rattle.mrp_loops.specs.declared.loops.LoopFault.TheVariants as check
 use Rattle.mrp_loops.specs.declared.sized.BoundFault.{BoundFault}

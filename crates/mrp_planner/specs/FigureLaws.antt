@@ -1,6 +1,6 @@
 -- What two reports of one table say of each other: the cumulative figures and the delivery schedules.
 use Rattle.std.specs.Prelude.{◌≡◌, ◌+◌, All}
-use Rattle.mrp_table_rows.specs.Table.{Table}
+use Rattle.mrp_planning_data.specs.Table.{Table}
 use Rattle.mrp_net.specs.declared.lane.LaneKind.TheVariants.{Schedule}
 use Rattle.mrp_net.specs.Lanes.{lane_at}
 use Rattle.mrp_book.specs.declared.figure.LaneFigure.{LaneFigure}

@@ -1,6 +1,6 @@
 -- What the end of a run by threads says of its gate and of the turns of its plants.
 use Rattle.std.specs.Prelude.{◌≡◌, ℕ, ◌<◌, List, length, Some, slice_get, Result, IfErr, OnOk, string_bytes}
-use Rattle.mrp_table_rows.specs.Table.{Table}
+use Rattle.mrp_planning_data.specs.Table.{Table}
 use Rattle.mrp_run.specs.Faults.{AllTurned, WasShut, WasSpent}
 use Rattle.mrp_planner.specs.declared.fault.TextFault.{TextFault}
 use Rattle.mrp_planner.specs.declared.fault.TextFault.TheVariants as fault

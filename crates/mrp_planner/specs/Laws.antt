@@ -1,8 +1,8 @@
 -- What holds of the reports and refusals of one text.
 use Rattle.std.specs.Prelude.{◌≡◌, ◌↔◌, List, ℕ, Some, Ok}
 use Rattle.csv.specs.Reading.{default_config, records, strip_bom}
-use Rattle.mrp_table_rows.specs.Table.{Table}
-use Rattle.mrp_tables.specs.Reading.{Reads}
+use Rattle.mrp_planning_data.specs.Table.{Table}
+use Rattle.mrp_grammar.specs.Reading.{Reads}
 use Rattle.mrp_commands.specs.declared.choice.Choice.{Choice}
 use Rattle.mrp_planner.specs.declared.fault.TextFault.{TextFault}
 use Rattle.mrp_planner.specs.Answer.{IsAnswer, question_of}

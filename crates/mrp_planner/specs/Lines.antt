@@ -5,9 +5,9 @@ use Rattle.mrp_csv_out.specs.Sending.{AppendsPrefix}
 use Rattle.std.specs.List.{flat_map}
 use Rattle.mrp_cal.specs.declared.fault.CalFault.{CalFault}
 use Rattle.mrp_cal.specs.declared.fault.CalFault.TheVariants.{BadDate, DaysOutOfRange, PastEnd}
-use Rattle.mrp_tables.specs.declared.fault.TableFault.{TableFault}
-use Rattle.mrp_tables.specs.declared.fault.TableFaultKind.{TableFaultKind}
-use Rattle.mrp_tables.specs.declared.fault.TableFaultKind.TheVariants as kind
+use Rattle.mrp_grammar.specs.declared.fault.TableFault.{TableFault}
+use Rattle.mrp_grammar.specs.declared.fault.TableFaultKind.{TableFaultKind}
+use Rattle.mrp_grammar.specs.declared.fault.TableFaultKind.TheVariants as kind
 use Rattle.mrp_planner.specs.declared.fault.PairName.{PairName}
 use Rattle.mrp_planner.specs.declared.fault.TextFault.{TextFault}
 use Rattle.mrp_planner.specs.declared.fault.TextFault.TheVariants.{Table, Loop, SupplyTooLarge, NeedTooLarge, NoPair}

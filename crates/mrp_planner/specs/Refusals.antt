@@ -2,9 +2,9 @@
 use Rattle.std.specs.Prelude.{◌≡◌, ℕ, ◌<◌, ◌≤◌, ◌⊎◌, List, [], ◌∷◌, Option, Some, None, option_map, slice_get, length}
 use Rattle.std.specs.Prelude.{Contains, Err, string_bytes}
 use Rattle.csv.specs.Reading.{strip_bom}
-use Rattle.mrp_table_rows.specs.Table.{Table, horizon}
-use Rattle.mrp_tables.specs.Reading.{TellsRows}
-use Rattle.mrp_tables.specs.Written.{OfRecords}
+use Rattle.mrp_planning_data.specs.Table.{Table, horizon}
+use Rattle.mrp_grammar.specs.Reading.{TellsRows}
+use Rattle.mrp_grammar.specs.Written.{OfRecords}
 use Rattle.mrp_net.specs.Names.{IsNamed}
 use Rattle.mrp_loops.specs.Loop.{IsLoopFree}
 use Rattle.mrp_loops.specs.Codes.{AreCodes}

@@ -2,8 +2,8 @@
 use Rattle.std.specs.Prelude.{◌≡◌, ℕ, ◌<◌, ◌⊎◌, List, ◌++◌, Option, Some, None, option_map, slice_get, Result, Err}
 use Rattle.std.specs.Borrow.{Bor}
 use Rattle.std.specs.Io.KnownBytes.{Appends}
-use Rattle.mrp_table_rows.specs.declared.numbers.PlantNo.{PlantNo}
-use Rattle.mrp_table_rows.specs.Table.{Table, horizon}
+use Rattle.mrp_planning_data.specs.declared.numbers.PlantNo.{PlantNo}
+use Rattle.mrp_planning_data.specs.Table.{Table, horizon}
 use Rattle.mrp_net.specs.Names.{IsNamed}
 use Rattle.mrp_net.specs.Plan.{plan_of}
 use Rattle.mrp_loops.specs.Codes.{AreCodes}

@@ -1,8 +1,8 @@
 -- The faults of a text that a run by threads may answer, and the one that a fault of a run is, where there is memory
 -- for the name of a plant.
 use Rattle.std.specs.Prelude.{◌≡◌, ◌<◌, ◌≤◌, length, Some, slice_get, string_bytes}
-use Rattle.mrp_table_rows.specs.Table.{Table}
-use Rattle.mrp_table_rows.specs.declared.numbers.PlantNo.{PlantNo}
+use Rattle.mrp_planning_data.specs.Table.{Table}
+use Rattle.mrp_planning_data.specs.declared.numbers.PlantNo.{PlantNo}
 use Rattle.mrp_run.specs.declared.fault.RunFault.{RunFault}
 use Rattle.mrp_run.specs.declared.fault.RunFault.TheVariants as run
 use Rattle.mrp_planner.specs.Refusals.{IsPlantName}

@@ -2,9 +2,9 @@
 use Rattle.std.specs.Prelude.{◌≡◌, ℕ, ◌⊎◌, List, ◌++◌, Option, option_map, length, Result, Ok, Err}
 use Rattle.std.specs.Io.KnownBytes.{Appends, Keeps}
 use Rattle.csv.specs.Reading.{strip_bom}
-use Rattle.mrp_table_rows.specs.Table.{Table, IsTable}
-use Rattle.mrp_tables.specs.Written.{OfRecords}
-use Rattle.mrp_tables.specs.Written.{AreNumbered, rows_of}
+use Rattle.mrp_planning_data.specs.Table.{Table, IsTable}
+use Rattle.mrp_grammar.specs.Written.{OfRecords}
+use Rattle.mrp_grammar.specs.Written.{AreNumbered, rows_of}
 use Rattle.mrp_net.specs.Plan.{plan_of}
 use Rattle.mrp_loops.specs.Sized.{IsSized}
 use Rattle.mrp_csv_out.specs.Sending.{AppendsPrefix, AppendsSome}

@@ -5,7 +5,7 @@ ghost use Rattle.mrp_planner.specs.Fault.{status_of, table_status_of, IsOfReport
 ghost use Rattle.mrp_planner.specs.declared.fault.TextFault.TheVariants.{Memory};
 
 use mrp_report::ReportFault;
-use mrp_tables::{TableFault, TableFaultKind};
+use mrp_grammar::{TableFault, TableFaultKind};
 use std::alloc::{AllocError, AllocFailed};
 use thiserror::Error;
 

@@ -10,7 +10,7 @@ use crate::fault::{PairName, TextFault};
 use itoa::Buffer;
 use mrp_cal::CalFault;
 use mrp_report::{ReportFault, send};
-use mrp_tables::{TableFault, TableFaultKind};
+use mrp_grammar::{TableFault, TableFaultKind};
 use std::io::Write;
 
 /// Writes the line that reports the fault, as far as the writer takes it. It takes no memory, which is
@@ -20,7 +20,7 @@ use std::io::Write;
 ///
 /// [`ReportFault::WriteFault`] where a write fails or takes nothing; a prefix of the line is written.
 pub fn write_fault<W: Write>(fault: &TextFault, writer: &mut W) -> Result<(), ReportFault>
-    ensures front { AppendsSome (W.contents writer.old) (W.contents writer.new) (fault_line fault.now) }
+    ensures prefix { AppendsSome (W.contents writer.old) (W.contents writer.new) (fault_line fault.now) }
     ensures line { SendsText (W.contents writer.old) (W.contents writer.new) result (fault_line fault.now) }
     ensures fault { IfErr result (λ met. met ≡ ReportFault.WriteFault) }
 {

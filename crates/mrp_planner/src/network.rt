@@ -2,7 +2,7 @@
 
 ghost use Rattle.std.specs.Prelude.{◌≡◌, map, IfOk, IfErr, All};
 ghost use Rattle.mrp_loops.specs.Sized.{IsSized};
-ghost use Rattle.mrp_table_rows.specs.Table.{IsPair};
+ghost use Rattle.mrp_planning_data.specs.Table.{IsPair};
 ghost use Rattle.mrp_loops.specs.Loop.{IsLoopFree};
 ghost use Rattle.mrp_loops.specs.Codes.{AreCodes};
 ghost use Rattle.mrp_planner.specs.Text.{IsTableOf};

@@ -2,9 +2,9 @@
 use Rattle.std.proofs.Common.{◌≡◌, ℕ, ◌*◌, ◌<◌, ◌==◌, Bool, cond, List, get_or, refl, sym, ap, ◌∙◌, subst, arith, All, slice_index}
 use Rattle.std.specs.List.{sum_by}
 use Rattle.std.proofs.lemmas.Bool.{eqb-true}
-use Rattle.mrp_lot.specs.One.{PlanRows, one}
-use Rattle.mrp_lot.proofs.RangeLaws.{map-range-same}
-use Rattle.mrp_table_rows.specs.Table.{Table, IsTable, horizon}
+use Rattle.mrp_netting.specs.One.{PlanRows, one}
+use Rattle.mrp_qty.proofs.RangeLaws.{map-range-same}
+use Rattle.mrp_planning_data.specs.Table.{Table, IsTable, horizon}
 use Rattle.mrp_net.specs.declared.lane.LaneKind.{LaneKind}
 use Rattle.mrp_net.specs.declared.lane.LaneKind.TheVariants.{Despatch, Schedule}
 use Rattle.mrp_net.specs.LaneLaws.{is_despatch, is_schedule}

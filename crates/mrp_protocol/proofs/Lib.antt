@@ -16,14 +16,5 @@ pub mod Seeing
 pub mod Drafting
 pub mod LocalPlanned
 pub mod LocalSending
-pub mod Prefixes
-pub mod Owners
-pub mod Decided
 pub mod Moving
 pub mod Planning
-pub mod Merging
-pub mod Causal
-pub mod HistoryGoing
-pub mod Stamped
-pub mod Explained
-pub mod Passing

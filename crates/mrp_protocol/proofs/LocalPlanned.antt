@@ -1,9 +1,9 @@
 -- Local plans are the plan of the network, and a plant sees which of its pairs can be planned.
 use Rattle.std.proofs.Common.{◌≡◌, ℕ, suc, zero, ◌<◌, Bool, true, List, get_or, sym, ap, ◌∙◌, subst, arith, slice_index}
-use Rattle.mrp_lot.specs.One.{PlanRows}
-use Rattle.mrp_lot.specs.Bound.{IsWithin}
-use Rattle.mrp_lot.proofs.OneLaws.{one-gross, one-incoming}
-use Rattle.mrp_table_rows.specs.Table.{Table, IsTable}
+use Rattle.mrp_netting.specs.One.{PlanRows}
+use Rattle.mrp_netting.specs.Bound.{IsWithin}
+use Rattle.mrp_netting.proofs.OneLaws.{one-gross, one-incoming}
+use Rattle.mrp_planning_data.specs.Table.{Table, IsTable}
 use Rattle.mrp_net.specs.Plan.{plan_of}
 use Rattle.mrp_net.specs.Sums.{pair_at, params_at}
 use Rattle.mrp_net.proofs.Members.{All-in}

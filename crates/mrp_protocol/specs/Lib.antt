@@ -11,6 +11,3 @@ pub mod Steps
 pub mod LocalPlans
 pub mod Goods
 pub mod LocalLaws
-pub mod History
-pub mod Stamps
-pub mod HistoryLaws

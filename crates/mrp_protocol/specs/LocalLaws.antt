@@ -1,8 +1,8 @@
 -- Laws of local plans: they are the plan of the network, and what is sent by them is what its lanes carry.
 use Rattle.std.specs.Prelude.{◌≡◌, ◌↔◌, ℕ, ◌<◌, Bool, true, List, length, slice_get, Some, All, Contains}
-use Rattle.mrp_lot.specs.One.{PlanRows}
-use Rattle.mrp_lot.specs.Bound.{IsWithin}
-use Rattle.mrp_table_rows.specs.Table.{Table, IsTable, IsPair, horizon}
+use Rattle.mrp_netting.specs.One.{PlanRows}
+use Rattle.mrp_netting.specs.Bound.{IsWithin}
+use Rattle.mrp_planning_data.specs.Table.{Table, IsTable, IsPair, horizon}
 use Rattle.mrp_net.specs.Lanes.{lane_at}
 use Rattle.mrp_net.specs.Plan.{plan_of, gross}
 use Rattle.mrp_net.specs.Sums.{pair_at, params_at, incoming}

@@ -3,15 +3,13 @@
 //!
 //! What a lane carries is small and of known length ([`load_laws`]). A pair that is ready has all that its plan
 //! needs ([`ready_laws`]), and a plant's view says what its lanes carry ([`view_laws`]). So what one plant plans and
-//! sends from its view and the records that came is the network's ([`local_laws`]). Histories of plants in logical
-//! time that agree over each lane merge to a run ([`history_laws`]).
+//! sends from its view and the records that came is the network's ([`local_laws`]).
 //!
 //! Used by agents, by both drivers of a firm, by mailboxes, and by the laws of schedules.
 //! Keeps true: FIFO, conservation, no deadlock and termination hold of every run, whatever the order of its events.
 #![tactic(auto)]
 
 mod event;
-pub mod history_laws;
 pub mod lane_laws;
 pub mod load_laws;
 pub mod local_laws;

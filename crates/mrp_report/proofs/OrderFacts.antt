@@ -4,12 +4,12 @@ use Rattle.std.specs.List.{filter, flat_map, range_with_len}
 use Rattle.std.proofs.lemmas.Bool.{cases_Bool}
 use Rattle.std.proofs.lemmas.List.FromFn.{length-map-range_with_len}
 use Rattle.mrp_grouping.proofs.Sorting.{filter-no, filter-yes}
-use Rattle.mrp_lot.specs.One.{PlanRows}
+use Rattle.mrp_netting.specs.One.{PlanRows}
 use Rattle.mrp_plan.specs.Orders.{has_order, is_released_by, planned_order}
 use Rattle.mrp_plan.specs.declared.orders.PlannedOrder.{PlannedOrder}
 use Rattle.mrp_report.specs.declared.orders.OrderLine.{OrderLine}
-use Rattle.mrp_lot.proofs.OneLaws.{length-one-order}
-use Rattle.mrp_table_rows.specs.Table.{horizon, IsPair, Table}
+use Rattle.mrp_netting.proofs.OneLaws.{length-one-order}
+use Rattle.mrp_planning_data.specs.Table.{horizon, IsPair, Table}
 use Rattle.mrp_net.specs.Plan.{gross, rows_at}
 use Rattle.mrp_net.specs.PlanLaws.{Fits}
 use Rattle.mrp_net.specs.Sums.{incoming, params_at, row_of}

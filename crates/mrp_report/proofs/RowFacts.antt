@@ -1,10 +1,10 @@
 -- The rows of a pair's plan have all periods.
 use Rattle.std.proofs.Common.{◌≡◌, ℕ, List, length, subst, sym, ap, arith}
 use Rattle.std.proofs.lemmas.List.FromFn.{length-map-range_with_len}
-use Rattle.mrp_lot.specs.One.{PlanRows, one}
-use Rattle.mrp_lot.proofs.OneLaws.{one-gross, one-incoming, length-one-order, length-one-release, length-one-available}
-use Rattle.mrp_lot.specs.declared.params.PairParams.{PairParams}
-use Rattle.mrp_table_rows.specs.Table.{Table, IsPair, horizon}
+use Rattle.mrp_netting.specs.One.{PlanRows, one}
+use Rattle.mrp_netting.proofs.OneLaws.{one-gross, one-incoming, length-one-order, length-one-release, length-one-available}
+use Rattle.mrp_netting.specs.declared.params.PairParams.{PairParams}
+use Rattle.mrp_planning_data.specs.Table.{Table, IsPair, horizon}
 use Rattle.mrp_net.specs.Sums.{params_at, row_of, incoming}
 use Rattle.mrp_net.specs.Plan.{gross, rows_at}
 use Rattle.mrp_net.specs.PlanLaws.{Fits}

@@ -2,7 +2,7 @@
 
 ghost use Rattle.std.specs.Prelude.{◌≡◌, ◌≤◌, ◌<◌, ◌++◌, drop, length, All, Err, OnOk};
 ghost use Rattle.std.specs.Prelude.{IfErr, OnErr};
-ghost use Rattle.mrp_table_rows.specs.Table.{IsPair, IsTable, horizon};
+ghost use Rattle.mrp_planning_data.specs.Table.{IsPair, IsTable, horizon};
 ghost use Rattle.mrp_net.specs.PlanLaws.{Fits};
 ghost use Rattle.mrp_plan.specs.Peg.{IsPeggable};
 ghost use Rattle.mrp_csv_out.specs.Headings.{header_row};
@@ -109,7 +109,7 @@ fn put_pegs<W: Write>(
     requires fits { Fits network.now plan.now }
     ensures rows { OnOk result (Gathers (W.contents out.old) (W.contents out.new) room.old room.new
         (pegs_text network.now plan.now)) }
-    ensures front { OnErr result (AppendsPrefix (W.contents out.old) (W.contents out.new)
+    ensures prefix { OnErr result (AppendsPrefix (W.contents out.old) (W.contents out.new)
         (room.old ++ pegs_text network.now plan.now)) }
     ensures fault { IfErr result (λ fault. fault ≡ ReportFault.WriteFault) }
 {
@@ -137,7 +137,7 @@ fn put_pair_pegs<W: Write>(
     requires { IsPegLine line.now }
     ensures rows { OnOk result (Gathers (W.contents out.old) (W.contents out.new) room.old room.new
         (pair_pegs_text line.now.network.now line.now.plan.now line.now.x.0)) }
-    ensures front { OnErr result (AppendsPrefix (W.contents out.old) (W.contents out.new)
+    ensures prefix { OnErr result (AppendsPrefix (W.contents out.old) (W.contents out.new)
         (room.old ++ pair_pegs_text line.now.network.now line.now.plan.now line.now.x.0)) }
     ensures fault { IfErr result (λ fault. fault ≡ ReportFault.WriteFault) }
 {
@@ -159,7 +159,7 @@ fn put_period_pegs<W: Write>(
     requires period { t < horizon line.now.network.now }
     ensures rows { OnOk result (Gathers (W.contents out.old) (W.contents out.new) room.old room.new
         (period_pegs_text line.now.network.now line.now.plan.now line.now.x.0 t)) }
-    ensures front { OnErr result (AppendsPrefix (W.contents out.old) (W.contents out.new)
+    ensures prefix { OnErr result (AppendsPrefix (W.contents out.old) (W.contents out.new)
         (room.old ++ period_pegs_text line.now.network.now line.now.plan.now line.now.x.0 t)) }
     ensures fault { IfErr result (λ fault. fault ≡ ReportFault.WriteFault) }
 {
@@ -181,7 +181,7 @@ fn put_edge_pegs<W: Write>(
     requires edges { All (IsPeggable line.now.network.now line.now.plan.now t) edges.now }
     ensures rows { OnOk result (Gathers (W.contents out.old) (W.contents out.new) room.old room.new
         (edges_text line.now.network.now line.now.plan.now line.now.x.0 t edges.now)) }
-    ensures front { OnErr result (AppendsPrefix (W.contents out.old) (W.contents out.new)
+    ensures prefix { OnErr result (AppendsPrefix (W.contents out.old) (W.contents out.new)
         (room.old ++ edges_text line.now.network.now line.now.plan.now line.now.x.0 t edges.now)) }
     ensures fault { IfErr result (λ fault. fault ≡ ReportFault.WriteFault) }
 {
@@ -204,7 +204,7 @@ fn put_peg<W: Write>(
     requires pair { IsPair line.now.network.now term.pair.0 }
     ensures rows { OnOk result (Gathers (W.contents out.old) (W.contents out.new) room.old room.new
         (term_text line.now.network.now line.now.x.0 t term)) }
-    ensures front { OnErr result (AppendsPrefix (W.contents out.old) (W.contents out.new)
+    ensures prefix { OnErr result (AppendsPrefix (W.contents out.old) (W.contents out.new)
         (room.old ++ term_text line.now.network.now line.now.x.0 t term)) }
     ensures fault { IfErr result (λ fault. fault ≡ ReportFault.WriteFault) }
 {

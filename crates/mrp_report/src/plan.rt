@@ -3,7 +3,7 @@
 ghost use Rattle.std.specs.Prelude.{◌≡◌, ◌+◌, ◌-◌, ◌*◌, ◌++◌, ◌∷◌, [], ◌≤◌, drop, take, length, decimal, Err};
 ghost use Rattle.std.specs.Prelude.{OnOk, IfErr, OnErr};
 ghost use Rattle.csv.specs.Writing.{comma};
-ghost use Rattle.mrp_table_rows.specs.Table.{IsTable};
+ghost use Rattle.mrp_planning_data.specs.Table.{IsTable};
 ghost use Rattle.mrp_net.specs.PlanLaws.{Fits};
 ghost use Rattle.mrp_csv_out.specs.Rows.{row};
 ghost use Rattle.std.specs.Io.KnownBytes.{Appends};
@@ -130,7 +130,7 @@ fn send_piece<W: Write>(
     requires room { PAIRS_AT_ONCE * (length report.now.dates.now * LONGEST_ROW) ≤ length room.old }
     ensures whole { OnOk result (Appends (W.contents out.old) (W.contents out.new)
         (pairs_text report.now.network.now report.now.plan.now first (end - first))) }
-    ensures front { OnErr result (AppendsPrefix (W.contents out.old) (W.contents out.new)
+    ensures prefix { OnErr result (AppendsPrefix (W.contents out.old) (W.contents out.new)
         (pairs_text report.now.network.now report.now.plan.now first (end - first))) }
     ensures fault { IfErr result (λ fault. fault ≡ ReportFault.WriteFault) }
     ensures room { length room.new ≡ length room.old }

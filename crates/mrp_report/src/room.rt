@@ -62,7 +62,7 @@ impl Room {
         requires { length first.now + length second.now + 2 ≤ LONGEST_ROW }
         ensures row { OnOk result (Gathers (W.contents out.old) (W.contents out.new) self.old self.new
             (row (first.now ∷ second.now ∷ []))) }
-        ensures front { OnErr result (AppendsPrefix (W.contents out.old) (W.contents out.new)
+        ensures prefix { OnErr result (AppendsPrefix (W.contents out.old) (W.contents out.new)
             (self.old ++ row (first.now ∷ second.now ∷ []))) }
         ensures fault { IfErr result (λ fault. fault ≡ ReportFault.WriteFault) }
     {
@@ -74,7 +74,7 @@ impl Room {
     /// Sends what waits.
     pub(crate) fn send<W: Write>(&self, out: &mut W) -> Result<(), ReportFault>
         ensures whole { OnOk result (Appends (W.contents out.old) (W.contents out.new) self.now) }
-        ensures front { OnErr result (AppendsPrefix (W.contents out.old) (W.contents out.new) self.now) }
+        ensures prefix { OnErr result (AppendsPrefix (W.contents out.old) (W.contents out.new) self.now) }
         ensures fault { IfErr result (λ fault. fault ≡ ReportFault.WriteFault) }
     {
         send(&self.bytes[..self.used], out)
@@ -89,7 +89,7 @@ fn make_room<W: Write>(bytes: &[u8], used: usize, out: &mut W) -> Result<usize, 
     ensures room { IfOk result (λ free. free + LONGEST_ROW ≤ length bytes.now) }
     ensures kept { IfOk result (λ free. Gathers (W.contents out.old) (W.contents out.new) (take used bytes.now)
         (take free bytes.now) []) }
-    ensures front { OnErr result (AppendsPrefix (W.contents out.old) (W.contents out.new) (take used bytes.now)) }
+    ensures prefix { OnErr result (AppendsPrefix (W.contents out.old) (W.contents out.new) (take used bytes.now)) }
     ensures fault { IfErr result (λ fault. fault ≡ ReportFault.WriteFault) }
 {
     if bytes.len() - used >= LONGEST_ROW {

@@ -126,7 +126,7 @@ impl Piece {
     /// Sends the rows.
     fn send<W: Write>(&self, out: &mut W) -> Result<(), ReportFault>
         ensures whole { OnOk result (Appends (W.contents out.old) (W.contents out.new) self.now) }
-        ensures front { OnErr result (AppendsPrefix (W.contents out.old) (W.contents out.new) self.now) }
+        ensures prefix { OnErr result (AppendsPrefix (W.contents out.old) (W.contents out.new) self.now) }
         ensures fault { IfErr result (λ fault. fault ≡ ReportFault.WriteFault) }
     {
         send(&self.room[..self.used], out)
@@ -185,7 +185,7 @@ fn write_round<R: Threads + Sync>(
 /// Sends the pieces of a round in order.
 fn send_round<W: Write>(pieces: &[Piece], out: &mut W) -> Result<(), ReportFault>
     ensures whole { OnOk result (Appends (W.contents out.old) (W.contents out.new) (concat pieces.now)) }
-    ensures front { OnErr result (AppendsPrefix (W.contents out.old) (W.contents out.new) (concat pieces.now)) }
+    ensures prefix { OnErr result (AppendsPrefix (W.contents out.old) (W.contents out.new) (concat pieces.now)) }
     ensures fault { IfErr result (λ fault. fault ≡ ReportFault.WriteFault) }
 {
     'pieces: for piece in pieces {

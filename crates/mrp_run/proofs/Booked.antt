@@ -2,7 +2,7 @@
 use Rattle.std.proofs.Common.{◌≡◌, ℕ, ◌<◌, Bool, List, [], ◌∷◌, ◌++◌, length, get_or, set, refl, sym, ap, ◌∙◌, subst}
 use Rattle.std.proofs.lemmas.List.{map-set}
 use Rattle.std.proofs.Math.Seq.{map-set_same}
-use Rattle.mrp_table_rows.specs.Table.{Table}
+use Rattle.mrp_planning_data.specs.Table.{Table}
 use Rattle.mrp_net.specs.Lanes.{lane_at}
 use Rattle.mrp_plant_view.specs.Seen.{IsView}
 use Rattle.mrp_plant_view.specs.declared.view.IncomingLane.{IncomingLane}
@@ -13,8 +13,8 @@ use Rattle.mrp_record.specs.Text.{IsBeginning}
 use Rattle.mrp_protocol.specs.Loads.{loads}
 use Rattle.mrp_protocol.specs.State.{after_take, changed}
 use Rattle.mrp_protocol.proofs.Keeping.{changed_by}
-use Rattle.mrp_protocol.specs.Stamps.{IsExplained, Passage}
-use Rattle.mrp_protocol.proofs.Passing.{taken_is_explained}
+use Rattle.mrp_history.specs.Stamps.{IsExplained, Passage}
+use Rattle.mrp_history.proofs.Passing.{taken_is_explained}
 use Rattle.mrp_lane.specs.Ends.{End, Name, HasLegalList, IsStampedOnce}
 use Rattle.mrp_agent.specs.Shows.{ShowsHistory, BooksShow, form_of}
 use Rattle.mrp_agent.specs.State.{AgentState, incoming_at}

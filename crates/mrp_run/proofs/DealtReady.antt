@@ -3,7 +3,7 @@ use Rattle.std.proofs.Common.{◌≡◌, ℕ, zero, suc, Bool, List, [], ◌∷�
 use Rattle.std.specs.List.{filter, range_with_len}
 use Rattle.std.proofs.lemmas.List.{map-append}
 use Rattle.std.proofs.lemmas.List.Elements.{All-filter, All-map, All-nil, All-push, All-same, All-weaker}
-use Rattle.mrp_table_rows.specs.Table.{Table}
+use Rattle.mrp_planning_data.specs.Table.{Table}
 use Rattle.mrp_grouping.proofs.Grouping.{range-suc}
 use Rattle.mrp_net.specs.Lanes.{lanes, lane_at}
 use Rattle.mrp_net.proofs.Routing.{map-map}
@@ -13,7 +13,7 @@ use Rattle.mrp_loops.specs.Sized.{IsSized}
 use Rattle.mrp_record.proofs.Beginnings.{empty_is_a_beginning}
 use Rattle.mrp_protocol.specs.Loads.{loads}
 use Rattle.mrp_protocol.specs.State.{opening_state}
-use Rattle.mrp_protocol.proofs.Passing.{IsUnused, opening_is_explained}
+use Rattle.mrp_history.proofs.Passing.{IsUnused, opening_is_explained}
 use Rattle.mrp_lane.specs.Ends.{End, Name}
 use Rattle.mrp_agent.proofs.Viewing.{views_can_be_planned}
 use Rattle.mrp_run.specs.declared.plant.Plant.{Plant}

@@ -5,8 +5,8 @@ use Rattle.std.proofs.lemmas.Bool.{eqb-true, false≢true}
 use Rattle.std.proofs.lemmas.List.{get_or-map, length-map}
 use Rattle.std.proofs.lemmas.List.Elements.{Contains-get_or}
 use Rattle.std.proofs.lemmas.Option.{slice_get-get_or}
-use Rattle.mrp_table_rows.specs.declared.numbers.ItemNo.{ItemNo}
-use Rattle.mrp_table_rows.specs.Table.{Table, IsTable}
+use Rattle.mrp_planning_data.specs.declared.numbers.ItemNo.{ItemNo}
+use Rattle.mrp_planning_data.specs.Table.{Table, IsTable}
 use Rattle.mrp_net.specs.declared.lane.Lane.{Lane}
 use Rattle.mrp_net.specs.declared.lane.LaneKind.TheVariants.{Schedule}
 use Rattle.mrp_net.specs.Lanes.{lane_at, lane_items, pair_on}
@@ -22,7 +22,7 @@ use Rattle.mrp_record.specs.Entries.{Entry, LineOf, EndOf, ResetOf, Closing, con
 use Rattle.mrp_record.specs.Text.{Load}
 use Rattle.mrp_protocol.specs.Loads.{load_of, loads}
 use Rattle.mrp_protocol.specs.State.{State, IsDecided}
-use Rattle.mrp_protocol.specs.History.{PlannedAreReady}
+use Rattle.mrp_history.specs.History.{PlannedAreReady}
 use Rattle.mrp_record.specs.Cursor as cursor
 use Rattle.mrp_record.specs.Cursor.{Goods, OutFigures}
 use Rattle.mrp_record.specs.CursorLaws.{IsQueued, MaySend}

@@ -6,13 +6,13 @@ use Rattle.std.proofs.lemmas.List.{get_or-map, get_or-set_same, get_or-set_other
 use Rattle.std.proofs.lemmas.List.Elements.{All-set}
 use Rattle.std.proofs.lemmas.List.Kept.{AllPairs-filter}
 use Rattle.std.proofs.Math.Seq.{map-set_same}
-use Rattle.mrp_table_rows.specs.Table.{Table}
+use Rattle.mrp_planning_data.specs.Table.{Table}
 use Rattle.mrp_net.specs.Lanes.{lanes}
 use Rattle.mrp_plant_view.specs.View.{lane_numbers}
 use Rattle.mrp_record.specs.declared.record.Record.{Record}
 use Rattle.mrp_protocol.specs.State.{changed}
-use Rattle.mrp_protocol.specs.Stamps.{Passage}
-use Rattle.mrp_protocol.proofs.Passing.{IsLonger}
+use Rattle.mrp_history.specs.Stamps.{Passage}
+use Rattle.mrp_history.proofs.Passing.{IsLonger}
 use Rattle.mrp_lane.specs.Ends.{End, Name}
 use Rattle.mrp_plant_view.proofs.OwnEdges.{range_rises}
 use Rattle.mrp_agent.proofs.Sent.{changed_there, changed_elsewhere}

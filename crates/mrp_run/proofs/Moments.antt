@@ -2,7 +2,7 @@
 use Rattle.std.proofs.Common.{◌≡◌, ℕ, ◌<◌, ◌≤◌, true, List, inl, inr, length, get_or, refl, sym, ap, subst, ◌∙◌, arith, length-append, Contains}
 use Rattle.std.proofs.lemmas.Bool.{cases_lt, eqb-true}
 use Rattle.std.proofs.lemmas.List.Elements.{All-contains}
-use Rattle.mrp_table_rows.specs.Table.{Table}
+use Rattle.mrp_planning_data.specs.Table.{Table}
 use Rattle.mrp_net.specs.Lanes.{lanes, lane_at}
 use Rattle.mrp_net.specs.Sums.{pair_at}
 use Rattle.mrp_net.proofs.Members.{Contains-from_in, In-from_contains, In-map, filter_only, range_only}
@@ -11,10 +11,10 @@ use Rattle.mrp_loops.specs.Sized.{IsSized}
 use Rattle.mrp_record.specs.declared.record.Record.{Record}
 use Rattle.mrp_record.specs.Entries.{contents, is_closed}
 use Rattle.mrp_protocol.specs.State.{State, opening_state, IsFinished, IsReached}
-use Rattle.mrp_protocol.specs.History.{HasRoom, HaveFinished, IsMerged, sent_by, taken_in}
-use Rattle.mrp_protocol.specs.Stamps.{AreExplained, IsExplained, IsJoined}
-use Rattle.mrp_protocol.proofs.Explained.{explained_states_merge, finished_states_merge}
-use Rattle.mrp_protocol.proofs.Owners.{sender_is_there, receiver_is_there, owner_is_there}
+use Rattle.mrp_history.specs.History.{HasRoom, HaveFinished, IsMerged, sent_by, taken_in}
+use Rattle.mrp_history.specs.Stamps.{AreExplained, IsExplained, IsJoined}
+use Rattle.mrp_history.proofs.Explained.{explained_states_merge, finished_states_merge}
+use Rattle.mrp_history.proofs.Owners.{sender_is_there, receiver_is_there, owner_is_there}
 use Rattle.mrp_protocol.specs.LocalLaws.{IsPairAt}
 use Rattle.mrp_protocol.proofs.Seeing.{sees_pair}
 use Rattle.mrp_lane.specs.Ends.{End}

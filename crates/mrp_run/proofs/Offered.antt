@@ -2,7 +2,7 @@
 use Rattle.std.proofs.Common.{◌≡◌, ℕ, ◌<◌, List, [], ◌∷◌, ◌++◌, length, get_or, set, refl, sym, ap, ◌∙◌, subst}
 use Rattle.std.proofs.lemmas.List.{map-set}
 use Rattle.std.proofs.Math.Seq.{map-set_same}
-use Rattle.mrp_table_rows.specs.Table.{Table}
+use Rattle.mrp_planning_data.specs.Table.{Table}
 use Rattle.mrp_net.specs.Lanes.{lane_at}
 use Rattle.mrp_plant_view.specs.Seen.{IsView}
 use Rattle.mrp_plant_view.specs.declared.view.OutgoingLane.{OutgoingLane}
@@ -12,8 +12,8 @@ use Rattle.mrp_record.specs.Entries.{content}
 use Rattle.mrp_record.specs.Text.{IsBeginning}
 use Rattle.mrp_protocol.specs.Loads.{loads}
 use Rattle.mrp_protocol.specs.State.{IsDecided, after_send, changed}
-use Rattle.mrp_protocol.specs.Stamps.{IsExplained, Passage}
-use Rattle.mrp_protocol.proofs.Passing.{sent_is_explained}
+use Rattle.mrp_history.specs.Stamps.{IsExplained, Passage}
+use Rattle.mrp_history.proofs.Passing.{sent_is_explained}
 use Rattle.mrp_lane.specs.Ends.{End, Name, IsNextRecord}
 use Rattle.mrp_agent.specs.Sending.{ContinuesSent, IsWithin64}
 use Rattle.mrp_agent.specs.Sent.{GivenIsLegal, IsAppended}

@@ -5,15 +5,15 @@ use Rattle.std.specs.Option.{option_to_list}
 use Rattle.std.proofs.lemmas.Bool.{cases_eq}
 use Rattle.std.proofs.lemmas.List.{get_or-set_same, get_or-set_other, get_or_read, length-set}
 use Rattle.std.proofs.lemmas.List.Elements.{All-contains, Contains-append_left, Contains-push}
-use Rattle.mrp_table_rows.specs.Table.{Table}
+use Rattle.mrp_planning_data.specs.Table.{Table}
 use Rattle.mrp_net.specs.declared.lane.Lane.{Lane}
 use Rattle.mrp_net.specs.Lanes.{lanes, lane_at}
 use Rattle.mrp_loops.specs.Sized.{IsSized}
 use Rattle.mrp_protocol.specs.State.{State, opening_state}
 use Rattle.mrp_protocol.proofs.Keeping.{opening_is_reached}
-use Rattle.mrp_protocol.specs.Stamps.{IsJoined}
-use Rattle.mrp_protocol.proofs.Owners.{sender_is_there, receiver_is_there, owner_is_there}
-use Rattle.mrp_protocol.proofs.Prefixes.{prefix_refl, prefix_trans}
+use Rattle.mrp_history.specs.Stamps.{IsJoined}
+use Rattle.mrp_history.proofs.Owners.{sender_is_there, receiver_is_there, owner_is_there}
+use Rattle.mrp_history.proofs.Prefixes.{prefix_refl, prefix_trans}
 use Rattle.mrp_lane.specs.Ends.{End, Name, HasLegalList}
 use Rattle.mrp_lane.specs.Reconciled.{Carried}
 use Rattle.mrp_lane.specs.Views.{IsLegal}

@@ -2,14 +2,14 @@
 -- and the receiver's end of each that comes to it, in lane order.
 use Rattle.std.specs.Prelude.{◌≡◌, ℕ, zero, suc, ◌<◌, Bool, List, [], ◌∷◌, ◌++◌, min, length, filter, slice_index_or}
 use Rattle.std.specs.Prelude.{All, Contains}
-use Rattle.mrp_table_rows.specs.Table.{Table}
+use Rattle.mrp_planning_data.specs.Table.{Table}
 use Rattle.mrp_net.specs.Lanes.{lanes, lane_at}
 use Rattle.mrp_net.specs.Texts.{longest_text}
 use Rattle.mrp_plant_view.specs.View.{comes_to, goes_from, plant_rows}
 use Rattle.mrp_loops.specs.Within.{plan_at}
 use Rattle.mrp_protocol.specs.LocalLaws.{IsPairAt}
 use Rattle.mrp_protocol.specs.State.{opening_state}
-use Rattle.mrp_protocol.specs.History.{IsPrefix}
+use Rattle.mrp_history.specs.History.{IsPrefix}
 use Rattle.mrp_lane.specs.Ends.{End, Name}
 use Rattle.mrp_lane.specs.Reconciled.{Carried}
 use Rattle.mrp_lane.specs.Views.{IsLegal}

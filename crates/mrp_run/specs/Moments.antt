@@ -1,10 +1,10 @@
 -- A moment of a run: the states that its plants stand in, and what lies between them.
 use Rattle.std.specs.Prelude.{◌≡◌, ℕ, ◌<◌, ◌≤◌, List, ◌++◌, length, All, Contains}
-use Rattle.mrp_table_rows.specs.Table.{Table}
+use Rattle.mrp_planning_data.specs.Table.{Table}
 use Rattle.mrp_net.specs.Lanes.{lanes, lane_at}
 use Rattle.mrp_loops.specs.Sized.{IsSized}
 use Rattle.mrp_record.specs.declared.record.Record.{Record}
-use Rattle.mrp_agent.specs.Progress.{is_planned}
+use Rattle.mrp_readiness.specs.Progress.{is_planned}
 use Rattle.mrp_protocol.specs.State.{State, IsReached}
 use Rattle.mrp_protocol.specs.LocalLaws.{IsPairAt}
 use Rattle.mrp_lane.specs.Ends.{End}

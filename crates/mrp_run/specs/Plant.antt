@@ -1,13 +1,13 @@
 -- A plant at work in a network: its agent, and the ends of its lanes.
 use Rattle.std.specs.Prelude.{◌≡◌, ℕ, true, List, map, filter, All}
-use Rattle.mrp_table_rows.specs.Table.{Table}
+use Rattle.mrp_planning_data.specs.Table.{Table}
 use Rattle.mrp_plant_view.specs.View.{comes_to, goes_from, lane_numbers}
 use Rattle.mrp_loops.specs.Sized.{IsSized}
 use Rattle.mrp_loops.specs.Within.{plan_at}
 use Rattle.mrp_record.specs.declared.record.Record.{Record}
 use Rattle.mrp_record.specs.Entries.{contents, is_closed}
 use Rattle.mrp_protocol.specs.State.{State}
-use Rattle.mrp_protocol.specs.Stamps.{Passage, IsExplained, clock_of}
+use Rattle.mrp_history.specs.Stamps.{Passage, IsExplained, clock_of}
 use Rattle.mrp_protocol.specs.LocalLaws.{IsPairAt}
 use Rattle.mrp_lane.specs.Ends.{End, Name}
 use Rattle.mrp_agent.specs.InNetwork.{WorksIn}

@@ -7,8 +7,8 @@
 //! order the threads' steps fell, gives an outcome: the one plan of the network, and for each lane what two joined ends
 //! of it showed. The list sent is a whole text of the lane, the list taken is the same, and the lists of all lanes
 //! are those of a run of the events. (That these are the ends that the threads used stands in no clause.)
-//! [`run_network`] and [`plan_network`] make the same run: from the one the records and the figures can be read, from
-//! the other the plans alone.
+//! [`run_network`] and [`plan_network`] make the same run: from the one the numbers of messages and the figures can be
+//! read, from the other the plans alone.
 //!
 //! Used by `mrp_planner` for plans by threads.
 //! Keeps true: a run that ends well has the one plan of its network, in whatever order its threads went.

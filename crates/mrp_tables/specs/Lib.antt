@@ -1,11 +1,4 @@
 pub mod Amounts
-pub mod Faults
-pub mod Grammar
-pub mod Left
-pub mod Missing
-pub mod Reading
-pub mod Tests
-pub mod Written
 pub mod Drafts
 pub mod Keys
 pub mod Lists

@@ -2,10 +2,10 @@
 use Rattle.std.proofs.Common.{◌≡◌, ◌↔◌, ℕ, inl, inr, Bool, true, false, Option, None, Some, unwrap_or, refl, sym, ap, ◌∙◌, subst, Contains}
 use Rattle.std.specs.Prelude.{IfSome, IfNone, IsSome, IsTrue}
 use Rattle.std.proofs.lemmas.Bool.{cases_Bool}
-use Rattle.mrp_lot.specs.One.{PlanRows}
-use Rattle.mrp_table_rows.specs.declared.numbers.ItemNo.{ItemNo}
-use Rattle.mrp_table_rows.specs.declared.numbers.PairNo.{PairNo}
-use Rattle.mrp_table_rows.specs.Table.{Table}
+use Rattle.mrp_netting.specs.One.{PlanRows}
+use Rattle.mrp_planning_data.specs.declared.numbers.ItemNo.{ItemNo}
+use Rattle.mrp_planning_data.specs.declared.numbers.PairNo.{PairNo}
+use Rattle.mrp_planning_data.specs.Table.{Table}
 use Rattle.mrp_net.specs.declared.lane.LaneNo.{LaneNo}
 use Rattle.mrp_net.specs.Lanes.{lane_at, lane_items}
 use Rattle.mrp_net.specs.Plan.{plan_of, rows_at}
@@ -13,7 +13,7 @@ use Rattle.mrp_net.proofs.Members.{Contains-from_in, In-from_contains, In-map}
 use Rattle.mrp_plant_view.specs.View.{PlantRows, incoming_item, incoming_lane, plant_pair}
 use Rattle.mrp_plant_view.specs.declared.view.IncomingLane.{IncomingLane}
 use Rattle.mrp_protocol.specs.LaneOrder.{cum_on}
-use Rattle.mrp_agent.specs.Progress.{is_planned}
+use Rattle.mrp_readiness.specs.Progress.{is_planned}
 use Rattle.mrp_agent.specs.Reading.{received_over}
 use Rattle.mrp_agent.specs.State.{AgentState, pair_place, plans_of}
 use Rattle.mrp_agent.proofs.Network.{planned_pairs_have_the_plan}

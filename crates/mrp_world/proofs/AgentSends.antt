@@ -3,9 +3,9 @@ use Rattle.std.proofs.Common.{◌≡◌, ℕ, ◌<◌, Bool, true, Option, None,
 use Rattle.std.specs.Prelude.{IfSome, IfNone}
 use Rattle.std.proofs.lemmas.Bool.{eqb-true, false≢true}
 use Rattle.std.proofs.lemmas.List.{get_or-map, length-map}
-use Rattle.mrp_lot.specs.One.{PlanRows}
-use Rattle.mrp_table_rows.specs.declared.numbers.ItemNo.{ItemNo}
-use Rattle.mrp_table_rows.specs.Table.{Table, IsTable}
+use Rattle.mrp_netting.specs.One.{PlanRows}
+use Rattle.mrp_planning_data.specs.declared.numbers.ItemNo.{ItemNo}
+use Rattle.mrp_planning_data.specs.Table.{Table, IsTable}
 use Rattle.mrp_net.specs.declared.lane.Lane.{Lane}
 use Rattle.mrp_net.specs.declared.lane.LaneKind.{LaneKind}
 use Rattle.mrp_net.specs.declared.lane.LaneKind.TheVariants.{Despatch, Schedule}

@@ -24,7 +24,7 @@ pub(crate) fn first_place() -> Place {
 }
 
 /// Where an event happened.
-pub(crate) fn place_of(network: &Network, event: Event, before: Place) -> Place {
+pub(crate) fn place_after(network: &Network, event: Event, before: Place) -> Place {
     match event {
         Event::Send(lane) | Event::Receive(lane) => {
             if lane.0 >= network.lanes() {
@@ -96,7 +96,7 @@ fn go_on<P: Plant>(
     };
     // What is found is enabled.
     let _acted = act_on(network, plants, boxes, event);
-    *near = place_of(network, event, *near);
+    *near = place_after(network, event, *near);
     follow(network, plants, boxes, event, near.plant);
     true
 }
@@ -117,7 +117,7 @@ fn follow<P: Plant>(
     match event {
         Event::Send(lane) | Event::Receive(lane) => {
             if lane.0 < network.lanes() {
-                move_all(network, plants.as_mut_slice(), boxes.as_mut_slice(), lane);
+                move_over_lane(network, plants.as_mut_slice(), boxes.as_mut_slice(), lane);
             }
         }
         Event::Plan(_) => plan_ready(network, plants, boxes, plant),
@@ -125,7 +125,7 @@ fn follow<P: Plant>(
 }
 
 /// Lets records move over a lane until its receiver has none to take, and its sender none to send.
-fn move_all<P: Plant>(network: &Network, plants: &mut [P], boxes: &mut [Mailbox], lane: LaneNo)
+fn move_over_lane<P: Plant>(network: &Network, plants: &mut [P], boxes: &mut [Mailbox], lane: LaneNo)
     requires lane { lane.0 < length (lanes network.now) }
     requires shown { AreSomewhere P.shows network.now plants.old boxes.old }
     ensures runs { (events : List Event) × LeadOn P.shows network.now plants.old boxes.old events plants.new boxes.new }

@@ -2,12 +2,12 @@
 
 ghost use Rattle.std.specs.Prelude.{◌≡◌, ◌+◌, ℕ, ◌-◌, ◌≤◌, true, false, slice_get, All, List, IfOk, IfSome, IfNone};
 ghost use Rattle.std.specs.Prelude.{IsSome, IsSomeAnd, MatchBool, IsTrue, ◌↔◌};
-ghost use Rattle.mrp_table_rows.specs.Table.{IsPair};
+ghost use Rattle.mrp_planning_data.specs.Table.{IsPair};
 ghost use Rattle.mrp_qty.specs.declared.limits.TheConstants.{MOST_ROOM};
 
 use crate::acting::act_on;
 use crate::counting::steps;
-use crate::driving::{Place, drive_on, first_place, place_of};
+use crate::driving::{Place, drive_on, first_place, place_after};
 use crate::figures::figures;
 use crate::gathering::plans_by_plant;
 use crate::looking::look;
@@ -153,7 +153,7 @@ impl<'a, P: Plant> World<'a, P> {
             return false;
         }
         self.left -= 1;
-        self.near = place_of(self.network, event, self.near);
+        self.near = place_after(self.network, event, self.near);
         true
     }
 

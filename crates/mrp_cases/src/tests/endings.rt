@@ -1,7 +1,7 @@
 //! How the program ends: the line that is reported, that it was written whole, and the status.
 
 use mrp_planner::{Ending, ReportFault, TextFault, after_help, ended, unread};
-use mrp_tables::{TableFault, TableFaultKind};
+use mrp_grammar::{TableFault, TableFaultKind};
 use std::alloc::Global;
 use std::io;
 use std::io::ErrorKind;

@@ -9,7 +9,7 @@ use mrp_firm_cases::TWO_PLANTS;
 use mrp_planner::{
     TextFault, advice_text, cums_text, drive_text, orders_text, pegs_text, schedule_text,
 };
-use mrp_tables::TableFaultKind;
+use mrp_grammar::TableFaultKind;
 use std::alloc::Global;
 use std::test::Fail;
 

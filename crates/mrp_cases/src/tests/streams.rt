@@ -10,7 +10,7 @@ use super::reports::{
 use mrp_commands::{Choice, Heading};
 use mrp_firm_cases::{BICYCLE, TWO_PLANTS};
 use mrp_planner::{TextFault, answer, check_text, drive_text, status};
-use mrp_tables::TableFaultKind;
+use mrp_grammar::TableFaultKind;
 use std::alloc::{AllocError, Global};
 use std::io;
 use std::io::{ErrorKind, Read, Write};

@@ -2,7 +2,7 @@
 //! refused, a test in one thread passes or ends in an error for want of memory; its assertion never fails.
 
 ghost use Rattle.std.specs.Prelude.{◌≡◌, ◌<◌, ◌≤◌, ◌-◌, ◌*◌, ◌/◌, length, Contains, IfOk};
-ghost use Rattle.mrp_table_rows.specs.Table.{IsTable, horizon};
+ghost use Rattle.mrp_planning_data.specs.Table.{IsTable, horizon};
 ghost use Rattle.mrp_net.specs.Lanes.{lanes, lane_at, lane_items};
 ghost use Rattle.mrp_net.specs.Plan.{plan_of};
 ghost use Rattle.mrp_net.specs.PlanLaws.{Fits};
@@ -20,7 +20,7 @@ use mrp_plan::{Plan, plan_all};
 use mrp_qty::Qty;
 use mrp_record::{NextLine, OutCursor, Remainder};
 use mrp_run::NoGate;
-use mrp_table_rows::SourceRow;
+use mrp_planning_data::SourceRow;
 use std::alloc::{AllocError, Global};
 use std::marker::Brand;
 use std::sync::Wait;

@@ -1,9 +1,9 @@
 use Rattle.std.proofs.Common.{◌∙◌, List, length, map, ap, subst}
 use Rattle.std.specs.List.{range_with_len}
 use Rattle.mrp_plant_view.specs.declared.view.PlantPair.{PlantPair}
-use Rattle.mrp_agent.specs.declared.join.Join.{Join}
-use Rattle.mrp_agent.specs.Counts.{AreCounts, components_of}
-use Rattle.mrp_agent.specs.Progress.{times}
+use Rattle.mrp_readiness.specs.declared.join.Join.{Join}
+use Rattle.mrp_readiness.specs.Counts.{AreCounts, components_of}
+use Rattle.mrp_readiness.specs.Progress.{times}
 use Rattle.mrp_agent.specs.Making.{awaited_places}
 use Rattle.mrp_agent.specs.Shows.{joins_of}
 use Rattle.mrp_agent.proofs.Opening.{component_joins_known, demander_joins_known}

@@ -1,7 +1,7 @@
 //! The agents of a network, each alone: what one sends is handed to the agent of the other plant.
 
 ghost use Rattle.std.specs.Prelude.{◌≡◌, ◌<◌, true, length, IfOk, IfSome, IfNone};
-ghost use Rattle.mrp_table_rows.specs.Table.{IsPair};
+ghost use Rattle.mrp_planning_data.specs.Table.{IsPair};
 ghost use Rattle.mrp_net.specs.Lanes.{lanes};
 ghost use Rattle.mrp_firm_cases.specs.Hands.{AreAlone, IsHanded};
 

@@ -1,4 +1,4 @@
-use Rattle.mrp_lot.proofs.RulesLaws.{fixed-is_least, fixed-lt}
+use Rattle.mrp_lot.proofs.LotLaws.{fixed-is_least, fixed-lt}
 use Rattle.mrp_lot.proofs.laws.fixed_is_least.Goals as goal
 
 pub returns-clause-least : goal.returns-clause-least

@@ -1,4 +1,4 @@
-use Rattle.mrp_lot.proofs.RulesLaws.{min_multiple-is_least, min_multiple-lt}
+use Rattle.mrp_lot.proofs.LotLaws.{min_multiple-is_least, min_multiple-lt}
 use Rattle.mrp_lot.proofs.laws.min_multiple_is_least.Goals as goal
 
 pub returns-clause-least : goal.returns-clause-least

@@ -2,8 +2,8 @@ use Rattle.std.proofs.Common.{◌≡◌, ℕ, ◌-◌, List, Some, length, take,
 use Rattle.std.proofs.lemmas.Bool.{false≢true}
 use Rattle.std.proofs.lemmas.List.{get_or_read, take_all, length-take-le}
 use Rattle.std.proofs.lemmas.Option.{slice_get_within}
-use Rattle.mrp_lot.specs.declared.params.Late.{Late}
-use Rattle.mrp_lot.specs.One.{late_orders}
+use Rattle.mrp_netting.specs.declared.params.Late.{Late}
+use Rattle.mrp_netting.specs.One.{late_orders}
 use Rattle.mrp_netting.specs.Plan.{late_orders_in}
 use Rattle.mrp_netting.proofs.Compared.{late_next, late_found}
 use Rattle.mrp_netting.proofs.Lates.{late_same, late_end}

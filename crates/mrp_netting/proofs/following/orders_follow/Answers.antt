@@ -3,8 +3,8 @@ use Rattle.std.proofs.lemmas.Grind.{common_steps}
 use Rattle.std.proofs.lemmas.Bool.{false≢true}
 use Rattle.std.proofs.lemmas.List.{get_or_read}
 use Rattle.std.proofs.lemmas.List.FromFn.{fill_by_all}
-use Rattle.mrp_lot.specs.One.{order_at, balance_before}
-use Rattle.mrp_lot.proofs.OneLaws.{balance_before-zero}
+use Rattle.mrp_netting.specs.One.{order_at, balance_before}
+use Rattle.mrp_netting.proofs.OneLaws.{balance_before-zero}
 use Rattle.mrp_netting.proofs.Compared.{row_reads}
 use Rattle.mrp_netting.proofs.following.orders_follow.Goals as goal
 use Rattle.mrp_netting.proofs.following.orders_follow.Goals.{then-get-via-then-get, then-get-via-else-get+then-get-2}

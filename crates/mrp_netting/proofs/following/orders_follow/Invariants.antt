@@ -1,5 +1,5 @@
 use Rattle.std.proofs.Common.{◌≡◌, ℕ, ◌<◌, slice_index, suc}
-use Rattle.mrp_lot.specs.One.{order_at, balance_before}
+use Rattle.mrp_netting.specs.One.{order_at, balance_before}
 use Rattle.mrp_netting.proofs.following.orders_follow.Given as goal
 
 -- the balance before the period, and both rows are the plan's as far as the periods before it

@@ -1,5 +1,5 @@
 use Rattle.std.proofs.Common.{◌≡◌, ◌≤◌, max}
-use Rattle.mrp_lot.specs.One.{released}
+use Rattle.mrp_netting.specs.One.{released}
 use Rattle.mrp_netting.proofs.Compared.{IsFirst}
 use Rattle.mrp_netting.proofs.following.released_in.Given as goal
 

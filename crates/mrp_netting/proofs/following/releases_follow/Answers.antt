@@ -2,7 +2,7 @@ use Rattle.std.proofs.Common.{length, refl, arith}
 use Rattle.std.proofs.lemmas.Bool.{false≢true}
 use Rattle.std.proofs.lemmas.List.{get_or_read}
 use Rattle.std.proofs.lemmas.List.FromFn.{fill_by_all}
-use Rattle.mrp_lot.specs.One.{released}
+use Rattle.mrp_netting.specs.One.{released}
 use Rattle.mrp_netting.proofs.Compared.{row_reads}
 use Rattle.mrp_netting.proofs.following.releases_follow.Goals as goal
 

@@ -1,5 +1,5 @@
 use Rattle.std.proofs.Common.{◌≡◌, ℕ, ◌<◌, length, slice_index}
-use Rattle.mrp_lot.specs.One.{released}
+use Rattle.mrp_netting.specs.One.{released}
 use Rattle.mrp_netting.proofs.following.releases_follow.Given as goal
 
 -- the releases before u are the orders'

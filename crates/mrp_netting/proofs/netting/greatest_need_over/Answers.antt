@@ -1,8 +1,8 @@
 use Rattle.std.proofs.Common.{ℕ, ◌+◌, ◌<◌, length, sym, arith}
 use Rattle.std.proofs.lemmas.List.{get_or_read}
 use Rattle.std.proofs.lemmas.List.Sums.{sum_by-take-drop}
-use Rattle.mrp_lot.proofs.RangeLaws.{sum_drop_take-more, sum_drop_take-le}
-use Rattle.mrp_lot.proofs.OneLaws.{greatest_need-zero, greatest_need-more, greatest_need-le}
+use Rattle.mrp_qty.proofs.RangeLaws.{sum_drop_take-more, sum_drop_take-le}
+use Rattle.mrp_netting.proofs.OneLaws.{greatest_need-zero, greatest_need-more, greatest_need-le}
 use Rattle.mrp_netting.proofs.netting.greatest_need_over.Goals as goal
 
 pub loop-n-init : goal.loop-n-init

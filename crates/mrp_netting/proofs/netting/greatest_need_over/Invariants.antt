@@ -1,5 +1,5 @@
 use Rattle.std.proofs.Common.{◌≡◌, ◌+◌, sum, take, drop}
-use Rattle.mrp_lot.specs.One.{greatest_need}
+use Rattle.mrp_netting.specs.One.{greatest_need}
 use Rattle.mrp_netting.proofs.netting.greatest_need_over.Given as goal
 
 -- both sums and the greatest need of the periods so far

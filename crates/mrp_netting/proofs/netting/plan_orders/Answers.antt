@@ -2,8 +2,8 @@ use Rattle.std.proofs.Common.{◌≡◌, ℕ, List, length, slice_index, slice_s
 use Rattle.std.proofs.lemmas.List.{length-set}
 use Rattle.std.proofs.lemmas.List.Edits.{fill_by_more}
 use Rattle.std.proofs.lemmas.List.FromFn.{fill_by_all}
-use Rattle.mrp_lot.specs.One.{order_at, balance_before}
-use Rattle.mrp_lot.proofs.OneLaws.{balance_before-zero}
+use Rattle.mrp_netting.specs.One.{order_at, balance_before}
+use Rattle.mrp_netting.proofs.OneLaws.{balance_before-zero}
 use Rattle.mrp_netting.proofs.netting.plan_orders.Goals as goal
 
 pub loop-t-init : goal.loop-t-init

@@ -1,5 +1,5 @@
 use Rattle.std.proofs.Common.{◌≡◌, ℕ, ◌<◌, length, slice_index, suc}
-use Rattle.mrp_lot.specs.One.{order_at, balance_before}
+use Rattle.mrp_netting.specs.One.{order_at, balance_before}
 use Rattle.mrp_netting.proofs.netting.plan_orders.Given as goal
 
 -- the balance before the period, and both rows as far as the periods before it

@@ -1,6 +1,6 @@
 use Rattle.std.proofs.Common.{◌≡◌, ℕ, List, sum, sym, ap, ◌∙◌, arith}
 use Rattle.std.proofs.lemmas.Bool.{false≢true}
-use Rattle.mrp_lot.specs.One.{release_row}
+use Rattle.mrp_netting.specs.One.{release_row}
 use Rattle.mrp_netting.proofs.Compared.{orders_read, is_plan-from, is_plan-orders, is_plan-releases, is_plan-lates}
 use Rattle.mrp_netting.proofs.Plans.{order_row-le}
 use Rattle.mrp_netting.proofs.plan.is_plan.Goals as goal

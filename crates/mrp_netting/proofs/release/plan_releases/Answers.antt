@@ -1,7 +1,7 @@
 use Rattle.std.proofs.Common.{◌≡◌, ℕ, ◌<◌, List, length, slice_index, ◌∙◌, ap, arith}
 use Rattle.std.proofs.lemmas.List.{get_or_read, length-set}
 use Rattle.std.proofs.lemmas.List.FromFn.{fill_by_all}
-use Rattle.mrp_lot.specs.One.{released}
+use Rattle.mrp_netting.specs.One.{released}
 use Rattle.mrp_netting.proofs.Releases.{released-le, release_step}
 use Rattle.mrp_netting.proofs.release.plan_releases.Goals as goal
 

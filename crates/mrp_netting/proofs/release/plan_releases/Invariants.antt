@@ -1,5 +1,5 @@
 use Rattle.std.proofs.Common.{◌≡◌, ℕ, ◌<◌, length, slice_index}
-use Rattle.mrp_lot.specs.One.{released}
+use Rattle.mrp_netting.specs.One.{released}
 use Rattle.mrp_netting.proofs.release.plan_releases.Given as goal
 
 -- what the orders before t release

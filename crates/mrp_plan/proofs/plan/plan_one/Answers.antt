@@ -1,11 +1,11 @@
 use Rattle.std.proofs.Common.{◌≡◌, ◌<◌, ◌≤◌, ◌+◌, ℕ, List, length, sum, slice_index, slice_set, arith, ap, sym, ◌∙◌, subst}
 use Rattle.std.proofs.lemmas.List.{get_or_default}
 use Rattle.std.specs.List.{All}
-use Rattle.mrp_lot.specs.One.{PlanRows, one}
-use Rattle.mrp_lot.specs.Bound.{IsWithin}
-use Rattle.mrp_lot.specs.declared.params.PairParams.{PairParams}
-use Rattle.mrp_table_rows.specs.Rows.{params_of}
-use Rattle.mrp_table_rows.specs.Table.{horizon}
+use Rattle.mrp_netting.specs.One.{PlanRows, one}
+use Rattle.mrp_netting.specs.Bound.{IsWithin}
+use Rattle.mrp_netting.specs.declared.params.PairParams.{PairParams}
+use Rattle.mrp_planning_data.specs.Rows.{params_of}
+use Rattle.mrp_planning_data.specs.Table.{horizon}
 use Rattle.mrp_net.specs.Edges.{demanders}
 use Rattle.mrp_net.specs.declared.edge.Edge.{Edge}
 use Rattle.mrp_net.specs.Sums.{demand, demand_total, incoming, params_at, row_of}

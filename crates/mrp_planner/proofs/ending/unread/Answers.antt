@@ -18,6 +18,6 @@ returns-then-eq-clause-line g c =
     let is : error_kind c.args.error.now ≡ cause.InvalidData = search rules in
     record {
       sent = rw is (sends (g.W.Write.contents c.args.writer.now) (g.W.Write.contents c.send.new.out) c.send.result _
-          (codes "mrp: a word of the command is not UTF-8\n") c.send.ensures.whole c.send.ensures.front refl);
+          (codes "mrp: a word of the command is not UTF-8\n") c.send.ensures.whole c.send.ensures.prefix refl);
       failed = c.send.ensures.fault;
     }

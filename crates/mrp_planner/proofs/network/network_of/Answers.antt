@@ -1,8 +1,8 @@
 use Rattle.std.proofs.Common.{option_map, Ok, subst, sym}
 use Rattle.csv.specs.Reading.{strip_bom}
-use Rattle.mrp_table_rows.specs.Table.{Table}
-use Rattle.mrp_tables.specs.Reading.{TellsRows}
-use Rattle.mrp_tables.specs.Written.{OfRecords}
+use Rattle.mrp_planning_data.specs.Table.{Table}
+use Rattle.mrp_grammar.specs.Reading.{TellsRows}
+use Rattle.mrp_grammar.specs.Written.{OfRecords}
 use Rattle.mrp_planner.proofs.TableFacts.{is_table_of}
 use Rattle.mrp_planner.proofs.network.network_of.Goals as goal
 

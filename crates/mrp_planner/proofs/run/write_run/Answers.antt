@@ -1,6 +1,6 @@
 use Rattle.std.proofs.Common.{length, subst}
 use Rattle.mrp_qty.specs.declared.limits.TheConstants.{MOST_TURNS}
-use Rattle.mrp_table_rows.specs.Table.{Table}
+use Rattle.mrp_planning_data.specs.Table.{Table}
 use Rattle.mrp_run.specs.Faults.{AllTurned}
 use Rattle.mrp_planner.specs.Text.{IsPlanReport, Writes}
 use Rattle.mrp_planner.specs.Reports.{IsPlanRows, WritesRows}

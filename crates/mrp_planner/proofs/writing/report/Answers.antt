@@ -1,5 +1,5 @@
 use Rattle.std.proofs.Common.{ℕ, ◌≤◌, Bool, true, false, subst}
-use Rattle.mrp_table_rows.specs.Table.{Table}
+use Rattle.mrp_planning_data.specs.Table.{Table}
 use Rattle.mrp_report.specs.Headings.{code_names}
 use Rattle.mrp_commands.specs.declared.choice.Choice.TheVariants.{Plan}
 use Rattle.mrp_commands.specs.declared.choice.TheConstants.{MOST_CAPACITY}

@@ -1,5 +1,5 @@
 use Rattle.std.proofs.Common.{rules, subst}
-use Rattle.mrp_table_rows.specs.Table.{Table}
+use Rattle.mrp_planning_data.specs.Table.{Table}
 use Rattle.mrp_net.specs.Names.{IsNamed}
 use Rattle.mrp_report.specs.Headings.{peg_names}
 use Rattle.mrp_planner.specs.Reports.{IsHeaded, IsPegReport, IsPegs}

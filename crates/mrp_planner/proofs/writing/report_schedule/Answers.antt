@@ -1,5 +1,5 @@
 use Rattle.std.proofs.Common.{subst}
-use Rattle.mrp_table_rows.specs.Table.{Table}
+use Rattle.mrp_planning_data.specs.Table.{Table}
 use Rattle.mrp_planner.specs.Reports.{AreSchedules, IsChosenPlant, IsScheduleReport, name_of}
 use Rattle.mrp_planner.proofs.TextFacts.{writes-of}
 use Rattle.mrp_planner.proofs.writing.report_schedule.Goals as goal

@@ -1,7 +1,7 @@
 use Rattle.std.proofs.Common.{IfErr, subst, sym}
 use Rattle.mrp_loops.specs.Codes.{AreCodes}
 use Rattle.mrp_loops.specs.Sized.{IsSized}
-use Rattle.mrp_table_rows.specs.Table.{Table}
+use Rattle.mrp_planning_data.specs.Table.{Table}
 use Rattle.mrp_planner.specs.Answer.{IsAnswer, question_of}
 use Rattle.mrp_planner.specs.Refusals.{RefusesTable}
 use Rattle.mrp_planner.specs.Reports.{IsPlanRows, WritesRows}

@@ -14,15 +14,15 @@ edges-preserved g c =
     gathers-next_of (λ e. term_text N c.args.line.now.x.0 c.args.t (edge_term N c.args.line.now.plan.now c.args.t e)) c.args.edges.now _ _ _ _ _ _ _ _
     c.edges.edge-index c.edges-test.true (ap (term_text N c.args.line.now.x.0 c.args.t) c.edge_term-term.ensures) c.edges.invariant c.in_ok-put_peg.ensures.rows
 
-pub returns-in_err-put_peg-clause-front : goal.returns-in_err-put_peg-clause-front
+pub returns-in_err-put_peg-clause-prefix : goal.returns-in_err-put_peg-clause-prefix
 unfolding edges_text
-returns-in_err-put_peg-clause-front g c =
+returns-in_err-put_peg-clause-prefix g c =
     let p = err_from_is_err_and c.from_residual.result c.from_residual.ensures.1 in
     let N = c.args.line.now.network.now in
     rw p.1
     (gathers-stop_of (λ e. term_text N c.args.line.now.x.0 c.args.t (edge_term N c.args.line.now.plan.now c.args.t e)) c.args.edges.now _ _ _ _ _ _ _
     c.edges.edge-index c.edges-test.true (ap (term_text N c.args.line.now.x.0 c.args.t) c.edge_term-term.ensures) c.edges.invariant
-    c.in_err-put_peg.ensures.front)
+    c.in_err-put_peg.ensures.prefix)
 
 pub returns-clause-rows : goal.returns-clause-rows
 unfolding edges_text

@@ -23,8 +23,8 @@ returns-clause-rows g c =
     ∙ row_asked N c.args.line.now.x.0 c.args.t c.args.term c.if-term-eq0.false) in
     on_ok_weaker c.put_row.result (gathers-as _ _ _ _ _ _ same) c.put_row.ensures.row
 
-pub returns-clause-front : goal.returns-clause-front
-returns-clause-front g c =
+pub returns-clause-prefix : goal.returns-clause-prefix
+returns-clause-prefix g c =
     let N = c.args.line.now.network.now in
     let text = c.write_term-start.new.text in
     let start = c.write_term-start.result in
@@ -33,4 +33,4 @@ returns-clause-front g c =
     let same : row (c.args.line.now.begins.now ∷ take (132 - start) (drop start text) ∷ []) ≡ term_text N c.args.line.now.x.0 c.args.t c.args.term =
     rw (c.requires.line.part, part) (pegs_parts_row N c.args.line.now.x.0 c.args.t c.args.term
     ∙ row_asked N c.args.line.now.x.0 c.args.t c.args.term c.if-term-eq0.false) in
-    on_err_weaker c.put_row.result (cut-as _ _ _ _ _ same) c.put_row.ensures.front
+    on_err_weaker c.put_row.result (cut-as _ _ _ _ _ same) c.put_row.ensures.prefix

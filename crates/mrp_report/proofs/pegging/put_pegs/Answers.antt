@@ -9,13 +9,13 @@ pub pairs-preserved : goal.pairs-preserved
 pairs-preserved g c = gathers-next (pair_pegs_text c.args.network.now c.args.plan.now) _ _ _ _ _ _ c.pairs.x c.pairs.invariant
     c.in_ok-put_pair_pegs.ensures.rows
 
-pub returns-in_err-put_pair_pegs-clause-front : goal.returns-in_err-put_pair_pegs-clause-front
+pub returns-in_err-put_pair_pegs-clause-prefix : goal.returns-in_err-put_pair_pegs-clause-prefix
 unfolding pegs_text
-returns-in_err-put_pair_pegs-clause-front g c =
+returns-in_err-put_pair_pegs-clause-prefix g c =
     let p = err_from_is_err_and c.from_residual.result c.from_residual.ensures.1 in
     let N = c.args.network.now in
     let lt : c.pairs.x < length N.pairs = omega arith in
-    rw p.1 (gathers-stop (pair_pegs_text N c.args.plan.now) _ _ _ _ _ c.pairs.x (length N.pairs) lt c.pairs.invariant c.in_err-put_pair_pegs.ensures.front)
+    rw p.1 (gathers-stop (pair_pegs_text N c.args.plan.now) _ _ _ _ _ c.pairs.x (length N.pairs) lt c.pairs.invariant c.in_err-put_pair_pegs.ensures.prefix)
 
 pub returns-clause-rows : goal.returns-clause-rows
 unfolding pegs_text

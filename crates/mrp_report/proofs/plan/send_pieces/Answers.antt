@@ -27,4 +27,4 @@ returns-in_err-send_piece-clause-text g c =
     let p = err_from_is_err_and c.from_residual.result c.from_residual.ensures.1 in
     rw (p.1, p.2, c.in_err-send_piece.ensures.fault)
     (pieces_cut c.args.report.now.network.now c.args.report.now.plan.now _ _ _ c.pieces.sent (c.min-end.result - c.pieces.sent)
-    (omega arith) c.pieces.invariant.sent c.in_err-send_piece.ensures.front)
+    (omega arith) c.pieces.invariant.sent c.in_err-send_piece.ensures.prefix)

@@ -14,11 +14,11 @@ pub pieces-preserved : goal.pieces-preserved
 pieces-preserved g c = sent_more _ _ _ c.args.pieces.now c.pieces.piece-index c.piece-item.result c.piece-item.result c.pieces-test.true c.piece-item.is
     c.pieces.invariant c.in_ok-send.ensures.whole
 
-pub returns-in_err-send-clause-front : goal.returns-in_err-send-clause-front
-returns-in_err-send-clause-front g c =
+pub returns-in_err-send-clause-prefix : goal.returns-in_err-send-clause-prefix
+returns-in_err-send-clause-prefix g c =
     let p = err_from_is_err_and c.from_residual.result c.from_residual.ensures.1 in
     rw p.1 (sent_cut _ _ _ c.args.pieces.now c.pieces.piece-index c.piece-item.result c.piece-item.result c.pieces-test.true c.piece-item.is c.pieces.invariant
-    c.in_err-send.ensures.front)
+    c.in_err-send.ensures.prefix)
 
 pub returns-clause-whole : goal.returns-clause-whole
 returns-clause-whole g c =

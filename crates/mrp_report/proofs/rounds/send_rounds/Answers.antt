@@ -33,4 +33,4 @@ returns-in_err-send_round-clause-text g c =
     let p = err_from_is_err_and c.from_residual.result c.from_residual.ensures.1 in
     rw (p.1, p.2, c.in_err-send_round.ensures.fault)
     (round_cut N c.args.report.now.plan.now _ _ _ c.rounds.sent (min (length N.pairs - c.rounds.sent) (length c.rounds.pieces * c.args.size)) _ (omega arith)
-    c.write_round.ensures.text c.rounds.invariant.sent c.in_err-send_round.ensures.front)
+    c.write_round.ensures.text c.rounds.invariant.sent c.in_err-send_round.ensures.prefix)

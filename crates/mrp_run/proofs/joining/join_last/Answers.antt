@@ -1,6 +1,6 @@
 use Rattle.std.proofs.Common.{◌≡◌, ◌<◌, length, sym, ap, ◌∙◌, refl, subst, arith}
 use Rattle.mrp_net.specs.declared.lane.Lane.{Lane}
-use Rattle.mrp_protocol.proofs.Owners.{sender_is_there, receiver_is_there}
+use Rattle.mrp_history.proofs.Owners.{sender_is_there, receiver_is_there}
 use Rattle.mrp_run.proofs.Dealt.{lane_is}
 use Rattle.mrp_run.proofs.DealtLists.{there_is_one}
 use Rattle.mrp_run.proofs.Paired.{have_last, have_both}

@@ -3,7 +3,7 @@ use Rattle.mrp_net.specs.declared.lane.Lane.{Lane}
 use Rattle.mrp_run.proofs.Dealt.{lane_is}
 use Rattle.mrp_run.proofs.DealtLists.{there_is_one}
 use Rattle.mrp_run.proofs.Paired.{have_last, have_both}
-use Rattle.mrp_protocol.proofs.Owners.{sender_is_there, receiver_is_there}
+use Rattle.mrp_history.proofs.Owners.{sender_is_there, receiver_is_there}
 use Rattle.mrp_run.proofs.PairedSettled.{ok_anyway, settled_ok}
 use Rattle.mrp_run.proofs.Ran.{left_of_left, of_ends_ok}
 use Rattle.mrp_run.proofs.pairing.reconcile_last.Goals as goal

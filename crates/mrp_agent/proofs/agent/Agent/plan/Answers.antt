@@ -1,7 +1,7 @@
 use Rattle.std.proofs.Common.{◌≡◌, refl, sym, ap, ◌∙◌, subst}
 use Rattle.std.specs.List.{Contains}
 use Rattle.std.proofs.lemmas.Bool.{false≢true, OnFalse_from, OnTrue_from}
-use Rattle.mrp_agent.specs.Progress.{IsFree, Progress}
+use Rattle.mrp_readiness.specs.Progress.{IsFree, Progress}
 use Rattle.mrp_agent.specs.Fields.{indexes_of}
 use Rattle.mrp_agent.specs.State.{AgentState, pair_place}
 use Rattle.mrp_agent.specs.contracts.agent.Agent.{the_view}

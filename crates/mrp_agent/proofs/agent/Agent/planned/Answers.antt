@@ -2,7 +2,7 @@ use Rattle.std.proofs.Common.{◌≡◌, ℕ, ◌<◌, ◌∙◌, false, true, N
 use Rattle.std.proofs.lemmas.List.{get_or_default}
 use Rattle.mrp_net.specs.Plan.{no_rows}
 use Rattle.mrp_netting.specs.declared.plan.PairPlan.{PairPlan}
-use Rattle.mrp_agent.specs.Progress.{is_planned}
+use Rattle.mrp_readiness.specs.Progress.{is_planned}
 use Rattle.mrp_agent.specs.Fields.{indexes_of}
 use Rattle.mrp_agent.specs.State.{AgentState, pair_place, plans_of}
 use Rattle.mrp_agent.specs.contracts.agent.Agent.{the_view}

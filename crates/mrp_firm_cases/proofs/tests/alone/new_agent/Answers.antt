@@ -1,5 +1,5 @@
 use Rattle.std.proofs.Common.{◌≡◌, length, sym, ap, subst, ◌∙◌}
-use Rattle.mrp_table_rows.specs.Table.{Table}
+use Rattle.mrp_planning_data.specs.Table.{Table}
 use Rattle.mrp_net.specs.Lanes.{lanes}
 use Rattle.mrp_plant_view.specs.Seen.{IsView}
 use Rattle.mrp_plant_view.specs.View.{plant_rows}

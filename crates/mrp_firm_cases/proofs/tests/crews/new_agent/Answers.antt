@@ -1,6 +1,6 @@
 use Rattle.std.proofs.Common.{◌≡◌, ◌∙◌, sym, subst}
 use Rattle.mrp_loops.specs.Sized.{IsSized}
-use Rattle.mrp_table_rows.specs.Table.{Table}
+use Rattle.mrp_planning_data.specs.Table.{Table}
 use Rattle.mrp_plant_view.specs.Seen.{IsView}
 use Rattle.mrp_plant_view.specs.View.{plant_rows}
 use Rattle.mrp_agent.specs.Kept.{HasSmallOpenings}

@@ -1,5 +1,5 @@
 use Rattle.std.proofs.Common.{ℕ, List, get_or, sym, subst}
-use Rattle.mrp_table_rows.specs.declared.numbers.ItemNo.{ItemNo}
+use Rattle.mrp_planning_data.specs.declared.numbers.ItemNo.{ItemNo}
 use Rattle.mrp_net.specs.Lanes.{lane_at}
 use Rattle.mrp_record.specs.Next.{IsRemainder}
 use Rattle.mrp_firm_cases.specs.Feeding.{item_goods}

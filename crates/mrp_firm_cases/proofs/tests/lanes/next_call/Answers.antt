@@ -1,5 +1,5 @@
 use Rattle.std.proofs.Common.{ℕ, ◌+◌, ◌∷◌, sym, ◌∙◌, arith}
-use Rattle.mrp_table_rows.specs.Table.{horizon}
+use Rattle.mrp_planning_data.specs.Table.{horizon}
 use Rattle.mrp_net.specs.Lanes.{lane_at}
 use Rattle.mrp_net.specs.Sources.{source_on}
 use Rattle.mrp_protocol.specs.Loads.{called_in}

@@ -1,5 +1,5 @@
 use Rattle.std.proofs.Common.{◌≡◌, ◌+◌, ◌++◌, ◌∷◌, [], length, ap, subst, sym, ◌∙◌, arith, length-append}
-use Rattle.mrp_table_rows.specs.Table.{Table}
+use Rattle.mrp_planning_data.specs.Table.{Table}
 use Rattle.mrp_loops.specs.Sized.{IsSized}
 use Rattle.mrp_world.proofs.Makes as make
 use Rattle.mrp_agent.specs.InNetwork.{ShowsAgent}

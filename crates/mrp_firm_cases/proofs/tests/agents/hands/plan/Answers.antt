@@ -1,5 +1,5 @@
 use Rattle.std.proofs.Common.{ap, sym}
-use Rattle.mrp_table_rows.specs.declared.rows.PairRow.{PairRow}
+use Rattle.mrp_planning_data.specs.declared.rows.PairRow.{PairRow}
 use Rattle.mrp_world.proofs.Steps as step
 use Rattle.mrp_agent.specs.InNetwork.{ShowsAgent}
 use Rattle.mrp_firm_cases.proofs.Handing as hand

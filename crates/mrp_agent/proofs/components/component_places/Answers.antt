@@ -1,5 +1,0 @@
-use Rattle.std.proofs.Common.{rules}
-use Rattle.mrp_agent.proofs.components.component_places.Goals as goal
-
-pub returns : goal.returns
-returns c = search rules

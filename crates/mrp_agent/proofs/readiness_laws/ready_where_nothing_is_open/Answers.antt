@@ -1,5 +1,0 @@
-use Rattle.mrp_agent.proofs.Counting as proved
-use Rattle.mrp_agent.proofs.readiness_laws.ready_where_nothing_is_open.Goals as goal
-
-pub returns : goal.returns
-returns c = proved.ready_where_nothing_is_open

@@ -1,7 +1,0 @@
-use Rattle.std.proofs.Common.{take}
-use Rattle.mrp_agent.specs.declared.join.Join.{Join}
-use Rattle.mrp_agent.specs.Counts.{AreCounted}
-use Rattle.mrp_agent.proofs.waits.count_joins.Given as goal
-
-abbrev pub invariant-loop-join : goal.invariant-loop-join
-invariant-loop-join l = AreCounted (λ (j : Join). j.component) l.initial.waits l.waits (take l.join-index l.joins)

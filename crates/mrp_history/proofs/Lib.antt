@@ -1,0 +1,9 @@
+pub mod Prefixes
+pub mod Owners
+pub mod Decided
+pub mod Merging
+pub mod Causal
+pub mod HistoryGoing
+pub mod Stamped
+pub mod Explained
+pub mod Passing

@@ -1,0 +1,3 @@
+pub mod History
+pub mod Stamps
+pub mod HistoryLaws

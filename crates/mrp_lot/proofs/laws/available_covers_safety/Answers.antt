@@ -1,5 +1,0 @@
-use Rattle.mrp_lot.proofs.OneLaws.{one-available-ge}
-use Rattle.mrp_lot.proofs.laws.available_covers_safety.Goals as goal
-
-pub returns : goal.returns
-returns c = one-available-ge

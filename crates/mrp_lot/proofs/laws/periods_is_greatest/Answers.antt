@@ -1,5 +1,0 @@
-use Rattle.mrp_lot.proofs.RulesLaws.{periods-is_greatest}
-use Rattle.mrp_lot.proofs.laws.periods_is_greatest.Goals as goal
-
-pub returns : goal.returns
-returns c = periods-is_greatest

@@ -1,5 +1,0 @@
-use Rattle.mrp_lot.proofs.OneLaws.{one-release_sum-le}
-use Rattle.mrp_lot.proofs.laws.releases_are_bounded.Goals as goal
-
-pub returns : goal.returns
-returns c = one-release_sum-le

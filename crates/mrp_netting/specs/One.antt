@@ -1,0 +1,120 @@
+-- The plan of one pair whose gross requirements and scheduled receipts are given, period by period: the
+-- record of an item in Orlicky's Material Requirements Planning (1975). Its terms are those of the APICS
+-- Dictionary, each beside its definition: gross requirements, scheduled receipts, net requirements,
+-- planned order receipts, planned order releases, projected available balance. The order row comes first,
+-- by net requirement and lot rule; releases and late orders are read off it alone.
+--
+-- Subtraction of ℕ stops at 0. So where safety stock is 0, that projected available is never below it says
+-- nothing, and what says something is the balance without subtraction: what was there, comes in and is
+-- ordered is what is required or stays (`FollowsRules.available`, which each plan within the bound meets by
+-- the law `PlanFollowsRules`). By it no requirement is left open, whatever the safety stock.
+use Rattle.std.specs.Prelude.{ℕ, ◌+◌, ◌-◌, ◌&&◌, ◌==◌, Bool, nat_lt, if◌then◌else◌, min, max, List, length, map, filter}
+use Rattle.std.specs.Prelude.{sum, sum_by, take, drop}
+use Rattle.std.specs.Prelude.{slice_index, zero, suc}
+use Rattle.std.specs.List.{range_with_len}
+use Rattle.mrp_netting.specs.declared.params.PairParams.{PairParams}
+use Rattle.mrp_netting.specs.declared.params.Late.{Late}
+use Rattle.mrp_lot.specs.Lot.{periods_covered, lot_of}
+
+-- the rows of one pair's plan, and its late orders by rising period
+pub record PlanRows : Type 0 where
+  -- gross requirements
+  pub gross : List ℕ
+  -- scheduled receipts
+  pub incoming : List ℕ
+  -- planned order receipts
+  pub order : List ℕ
+  -- planned order releases
+  pub release : List ℕ
+  -- projected available balance
+  pub available : List ℕ
+  pub late : List Late
+
+-- the sum of n periods from t on
+abbrev pub sum_from : List ℕ → ℕ → ℕ → ℕ
+sum_from row t n = sum (take n (drop t row))
+
+-- the net requirement of the n periods from t on together: safety stock and their gross requirements, less `before`,
+-- the balance before t, and their scheduled receipts
+abbrev pub need_over : PairParams → List ℕ → List ℕ → ℕ → ℕ → ℕ → ℕ
+need_over pair incoming gross before t n = (pair.safety + sum_from gross t n) - (before + sum_from incoming t n)
+
+-- the greatest such need over 1 to n periods
+unfoldable pub greatest_need : PairParams → List ℕ → List ℕ → ℕ → ℕ → ℕ → ℕ
+greatest_need pair incoming gross before t zero = 0
+greatest_need pair incoming gross before t (suc n) =
+    max (greatest_need pair incoming gross before t n) (need_over pair incoming gross before t (suc n))
+
+-- net requirement of period t: what safety stock and gross requirement ask beyond the balance and the receipts
+abbrev pub net_after : PairParams → List ℕ → List ℕ → ℕ → ℕ → ℕ
+net_after pair incoming gross before t = (pair.safety + slice_index gross t) - (before + slice_index incoming t)
+
+-- planned order receipt of period t: none without a net requirement, else what the lot rule orders
+abbrev pub order_after : PairParams → List ℕ → List ℕ → ℕ → ℕ → ℕ
+order_after pair incoming gross before t =
+    let net = net_after pair incoming gross before t in
+    let span = greatest_need pair incoming gross before t (min (periods_covered pair.rule) (length gross - t)) in
+    if net == 0 then 0 else lot_of pair.rule net span
+
+-- projected available after period t. The order covers safety and the gross requirement, so the difference cuts nothing
+-- off
+abbrev pub available_after : PairParams → List ℕ → List ℕ → ℕ → ℕ → ℕ
+available_after pair incoming gross before t =
+    (before + slice_index incoming t + order_after pair incoming gross before t) - slice_index gross t
+
+-- the balance before period t: on hand before period 0, then the projected available
+unfoldable pub balance_before : PairParams → List ℕ → List ℕ → ℕ → ℕ
+balance_before pair incoming gross zero = pair.on_hand
+balance_before pair incoming gross (suc t) = available_after pair incoming gross
+    (balance_before pair incoming gross t) t
+
+-- planned order receipt of period t
+unfoldable pub order_at : PairParams → List ℕ → List ℕ → ℕ → ℕ
+order_at pair incoming gross t = order_after pair incoming gross (balance_before pair incoming gross t) t
+
+-- planned order receipts
+abbrev pub order_row : PairParams → List ℕ → List ℕ → List ℕ
+order_row pair incoming gross = map (order_at pair incoming gross) (range_with_len 0 (length gross))
+
+-- projected available
+abbrev pub available_row : PairParams → List ℕ → List ℕ → List ℕ
+available_row pair incoming gross = map (λ t. balance_before pair incoming gross (suc t))
+    (range_with_len 0 (length gross))
+
+-- what of the orders of the first n periods is released in period u: those due a lead time later. Subtraction stops at
+-- 0, so those due within the lead time are released in period 0
+abbrev pub released : ℕ → List ℕ → ℕ → ℕ → ℕ
+released lead order n u = sum_by (λ t. if (t - lead) == u then slice_index order t else 0) (range_with_len 0 n)
+
+-- planned order releases of the given orders
+abbrev pub release_row : ℕ → List ℕ → List ℕ
+release_row lead order = map (released lead order (length order)) (range_with_len 0 (length order))
+
+-- the period has an order, and lies less than a lead time after period 0
+abbrev pub is_late : ℕ → List ℕ → ℕ → Bool
+is_late lead order t = nat_lt t lead && nat_lt 0 (slice_index order t)
+
+-- the periods of late orders among the first n
+abbrev pub late_periods : ℕ → List ℕ → ℕ → List ℕ
+late_periods lead order n = filter (is_late lead order) (range_with_len 0 n)
+
+-- the late order of such a period, with how many periods are missing
+abbrev pub late_order : ℕ → List ℕ → ℕ → Late
+late_order lead order t = record { period = t; quantity = slice_index order t; by = lead - t }
+
+-- late orders of the given orders
+abbrev pub late_orders : ℕ → List ℕ → List Late
+late_orders lead order = map (late_order lead order) (late_periods lead order (length order))
+
+-- the plan of one pair
+unfoldable pub one : PairParams → List ℕ → List ℕ → PlanRows
+one pair incoming gross =
+    let order = order_row pair incoming gross in
+    record {
+      gross = gross;
+      incoming = incoming;
+      order = order;
+      release = release_row pair.lead order;
+      available = available_row pair incoming gross;
+      late = late_orders pair.lead order;
+    }

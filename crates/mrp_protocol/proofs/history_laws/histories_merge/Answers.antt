@@ -1,8 +1,0 @@
-use Rattle.mrp_protocol.proofs.Merging as proved
-use Rattle.mrp_protocol.proofs.history_laws.histories_merge.Goals as goal
-
-pub returns-clause-moments : goal.returns-clause-moments
-returns-clause-moments c = proved.histories_merge
-
-pub returns-clause-finished : goal.returns-clause-finished
-returns-clause-finished c = proved.finished_histories_merge

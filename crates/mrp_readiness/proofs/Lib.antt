@@ -1,0 +1,4 @@
+pub mod Counting
+pub mod Grouping
+pub mod Listing
+pub mod ReadyPlacing

@@ -1,5 +1,0 @@
-use Rattle.mrp_tables.proofs.WrittenTable.{items_numbered}
-use Rattle.mrp_tables.proofs.laws.items_are_numbered_by_their_pairs.Goals as goal
-
-pub returns : goal.returns
-returns c = items_numbered

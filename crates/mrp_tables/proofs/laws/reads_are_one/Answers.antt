@@ -1,5 +1,0 @@
-use Rattle.mrp_tables.proofs.OneWay.{reads_one_way}
-use Rattle.mrp_tables.proofs.laws.reads_are_one.Goals as goal
-
-pub returns : goal.returns
-returns c = reads_one_way

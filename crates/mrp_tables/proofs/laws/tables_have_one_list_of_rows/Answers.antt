@@ -1,5 +1,0 @@
-use Rattle.mrp_tables.proofs.WrittenTable.{one_list}
-use Rattle.mrp_tables.proofs.laws.tables_have_one_list_of_rows.Goals as goal
-
-pub returns : goal.returns
-returns c = one_list

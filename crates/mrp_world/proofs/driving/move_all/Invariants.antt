@@ -1,6 +1,0 @@
-use Rattle.mrp_world.proofs.Drives.{LeadsOn}
-use Rattle.mrp_world.proofs.driving.move_all.Given as goal
-
--- events have led on from the beginning
-abbrev pub invariant-loop-record : goal.invariant-loop-record
-invariant-loop-record g l = LeadsOn g.P.Plant.shows l.network l.initial.plants l.initial.boxes l.plants l.boxes
