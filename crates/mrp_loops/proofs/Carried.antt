@@ -23,7 +23,7 @@ use Rattle.mrp_loops.proofs.Within.{figures_within}
 
 part_within : (N : Table) (s : SourceRow) (release : ℕ) → s.high ≤ 1000 → part (source_edge N s) release ≤ release
 part_within N s release whole =
-    let once : 1 * part (source_edge N s) release ≤ 1 * release = edge_need-le (source_edge N s) release whole in
+    let once : 1 * part (source_edge N s) release ≤ 1 * release = edge_need-le (source_edge N s) 0 release whole in
     omega arith
 
 -- the parts of a row's first n periods are within their sum

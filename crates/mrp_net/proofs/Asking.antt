@@ -22,7 +22,7 @@ use Rattle.mrp_net.proofs.Sharing.{sum_map}
 
 -- what an edge asks of its pair
 abbrev asked_by : List PlanRows → ℕ → Edge → ℕ
-asked_by table t e = edge_need e (release_at table e.demander.0 t)
+asked_by table t e = edge_need e t (release_at table e.demander.0 t)
 
 abbrev asked_of : List PlanRows → ℕ → ℕ → Edge → ℕ
 asked_of table x t e = cond (eqb e.pair.0 x) (asked_by table t e) 0

@@ -106,7 +106,7 @@ bill_edge_is_whole N b parent here = record {
   high = refl;
   demander = parent;
   plant = ap (λ (z : ℕ). let p : PlantNo = record { 0 = z } in p) (eqb-true (pair_at N b.parent.0).plant.0 (pair_at N b.component.0).plant.0 here);
-  need = whole_need b.per;
+  need = λ t. whole_need b.per;
 }
 
 pub local_edges_are_whole : LocalEdgesAreWhole

@@ -95,24 +95,24 @@ pub sum_map : {X Y : Type 0} (f : Y → ℕ) (g : X → Y) (xs : List X) → sum
 sum_map f g [] = refl
 sum_map f g (x ∷ xs) = omega (arith, sum_by-cons f (g x) (map g xs), sum_by-cons (λ x. f (g x)) x xs, sum_map f g xs)
 
-needs_are_parts : (N : Table) (release : ℕ) (ss : List SourceRow)
-    → sum_by (λ s. edge_need (source_edge N s) release) ss ≡ sum_by (λ s. part (source_edge N s) release) ss
-needs_are_parts N release [] = refl
-needs_are_parts N release (s ∷ ss) =
-    let one : edge_need (source_edge N s) release ≡ part (source_edge N s) release = omega arith in
+needs_are_parts : (N : Table) (t release : ℕ) (ss : List SourceRow)
+    → sum_by (λ s. edge_need (source_edge N s) t release) ss ≡ sum_by (λ s. part (source_edge N s) release) ss
+needs_are_parts N t release [] = refl
+needs_are_parts N t release (s ∷ ss) =
+    let one : edge_need (source_edge N s) t release ≡ part (source_edge N s) release = omega arith in
     omega (
       arith,
-      sum_by-cons (λ s. edge_need (source_edge N s) release) s ss,
+      sum_by-cons (λ s. edge_need (source_edge N s) t release) s ss,
       sum_by-cons
           (λ s. part (source_edge N s) release) s ss,
       one,
-      needs_are_parts N release ss,
+      needs_are_parts N t release ss,
     )
 
 pub needs_are_whole : NeedsAreWhole
-needs_are_whole N table x h from release =
+needs_are_whole N table x h from t release =
     let own = filter (λ e. eqb e.demander.0 x) (edges N) in
-    let need = λ (e : Edge). edge_need e release in
+    let need = λ (e : Edge). edge_need e t release in
     let pairs : All (λ e. e.pair.0 < length N.pairs) own = All-filter (λ e. eqb e.demander.0 x) (λ e. e.pair.0 < length N.pairs) (edges N)
     (λ k d lt. (edges_join N table k d lt).pair) in
     let none = no_components N x table (λ make. made_is (supply_at N x) make (supply_is N x h ∙ from)) in
@@ -120,7 +120,7 @@ needs_are_whole N table x h from release =
     ∙ ap (sum_by need) (edges_of N x)
     ∙ ap (λ (z : List BillRow). sum_by need (map bill_edge z ++ map (source_edge N) (sources_of_pair N x))) none
     ∙ sum_map need (source_edge N) (sources_of_pair N x)
-    ∙ needs_are_parts N release (sources_of_pair N x)
+    ∙ needs_are_parts N t release (sources_of_pair N x)
     ∙ parts_are_whole N table x h from release
 
 -- a pair that isn't taken from plants has no sources

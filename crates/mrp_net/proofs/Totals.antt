@@ -20,12 +20,12 @@ part-le e release whole =
     let grows : release * e.high ≤ release * 1000 = mul-le-mul_left release whole in
     omega (arith, grows)
 
-pub edge_need-le : (e : Edge) (release : ℕ) → e.high ≤ 1000 → edge_need e release ≤ e.per * release
-edge_need-le e release whole = mul-le-mul_left e.per (part-le e release whole)
+pub edge_need-le : (e : Edge) (t release : ℕ) → e.high ≤ 1000 → edge_need e t release ≤ e.per * release
+edge_need-le e t release whole = mul-le-mul_left e.per (part-le e release whole)
 
 -- what edges ask in a period, by the releases in a table of plans
 abbrev asked_in : List PlanRows → List Edge → ℕ → ℕ
-asked_in table edges t = sum_by (λ e. edge_need e (slice_index (rows_at table e.demander.0).release t)) edges
+asked_in table edges t = sum_by (λ e. edge_need e t (slice_index (rows_at table e.demander.0).release t)) edges
 
 -- what they would ask in all periods, were each part a whole release
 abbrev asked_whole : List PlanRows → List Edge → ℕ
@@ -33,14 +33,14 @@ asked_whole table edges = sum_by (λ e. e.per * sum (rows_at table e.demander.0)
 
 -- what one edge asks over the first n periods
 edge_asked-le : (e : Edge) (row : List ℕ) (n : ℕ) → e.high ≤ 1000
-    → sum_by (λ t. edge_need e (slice_index row t)) (range_with_len 0 n) ≤ e.per * sum (take n row)
+    → sum_by (λ t. edge_need e t (slice_index row t)) (range_with_len 0 n) ≤ e.per * sum (take n row)
 edge_asked-le e row zero whole = omega arith
 edge_asked-le e row (suc n) whole =
     omega (
       arith,
-      sum_by-range-suc (λ t. edge_need e (slice_index row t)) n,
+      sum_by-range-suc (λ t. edge_need e t (slice_index row t)) n,
       edge_asked-le e row n whole,
-      edge_need-le e (slice_index row n) whole,
+      edge_need-le e n (slice_index row n) whole,
       ap (λ (x : ℕ). e.per * x) (sum_take-suc row n),
     )
 
@@ -55,9 +55,9 @@ asked_sum-le table n (e ∷ edges) whole =
     omega (
       arith,
       all,
-      sum_by-ext (asked_in table (e ∷ edges)) (λ t. edge_need e (slice_index row t) + asked_in table edges t) (range_with_len 0 n)
-          (λ t. sum_by-cons (λ (f : Edge). edge_need f (slice_index (rows_at table f.demander.0).release t)) e edges),
-      sum_by-add (λ t. edge_need e (slice_index row t)) (asked_in table edges) (range_with_len 0 n),
+      sum_by-ext (asked_in table (e ∷ edges)) (λ t. edge_need e t (slice_index row t) + asked_in table edges t) (range_with_len 0 n)
+          (λ t. sum_by-cons (λ (f : Edge). edge_need f t (slice_index (rows_at table f.demander.0).release t)) e edges),
+      sum_by-add (λ t. edge_need e t (slice_index row t)) (asked_in table edges) (range_with_len 0 n),
       edge_asked-le e row n own,
       asked_sum-le table n edges (All-tail (λ (f : Edge). f.high ≤ 1000) e edges whole),
       sum_by-cons (λ (f : Edge). f.per * sum (rows_at table f.demander.0).release) e edges,

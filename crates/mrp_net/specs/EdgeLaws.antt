@@ -43,7 +43,7 @@ pub record IsLocalEdge (N : Table) (e : Edge) : Type 0 where
   pub high : e.high ≡ 1000
   pub demander : IsPair N e.demander.0
   pub plant : (pair_at N e.demander.0).plant ≡ (pair_at N e.pair.0).plant
-  pub need : (release : ℕ) → edge_need e release ≡ e.per * release
+  pub need : (t release : ℕ) → edge_need e t release ≡ e.per * release
 
 abbrev pub LocalEdgesAreWhole : Type 0
 LocalEdgesAreWhole = (N : Table) → IsTable N → All (λ e. is_local N e ≡ true → IsLocalEdge N e) (edges N)

@@ -28,6 +28,6 @@ demanders N x = sorted_by (λ e. e.demander.0) (length N.pairs) (group (λ e. e.
 abbrev pub part : Edge → ℕ → ℕ
 part e release = share_of e.low e.high release
 
--- what a release asks of the edge's pair
-abbrev pub edge_need : Edge → ℕ → ℕ
-edge_need e release = e.per * part e release
+-- what a release of a period asks of the edge's pair in it
+abbrev pub edge_need : Edge → ℕ → ℕ → ℕ
+edge_need e t release = e.per * part e release

@@ -18,7 +18,7 @@ rows_at table x = slice_index_or table x no_rows
 
 -- what the releases of demanders ask over edges in a period
 abbrev pub asked : List PlanRows → List Edge → ℕ → ℕ
-asked table edges t = sum_by (λ e. edge_need e (slice_index (rows_at table e.demander.0).release t)) edges
+asked table edges t = sum_by (λ e. edge_need e t (slice_index (rows_at table e.demander.0).release t)) edges
 
 -- gross requirement: the demand rows, and what the releases of the demanders ask
 abbrev pub gross : Table → List PlanRows → ℕ → ℕ → ℕ

@@ -15,11 +15,11 @@ PartsAreWhole =
     (N : Table) → IsTable N → (x : ℕ) → IsPair N x → (pair_at N x).supply ≡ From → (release : ℕ)
     → sum_by (λ s. part (source_edge N s) release) (sources_of_pair N x) ≡ release
 
--- what a release of such a pair asks of its suppliers is the release
+-- what a release of such a pair asks of its suppliers is the release, in every period
 abbrev pub NeedsAreWhole : Type 0
 NeedsAreWhole =
-    (N : Table) → IsTable N → (x : ℕ) → IsPair N x → (pair_at N x).supply ≡ From → (release : ℕ)
-    → sum_by (λ e. edge_need e release) (suppliers N x) ≡ release
+    (N : Table) → IsTable N → (x : ℕ) → IsPair N x → (pair_at N x).supply ≡ From → (t release : ℕ)
+    → sum_by (λ e. edge_need e t release) (suppliers N x) ≡ release
 
 -- no part of a release is more than the release
 abbrev pub PartsAreWithin : Type 0

@@ -18,8 +18,8 @@ abbrev pub no_edge : Edge
 no_edge = record { demander = record { 0 = 0 }; pair = record { 0 = 0 }; per = 0; low = 0; high = 0 }
 
 -- a part that is the whole release
-pub edge_need-whole : (e : Edge) (release : ℕ) → e.low ≡ 0 → e.high ≡ 1000 → edge_need e release ≡ e.per * release
-edge_need-whole e release low high =
+pub edge_need-whole : (e : Edge) (t release : ℕ) → e.low ≡ 0 → e.high ≡ 1000 → edge_need e t release ≡ e.per * release
+edge_need-whole e t release low high =
     let ends : release * e.high ≡ release * 1000 = ap (λ (k : ℕ). release * k) high in
     let begins : release * e.low ≡ release * 0 = ap (λ (k : ℕ). release * k) low in
     let whole : part e release ≡ release = omega (arith, ends, begins) in

@@ -49,11 +49,11 @@ pub pair_plan-same : (N : Table) (old new : List PlanRows) (x : ℕ)
     → pair_plan N new x ≡ pair_plan N old x
 pair_plan-same N old new x same =
     let asks = λ (t : ℕ) (i : ℕ) (h : i < length (demanders N x)).
-    ap (λ (r : PlanRows). edge_need (slice_index_or (demanders N x) i no_edge) (slice_index r.release t)) (same i h) in
+    ap (λ (r : PlanRows). edge_need (slice_index_or (demanders N x) i no_edge) t (slice_index r.release t)) (same i h) in
     let each = λ (t : ℕ) (h : t < horizon N).
     ap (λ (s : ℕ). demand N x t + s)
-    (sum_by-same_all (λ (e : Edge). edge_need e (slice_index (rows_at new e.demander.0).release t))
-    (λ (e : Edge). edge_need e (slice_index (rows_at old e.demander.0).release t)) no_edge (demanders N x) (asks t)) in
+    (sum_by-same_all (λ (e : Edge). edge_need e t (slice_index (rows_at new e.demander.0).release t))
+    (λ (e : Edge). edge_need e t (slice_index (rows_at old e.demander.0).release t)) no_edge (demanders N x) (asks t)) in
     ap (one (params_at N x) (row_of N (incoming N x))) (map-range-same (gross N new x) (gross N old x) (horizon N) each)
 
 -- the plan of a pair has a release for each period, and its gross requirements

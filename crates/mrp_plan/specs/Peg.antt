@@ -30,7 +30,7 @@ edge_term N table t e =
       pair = e.demander;
       release = part e release;
       per = e.per;
-      quantity = edge_need e release;
+      quantity = edge_need e t release;
     }
 
 -- something is asked
@@ -45,4 +45,4 @@ peg_terms N table x t = filter is_asked (demand_term N x t ∷ map (edge_term N 
 pub record IsPeggable (N : Table) (table : List PlanRows) (t : ℕ) (e : Edge) : Type 0 where
   pub edge : IsEdge N e
   pub period : t < length (rows_at table e.demander.0).release
-  pub within : edge_need e (slice_index (rows_at table e.demander.0).release t) ≤ MOST
+  pub within : edge_need e t (slice_index (rows_at table e.demander.0).release t) ≤ MOST

@@ -24,7 +24,7 @@ fn explode(edge: &Edge, release: &Row, gross: &mut Row)
     requires periods { length release.now ≡ length gross.old }
     requires within { sum gross.old + edge.now.per * sum release.now ≤ MOST }
     ensures each { (t : ℕ) → t < length gross.old →
-        slice_index gross.new t ≡ slice_index gross.old t + edge_need edge.now (slice_index release.now t) }
+        slice_index gross.new t ≡ slice_index gross.old t + edge_need edge.now t (slice_index release.now t) }
     ensures total { sum gross.new ≤ sum gross.old + edge.now.per * sum release.now }
     ensures size { length gross.new ≡ length gross.old }
 {
@@ -42,7 +42,7 @@ fn explode_part(edge: &Edge, release: &Row, gross: &mut Row)
     requires periods { length release.now ≡ length gross.old }
     requires within { sum gross.old + edge.now.per * sum release.now ≤ MOST }
     ensures each { (t : ℕ) → t < length gross.old →
-        slice_index gross.new t ≡ slice_index gross.old t + edge_need edge.now (slice_index release.now t) }
+        slice_index gross.new t ≡ slice_index gross.old t + edge_need edge.now t (slice_index release.now t) }
     ensures size { length gross.new ≡ length gross.old }
 {
     for t in 0..release.len() {

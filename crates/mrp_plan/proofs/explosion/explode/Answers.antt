@@ -11,7 +11,7 @@ returns-then-is_whole-clause-total c =
 pub returns-else-is_whole-clause-total : goal.returns-else-is_whole-clause-total
 returns-else-is_whole-clause-total c =
     sum-le_each c.args.gross.now c.explode_part.new.gross c.args.release.now c.args.edge.now.per c.explode_part.ensures.size c.requires.periods
-    (λ t h. omega (arith, c.explode_part.ensures.each t h, edge_need-le c.args.edge.now (slice_index c.args.release.now t) c.requires.whole))
+    (λ t h. omega (arith, c.explode_part.ensures.each t h, edge_need-le c.args.edge.now t (slice_index c.args.release.now t) c.requires.whole))
 
 pub add_times-requires-clause-periods : goal.add_times-requires-clause-periods
 add_times-requires-clause-periods c = sym c.requires.periods
@@ -22,7 +22,7 @@ add_times-requires-clause-within c = λ t h. within_each c.args.gross.now c.args
 pub returns-then-is_whole-clause-each : goal.returns-then-is_whole-clause-each
 returns-then-is_whole-clause-each c =
     let ends = c.is_whole.ensures.0 c.if-is_whole.true in
-    λ t h. omega (arith, c.add_times.ensures.each t h, edge_need-whole c.args.edge.now (slice_index c.args.release.now t) ends.0 ends.1)
+    λ t h. omega (arith, c.add_times.ensures.each t h, edge_need-whole c.args.edge.now t (slice_index c.args.release.now t) ends.0 ends.1)
 
 pub returns-then-is_whole-clause-size : goal.returns-then-is_whole-clause-size
 returns-then-is_whole-clause-size c = c.add_times.ensures.size

@@ -36,8 +36,8 @@ loop-edge-preserved c =
             arith,
             c.explode.ensures.each t (omega arith),
             c.loop-edge.invariant.each t (omega arith),
-            ap (λ r. edge_need e (slice_index r t)) row,
-            sum_by_more (λ (f : Edge). edge_need f (slice_index (rows_at c.args.plans.now f.demander.0).release t)) c.args.edges.now c.loop-edge.edge-index
+            ap (λ r. edge_need e t (slice_index r t)) row,
+            sum_by_more (λ (f : Edge). edge_need f t (slice_index (rows_at c.args.plans.now f.demander.0).release t)) c.args.edges.now c.loop-edge.edge-index
                 no_edge c.loop-edge-test.true,
           );
       total =

@@ -11,13 +11,13 @@ fits : (c : After-share_of-part) → slice_index c.loop-t.gross c.loop-t.t + c.a
 fits c =
     let e = c.args.edge.now in
     let t = c.loop-t.t in
-    let asked : e.per * c.share_of-part.result ≡ edge_need e (slice_index c.args.release.now t) =
+    let asked : e.per * c.share_of-part.result ≡ edge_need e t (slice_index c.args.release.now t) =
     ap (λ (n : ℕ). e.per * n) (c.share_of-part.ensures.value ∙ ap (part e) (c.get-quantity.ensures.value ∙ c.get-released.ensures)) in
     omega (
       arith,
       asked,
       c.loop-t.invariant.rest t (omega arith),
-      edge_need-le e (slice_index c.args.release.now t) c.requires.whole,
+      edge_need-le e t (slice_index c.args.release.now t) c.requires.whole,
       within_each c.args.gross.now c.args.release.now e.per t c.requires.periods c.requires.within
           (omega (arith, c.loop-t-test.true, c.len-t-end.ensures.value, c.requires.periods)),
     )
