@@ -2,7 +2,8 @@
 use Rattle.std.proofs.Common.{◌≡◌, ℕ, ◌+◌, ◌-◌, ◌<◌, true, List, [], ◌∷◌, ◌++◌, length, get_or, map, refl, sym, ap, ◌∙◌, subst, All}
 use Rattle.std.specs.List.{flat_map, range_with_len}
 use Rattle.std.proofs.lemmas.List.Elements.{All-filter, All-contains, All-head, All-tail}
-use Rattle.mrp_netting.specs.One.{PlanRows, one}
+use Rattle.mrp_netting.specs.One.{PlanRows}
+use Rattle.mrp_netting.specs.PlanningData.{plain, one}
 use Rattle.mrp_planning_data.specs.declared.numbers.ItemNo.{ItemNo}
 use Rattle.mrp_planning_data.specs.declared.numbers.PairNo.{PairNo}
 use Rattle.mrp_planning_data.specs.Table.{Table}
@@ -110,8 +111,8 @@ module _ (A : AgentState) (enough : IsView A.view) (s t : State) (same : AgreeOn
 
   plan_same : (plans : ℕ → PlanRows) (p : PlantPair) → local_plan A.view s.taken plans p ≡ local_plan A.view t.taken plans p
   plan_same plans p =
-      ap (λ (row : List ℕ). one p.params row (local_row A.view (local_gross A.view s.taken plans p))) (incoming_same p)
-      ∙ ap (one p.params (local_row A.view (local_incoming A.view t.taken p))) (gross_same plans p)
+      ap (λ (row : List ℕ). one (plain p.params row (local_row A.view (local_gross A.view s.taken plans p)))) (incoming_same p)
+      ∙ ap (λ (row : List ℕ). one (plain p.params (local_row A.view (local_incoming A.view t.taken p)) row)) (gross_same plans p)
 
   awaits_same : (p : PlantPair) → AwaitsNothing A.view s.taken s.planned p → AwaitsNothing A.view t.taken t.planned p
   awaits_same p ready = record {

@@ -4,7 +4,8 @@ use Rattle.std.specs.List.{All}
 use Rattle.std.proofs.lemmas.List.Elements.{All-from_get_or}
 use Rattle.std.proofs.lemmas.List.FromFn.{fill_by_all, get_or-map-range_with_len, length-map-range_with_len}
 use Rattle.std.proofs.lemmas.List.Sums.{get_or-le-sum_by, sum_by_more_le, sum_by_more}
-use Rattle.mrp_netting.specs.One.{PlanRows, one}
+use Rattle.mrp_netting.specs.One.{PlanRows}
+use Rattle.mrp_netting.specs.PlanningData.{plain, one}
 use Rattle.mrp_netting.specs.Bound.{IsWithin}
 use Rattle.mrp_netting.proofs.OneLaws.{one-gross}
 use Rattle.mrp_netting.specs.declared.params.PairParams.{PairParams}
@@ -92,7 +93,7 @@ receipts_length params receipts demand edges plans h = h.periods ∙ grossed_len
 
 -- a plan has a period for each that is called for
 pub drafted_length : (params : PairParams) (receipts demand : List ℕ) (edges : List ParentEdge) (plans : List PlanRows) (plan : PlanRows)
-    → plan ≡ one params receipts (grossed demand edges plans)
+    → plan ≡ one (plain params receipts (grossed demand edges plans))
     → length plan.gross ≡ length demand
 drafted_length params receipts demand edges plans plan is =
     ap (λ (z : PlanRows). length z.gross) is ∙ ap length (one-gross params receipts (grossed demand edges plans)) ∙ grossed_length demand edges plans

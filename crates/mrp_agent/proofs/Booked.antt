@@ -5,7 +5,8 @@ use Rattle.std.specs.List.{Contains, fold, sum_by, filter_map, list_any, range_w
 use Rattle.std.proofs.lemmas.Bool.{both_ways, cases_eq, cases_lt, eq-eqb, false_from_ne_true, le-ltb, lt-ltb}
 use Rattle.std.proofs.lemmas.List.{get_or-map, get_or-set_same, get_or-set_other, length-map, length-set}
 use Rattle.std.proofs.lemmas.List.Elements.{All-contains}
-use Rattle.mrp_netting.specs.One.{PlanRows, one}
+use Rattle.mrp_netting.specs.One.{PlanRows}
+use Rattle.mrp_netting.specs.PlanningData.{plain, one}
 use Rattle.mrp_planning_data.specs.declared.numbers.ItemNo.{ItemNo}
 use Rattle.mrp_net.specs.declared.lane.LaneKind.{LaneKind}
 use Rattle.mrp_net.specs.declared.lane.LaneKind.TheVariants.{Despatch, Schedule}
@@ -122,8 +123,8 @@ module _ (V : PlantRows) (taken : ℕ → List Record) (planned : ℕ → Bool) 
       let gross : local_row V (local_gross V Later plans p) ≡ local_row V (local_gross V taken plans p) =
       row_same V (local_gross V Later plans p) (local_gross V taken plans p)
       (λ t. ap (λ (n : ℕ). amount_at V V.demands p.number t + asked_within V plans p.number t + n) (booked_same Schedule t)) in
-      ap (λ (row : List ℕ). one p.params row (local_row V (local_gross V Later plans p))) incoming
-      ∙ ap (λ (row : List ℕ). one p.params (local_row V (local_incoming V taken p)) row) gross
+      ap (λ (row : List ℕ). one (plain p.params row (local_row V (local_gross V Later plans p)))) incoming
+      ∙ ap (λ (row : List ℕ). one (plain p.params (local_row V (local_incoming V taken p)) row)) gross
 
 -- ---- what is shown
 

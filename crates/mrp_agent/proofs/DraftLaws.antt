@@ -6,7 +6,8 @@ use Rattle.std.proofs.lemmas.List.{get_or-map, length-map}
 use Rattle.std.proofs.lemmas.List.FromFn.{get_or-map-range_with_len, length-map-range_with_len}
 use Rattle.std.proofs.lemmas.List.Sums.{get_or-le-sum_by, passes_at_first}
 use Rattle.mrp_qty.specs.declared.quantity.TheConstants.{MOST}
-use Rattle.mrp_netting.specs.One.{PlanRows, one}
+use Rattle.mrp_netting.specs.One.{PlanRows}
+use Rattle.mrp_netting.specs.PlanningData.{plain, one}
 use Rattle.mrp_netting.specs.Bound.{IsWithin}
 use Rattle.mrp_planning_data.specs.Table.{Table}
 use Rattle.mrp_net.specs.declared.lane.LaneKind.TheVariants.{Schedule}
@@ -136,8 +137,8 @@ drafts_are_the_plan N sized plant s A w x at ready =
     let V : PlantRows = A.view in
     let incoming : List ℕ = local_row V (λ t. amount_at V A.scheduled_receipts (pair_of x) t) in
     let gross : List ℕ = local_row V (λ t. amount_at V A.outside_demand (pair_of x) t + asked_within V (plans_of A) (pair_of x) t) in
-    ap (λ (q : PlantPair). one q.params incoming gross) rows.0
-    ∙ ap (λ (z : List ℕ). one p.params z gross) rows.1
-    ∙ ap (λ (z : List ℕ). one p.params (local_row R (local_incoming R s.taken p)) z) rows.2
+    ap (λ (q : PlantPair). one (plain q.params incoming gross)) rows.0
+    ∙ ap (λ (z : List ℕ). one (plain p.params z gross)) rows.1
+    ∙ ap (λ (z : List ℕ). one (plain p.params (local_row R (local_incoming R s.taken p)) z)) rows.2
     ∙ (network.drafts_are_the_plan N sized.table sized.loop_free plant s.taken s.planned (plans_of A)
     (works N plant s A w) x at ready).plan

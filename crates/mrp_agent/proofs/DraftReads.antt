@@ -1,6 +1,7 @@
 -- What a call reads of an agent to draft a pair, and what is drafted from that.
 use Rattle.std.proofs.Common.{◌≡◌, ℕ, List, length, sym, ap, ◌∙◌, subst}
-use Rattle.mrp_netting.specs.One.{PlanRows, one}
+use Rattle.mrp_netting.specs.One.{PlanRows}
+use Rattle.mrp_netting.specs.PlanningData.{plain, one}
 use Rattle.mrp_netting.specs.declared.params.PairParams.{PairParams}
 use Rattle.mrp_planning_data.specs.declared.numbers.PairNo.{PairNo}
 use Rattle.mrp_agent.specs.declared.edges.ParentEdge.{ParentEdge}
@@ -64,9 +65,9 @@ module _ {A : AgentState} {I : Indexes} {x : PairNo} {place : ℕ} {params : Pai
   pub draft_asked : HasDraft params receipts demand edges plans
   draft_asked = of_read HasDraft (has_draft A read.placed.kept.view read.placed.kept.rooms x read.can.own read.can.within)
 
-  pub draft_made : one params receipts (grossed demand edges plans) ≡ drafted A x
+  pub draft_made : one (plain params receipts (grossed demand edges plans)) ≡ drafted A x
   draft_made =
-      of_read (λ (p : PairParams) (incoming beside : List ℕ) (es : List ParentEdge) (rows : List PlanRows). one p incoming (grossed beside es rows)
+      of_read (λ (p : PairParams) (incoming beside : List ℕ) (es : List ParentEdge) (rows : List PlanRows). one (plain p incoming (grossed beside es rows))
       ≡ drafted A x)
       (drafted_is A read.placed.kept.view read.placed.kept.rooms x read.can.own)
 

@@ -7,7 +7,7 @@ use Rattle.std.proofs.lemmas.List.FromFn.{fill_by_all, get_or-map-range_with_len
 use Rattle.std.proofs.lemmas.List.{get_or-drop, get_or-take, length-drop, length-take-le}
 use Rattle.std.proofs.lemmas.List.Elements.{All-head, All-tail, All-filter, All-map}
 use Rattle.std.proofs.lemmas.List.Sums.{sum_by-cons, passes_at_first}
-use Rattle.mrp_netting.specs.One.{one}
+use Rattle.mrp_netting.specs.PlanningData.{plain, one}
 use Rattle.mrp_netting.specs.Bound.{IsWithin}
 use Rattle.mrp_planning_data.specs.declared.numbers.PairNo.{PairNo}
 use Rattle.mrp_net.specs.Plan.{no_rows}
@@ -152,8 +152,7 @@ module _ (A : AgentState) (view : IsView A.view) (rooms : HasRooms A) (x : PairN
         (λ k d h. can_ask (get_or A.view.edges k d) (view.edges k d h)));
   }
 
-  pub drafted_is : one (pair_owned A.view x).params (Part A.scheduled_receipts)
-      (grossed (Part A.outside_demand) (edges_at A.view (pair_place A.view x.0)) A.plans) ≡ drafted A x
+  pub drafted_is : one (plain (pair_owned A.view x).params (Part A.scheduled_receipts) (grossed (Part A.outside_demand) (edges_at A.view (pair_place A.view x.0)) A.plans)) ≡ drafted A x
   drafted_is =
-      ap (λ (z : List ℕ). one (pair_owned A.view x).params z (grossed (Part A.outside_demand) (edges_at A.view (pair_place A.view x.0)) A.plans)) receipts_are
-      ∙ ap (λ (z : List ℕ). one (pair_owned A.view x).params (drafted_incoming A x) z) gross_is
+      ap (λ (z : List ℕ). one (plain (pair_owned A.view x).params z (grossed (Part A.outside_demand) (edges_at A.view (pair_place A.view x.0)) A.plans))) receipts_are
+      ∙ ap (λ (z : List ℕ). one (plain (pair_owned A.view x).params (drafted_incoming A x) z)) gross_is

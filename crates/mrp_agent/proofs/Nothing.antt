@@ -6,7 +6,7 @@ use Rattle.std.proofs.lemmas.List.{get_or_default}
 use Rattle.std.proofs.lemmas.List.Elements.{Contains-get_or}
 use Rattle.std.proofs.lemmas.List.Sums.{passes_at_first}
 use Rattle.mrp_qty.specs.declared.quantity.TheConstants.{MOST}
-use Rattle.mrp_netting.specs.One.{one}
+use Rattle.mrp_netting.specs.PlanningData.{plain, one}
 use Rattle.mrp_planning_data.specs.declared.numbers.ItemNo.{ItemNo}
 use Rattle.mrp_planning_data.specs.declared.numbers.PairNo.{PairNo}
 use Rattle.mrp_net.specs.declared.lane.LaneKind.TheVariants.{Schedule}
@@ -155,6 +155,6 @@ draft_is_local A p sent taken planned view there can shows =
     (shows.outside_demand p there t low)
     (omega (arith, most)) in
     omega (arith, demand)) in
-    ap (λ (q : PlantPair). one q.params (local_row V receipts) (local_row V asked)) (pair_is V view p there)
-    ∙ ap (λ (row : List ℕ). one p.params row (local_row V asked)) incoming
-    ∙ ap (λ (row : List ℕ). one p.params (local_row V (local_incoming V taken p)) row) gross
+    ap (λ (q : PlantPair). one (plain q.params (local_row V receipts) (local_row V asked))) (pair_is V view p there)
+    ∙ ap (λ (row : List ℕ). one (plain p.params row (local_row V asked))) incoming
+    ∙ ap (λ (row : List ℕ). one (plain p.params (local_row V (local_incoming V taken p)) row)) gross

@@ -6,7 +6,8 @@ use Rattle.std.proofs.lemmas.Bool.{cases_eq, cases_Bool, eqb-true}
 use Rattle.std.proofs.lemmas.List.{get_or-set_same, get_or-set_other}
 use Rattle.std.proofs.lemmas.List.Elements.{All-head, All-tail}
 use Rattle.std.proofs.lemmas.List.Sums.{sum_by-cons}
-use Rattle.mrp_netting.specs.One.{PlanRows, one}
+use Rattle.mrp_netting.specs.One.{PlanRows}
+use Rattle.mrp_netting.specs.PlanningData.{plain, one}
 use Rattle.mrp_planning_data.specs.declared.numbers.PairNo.{PairNo}
 use Rattle.mrp_net.specs.declared.lane.LaneKind.TheVariants.{Schedule}
 use Rattle.mrp_net.specs.Plan.{no_rows}
@@ -72,7 +73,7 @@ local_same V taken plans others p h =
     map_same (local_gross V taken plans p) (local_gross V taken others p) 0 V.horizon
     (λ t _. let asked = asked_same V plans others p.number.0 t V.edges h in
     ap (λ (n : ℕ). amount_at V V.demands p.number t + n + booked_on Schedule V taken p.item t) asked) in
-    ap (λ (row : List ℕ). one p.params (local_row V (local_incoming V taken p)) row) gross
+    ap (λ (row : List ℕ). one (plain p.params (local_row V (local_incoming V taken p)) row)) gross
 
 -- ---- which pairs are planned
 

@@ -4,7 +4,8 @@ use Rattle.std.specs.List.{All, Contains}
 use Rattle.std.proofs.lemmas.Bool.{both_ways}
 use Rattle.std.proofs.lemmas.List.{get_or-set_other}
 use Rattle.std.proofs.lemmas.List.Elements.{Contains-get_or}
-use Rattle.mrp_netting.specs.One.{PlanRows, one}
+use Rattle.mrp_netting.specs.One.{PlanRows}
+use Rattle.mrp_netting.specs.PlanningData.{plain, one}
 use Rattle.mrp_planning_data.specs.declared.numbers.PairNo.{PairNo}
 use Rattle.mrp_net.proofs.Members.{In, In-from_contains, In-map, All-in}
 use Rattle.mrp_net.specs.Plan.{no_rows}
@@ -60,7 +61,7 @@ module _ (A : AgentState) (I : Indexes) (x : PairNo) (kept : IsKept A I) (can : 
       map_same (λ (t : ℕ). amount_at V A.outside_demand y t + asked_within V (plans_of Next) y t)
       (λ (t : ℕ). amount_at V A.outside_demand y t + asked_within V (plans_of A) y t) 0 V.horizon
       (λ t h. ap (λ (n : ℕ). amount_at V A.outside_demand y t + n) (sym (asked_same V (plans_of A) (plans_of Next) y.0 t V.edges parents))) in
-      ap (λ (row : List ℕ). one (pair_owned V y).params (drafted_incoming A y) row) gross
+      ap (λ (row : List ℕ). one (plain (pair_owned V y).params (drafted_incoming A y) row)) gross
 
 abbrev Written : AgentState → PairNo → ℕ → AgentState
 Written A x place = record A { plans = set A.plans place (drafted A x) }

@@ -1,6 +1,7 @@
 -- What an agent drafts for a pair: the plan by the rows that it has.
 use Rattle.std.specs.Prelude.{ℕ, ◌+◌, List, map, Contains}
-use Rattle.mrp_netting.specs.One.{PlanRows, one}
+use Rattle.mrp_netting.specs.One.{PlanRows}
+use Rattle.mrp_netting.specs.PlanningData.{plain, one}
 use Rattle.mrp_netting.specs.Bound.{IsWithin}
 use Rattle.mrp_planning_data.specs.declared.numbers.PairNo.{PairNo}
 use Rattle.mrp_plant_view.specs.Seen.{IsOwnPair}
@@ -17,7 +18,7 @@ drafted_gross A x = local_row A.view (λ t. amount_at A.view A.outside_demand x 
 
 -- the plan of a pair of the plant by these rows
 abbrev pub drafted : AgentState → PairNo → PlanRows
-drafted A x = one (pair_owned A.view x).params (drafted_incoming A x) (drafted_gross A x)
+drafted A x = one (plain (pair_owned A.view x).params (drafted_incoming A x) (drafted_gross A x))
 
 -- the numbers of the pairs that can be planned
 abbrev pub ready_numbers : AgentState → List PairNo

@@ -2,7 +2,7 @@
 
 ghost use Rattle.std.specs.Prelude.{◌≡◌, ◌<◌, ◌≤◌, ◌+◌, ◌*◌, ℕ, All, length, map, slice_index};
 ghost use Rattle.mrp_qty.specs.declared.quantity.TheConstants.{MOST};
-ghost use Rattle.mrp_netting.specs.One.{one};
+ghost use Rattle.mrp_netting.specs.PlanningData.{plain, one};
 ghost use Rattle.mrp_grouping.specs.Starts.{IsGrouped};
 ghost use Rattle.mrp_agent.specs.Asking.{ParentCanAsk, HasDraft, asked_by, asked_on, grossed};
 ghost use Rattle.mrp_agent.specs.Kept.{parent_edge};
@@ -107,8 +107,8 @@ pub(crate) fn draft_from(
     requires incoming { length incoming.old ≡ length rows.now.receipts.now }
     requires gross { length gross.old ≡ length rows.now.demand.now }
     requires into { length into.old.gross ≡ length rows.now.demand.now }
-    ensures plan { into.new ≡ one rows.now.params rows.now.receipts.now
-        (grossed rows.now.demand.now rows.now.edges.now plans.now) }
+    ensures plan { into.new ≡ one (plain rows.now.params rows.now.receipts.now
+        (grossed rows.now.demand.now rows.now.edges.now plans.now)) }
     ensures incoming { length incoming.new ≡ length incoming.old }
     ensures gross { length gross.new ≡ length gross.old }
 {

@@ -1,7 +1,7 @@
 //! What the plan of a pair is drafted in.
 
 ghost use Rattle.std.specs.Prelude.{◌≡◌, IfOk, length};
-ghost use Rattle.mrp_netting.specs.One.{one};
+ghost use Rattle.mrp_netting.specs.PlanningData.{plain, one};
 ghost use Rattle.mrp_netting.specs.Plan.{nothing_planned};
 ghost use Rattle.mrp_agent.specs.Asking.{HasDraft, grossed};
 ghost use Rattle.mrp_agent.specs.Drafts.{CanDraft, drafted};
@@ -76,8 +76,8 @@ impl Room {
         requires draft { HasDraft rows.now.params rows.now.receipts.now rows.now.demand.now rows.now.edges.now
             plans.now }
         requires periods { length self.old.gross ≡ length rows.now.demand.now }
-        ensures { self.new ≡ one rows.now.params rows.now.receipts.now
-            (grossed rows.now.demand.now rows.now.edges.now plans.now) }
+        ensures { self.new ≡ one (plain rows.now.params rows.now.receipts.now
+            (grossed rows.now.demand.now rows.now.edges.now plans.now)) }
     {
         draft_from(
             rows,

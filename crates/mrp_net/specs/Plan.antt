@@ -2,7 +2,8 @@
 -- releases of its demanders.
 use Rattle.std.specs.Prelude.{ℕ, ◌+◌, zero, suc, List, [], length, map, sum_by, slice_index, slice_index_or}
 use Rattle.std.specs.List.{range_with_len}
-use Rattle.mrp_netting.specs.One.{PlanRows, one}
+use Rattle.mrp_netting.specs.One.{PlanRows}
+use Rattle.mrp_netting.specs.PlanningData.{plain, one}
 use Rattle.mrp_planning_data.specs.Table.{Table}
 use Rattle.mrp_net.specs.declared.edge.Edge.{Edge}
 use Rattle.mrp_net.specs.Edges.{demanders, edge_need}
@@ -26,7 +27,7 @@ gross N table x t = demand N x t + asked table (demanders N x) t
 
 -- the plan of a pair beside the plans of its demanders
 abbrev pub pair_plan : Table → List PlanRows → ℕ → PlanRows
-pair_plan N table x = one (params_at N x) (row_of N (incoming N x)) (row_of N (gross N table x))
+pair_plan N table x = one (plain (params_at N x) (row_of N (incoming N x)) (row_of N (gross N table x)))
 
 -- rounds of planning: in each, every pair is planned beside the releases of the round before; in the
 -- first nothing was released

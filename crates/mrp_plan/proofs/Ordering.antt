@@ -5,7 +5,8 @@ use Rattle.std.specs.List.{filter, range_with_len, sum_by}
 use Rattle.std.proofs.lemmas.Bool.{and_from, and_left, and_right, cond_both, eqb-true, eq-eqb, le-ltb, lt-ltb, ltb-false, ltb-true, true≢false}
 use Rattle.std.proofs.lemmas.List.FromFn.{get_or-map-range_with_len, length-map-range_with_len}
 use Rattle.std.proofs.lemmas.List.Sums.{sum_by-cons}
-use Rattle.mrp_netting.specs.One.{PlanRows, is_late, late_order, late_orders, one, release_row, released}
+use Rattle.mrp_netting.specs.One.{PlanRows, is_late, late_order, late_orders, release_row, released}
+use Rattle.mrp_netting.specs.PlanningData.{plain, one}
 use Rattle.mrp_netting.specs.declared.params.Late.{Late}
 use Rattle.mrp_netting.specs.declared.params.PairParams.{PairParams}
 use Rattle.mrp_netting.proofs.OneLaws.{length-one-order}
@@ -65,15 +66,15 @@ released_in lead r rows (t ∷ ts) =
     omega (arith, rest, whole, is))
 
 -- the release row of the plan of one pair
-row_is : (pair : PairParams) (incoming gross : List ℕ) (r : ℕ) → slice_index (one pair incoming gross).release r
-    ≡ slice_index (release_row pair.lead (one pair incoming gross).order) r
+row_is : (pair : PairParams) (incoming gross : List ℕ) (r : ℕ) → slice_index (one (plain pair incoming gross)).release r
+    ≡ slice_index (release_row pair.lead (one (plain pair incoming gross)).order) r
 unfolding one
 row_is pair incoming gross r = refl
 
 one_release : (pair : PairParams) (incoming gross : List ℕ) (n r : ℕ) → length gross ≡ n → r < n
-    → slice_index (one pair incoming gross).release r ≡ sum_by (part_in pair.lead (one pair incoming gross).order r) (range_with_len 0 n)
+    → slice_index (one (plain pair incoming gross)).release r ≡ sum_by (part_in pair.lead (one (plain pair incoming gross)).order r) (range_with_len 0 n)
 one_release pair incoming gross n r same lt =
-    let order = (one pair incoming gross).order in
+    let order = (one (plain pair incoming gross)).order in
     let size : length order ≡ n = length-one-order pair incoming gross ∙ same in
     row_is pair incoming gross r
     ∙ get_or-map-range_with_len (released pair.lead order (length order)) 0 (length order) r r 0 (omega (arith, size, lt)) (omega arith)
@@ -121,15 +122,15 @@ late_in lead rows (t ∷ ts) =
     (λ free. rest ∙ sym (ap kept (late_free lead (slice_index rows.order t) t (nothing (slice_index rows.order t) free))))
 
 -- the late orders of the plan of one pair
-one_late : (pair : PairParams) (incoming gross : List ℕ) → (one pair incoming gross).late ≡ late_orders pair.lead (one pair incoming gross).order
+one_late : (pair : PairParams) (incoming gross : List ℕ) → (one (plain pair incoming gross)).late ≡ late_orders pair.lead (one (plain pair incoming gross)).order
 unfolding one
 one_late pair incoming gross = refl
 
 one_late_in : (pair : PairParams) (incoming gross : List ℕ) (n : ℕ) → length gross ≡ n
-    → (one pair incoming gross).late ≡ map (late_order pair.lead (one pair incoming gross).order)
-    (filter (is_late pair.lead (one pair incoming gross).order) (range_with_len 0 n))
+    → (one (plain pair incoming gross)).late ≡ map (late_order pair.lead (one (plain pair incoming gross)).order)
+    (filter (is_late pair.lead (one (plain pair incoming gross)).order) (range_with_len 0 n))
 one_late_in pair incoming gross n same =
-    let order = (one pair incoming gross).order in
+    let order = (one (plain pair incoming gross)).order in
     one_late pair incoming gross
     ∙ ap (λ m. map (late_order pair.lead order) (filter (is_late pair.lead order) (range_with_len 0 m))) (length-one-order pair incoming gross ∙ same)
 

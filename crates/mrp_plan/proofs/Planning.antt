@@ -8,7 +8,8 @@ use Rattle.std.proofs.lemmas.List.FromFn.{fill_by_all, get_or-map-range_with_len
 use Rattle.std.proofs.lemmas.List.Sums.{sum_by-cons, sum-map}
 use Rattle.std.proofs.Math.Nat.{mul-le-mul_left}
 use Rattle.mrp_lot.specs.Lot.{rule_quantities}
-use Rattle.mrp_netting.specs.One.{PlanRows, one}
+use Rattle.mrp_netting.specs.One.{PlanRows}
+use Rattle.mrp_netting.specs.PlanningData.{plain, one}
 use Rattle.mrp_netting.specs.Bound.{IsWithin}
 use Rattle.mrp_netting.proofs.OneLaws.{release_at, releases-le, one-release, length-one-release}
 use Rattle.mrp_qty.proofs.RangeLaws.{map-range-same}
@@ -54,7 +55,7 @@ pair_plan-same N old new x same =
     ap (λ (s : ℕ). demand N x t + s)
     (sum_by-same_all (λ (e : Edge). edge_need e t (slice_index (rows_at new e.demander.0).release t))
     (λ (e : Edge). edge_need e t (slice_index (rows_at old e.demander.0).release t)) no_edge (demanders N x) (asks t)) in
-    ap (one (params_at N x) (row_of N (incoming N x))) (map-range-same (gross N new x) (gross N old x) (horizon N) each)
+    ap (λ (row : List ℕ). one (plain (params_at N x) (row_of N (incoming N x)) row)) (map-range-same (gross N new x) (gross N old x) (horizon N) each)
 
 -- the plan of a pair has a release for each period, and its gross requirements
 pub pair_plan-release : (N : Table) (table : List PlanRows) (x : ℕ) → length (pair_plan N table x).release ≡ horizon N

@@ -2,7 +2,8 @@
 use Rattle.std.proofs.Common.{◌≡◌, ℕ, ◌*◌, ◌<◌, ◌==◌, Bool, cond, List, get_or, refl, sym, ap, ◌∙◌, subst, arith, All, slice_index}
 use Rattle.std.specs.List.{sum_by}
 use Rattle.std.proofs.lemmas.Bool.{eqb-true}
-use Rattle.mrp_netting.specs.One.{PlanRows, one}
+use Rattle.mrp_netting.specs.One.{PlanRows}
+use Rattle.mrp_netting.specs.PlanningData.{plain, one}
 use Rattle.mrp_qty.proofs.RangeLaws.{map-range-same}
 use Rattle.mrp_planning_data.specs.Table.{Table, IsTable, horizon}
 use Rattle.mrp_net.specs.declared.lane.LaneKind.{LaneKind}
@@ -90,10 +91,10 @@ module _ (N : Table) (is : IsTable N) (plant : ℕ) (taken : ℕ → List Record
 -- rows of the same amounts have the same plan
 same_plan : (N : Table) (x : ℕ) (comes asked other_comes other_asked : ℕ → ℕ) → ((t : ℕ) → t < horizon N → comes t ≡ other_comes t)
     → ((t : ℕ) → t < horizon N → asked t ≡ other_asked t)
-    → one (params_at N x) (row_of N comes) (row_of N asked) ≡ one (params_at N x) (row_of N other_comes) (row_of N other_asked)
+    → one (plain (params_at N x) (row_of N comes) (row_of N asked)) ≡ one (plain (params_at N x) (row_of N other_comes) (row_of N other_asked))
 same_plan N x comes asked other_comes other_asked same_comes same_asked =
-    ap (λ (row : List ℕ). one (params_at N x) row (row_of N asked)) (map-range-same comes other_comes (horizon N) same_comes)
-    ∙ ap (one (params_at N x) (row_of N other_comes)) (map-range-same asked other_asked (horizon N) same_asked)
+    ap (λ (row : List ℕ). one (plain (params_at N x) row (row_of N asked))) (map-range-same comes other_comes (horizon N) same_comes)
+    ∙ ap (λ (row : List ℕ). one (plain (params_at N x) (row_of N other_comes) row)) (map-range-same asked other_asked (horizon N) same_asked)
 
 module _ (N : Table) (is : IsTable N) (plant : ℕ) (planned : ℕ → Bool) (taken : ℕ
     → List Record) (legal : AreLegal N plant taken) (x : ℕ) (at : IsPairAt N plant x)

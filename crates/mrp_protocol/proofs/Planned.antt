@@ -5,7 +5,8 @@ use Rattle.std.specs.List.{list_any, range_with_len}
 use Rattle.std.proofs.lemmas.Bool.{cases_eq, eqb-true, false≢true}
 use Rattle.std.proofs.lemmas.List.{map-append}
 use Rattle.std.proofs.lemmas.List.Elements.{filter-append, Contains-get_or}
-use Rattle.mrp_netting.specs.One.{PlanRows, one}
+use Rattle.mrp_netting.specs.One.{PlanRows}
+use Rattle.mrp_netting.specs.PlanningData.{plain, one}
 use Rattle.mrp_planning_data.specs.declared.numbers.ItemNo.{ItemNo}
 use Rattle.mrp_planning_data.specs.declared.rows.BillRow.{BillRow}
 use Rattle.mrp_planning_data.specs.Table.{Table, IsTable, IsPair, IsBillRow, horizon, plant_at}
@@ -160,8 +161,8 @@ module _ (N : Table) (table : IsTable N) (free : IsLoopFree N) (plant : ℕ) (pl
       let asked : row_of N (gross_brought N taken plans x) ≡ row_of N (gross N (plan_of N) x) =
       same_row N (gross_brought N taken plans x) (gross N (plan_of N) x) (local_gross_is x pair here local.0 right) in
       local.1
-      ∙ ap (λ (row : List ℕ). one (params_at N x) row (row_of N (gross_brought N taken plans x))) ins
-      ∙ ap (λ (row : List ℕ). one (params_at N x) (row_of N (incoming N x)) row) asked
+      ∙ ap (λ (row : List ℕ). one (plain (params_at N x) row (row_of N (gross_brought N taken plans x)))) ins
+      ∙ ap (λ (row : List ℕ). one (plain (params_at N x) (row_of N (incoming N x)) row)) asked
       ∙ sym ((one_plan N table free).fits.rows x pair)
 
 pub local_plans_are_the_plan : LocalPlansAreThePlan

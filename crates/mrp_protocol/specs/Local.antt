@@ -1,7 +1,8 @@
 -- Local plans: what a pair's plan is made of at its own plant, and that it is the plan of the network.
 use Rattle.std.specs.Prelude.{◌≡◌, ℕ, ◌+◌, ◌<◌, ◌==◌, ◌&&◌, if◌then◌else◌, Bool, true, List, length, sum_by}
 use Rattle.std.specs.List.{range_with_len}
-use Rattle.mrp_netting.specs.One.{PlanRows, one}
+use Rattle.mrp_netting.specs.One.{PlanRows}
+use Rattle.mrp_netting.specs.PlanningData.{plain, one}
 use Rattle.mrp_planning_data.specs.Table.{Table, IsTable, IsPair, horizon}
 use Rattle.mrp_net.specs.declared.lane.LaneKind.{LaneKind}
 use Rattle.mrp_net.specs.Lanes.{lanes, lane_at}
@@ -44,7 +45,7 @@ gross_brought N taken plans x period =
 -- its local plan, beside the plans of its parents
 abbrev pub plan_brought : Table → (ℕ → List Record) → List PlanRows → ℕ → PlanRows
 plan_brought N taken plans x =
-    one (params_at N x) (row_of N (incoming_brought N taken x)) (row_of N (gross_brought N taken plans x))
+    one (plain (params_at N x) (row_of N (incoming_brought N taken x)) (row_of N (gross_brought N taken plans x)))
 
 -- what has been taken is a legal beginning on each lane to the plant
 abbrev pub AreLegal : Table → ℕ → (ℕ → List Record) → Type 0

@@ -4,7 +4,8 @@
 use Rattle.std.specs.Prelude.{◌≡◌, ℕ, ◌+◌, ◌*◌, ◌==◌, if◌then◌else◌, not, Bool, true, false}
 use Rattle.std.specs.Prelude.{List, map, filter, sum_by, slice_index, All, Contains}
 use Rattle.std.specs.List.{position_or_len, range_with_len}
-use Rattle.mrp_netting.specs.One.{PlanRows, one}
+use Rattle.mrp_netting.specs.One.{PlanRows}
+use Rattle.mrp_netting.specs.PlanningData.{plain, one}
 use Rattle.mrp_planning_data.specs.declared.numbers.ItemNo.{ItemNo}
 use Rattle.mrp_planning_data.specs.declared.numbers.PairNo.{PairNo}
 use Rattle.mrp_net.specs.declared.lane.LaneKind.{LaneKind}
@@ -69,7 +70,7 @@ local_row V amount = map amount (range_with_len 0 V.horizon)
 
 abbrev pub local_plan : PlantRows → (ℕ → List Record) → (ℕ → PlanRows) → PlantPair → PlanRows
 local_plan V taken plans p =
-    one p.params (local_row V (local_incoming V taken p)) (local_row V (local_gross V taken plans p))
+    one (plain p.params (local_row V (local_incoming V taken p)) (local_row V (local_gross V taken plans p)))
 
 -- ---- which pairs can be planned
 

@@ -1,7 +1,8 @@
 -- The rows of a pair's plan have all periods.
 use Rattle.std.proofs.Common.{◌≡◌, ℕ, List, length, subst, sym, ap, arith}
 use Rattle.std.proofs.lemmas.List.FromFn.{length-map-range_with_len}
-use Rattle.mrp_netting.specs.One.{PlanRows, one}
+use Rattle.mrp_netting.specs.One.{PlanRows}
+use Rattle.mrp_netting.specs.PlanningData.{plain, one}
 use Rattle.mrp_netting.proofs.OneLaws.{one-gross, one-incoming, length-one-order, length-one-release, length-one-available}
 use Rattle.mrp_netting.specs.declared.params.PairParams.{PairParams}
 use Rattle.mrp_planning_data.specs.Table.{Table, IsPair, horizon}
@@ -11,7 +12,7 @@ use Rattle.mrp_net.specs.PlanLaws.{Fits}
 use Rattle.mrp_report.specs.Parts.{HasPeriods}
 
 -- the rows of a pair's plan have the periods of its given rows
-one_has : (pair : PairParams) (incoming gross : List ℕ) (n : ℕ) → length incoming ≡ n → length gross ≡ n → HasPeriods (one pair incoming gross) n
+one_has : (pair : PairParams) (incoming gross : List ℕ) (n : ℕ) → length incoming ≡ n → length gross ≡ n → HasPeriods (one (plain pair incoming gross)) n
 one_has pair incoming gross n same_incoming same_gross t lt = record {
   gross = omega (arith, ap (λ (row : List ℕ). length row) (one-gross pair incoming gross));
   incoming = omega (arith, ap (λ (row : List ℕ). length row) (one-incoming pair incoming gross));

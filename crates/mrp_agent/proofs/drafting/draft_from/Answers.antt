@@ -1,5 +1,6 @@
 use Rattle.std.proofs.Common.{◌≡◌, ℕ, ◌+◌, ◌<◌, ◌≤◌, List, length, slice_index, sym, ap, ◌∙◌, subst}
-use Rattle.mrp_netting.specs.One.{PlanRows, one}
+use Rattle.mrp_netting.specs.One.{PlanRows}
+use Rattle.mrp_netting.specs.PlanningData.{plain, one}
 use Rattle.mrp_netting.specs.Bound.{IsWithin}
 use Rattle.mrp_qty.specs.declared.quantity.TheConstants.{MOST}
 use Rattle.mrp_agent.specs.declared.edges.ParentEdge.{ParentEdge}
@@ -41,8 +42,8 @@ returns-clause-plan c =
     asked_added c.args.rows.now.demand.now c.copy_pieces-2.new.self c.add_asked.new.gross c.args.rows.now.edges.now c.args.plans.now c.copy_pieces-2.ensures
     c.add_asked.ensures.size c.add_asked.ensures.each in
     c.plan_pair.ensures
-    ∙ ap (λ (row : List ℕ). one c.args.rows.now.params row c.add_asked.new.gross) c.copy_pieces.ensures
-    ∙ ap (λ (row : List ℕ). one c.args.rows.now.params c.args.rows.now.receipts.now row) gross
+    ∙ ap (λ (row : List ℕ). one (plain c.args.rows.now.params row c.add_asked.new.gross)) c.copy_pieces.ensures
+    ∙ ap (λ (row : List ℕ). one (plain c.args.rows.now.params c.args.rows.now.receipts.now row)) gross
 
 pub copy_pieces-requires-clause-periods : goal.copy_pieces-requires-clause-periods
 copy_pieces-requires-clause-periods c = c.requires.incoming

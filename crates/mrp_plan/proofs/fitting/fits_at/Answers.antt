@@ -1,6 +1,7 @@
 use Rattle.std.proofs.Common.{◌≡◌, ℕ, Bool, true, false, List, sym, ap, ◌∙◌, subst}
 use Rattle.std.proofs.lemmas.Bool.{false≢true}
-use Rattle.mrp_netting.specs.One.{PlanRows, one}
+use Rattle.mrp_netting.specs.One.{PlanRows}
+use Rattle.mrp_netting.specs.PlanningData.{plain, one}
 use Rattle.mrp_netting.specs.Bound.{IsWithin}
 use Rattle.mrp_netting.specs.declared.params.PairParams.{PairParams}
 use Rattle.mrp_planning_data.specs.Rows.{params_of}
@@ -46,10 +47,10 @@ returns c =
     let i : c.pair-own.result.now.incoming ≡ row_of N (incoming N x) = sym c.incoming.ensures ∙ c.has_incoming.ensures.0 c.if-not-has_incoming.false in
     let g : c.pair-own.result.now.gross ≡ row_of N (gross N c.args.plan.now x) = sym c.gross.ensures ∙ c.has_gross.ensures.0 c.if-not-has_gross.false in
     let p : c.params.result ≡ params_at N x = c.params.ensures ∙ ap params_of c.pair.ensures in
-    let same : one c.params.result c.pair-own.result.now.incoming c.pair-own.result.now.gross ≡ pair_plan N c.args.plan.now x =
-    ap (λ (q : PairParams). one q c.pair-own.result.now.incoming c.pair-own.result.now.gross) p
-    ∙ ap (λ (r : List ℕ). one (params_at N x) r c.pair-own.result.now.gross) i
-    ∙ ap (one (params_at N x) (row_of N (incoming N x))) g in (
+    let same : one (plain c.params.result c.pair-own.result.now.incoming c.pair-own.result.now.gross) ≡ pair_plan N c.args.plan.now x =
+    ap (λ (q : PairParams). one (plain q c.pair-own.result.now.incoming c.pair-own.result.now.gross)) p
+    ∙ ap (λ (r : List ℕ). one (plain (params_at N x) r c.pair-own.result.now.gross)) i
+    ∙ ap (λ (r : List ℕ). one (plain (params_at N x) (row_of N (incoming N x)) r)) g in (
       λ yes. sym own ∙ c.is_plan.ensures.0 yes ∙ same,
       λ is. c.is_plan.ensures.1 (own ∙ is ∙ sym same),
     )

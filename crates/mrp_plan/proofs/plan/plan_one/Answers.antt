@@ -1,7 +1,8 @@
 use Rattle.std.proofs.Common.{◌≡◌, ◌<◌, ◌≤◌, ◌+◌, ℕ, List, length, sum, slice_index, slice_set, arith, ap, sym, ◌∙◌, subst}
 use Rattle.std.proofs.lemmas.List.{get_or_default}
 use Rattle.std.specs.List.{All}
-use Rattle.mrp_netting.specs.One.{PlanRows, one}
+use Rattle.mrp_netting.specs.One.{PlanRows}
+use Rattle.mrp_netting.specs.PlanningData.{plain, one}
 use Rattle.mrp_netting.specs.Bound.{IsWithin}
 use Rattle.mrp_netting.specs.declared.params.PairParams.{PairParams}
 use Rattle.mrp_planning_data.specs.Rows.{params_of}
@@ -87,8 +88,8 @@ returns-clause-planned c =
     gross_row N c.args.plans.now x c.explode_all.new.gross (c.explode_all.ensures.size ∙ ap (λ (r : List ℕ). length r) c.fill_demand.ensures) each in
     let params : c.params-params.result ≡ params_at N x = c.params-params.ensures ∙ ap params_of c.pair.ensures in
     let planned : c.plan_pair.new.into ≡ pair_plan N c.args.plans.now x =
-    c.plan_pair.ensures ∙ ap (λ (p : PairParams). one p c.fill_incoming.new.row c.explode_all.new.gross) params
-    ∙ ap (λ (r : List ℕ). one (params_at N x) r c.explode_all.new.gross) c.fill_incoming.ensures ∙ ap (one (params_at N x) (row_of N (incoming N x))) is_gross
+    c.plan_pair.ensures ∙ ap (λ (p : PairParams). one (plain p c.fill_incoming.new.row c.explode_all.new.gross)) params
+    ∙ ap (λ (r : List ℕ). one (plain (params_at N x) r c.explode_all.new.gross)) c.fill_incoming.ensures ∙ ap (λ (r : List ℕ). one (plain (params_at N x) (row_of N (incoming N x)) r)) is_gross
     in
     ap (slice_set c.args.plans.now x) planned
 
