@@ -59,7 +59,7 @@ pairs=${2:-20000}
 folder=$(mktemp -d)
 trap 'rm -rf "$folder"' EXIT
 
-make_room "$folder" firm mrp_qty mrp_planning_data mrp_tables mrp_net mrp_plant_view mrp_loops mrp_plan mrp_record mrp_protocol \
+make_room "$folder" firm mrp_qty mrp_master_data mrp_tables mrp_net mrp_plant_view mrp_loops mrp_plan mrp_record mrp_protocol \
     mrp_agent mrp_crew mrp_world
 if [ "${alone:-}" ]; then make_plant "$pairs"; else make_table "$plants" "$pairs"; fi >"$folder/table.csv"
 (cd "$folder/crates/bench_firm" && rt run -- plan <"$folder/table.csv" >/dev/null)

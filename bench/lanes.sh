@@ -22,7 +22,7 @@ items=${3:-1}
 folder=$(mktemp -d)
 trap 'rm -rf "$folder"' EXIT
 
-make_room "$folder" lanes mrp_qty mrp_planning_data mrp_tables mrp_net mrp_loops mrp_record mrp_protocol mrp_lane \
+make_room "$folder" lanes mrp_qty mrp_master_data mrp_tables mrp_net mrp_loops mrp_record mrp_protocol mrp_lane \
     atomic_table crossbeam_queue
 
 # Two plants: A takes X and the other items from B, and B ships X one by one. The last records are the ends of

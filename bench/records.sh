@@ -14,7 +14,7 @@ rows=${2:-4000000}
 folder=$(mktemp -d)
 trap 'rm -rf "$folder"' EXIT
 
-make_room "$folder" records mrp_qty mrp_planning_data mrp_tables mrp_net mrp_record mrp_record_csv mrp_book csv
+make_room "$folder" records mrp_qty mrp_master_data mrp_tables mrp_net mrp_record mrp_record_csv mrp_book csv
 (cd "$folder/crates/bench_records" && rt run -- book 1 1 >/dev/null)
 program=$folder/crates/bench_records/out/bench_records
 rustc --edition 2021 -C opt-level=3 -C panic=abort -o "$folder/counters" "$top/bench/records/counters.rs"

@@ -12,7 +12,7 @@ import crates
 from support import TOP
 
 OTHER_PLANNERS = {"mrp_plan", "mrp_world"}
-PLANNER = f"{crates.TOP}/crates/mrp_planner/src"
+PLANNER = f"{crates.TOP}/crates/mrp_api/src"
 # An import of the function that plans a network as a whole, or its whole name.
 PLANS_ALL = re.compile(r"\bmrp_plan::(?:\{[^}]*?\b)?plan_all\b")
 

@@ -16,7 +16,7 @@ def test_try_runs_the_tests_of_crates(room):
     room.stand_in("words/rt", "rt_tests")
     said = room.run("FAILS=none tools/try --test").splitlines()
     assert said[-1] == f"{len(said) - 1} passed, 0 failed"
-    assert {"mrp_cases: passed", "mrp_firm_cases: passed"} <= {*said}
+    assert {"mrp_api_tests: passed", "mrp_run_tests: passed"} <= {*said}
     assert room.run("FAILS=none tools/try --test mrp_qty") == "mrp_qty: passed\n1 passed, 0 failed\n"
     wanted = "mrp_qty: FAILED\ntry --test of mrp_qty\nmrp_cal: passed\n1 passed, 1 failed\n"
     assert room.run("FAILS=mrp_qty tools/try --test mrp_qty mrp_cal", status=1) == wanted

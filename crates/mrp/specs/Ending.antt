@@ -4,9 +4,9 @@ use Rattle.mrp_command_line.specs.declared.meaning.Meaning.{Meaning}
 use Rattle.mrp_command_line.specs.declared.meaning.Meaning.TheVariants as means
 use Rattle.mrp_csv_out.specs.declared.fault.ReportFault.{ReportFault}
 use Rattle.mrp_csv_out.specs.declared.fault.ReportFault.TheVariants as report
-use Rattle.mrp_planner.specs.declared.fault.TextFault.{TextFault}
-use Rattle.mrp_planner.specs.declared.fault.TextFault.TheVariants as fault
-use Rattle.mrp_planner.specs.Ending.{help_fault, help_status}
+use Rattle.mrp_api.specs.declared.fault.TextFault.{TextFault}
+use Rattle.mrp_api.specs.declared.fault.TextFault.TheVariants as fault
+use Rattle.mrp_api.specs.Ending.{help_fault, help_status}
 
 -- after the words were refused: 3 for want of memory, that of help after help or the version, and else 2
 abbrev pub refusal_status : {U E : Type 0} → Meaning → Result U E → ℕ

@@ -1,18 +1,18 @@
 //! `mrp` plans the material of all plants of a firm at once.
 //!
-//! The program is thin: words in, one call of the library `mrp_planner`, a status out.
+//! The program is thin: words in, one call of the library `mrp_api`, a status out.
 //!
 //! Nobody uses it: it is what a planner runs.
-//! Keeps true: the program decides nothing; what it writes and its status are those of `mrp_planner`.
+//! Keeps true: the program decides nothing; what it writes and its status are those of `mrp_api`.
 #![tactic(auto)]
 
 ghost use Rattle.std.specs.Prelude.{◌≡◌};
 ghost use Rattle.std.specs.Process.{exit_status};
-ghost use Rattle.mrp_planner.specs.Ending.{Reports};
+ghost use Rattle.mrp_api.specs.Ending.{Reports};
 ghost use Rattle.mrp.specs.Ending.{refusal_fault, refusal_printed, refusal_status};
 
 use mrp_command_line::{ChooseFault, Meaning, choose, means, named_words};
-use mrp_planner::{Ending, REFUSED, TextFault, after_help, answer, ended, unread};
+use mrp_api::{Ending, REFUSED, TextFault, after_help, answer, ended, unread};
 use mrp_report::{ReportFault, send};
 use std::env::FillError;
 use std::io::{IsTerminal, Stderr, Write};

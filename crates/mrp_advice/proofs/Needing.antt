@@ -5,7 +5,7 @@ use Rattle.std.proofs.lemmas.Bool.{cases_Bool, cond-true, lt-ltb, ltb-false, ltb
 use Rattle.std.proofs.lemmas.List.{take-take}
 use Rattle.std.proofs.lemmas.List.Sums.{sum_by_more, sum_by-take-le}
 use Rattle.mrp_qty.proofs.RangeLaws.{sum_by-range-suc}
-use Rattle.mrp_planning_data.specs.declared.rows.PairRow.{PairRow}
+use Rattle.mrp_master_data.specs.declared.rows.PairRow.{PairRow}
 use Rattle.mrp_advice.specs.declared.orders.OpenOrder.{OpenOrder}
 use Rattle.mrp_advice.specs.Advice.{no_order, open_order_at}
 use Rattle.mrp_advice.specs.AdviceLaws.{NeedsRise, TimelyOrdersSuffice, timely}

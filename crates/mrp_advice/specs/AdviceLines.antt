@@ -2,8 +2,8 @@
 use Rattle.std.specs.Prelude.{◌≡◌, ℕ, ◌+◌, ◌<◌, ◌≤◌, List, [], length, sum, sum_by, All, Option, Some, None, IfSome}
 use Rattle.std.specs.List.{flat_map}
 use Rattle.mrp_qty.specs.declared.quantity.TheConstants.{MOST}
-use Rattle.mrp_planning_data.specs.declared.rows.PairRow.{PairRow}
-use Rattle.mrp_planning_data.specs.Table.{Table, horizon}
+use Rattle.mrp_master_data.specs.declared.rows.PairRow.{PairRow}
+use Rattle.mrp_master_data.specs.Table.{Table, horizon}
 use Rattle.mrp_csv_out.specs.Dates.{dates_of}
 use Rattle.mrp_csv_out.specs.Names.{item_of, plant_of}
 use Rattle.mrp_advice.specs.declared.advice.Advice.{Advice}

@@ -1,7 +1,7 @@
 -- When an open order is needed.
 use Rattle.std.specs.Prelude.{ℕ, ◌+◌, Bool, false, nat_le, nat_lt, List, length, take, sum, sum_by, Option, Some, None}
 use Rattle.std.specs.List.{find, range_with_len}
-use Rattle.mrp_planning_data.specs.declared.rows.PairRow.{PairRow}
+use Rattle.mrp_master_data.specs.declared.rows.PairRow.{PairRow}
 use Rattle.mrp_advice.specs.declared.orders.OpenOrder.{OpenOrder}
 
 -- the gross requirements of the periods up to one, that one included

@@ -1,9 +1,9 @@
 -- The open orders of a pair: the receipts and the shipments of the table, which are still to come in.
 use Rattle.std.specs.Prelude.{ℕ, ◌==◌, ◌&&◌, List, ◌++◌, map, filter}
 use Rattle.std.specs.List.{flat_map, range_with_len}
-use Rattle.mrp_planning_data.specs.declared.rows.ReceiptRow.{ReceiptRow}
-use Rattle.mrp_planning_data.specs.declared.rows.ShipRow.{ShipRow}
-use Rattle.mrp_planning_data.specs.Table.{Table, horizon}
+use Rattle.mrp_master_data.specs.declared.rows.ReceiptRow.{ReceiptRow}
+use Rattle.mrp_master_data.specs.declared.rows.ShipRow.{ShipRow}
+use Rattle.mrp_master_data.specs.Table.{Table, horizon}
 use Rattle.mrp_advice.specs.declared.orders.OpenOrder.{OpenOrder}
 use Rattle.mrp_advice.specs.declared.orders.OrderKind.TheVariants.{Receipt, Ship}
 

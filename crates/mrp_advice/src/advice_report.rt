@@ -2,7 +2,7 @@
 
 ghost use Rattle.std.specs.Prelude.{◌≡◌, ◌+◌, ◌≤◌, ◌++◌, Err, OnOk, IfOk, IfErr, IfSome, length, sum};
 ghost use Rattle.mrp_qty.specs.declared.quantity.TheConstants.{MOST};
-ghost use Rattle.mrp_planning_data.specs.Table.{IsPair, horizon};
+ghost use Rattle.mrp_master_data.specs.Table.{IsPair, horizon};
 ghost use Rattle.mrp_net.specs.PlanLaws.{Fits};
 ghost use Rattle.mrp_loops.specs.Sized.{IsSized};
 ghost use Rattle.mrp_csv_out.specs.Dates.{dates_of};
@@ -32,7 +32,7 @@ use mrp_loops::SizedNet;
 use mrp_net::Network;
 use mrp_plan::Plan;
 use mrp_qty::{Qty, Row};
-use mrp_planning_data::{PairNo, PairRow};
+use mrp_master_data::{PairNo, PairRow};
 use std::alloc::Global;
 use std::io::Write;
 

@@ -4,7 +4,7 @@
 //! report ends with a line feed, and the names of the columns may stand above. The room for the report is taken
 //! before its first byte is sent: where it is refused, the writer is as it was.
 //!
-//! Used by `mrp_planner`, which writes the report.
+//! Used by `mrp_api`, which writes the report.
 //! Keeps true: an order is needed in the first period that what comes before it doesn't cover; one that is due
 //! then has no message.
 #![tactic(auto)]

@@ -1,6 +1,6 @@
 -- What is legal on a lane that comes in is in the form by which its receiver books it.
 use Rattle.std.proofs.Common.{◌≡◌, ℕ, Bool, List, sym, ap, ◌∙◌, subst}
-use Rattle.mrp_planning_data.specs.Table.{Table, horizon}
+use Rattle.mrp_master_data.specs.Table.{Table, horizon}
 use Rattle.mrp_net.specs.Lanes.{lane_at}
 use Rattle.mrp_net.proofs.Routing.{map-map}
 use Rattle.mrp_net.specs.LaneLaws.{is_schedule}

@@ -10,7 +10,7 @@ use Rattle.std.proofs.lemmas.List.{get_or-set_other}
 use Rattle.std.proofs.lemmas.List.Elements.{filter-append}
 use Rattle.mrp_netting.specs.One.{PlanRows}
 use Rattle.mrp_netting.specs.declared.plan.PairPlan.{PairPlan}
-use Rattle.mrp_planning_data.specs.Table.{Table, IsPair}
+use Rattle.mrp_master_data.specs.Table.{Table, IsPair}
 use Rattle.mrp_grouping.proofs.Grouping.{range-suc}
 use Rattle.mrp_net.specs.Plan.{rows_at, no_rows, plan_of}
 use Rattle.mrp_net.specs.Sums.{pair_at, no_pair as no_row}

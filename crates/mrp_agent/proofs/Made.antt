@@ -6,10 +6,10 @@ use Rattle.std.proofs.lemmas.List.Elements.{All-map}
 use Rattle.std.proofs.lemmas.Bool.{cases_eq, cases_lt, eq-eqb, ne_eqb, or_from}
 use Rattle.std.proofs.lemmas.List.{flat_map_more, map-append, take_more, length-append}
 use Rattle.std.proofs.lemmas.List.Sums.{sum_by-cons, get_or-le-sum_by}
-use Rattle.mrp_planning_data.specs.declared.numbers.ItemNo.{ItemNo}
-use Rattle.mrp_planning_data.specs.contracts.numbers.ItemNoPartialEq.TheImpl.{eq-value}
-use Rattle.mrp_planning_data.proofs.Keys.{same_test}
-use Rattle.mrp_planning_data.proofs.Mapped.{list_any_keys}
+use Rattle.mrp_master_data.specs.declared.numbers.ItemNo.{ItemNo}
+use Rattle.mrp_master_data.specs.contracts.numbers.ItemNoPartialEq.TheImpl.{eq-value}
+use Rattle.mrp_master_data.proofs.Keys.{same_test}
+use Rattle.mrp_master_data.proofs.Mapped.{list_any_keys}
 use Rattle.mrp_plant_view.specs.declared.view.IncomingItem.{IncomingItem}
 use Rattle.mrp_plant_view.proofs.Once.{one, none}
 use Rattle.mrp_book.specs.Figures.{is_same_book_item}

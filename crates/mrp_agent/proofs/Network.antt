@@ -1,7 +1,7 @@
 -- An agent's plans are those of the network, and what it sends is what the network's lanes carry.
 use Rattle.std.proofs.Common.{◌≡◌, ℕ, ◌<◌, length, sym, subst}
 use Rattle.std.specs.List.{All, Contains}
-use Rattle.mrp_planning_data.specs.Table.{Table}
+use Rattle.mrp_master_data.specs.Table.{Table}
 use Rattle.mrp_net.specs.Lanes.{lane_at}
 use Rattle.mrp_plant_view.specs.declared.view.OutgoingLane.{OutgoingLane}
 use Rattle.mrp_plant_view.specs.View.{PlantRows, outgoing_lane}

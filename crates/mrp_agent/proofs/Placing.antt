@@ -2,7 +2,7 @@
 use Rattle.std.proofs.Common.{◌≡◌, ℕ, ◌<◌, ◌==◌, Option, Some, length, position, sym, subst, arith}
 use Rattle.std.specs.List.{Contains}
 use Rattle.mrp_netting.specs.Bound.{IsWithin}
-use Rattle.mrp_planning_data.specs.declared.numbers.PairNo.{PairNo}
+use Rattle.mrp_master_data.specs.declared.numbers.PairNo.{PairNo}
 use Rattle.mrp_plant_view.specs.Seen.{IsOwnPair}
 use Rattle.mrp_readiness.specs.Progress.{IsListed}
 use Rattle.mrp_agent.specs.Drafts.{CanDraft, drafted_gross, drafted_incoming, ready_numbers}

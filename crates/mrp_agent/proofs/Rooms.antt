@@ -6,7 +6,7 @@ use Rattle.std.proofs.lemmas.List.FromFn.{length-map-range_with_len}
 use Rattle.mrp_netting.specs.One.{PlanRows}
 use Rattle.mrp_netting.proofs.OneLaws.{release_at, one-gross, one-release}
 use Rattle.mrp_netting.specs.declared.params.PairParams.{PairParams}
-use Rattle.mrp_planning_data.specs.declared.numbers.PairNo.{PairNo}
+use Rattle.mrp_master_data.specs.declared.numbers.PairNo.{PairNo}
 use Rattle.mrp_protocol.specs.LocalPlans.{amount_at, asked_within}
 use Rattle.mrp_agent.specs.Drafts.{drafted, drafted_gross, drafted_incoming}
 use Rattle.mrp_agent.specs.Kept.{HasPlanRows, Indexes, IsKept}

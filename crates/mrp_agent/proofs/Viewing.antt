@@ -3,7 +3,7 @@ use Rattle.std.proofs.Common.{ℕ, ◌≤◌, get_or}
 use Rattle.std.specs.List.{filter}
 use Rattle.std.proofs.lemmas.List.Elements.{All-map, Contains-get_or}
 use Rattle.mrp_qty.specs.declared.quantity.TheConstants.{MOST}
-use Rattle.mrp_planning_data.specs.Table.{Table}
+use Rattle.mrp_master_data.specs.Table.{Table}
 use Rattle.mrp_net.specs.Lanes.{lane_at, lane_items}
 use Rattle.mrp_plant_view.specs.declared.view.IncomingItem.{IncomingItem}
 use Rattle.mrp_plant_view.specs.View.{comes_to, incoming_item, incoming_lane, lane_numbers, plant_rows}

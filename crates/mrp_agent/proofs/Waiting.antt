@@ -4,8 +4,8 @@ use Rattle.std.specs.List.{All, AllPairs, Contains}
 use Rattle.std.proofs.lemmas.Bool.{eq-eqb}
 use Rattle.std.proofs.lemmas.List.{get_or-map, get_or_default, length-map}
 use Rattle.std.proofs.lemmas.List.Elements.{All-map, Contains-get_or}
-use Rattle.mrp_planning_data.specs.declared.numbers.ItemNo.{ItemNo}
-use Rattle.mrp_planning_data.specs.declared.numbers.PairNo.{PairNo}
+use Rattle.mrp_master_data.specs.declared.numbers.ItemNo.{ItemNo}
+use Rattle.mrp_master_data.specs.declared.numbers.PairNo.{PairNo}
 use Rattle.mrp_net.proofs.Members.{In-from_contains, Contains-from_in, In-map, map_only, In-flat_map, All-in}
 use Rattle.mrp_plant_view.specs.declared.view.IncomingItem.{IncomingItem}
 use Rattle.mrp_plant_view.specs.declared.view.IncomingLane.{IncomingLane}

@@ -3,7 +3,7 @@ use Rattle.std.specs.Prelude.{ℕ, ◌+◌, List, map, Contains}
 use Rattle.mrp_netting.specs.One.{PlanRows}
 use Rattle.mrp_netting.specs.PlanningData.{plain, one}
 use Rattle.mrp_netting.specs.Bound.{IsWithin}
-use Rattle.mrp_planning_data.specs.declared.numbers.PairNo.{PairNo}
+use Rattle.mrp_master_data.specs.declared.numbers.PairNo.{PairNo}
 use Rattle.mrp_plant_view.specs.Seen.{IsOwnPair}
 use Rattle.mrp_readiness.specs.Chosen.{number_at}
 use Rattle.mrp_protocol.specs.LocalPlans.{amount_at, asked_within, local_row}

@@ -1,6 +1,6 @@
 -- Which states of a network an agent shows as one of its plants, and when it works there.
 use Rattle.std.specs.Prelude.{◌≡◌, ℕ}
-use Rattle.mrp_planning_data.specs.Table.{Table}
+use Rattle.mrp_master_data.specs.Table.{Table}
 use Rattle.mrp_plant_view.specs.Seen.{IsView}
 use Rattle.mrp_plant_view.specs.View.{plant_rows}
 use Rattle.mrp_protocol.specs.Local.{AreLegal}

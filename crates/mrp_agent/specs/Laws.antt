@@ -1,7 +1,7 @@
 -- Laws of agents in a network: what they plan is its plan, and what they send is what its lanes carry.
 use Rattle.std.specs.Prelude.{◌≡◌, ℕ, ◌<◌, true, [], ◌∷◌, ◌++◌, length}
 use Rattle.mrp_netting.specs.Bound.{IsWithin}
-use Rattle.mrp_planning_data.specs.Table.{Table, IsTable}
+use Rattle.mrp_master_data.specs.Table.{Table, IsTable}
 use Rattle.mrp_net.specs.Lanes.{lane_at}
 use Rattle.mrp_plant_view.specs.Seen.{IsView}
 use Rattle.mrp_plant_view.specs.View.{plant_rows}

@@ -1,7 +1,7 @@
 -- Where the pairs of a plant are queued once they are planned, and the cursors of lanes on which they are.
 use Rattle.std.specs.Prelude.{ℕ, List, [], ◌∷◌, length, slice_index_or, slice_set, Option, None, Some}
 use Rattle.std.specs.List.{flat_map, range_with_len}
-use Rattle.mrp_planning_data.specs.declared.numbers.ItemNo.{ItemNo}
+use Rattle.mrp_master_data.specs.declared.numbers.ItemNo.{ItemNo}
 use Rattle.mrp_net.specs.declared.lane.LaneKind.{LaneKind}
 use Rattle.mrp_net.specs.declared.lane.LaneKind.TheVariants.{Despatch, Schedule}
 use Rattle.mrp_plant_view.specs.declared.view.OutgoingLane.{OutgoingLane}

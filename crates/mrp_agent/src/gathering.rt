@@ -1,6 +1,6 @@
 //! How the plans of all plants are gathered to the plan of the network.
 ghost use Rattle.std.specs.Prelude.{◌≡◌, ◌+◌, ◌<◌, IfOk, Some, length, reverse};
-ghost use Rattle.mrp_planning_data.specs.Table.{IsPair};
+ghost use Rattle.mrp_master_data.specs.Table.{IsPair};
 ghost use Rattle.mrp_net.specs.Plan.{plan_of, rows_at};
 ghost use Rattle.mrp_loops.specs.Sized.{IsSized};
 ghost use Rattle.mrp_agent.specs.Given.{HaveGiven};

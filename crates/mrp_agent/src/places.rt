@@ -4,7 +4,7 @@ ghost use Rattle.std.specs.Prelude.{◌≡◌, IfOk, map};
 
 use mrp_grouping::Places;
 use mrp_plant_view::PlantPair;
-use mrp_planning_data::ItemNo;
+use mrp_master_data::ItemNo;
 use std::alloc::{AllocError, Global};
 use std::marker::Model;
 
@@ -16,7 +16,7 @@ pub(crate) struct ItemPlaces {
 
 impl Model for ItemPlaces {
     ghost use Rattle.std.specs.Prelude.{List};
-    ghost use Rattle.mrp_planning_data.specs.declared.numbers.ItemNo.{ItemNo};
+    ghost use Rattle.mrp_master_data.specs.declared.numbers.ItemNo.{ItemNo};
 
     ghost Value = { List ItemNo };
 

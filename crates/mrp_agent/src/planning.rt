@@ -9,7 +9,7 @@ impl Agent {
     ghost use Rattle.std.specs.Prelude.{◌≡◌, ◌↔◌, ◌+◌, ℕ, Bool, true, List, Contains, IsTrue, slice_set};
     ghost use Rattle.std.specs.Bool.{OnFalse, OnTrue};
     ghost use Rattle.mrp_netting.specs.Bound.{IsWithin};
-    ghost use Rattle.mrp_planning_data.specs.declared.numbers.PairNo.{PairNo};
+    ghost use Rattle.mrp_master_data.specs.declared.numbers.PairNo.{PairNo};
     ghost use Rattle.mrp_record.specs.declared.record.Record.{Record};
     ghost use Rattle.mrp_readiness.specs.Progress.{IsFree, left_of};
     ghost use Rattle.mrp_plant_view.specs.Seen.{IsOwnPair};

@@ -15,7 +15,7 @@ use mrp_netting::PairPlan;
 use mrp_plant_view::{Call, OutgoingItem, OutgoingItems, OutgoingLane};
 use mrp_qty::Row;
 use mrp_record::{NextLine, Record, Remainder};
-use mrp_planning_data::ItemNo;
+use mrp_master_data::ItemNo;
 
 /// The record that a lane is to be sent next, and what is left of its item before: [`Agent::next_at`] gives it, and
 /// [`Agent::sent_at`] takes it back.

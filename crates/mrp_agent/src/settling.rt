@@ -11,7 +11,7 @@ use mrp_record::OutCursor;
 
 impl Agent {
     ghost use Rattle.std.specs.Prelude.{ℕ, Bool, true, List, Contains, ◌+◌};
-    ghost use Rattle.mrp_planning_data.specs.declared.numbers.PairNo.{PairNo};
+    ghost use Rattle.mrp_master_data.specs.declared.numbers.PairNo.{PairNo};
     ghost use Rattle.mrp_readiness.specs.Progress.{left_of};
     ghost use Rattle.mrp_agent.specs.State.{plans_of};
     ghost use Rattle.mrp_record.specs.declared.record.Record.{Record};

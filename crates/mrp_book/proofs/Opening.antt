@@ -8,10 +8,10 @@ use Rattle.std.proofs.lemmas.List.Elements.{All-nil, All-cons, All-push, All-get
 use Rattle.std.proofs.lemmas.List.{take_all}
 use Rattle.mrp_record.specs.Laws.{is_same_form_item}
 use Rattle.mrp_qty.specs.declared.quantity.TheConstants.{MOST}
-use Rattle.mrp_planning_data.specs.declared.numbers.ItemNo.{ItemNo}
-use Rattle.mrp_planning_data.specs.contracts.numbers.ItemNoPartialEq.TheImpl.{eq-value}
-use Rattle.mrp_planning_data.proofs.Mapped.{list_any_keys}
-use Rattle.mrp_planning_data.proofs.Keys.{same_test}
+use Rattle.mrp_master_data.specs.declared.numbers.ItemNo.{ItemNo}
+use Rattle.mrp_master_data.specs.contracts.numbers.ItemNoPartialEq.TheImpl.{eq-value}
+use Rattle.mrp_master_data.proofs.Mapped.{list_any_keys}
+use Rattle.mrp_master_data.proofs.Keys.{same_test}
 use Rattle.mrp_record.specs.Form.{FormItem, LaneForm, IsInForm}
 use Rattle.mrp_record.proofs.Fronts.{nothing_after}
 use Rattle.mrp_book.specs.declared.item.BookItem.{BookItem}

@@ -6,9 +6,9 @@ use Rattle.std.specs.List.{find, position_or_len}
 use Rattle.std.proofs.lemmas.Bool.{cases_Bool, ltb-true, ltb-false}
 use Rattle.std.proofs.lemmas.Option.{slice_get_past, slice_get_read}
 use Rattle.std.proofs.lemmas.List.Folds.{find_at}
-use Rattle.mrp_planning_data.specs.declared.numbers.ItemNo.{ItemNo}
-use Rattle.mrp_planning_data.specs.contracts.numbers.ItemNoPartialEq.TheImpl.{eq-value}
-use Rattle.mrp_planning_data.proofs.Keys.{position_keys, same_test}
+use Rattle.mrp_master_data.specs.declared.numbers.ItemNo.{ItemNo}
+use Rattle.mrp_master_data.specs.contracts.numbers.ItemNoPartialEq.TheImpl.{eq-value}
+use Rattle.mrp_master_data.proofs.Keys.{position_keys, same_test}
 use Rattle.mrp_book.specs.declared.fault.BookFault.{BookFault}
 use Rattle.mrp_book.specs.declared.fault.BookFault.TheVariants as fault
 use Rattle.mrp_book.specs.declared.item.ItemFigure.{ItemFigure}

@@ -1,6 +1,6 @@
 -- What is said of each figure of a lane.
 use Rattle.std.specs.Prelude.{◌<◌, ◌≤◌, length}
-use Rattle.mrp_planning_data.specs.Table.{Table}
+use Rattle.mrp_master_data.specs.Table.{Table}
 use Rattle.mrp_net.specs.Lanes.{lanes}
 use Rattle.mrp_book.specs.declared.figure.LaneFigure.{LaneFigure}
 

@@ -1,11 +1,11 @@
 -- What a call answers, by what a text function wrote and what was told.
 use Rattle.std.proofs.Common.{◌≡◌, ℕ, List, [], ◌++◌, Some, Result, Ok, Err, IfErr, inl, inr, ⊎_elim, subst}
 use Rattle.std.specs.Io.KnownBytes.{Appends}
-use Rattle.mrp_planning_data.specs.Table.{Table}
-use Rattle.mrp_planner.specs.declared.fault.TextFault.{TextFault}
-use Rattle.mrp_planner.specs.declared.fault.TextFault.TheVariants.{Memory, WriteFault}
-use Rattle.mrp_planner.specs.Refusals.{Question, Refuses}
-use Rattle.mrp_planner.specs.Text.{OfTable, Writes}
+use Rattle.mrp_master_data.specs.Table.{Table}
+use Rattle.mrp_api.specs.declared.fault.TextFault.{TextFault}
+use Rattle.mrp_api.specs.declared.fault.TextFault.TheVariants.{Memory, WriteFault}
+use Rattle.mrp_api.specs.Refusals.{Question, Refuses}
+use Rattle.mrp_api.specs.Text.{OfTable, Writes}
 use Rattle.mrp_c_api.specs.Answers.{Answers, Tells}
 use Rattle.mrp_c_api.specs.Buffer.{HandsOver}
 

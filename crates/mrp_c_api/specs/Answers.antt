@@ -2,14 +2,14 @@
 -- before the call and after it, and `size` is the length that was told.
 use Rattle.std.specs.Prelude.{◌≡◌, ◌≢◌, ℕ, ◌⊎◌, List, codes, Some, Result, Ok, Err, IsUtf8}
 use Rattle.mrp_commands.specs.declared.choice.Heading.{Heading}
-use Rattle.mrp_planning_data.specs.Table.{Table}
-use Rattle.mrp_planner.specs.declared.fault.TextFault.{TextFault}
-use Rattle.mrp_planner.specs.declared.fault.TextFault.TheVariants.{Memory, WriteFault}
-use Rattle.mrp_planner.specs.Fault.{status_of}
-use Rattle.mrp_planner.specs.Lines.{fault_line}
-use Rattle.mrp_planner.specs.Refusals.{Question, AskPlants, Refuses}
-use Rattle.mrp_planner.specs.Reports.{IsScheduleReport}
-use Rattle.mrp_planner.specs.Text.{OfTable}
+use Rattle.mrp_master_data.specs.Table.{Table}
+use Rattle.mrp_api.specs.declared.fault.TextFault.{TextFault}
+use Rattle.mrp_api.specs.declared.fault.TextFault.TheVariants.{Memory, WriteFault}
+use Rattle.mrp_api.specs.Fault.{status_of}
+use Rattle.mrp_api.specs.Lines.{fault_line}
+use Rattle.mrp_api.specs.Refusals.{Question, AskPlants, Refuses}
+use Rattle.mrp_api.specs.Reports.{IsScheduleReport}
+use Rattle.mrp_api.specs.Text.{OfTable}
 use Rattle.mrp_c_api.specs.Buffer.{HandsOver}
 use Rattle.mrp_c_api.specs.Options.{name_given}
 

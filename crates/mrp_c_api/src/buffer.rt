@@ -3,10 +3,10 @@
 ghost use Rattle.std.specs.Prelude.{◌≡◌};
 ghost use Rattle.mrp_c_api.specs.Answers.{Answers, Tells, TellsFault, TellsOrMemory, name_line};
 ghost use Rattle.mrp_c_api.specs.Buffer.{HandsOver};
-ghost use Rattle.mrp_planner.specs.Answer.{IsAlone, IsAnswer, question_of};
+ghost use Rattle.mrp_api.specs.Answer.{IsAlone, IsAnswer, question_of};
 
 use mrp_commands::Choice;
-use mrp_planner::{REFUSED, TextFault, report_text, status, write_fault};
+use mrp_api::{REFUSED, TextFault, report_text, status, write_fault};
 use std::alloc::Global;
 
 /// Hands over the report that one thread is asked for, or the line of its fault. Answers with the status.

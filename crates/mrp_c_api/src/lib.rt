@@ -1,5 +1,5 @@
 //! The planner for C: the bytes of a table go in, and a report or the line of a fault comes out in the caller's buffer.
-//! `include/mrp.h` declares the calls, and [`mrp_planner`] is what they call, on one thread.
+//! `include/mrp.h` declares the calls, and [`mrp_api`] is what they call, on one thread.
 //!
 //! **Text.** A call returns a status, as the program ends with one. At 0 the text is the report, to the byte what the
 //! program writes to standard output. At 1, where the table or the question is refused, and at 3, where memory was
@@ -24,9 +24,9 @@ mod options;
 ghost use Rattle.mrp_c_api.specs.Answers.{Answers, AnswersNamed};
 ghost use Rattle.mrp_c_api.specs.Options.{heading_of, limit_of};
 ghost use Rattle.mrp_report.specs.Headings.{code_names, lane_names};
-ghost use Rattle.mrp_planner.specs.Refusals.{AskWhole};
-ghost use Rattle.mrp_planner.specs.Reports.{IsCodeReport, IsCumReport, IsHeaded, IsOrderReport};
-ghost use Rattle.mrp_planner.specs.Text.{IsPlanReport};
+ghost use Rattle.mrp_api.specs.Refusals.{AskWhole};
+ghost use Rattle.mrp_api.specs.Reports.{IsCodeReport, IsCumReport, IsHeaded, IsOrderReport};
+ghost use Rattle.mrp_api.specs.Text.{IsPlanReport};
 
 use crate::buffer::{answer, refuse_name};
 use crate::options::{given, heading, limit};

@@ -1,7 +1,7 @@
 -- A ready pair of a plannable agent can be drafted, and isn't planned yet.
 use Rattle.std.proofs.Common.{◌≡◌, ◌↔◌, ℕ, Bool, false, List, sym, subst, All, Contains}
 use Rattle.std.proofs.lemmas.List.Elements.{All-contains, All-contains_itself, All-weaker}
-use Rattle.mrp_planning_data.specs.declared.numbers.PairNo.{PairNo}
+use Rattle.mrp_master_data.specs.declared.numbers.PairNo.{PairNo}
 use Rattle.mrp_plant_view.specs.declared.view.PlantPair.{PlantPair}
 use Rattle.mrp_plant_view.specs.Seen.{IsOwnPair}
 use Rattle.mrp_plant_view.specs.View.{PlantRows, plant_pair, plant_rows}

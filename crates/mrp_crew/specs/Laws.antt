@@ -1,7 +1,7 @@
 -- The law of planning in a network.
 use Rattle.std.specs.Prelude.{ℕ, List}
-use Rattle.mrp_planning_data.specs.declared.numbers.PairNo.{PairNo}
-use Rattle.mrp_planning_data.specs.Table.{Table}
+use Rattle.mrp_master_data.specs.declared.numbers.PairNo.{PairNo}
+use Rattle.mrp_master_data.specs.Table.{Table}
 use Rattle.mrp_protocol.specs.State.{State}
 use Rattle.mrp_agent.specs.InNetwork.{WorksIn}
 use Rattle.mrp_agent.specs.State.{AgentState}

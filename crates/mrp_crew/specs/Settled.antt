@@ -1,6 +1,6 @@
 -- What the agent keeps of a wave, and what the plan of one pair leaves of another.
 use Rattle.std.specs.Prelude.{◌≡◌, ◌≢◌, List, All, AllPairs, Contains}
-use Rattle.mrp_planning_data.specs.declared.numbers.PairNo.{PairNo}
+use Rattle.mrp_master_data.specs.declared.numbers.PairNo.{PairNo}
 use Rattle.mrp_agent.specs.Drafts.{drafted, ready_numbers}
 use Rattle.mrp_agent.specs.State.{AgentState}
 use Rattle.mrp_crew.specs.declared.work.Work.{Work}

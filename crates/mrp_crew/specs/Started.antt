@@ -1,7 +1,7 @@
 -- The threads of a wave.
 use Rattle.std.specs.Prelude.{◌≡◌, ◌≤◌, ℕ, List, map}
 use Rattle.std.specs.declared.thread.PromisedHandle.{PromisedHandle}
-use Rattle.mrp_planning_data.specs.declared.numbers.PairNo.{PairNo}
+use Rattle.mrp_master_data.specs.declared.numbers.PairNo.{PairNo}
 use Rattle.mrp_agent.specs.State.{AgentState}
 use Rattle.mrp_crew.specs.declared.work.Order.{Order}
 use Rattle.mrp_crew.specs.declared.work.Work.{Work}

@@ -2,7 +2,7 @@
 
 ghost use Rattle.std.specs.Prelude.{◌≡◌, ◌+◌, ◌<◌, ◌≤◌, true, false, min, List, length, reverse, All, IfErr, IfOk};
 ghost use Rattle.std.specs.Prelude.{OnOk};
-ghost use Rattle.mrp_planning_data.specs.declared.numbers.PairNo.{PairNo};
+ghost use Rattle.mrp_master_data.specs.declared.numbers.PairNo.{PairNo};
 ghost use Rattle.mrp_agent.specs.Drafts.{ready_numbers};
 ghost use Rattle.mrp_crew.specs.Planning.{IsPlannable, PlansAll};
 ghost use Rattle.mrp_crew.specs.Rooms.{IsRoom};
@@ -51,7 +51,7 @@ impl Model for Crew {
 
 impl Crew {
     ghost use Rattle.std.specs.Prelude.{◌<◌, List, [], length, IfErr, IfOk, OnOk};
-    ghost use Rattle.mrp_planning_data.specs.declared.numbers.PairNo.{PairNo};
+    ghost use Rattle.mrp_master_data.specs.declared.numbers.PairNo.{PairNo};
     ghost use Rattle.mrp_agent.specs.Drafts.{ready_numbers};
     ghost use Rattle.mrp_crew.specs.Planning.{IsPlannable, PlansAll};
     ghost use Rattle.mrp_crew.specs.Shut.{WasShutToWorker};

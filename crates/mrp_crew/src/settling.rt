@@ -1,7 +1,7 @@
 //! The agent keeps what the workers of a wave drafted.
 ghost use Rattle.std.specs.Prelude.{◌≡◌, ◌≢◌, true, List, length, reverse, All, Contains};
 ghost use Rattle.std.specs.Bool.{OnTrue};
-ghost use Rattle.mrp_planning_data.specs.declared.numbers.PairNo.{PairNo};
+ghost use Rattle.mrp_master_data.specs.declared.numbers.PairNo.{PairNo};
 ghost use Rattle.mrp_agent.specs.Drafts.{drafted, ready_numbers};
 ghost use Rattle.mrp_crew.specs.Planning.{IsPlannable, PlansAll};
 ghost use Rattle.mrp_crew.specs.Rooms.{IsRoom, WorkedFor};

@@ -2,7 +2,7 @@
 ghost use Rattle.std.specs.Prelude.{◌≡◌, ◌+◌, ◌++◌, ◌<◌, ◌≤◌, false, List, [], ◌∷◌, length, reverse, All, IfSome, ℕ};
 ghost use Rattle.std.specs.Prelude.{vec_capacity};
 ghost use Rattle.std.specs.Bool.{OnTrue};
-ghost use Rattle.mrp_planning_data.specs.declared.numbers.PairNo.{PairNo};
+ghost use Rattle.mrp_master_data.specs.declared.numbers.PairNo.{PairNo};
 ghost use Rattle.mrp_agent.specs.Drafts.{CanDraft};
 ghost use Rattle.mrp_agent.specs.State.{AgentState};
 ghost use Rattle.mrp_crew.specs.Rooms.{AreDrafts, IsRoom, IsWave, WorkedFor, pairs_worked};

@@ -11,8 +11,8 @@ use Rattle.csv.specs.Writing.{default_writer, needs_byte}
 use Rattle.mrp_cal.specs.Calendar.{CalendarTerms, first_day}
 use Rattle.mrp_cal.specs.Days.{date_text}
 use Rattle.mrp_cal.specs.Days.{date_at as day_parts}
-use Rattle.mrp_planning_data.specs.Spelling.{is_name_byte}
-use Rattle.mrp_planning_data.specs.Table.{IsName, IsTable, Table}
+use Rattle.mrp_master_data.specs.Spelling.{is_name_byte}
+use Rattle.mrp_master_data.specs.Table.{IsName, IsTable, Table}
 use Rattle.mrp_csv_out.specs.Dates.{dates_of, period_date}
 use Rattle.mrp_csv_out.specs.DateLists.{date_in}
 use Rattle.mrp_csv_out.specs.Sheets.{IsPlain}

@@ -1,8 +1,8 @@
 -- The names in a report's rows.
 use Rattle.std.specs.Prelude.{ℕ, List, length}
 use Rattle.std.specs.List.{range_with_len}
-use Rattle.mrp_planning_data.specs.Said.{item_name, plant_name}
-use Rattle.mrp_planning_data.specs.Table.{Table}
+use Rattle.mrp_master_data.specs.Said.{item_name, plant_name}
+use Rattle.mrp_master_data.specs.Table.{Table}
 use Rattle.mrp_net.specs.Sums.{pair_at}
 
 -- the names of a pair's plant and item

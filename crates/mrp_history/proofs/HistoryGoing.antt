@@ -4,8 +4,8 @@ use Rattle.std.specs.List.{list_any}
 use Rattle.std.proofs.lemmas.Bool.{cases_eq, cases_order, cond-true, cond-false, le-leb, lt-leb}
 use Rattle.std.proofs.lemmas.List.{append-nil, map-append}
 use Rattle.std.proofs.lemmas.List.Elements.{All-cons, All-nil, filter-append}
-use Rattle.mrp_planning_data.specs.Table.{Table, IsPair}
-use Rattle.mrp_planning_data.proofs.Lists.{any_left}
+use Rattle.mrp_master_data.specs.Table.{Table, IsPair}
+use Rattle.mrp_master_data.proofs.Lists.{any_left}
 use Rattle.mrp_net.specs.Lanes.{lane_at}
 use Rattle.mrp_net.specs.Sums.{pair_at}
 use Rattle.mrp_record.specs.declared.record.Record.{Record}

@@ -2,7 +2,7 @@
 -- What is sent and not yet taken at the last moment is sent at the end.
 use Rattle.std.proofs.Common.{◌≡◌, ℕ, zero, suc, ◌<◌, ◌≤◌, Bool, true, List, [], ◌∷◌, ◌++◌, length, refl, sym, ap, subst, ◌∙◌, arith, append_assoc}
 use Rattle.std.proofs.lemmas.List.{append-nil}
-use Rattle.mrp_planning_data.specs.Table.{Table, IsTable, IsPair}
+use Rattle.mrp_master_data.specs.Table.{Table, IsTable, IsPair}
 use Rattle.mrp_net.specs.Lanes.{lanes, lane_at}
 use Rattle.mrp_net.specs.Sums.{pair_at}
 use Rattle.mrp_net.proofs.Members.{In, In-append_left, In-append_right}

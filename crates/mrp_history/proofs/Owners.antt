@@ -1,7 +1,7 @@
 -- The plants of lanes and pairs are plants of the network.
 use Rattle.std.proofs.Common.{◌≡◌, ℕ, ◌<◌, ◌⊎◌, inl, inr, length, refl, ap, subst}
 use Rattle.std.proofs.lemmas.List.Elements.{All-get_or}
-use Rattle.mrp_planning_data.specs.Table.{Table, IsTable, IsPair}
+use Rattle.mrp_master_data.specs.Table.{Table, IsTable, IsPair}
 use Rattle.mrp_net.specs.declared.lane.Lane.{Lane}
 use Rattle.mrp_net.specs.declared.lane.LaneKind.{LaneKind}
 use Rattle.mrp_net.specs.declared.lane.LaneKind.TheVariants.{Despatch, Schedule}

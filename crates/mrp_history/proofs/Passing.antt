@@ -6,7 +6,7 @@ use Rattle.std.proofs.lemmas.Bool.{cases_eq}
 use Rattle.std.proofs.lemmas.List.{get_or-set_same, get_or-set_other, length-set}
 use Rattle.std.proofs.lemmas.List.Elements.{All-weaker, All-get_or, All-from_get_or}
 use Rattle.std.proofs.lemmas.List.Sums.{sum_by-set, sum_by_push}
-use Rattle.mrp_planning_data.specs.Table.{Table, IsPair}
+use Rattle.mrp_master_data.specs.Table.{Table, IsPair}
 use Rattle.mrp_net.specs.Lanes.{lane_at}
 use Rattle.mrp_net.specs.Sums.{pair_at}
 use Rattle.mrp_record.specs.declared.record.Record.{Record}

@@ -1,6 +1,6 @@
 -- Laws of histories.
 use Rattle.std.specs.Prelude.{◌≡◌, ℕ, ◌≤◌, List, ◌++◌}
-use Rattle.mrp_planning_data.specs.Table.{Table, IsTable}
+use Rattle.mrp_master_data.specs.Table.{Table, IsTable}
 use Rattle.mrp_loops.specs.Loop.{IsLoopFree}
 use Rattle.mrp_record.specs.declared.record.Record.{Record}
 use Rattle.mrp_protocol.specs.State.{State, IsFinished, IsReached}

@@ -5,7 +5,7 @@ use Rattle.std.proofs.Math.Seq.{take-append_seam}
 use Rattle.std.proofs.lemmas.List.{drop_at, length-map, nil_from_length, take-append-drop, take_at}
 use Rattle.crossbeam_queue.specs.Passes.{Pass, IsPassOf, IsSamePass, view}
 use Rattle.mrp_qty.specs.declared.quantity.TheConstants.{MOST}
-use Rattle.mrp_planning_data.specs.Table.{Table}
+use Rattle.mrp_master_data.specs.Table.{Table}
 use Rattle.mrp_net.specs.declared.lane.LaneNo.{LaneNo}
 use Rattle.mrp_net.specs.Lanes.{lane_at, lane_items, lanes}
 use Rattle.mrp_loops.specs.Sized.{IsSized}

@@ -2,8 +2,8 @@
 use Rattle.std.specs.Prelude.{◌≡◌, ℕ, true, false, List, [], ◌∷◌, ◌++◌, length, pos}
 use mathlib.Core.Option.{some}
 use lib.ListN.{get_elem?}
-use Rattle.mrp_planning_data.specs.Table.{Table}
-use Rattle.mrp_planning_data.specs.Growing.{empty_table}
+use Rattle.mrp_master_data.specs.Table.{Table}
+use Rattle.mrp_master_data.specs.Growing.{empty_table}
 use Rattle.mrp_net.specs.Lanes.{lane_at}
 use Rattle.mrp_record.specs.declared.record.Record.{Record}
 use Rattle.mrp_record.specs.Text.{IsBeginning}

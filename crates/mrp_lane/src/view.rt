@@ -3,7 +3,7 @@
 use crossbeam_queue::protocol::{Join, Lesson, Outcome, Protocol, Split};
 use crossbeam_queue::{Pass, RuledArrayQueue};
 use mrp_record::Record;
-use mrp_planning_data::Tables;
+use mrp_master_data::Tables;
 use std::collections::LinkedList;
 use std::marker::{Brand, PhantomData};
 
@@ -96,7 +96,7 @@ impl Lesson<Record, LaneView> for Taken {
 /// The name of a lane, for proofs.
 pub trait Naming {
     ghost use Rattle.std.specs.Prelude.{ℕ};
-    ghost use Rattle.mrp_planning_data.specs.Table.{Table};
+    ghost use Rattle.mrp_master_data.specs.Table.{Table};
 
     ghost network: { Table };
 

@@ -2,8 +2,8 @@
 use Rattle.std.proofs.Common.{◌≡◌, ℕ, ◌<◌, ◌==◌, List, ⊎_elim, length, map, refl, sym, subst, ◌∙◌, arith, count_by}
 use Rattle.std.specs.List.{filter, flat_map, range_with_len}
 use Rattle.std.proofs.lemmas.Bool.{eq-eqb, eqb-true}
-use Rattle.mrp_planning_data.specs.Table.{Table, IsTable, IsPair, IsBillRow, IsSourceRow, source_pair}
-use Rattle.mrp_planning_data.specs.declared.rows.SourceRow.{SourceRow}
+use Rattle.mrp_master_data.specs.Table.{Table, IsTable, IsPair, IsBillRow, IsSourceRow, source_pair}
+use Rattle.mrp_master_data.specs.declared.rows.SourceRow.{SourceRow}
 use Rattle.mrp_net.specs.declared.edge.Edge.{Edge}
 use Rattle.mrp_net.specs.Edges.{edges, demanders, bill_edge, source_edge}
 use Rattle.mrp_net.specs.Suppliers.{suppliers}

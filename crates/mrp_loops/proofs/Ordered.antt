@@ -1,7 +1,7 @@
 -- A network with codes has an order by codes, and needs.
 use Rattle.std.proofs.Common.{ℕ, List, map, length, replicate, arith}
 use Rattle.std.proofs.lemmas.List.{length-replicate}
-use Rattle.mrp_planning_data.specs.Table.{Table, IsTable}
+use Rattle.mrp_master_data.specs.Table.{Table, IsTable}
 use Rattle.mrp_loops.specs.Codes.{AreCodes}
 use Rattle.mrp_loops.specs.Order.{code_order}
 use Rattle.mrp_loops.specs.Planning.{IsPlanningOrder}

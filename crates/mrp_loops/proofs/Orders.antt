@@ -6,8 +6,8 @@ use Rattle.std.proofs.lemmas.List.{get_or_default, get_or-map, get_or-take, leng
 use Rattle.std.proofs.lemmas.List.FromFn.{get_or-range_with_len, length-range_with_len}
 use Rattle.std.proofs.lemmas.List.Sorted.{All-permutation, Contains-permutation}
 use Rattle.std.proofs.lemmas.Map.Keys.{apart_from_distinct, IsDistinct-IsPermutation, IsDistinct-from_apart}
-use Rattle.mrp_planning_data.specs.Table.{Table, IsPair}
-use Rattle.mrp_planning_data.specs.declared.numbers.PairNo.{PairNo}
+use Rattle.mrp_master_data.specs.Table.{Table, IsPair}
+use Rattle.mrp_master_data.specs.declared.numbers.PairNo.{PairNo}
 use Rattle.mrp_net.proofs.Members.{In, Contains-from_in}
 use Rattle.mrp_net.specs.Edges.{demanders}
 use Rattle.mrp_loops.specs.Order.{ComesBefore, IsInCodeOrder}

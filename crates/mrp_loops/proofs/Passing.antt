@@ -1,7 +1,7 @@
 -- How far one pass of the loop check has come: over the edges of a pair that is taken away, and over the pairs at first.
 use Rattle.std.specs.Prelude.{◌≡◌, ℕ, ◌<◌, ◌≤◌, ◌==◌, ◌++◌, ◌∷◌, [], List, length, slice_index, slice_index_or, All}
-use Rattle.mrp_planning_data.specs.Table.{Table}
-use Rattle.mrp_planning_data.specs.declared.numbers.PairNo.{PairNo}
+use Rattle.mrp_master_data.specs.Table.{Table}
+use Rattle.mrp_master_data.specs.declared.numbers.PairNo.{PairNo}
 use Rattle.mrp_net.specs.declared.edge.Edge.{Edge}
 use Rattle.mrp_net.specs.Edges.{demanders}
 use Rattle.mrp_loops.specs.Taking.{is_in, HasCounts, IsAbove}

@@ -8,8 +8,8 @@ use Rattle.std.proofs.lemmas.List.{get_or-replicate, length-replicate}
 use Rattle.std.proofs.lemmas.List.Elements.{All-push, All-head, All-tail, All-nil, Contains-get_or}
 use Rattle.std.proofs.lemmas.List.Folds.{list_any_none}
 use Rattle.std.proofs.Math.Numerals.{add-one}
-use Rattle.mrp_planning_data.specs.Table.{Table, IsTable, IsPair}
-use Rattle.mrp_planning_data.specs.declared.numbers.PairNo.{PairNo}
+use Rattle.mrp_master_data.specs.Table.{Table, IsTable, IsPair}
+use Rattle.mrp_master_data.specs.declared.numbers.PairNo.{PairNo}
 use Rattle.mrp_net.specs.declared.edge.Edge.{Edge}
 use Rattle.mrp_net.specs.Edges.{demanders}
 use Rattle.mrp_net.specs.Suppliers.{suppliers}

@@ -11,9 +11,9 @@ use Rattle.mrp_lot.specs.Lot.{rule_quantities}
 use Rattle.mrp_netting.specs.One.{PlanRows}
 use Rattle.mrp_netting.specs.Bound.{IsWithin}
 use Rattle.mrp_netting.proofs.OneLaws.{one-gross, one-incoming, one-release_sum-le, one-within}
-use Rattle.mrp_planning_data.specs.declared.rows.CumRow.{CumRow}
-use Rattle.mrp_planning_data.specs.declared.rows.ShipRow.{ShipRow}
-use Rattle.mrp_planning_data.specs.Table.{Table, IsPair, horizon}
+use Rattle.mrp_master_data.specs.declared.rows.CumRow.{CumRow}
+use Rattle.mrp_master_data.specs.declared.rows.ShipRow.{ShipRow}
+use Rattle.mrp_master_data.specs.Table.{Table, IsPair, horizon}
 use Rattle.mrp_net.specs.declared.edge.Edge.{Edge}
 use Rattle.mrp_net.specs.Edges.{demanders}
 use Rattle.mrp_net.specs.Lanes.{figure, shipped_from}

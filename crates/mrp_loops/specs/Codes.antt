@@ -1,7 +1,7 @@
 -- Low-level codes of a network, and the loop that is answered.
 use Rattle.std.specs.Prelude.{◌≡◌, ◌≢◌, ℕ, zero, suc, ◌≤◌, List, length, slice_index, All}
 use Rattle.std.specs.List.{AllPairs}
-use Rattle.mrp_planning_data.specs.Table.{Table, IsPair}
+use Rattle.mrp_master_data.specs.Table.{Table, IsPair}
 use Rattle.mrp_loops.specs.Loop.{HasEdge, first_or, Leads, IsLoop}
 
 -- each pair of the list takes from the next, and the last from the one after the list

@@ -1,6 +1,6 @@
 -- Laws of codes, of networks without loops, of needs, and of plans.
 use Rattle.std.specs.Prelude.{◌≡◌, ℕ, ◌<◌, Bool, true, false, List, map, slice_index}
-use Rattle.mrp_planning_data.specs.Table.{Table, IsTable, IsPair}
+use Rattle.mrp_master_data.specs.Table.{Table, IsTable, IsPair}
 use Rattle.mrp_net.specs.PlanLaws.{HasOnePlan}
 use Rattle.mrp_loops.specs.Loop.{HasEdge, IsLoopFree}
 use Rattle.mrp_loops.specs.Codes.{AreCodes}

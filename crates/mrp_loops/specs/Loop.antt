@@ -1,6 +1,6 @@
 -- Loops and low-level codes of a network.
 use Rattle.std.specs.Prelude.{◌≡◌, ℕ, List, [], ◌∷◌, Contains}
-use Rattle.mrp_planning_data.specs.Table.{Table}
+use Rattle.mrp_master_data.specs.Table.{Table}
 use Rattle.mrp_net.specs.Edges.{edges}
 use Rattle.mrp_net.specs.declared.edge.Edge.{Edge}
 

@@ -1,6 +1,6 @@
 -- What the faults of the loop check say.
 use Rattle.std.specs.Prelude.{map}
-use Rattle.mrp_planning_data.specs.Table.{Table}
+use Rattle.mrp_master_data.specs.Table.{Table}
 use Rattle.mrp_loops.specs.declared.loops.LoopFault.{LoopFault}
 use Rattle.mrp_loops.specs.declared.loops.LoopFault.TheVariants.{Loop, Memory}
 use Rattle.mrp_loops.specs.Upstream.{IsLoopAnswered}

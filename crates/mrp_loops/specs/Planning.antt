@@ -1,7 +1,7 @@
 -- A network with its codes and needs, and the orders in which its pairs can be planned.
 use Rattle.std.specs.Prelude.{ℕ, ◌<◌, List, length, take, slice_index, All, Contains, IsPermutation}
 use Rattle.std.specs.List.{range_with_len}
-use Rattle.mrp_planning_data.specs.Table.{Table}
+use Rattle.mrp_master_data.specs.Table.{Table}
 use Rattle.mrp_net.specs.Edges.{demanders}
 
 -- a network with the low-level codes and the needs of its pairs

@@ -1,6 +1,6 @@
 -- A sized network: no loop, and every figure of its plan within the bound.
 use Rattle.std.specs.Prelude.{ℕ, List}
-use Rattle.mrp_planning_data.specs.Table.{Table, IsTable}
+use Rattle.mrp_master_data.specs.Table.{Table, IsTable}
 use Rattle.mrp_loops.specs.Loop.{IsLoopFree}
 use Rattle.mrp_loops.specs.Need.{AreNeeds, AreWithin}
 

@@ -1,6 +1,6 @@
 -- The walk upstream, which decides which of several loops is answered.
 use Rattle.std.specs.Prelude.{ℕ, zero, suc, ◌≤◌, List, All}
-use Rattle.mrp_planning_data.specs.Table.{Table}
+use Rattle.mrp_master_data.specs.Table.{Table}
 use Rattle.mrp_loops.specs.Loop.{HasEdge, IsRound}
 use Rattle.mrp_loops.specs.Codes.{HasChain, IsLoopFound}
 

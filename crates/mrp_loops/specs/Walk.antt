@@ -1,7 +1,7 @@
 -- The walk upstream among pairs that can't be taken away.
 use Rattle.std.specs.Prelude.{◌≡◌, ℕ, ◌<◌, List, map, reverse, length, slice_index, slice_index_or, Contains}
-use Rattle.mrp_planning_data.specs.Table.{Table, IsTable, IsPair}
-use Rattle.mrp_planning_data.specs.declared.numbers.PairNo.{PairNo}
+use Rattle.mrp_master_data.specs.Table.{Table, IsTable, IsPair}
+use Rattle.mrp_master_data.specs.declared.numbers.PairNo.{PairNo}
 use Rattle.mrp_net.specs.declared.edge.Edge.{Edge}
 use Rattle.mrp_net.specs.Edges.{demanders}
 use Rattle.mrp_loops.specs.Loop.{IsRound}

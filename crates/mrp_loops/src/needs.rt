@@ -2,7 +2,7 @@
 
 ghost use Rattle.std.specs.Prelude.{◌≡◌, ◌-◌, ◌*◌, ◌^◌, min, length, sum_by, slice_index, All};
 ghost use Rattle.mrp_lot.specs.Lot.{rule_quantities};
-ghost use Rattle.mrp_planning_data.specs.Table.{IsPair};
+ghost use Rattle.mrp_master_data.specs.Table.{IsPair};
 ghost use Rattle.mrp_net.specs.Suppliers.{IsEdge};
 ghost use Rattle.mrp_loops.specs.Need.{need_at};
 

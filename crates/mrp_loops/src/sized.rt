@@ -3,7 +3,7 @@
 ghost use Rattle.std.specs.Prelude.{◌≡◌, ◌≤◌, ℕ, IfOk, IfErr, IfNone, IfSome, map};
 ghost use Rattle.mrp_qty.specs.declared.quantity.TheConstants.{MOST};
 ghost use Rattle.mrp_loops.specs.declared.sized.BoundFault.TheVariants.{Memory};
-ghost use Rattle.mrp_planning_data.specs.Table.{IsPair};
+ghost use Rattle.mrp_master_data.specs.Table.{IsPair};
 ghost use Rattle.mrp_net.specs.Sums.{supply};
 ghost use Rattle.mrp_loops.specs.Codes.{AreCodes};
 ghost use Rattle.mrp_loops.specs.Need.{AreNeeds, AreWithin};

@@ -1,7 +1,7 @@
 //! The walk upstream among the pairs that are left, until one is met twice.
 
 ghost use Rattle.std.specs.Prelude.{◌≡◌, ◌<◌, ◌≤◌, true, All, length, map, drop, slice_index, slice_index_or, IfOk};
-ghost use Rattle.mrp_planning_data.specs.Table.{IsPair};
+ghost use Rattle.mrp_master_data.specs.Table.{IsPair};
 ghost use Rattle.mrp_loops.specs.Taking.{is_in};
 ghost use Rattle.mrp_loops.specs.Upstream.{IsFirst, IsLeft, GoesTo, ComesFrom, IsMet, IsLoopAnswered};
 ghost use Rattle.mrp_loops.specs.Walk.{IsStuck, IsRing};

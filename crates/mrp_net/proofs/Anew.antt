@@ -8,8 +8,8 @@ use Rattle.std.proofs.lemmas.List.{get_or-set_same, get_or-set_other, get_or-tak
 use Rattle.std.proofs.lemmas.List.{length-replicate, take_more}
 use Rattle.std.proofs.lemmas.List.Elements.{All-head, All-tail}
 use Rattle.std.proofs.lemmas.Map.Keys.{apart_from_distinct}
-use Rattle.mrp_planning_data.specs.declared.rows.ResetRow.{ResetRow}
-use Rattle.mrp_planning_data.specs.Table.{Table, IsTable, is_same_reset, is_taken_from}
+use Rattle.mrp_master_data.specs.declared.rows.ResetRow.{ResetRow}
+use Rattle.mrp_master_data.specs.Table.{Table, IsTable, is_same_reset, is_taken_from}
 use Rattle.mrp_net.specs.Lanes.{is_reset_of, anew_in}
 use Rattle.mrp_net.specs.Sources.{source_no}
 use Rattle.mrp_net.specs.SourceRows.{AreResetsOf}

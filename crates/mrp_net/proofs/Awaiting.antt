@@ -12,8 +12,8 @@ use Rattle.std.proofs.Math.Nat.{add-mul, mul-le-mul_right}
 use Rattle.mrp_qty.proofs.RangeLaws.{map-range-same}
 use Rattle.mrp_qty.specs.declared.horizon.TheConstants.{LONGEST}
 use Rattle.mrp_qty.specs.declared.limits.TheConstants.{MOST_OF_A_KIND}
-use Rattle.mrp_planning_data.specs.declared.rows.ShipRow.{ShipRow}
-use Rattle.mrp_planning_data.specs.Table.{Table, IsTable, IsPair, horizon}
+use Rattle.mrp_master_data.specs.declared.rows.ShipRow.{ShipRow}
+use Rattle.mrp_master_data.specs.Table.{Table, IsTable, IsPair, horizon}
 use Rattle.mrp_grouping.specs.Added.{AddsAmounts, sum_in}
 use Rattle.mrp_net.specs.declared.incoming.Incoming.{Incoming}
 use Rattle.mrp_net.specs.Incoming.{AreCounted, AreRows, IsIncoming}

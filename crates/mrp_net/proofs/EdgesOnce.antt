@@ -5,10 +5,10 @@ use Rattle.std.proofs.lemmas.Bool.{eqb-true, eq-eqb, and_from, true≢false}
 use Rattle.std.proofs.lemmas.List.Elements.{filter_passes}
 use Rattle.std.proofs.lemmas.List.Kept.{AllPairs-filter}
 use Rattle.std.proofs.lemmas.Map.Keys.{apart_from_distinct}
-use Rattle.mrp_planning_data.specs.declared.numbers.PlantNo.{PlantNo}
-use Rattle.mrp_planning_data.specs.declared.rows.BillRow.{BillRow}
-use Rattle.mrp_planning_data.specs.declared.rows.SourceRow.{SourceRow}
-use Rattle.mrp_planning_data.specs.Table.{Table, IsTable, is_same_bill, is_same_source}
+use Rattle.mrp_master_data.specs.declared.numbers.PlantNo.{PlantNo}
+use Rattle.mrp_master_data.specs.declared.rows.BillRow.{BillRow}
+use Rattle.mrp_master_data.specs.declared.rows.SourceRow.{SourceRow}
+use Rattle.mrp_master_data.specs.Table.{Table, IsTable, is_same_bill, is_same_source}
 use Rattle.mrp_net.specs.declared.edge.Edge.{Edge}
 use Rattle.mrp_net.specs.Edges.{bill_edge, source_edge, edges}
 use Rattle.mrp_net.specs.EdgeLaws.{is_local, OneEdgeJoinsTwoPairs, DemandersStandOnce}

@@ -7,12 +7,12 @@ use Rattle.std.proofs.lemmas.List.{get_or_default, get_or_read, get_or-set_same,
 use Rattle.std.proofs.lemmas.List.Sums.{sum_by_more}
 use Rattle.std.proofs.lemmas.Nat.{mul-add-lt}
 use Rattle.std.proofs.Math.Nat.{mul-le-mul_left}
-use Rattle.mrp_planning_data.specs.declared.numbers.PairNo.{PairNo}
-use Rattle.mrp_planning_data.specs.declared.rows.PairRow.{PairRow}
-use Rattle.mrp_planning_data.specs.declared.rows.ShipRow.{ShipRow}
-use Rattle.mrp_planning_data.specs.declared.rows.SourceRow.{SourceRow}
+use Rattle.mrp_master_data.specs.declared.numbers.PairNo.{PairNo}
+use Rattle.mrp_master_data.specs.declared.rows.PairRow.{PairRow}
+use Rattle.mrp_master_data.specs.declared.rows.ShipRow.{ShipRow}
+use Rattle.mrp_master_data.specs.declared.rows.SourceRow.{SourceRow}
 use Rattle.mrp_qty.specs.declared.limits.TheConstants.{MOST_PLANTS}
-use Rattle.mrp_planning_data.specs.Table.{Table, IsTable, IsPair, IsPairRow, IsSourceRow, item_at, source_pair}
+use Rattle.mrp_master_data.specs.Table.{Table, IsTable, IsPair, IsPairRow, IsSourceRow, item_at, source_pair}
 use Rattle.mrp_grouping.specs.Added.{AddsTotals, sum_of}
 use Rattle.mrp_net.specs.declared.edge.Edge.{Edge}
 use Rattle.mrp_net.specs.declared.lanes.Taken.{Taken}

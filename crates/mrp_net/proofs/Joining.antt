@@ -2,7 +2,7 @@
 use Rattle.std.proofs.Common.{◌≡◌, ℕ, ◌+◌, ◌<◌, ◌≤◌, eqb, List, length, map, slice_index, slice_range, sym, subst, ap, ◌∙◌, arith}
 use Rattle.std.specs.List.{All, filter}
 use Rattle.std.proofs.lemmas.List.Elements.{All-append, All-map, All-filter}
-use Rattle.mrp_planning_data.specs.Table.{Table, IsTable, IsPair}
+use Rattle.mrp_master_data.specs.Table.{Table, IsTable, IsPair}
 use Rattle.mrp_net.specs.declared.edge.Edge.{Edge}
 use Rattle.mrp_net.specs.Edges.{bill_edge, source_edge, edges, demanders}
 use Rattle.mrp_net.specs.Suppliers.{suppliers, IsEdge}

@@ -6,10 +6,10 @@ use Rattle.std.proofs.lemmas.Bool.{cases_lt}
 use Rattle.std.proofs.lemmas.List.FromFn.{get_or-range_with_len, get_or-map-range_with_len, length-range_with_len, length-map-range_with_len}
 use Rattle.std.proofs.lemmas.List.Sums.{sum_by-cons, get_or-le-sum_by, sum-map}
 use Rattle.mrp_qty.proofs.RangeLaws.{placed_past, placed_once, sum_by-add, sum_by-none, sum_by-ext}
-use Rattle.mrp_planning_data.specs.Table.{Table, horizon}
-use Rattle.mrp_planning_data.specs.declared.rows.DemandRow.{DemandRow}
-use Rattle.mrp_planning_data.specs.declared.rows.ReceiptRow.{ReceiptRow}
-use Rattle.mrp_planning_data.specs.declared.rows.ShipRow.{ShipRow}
+use Rattle.mrp_master_data.specs.Table.{Table, horizon}
+use Rattle.mrp_master_data.specs.declared.rows.DemandRow.{DemandRow}
+use Rattle.mrp_master_data.specs.declared.rows.ReceiptRow.{ReceiptRow}
+use Rattle.mrp_master_data.specs.declared.rows.ShipRow.{ShipRow}
 use Rattle.mrp_net.specs.Sums.{demand, demand_total, incoming, received, received_total, shipped, shipped_total, row_of}
 
 -- one amount, in its period, counts once at the most

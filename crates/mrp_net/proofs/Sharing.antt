@@ -10,12 +10,12 @@ use Rattle.std.proofs.lemmas.Map.Keys.{apart_from_distinct}
 use Rattle.std.proofs.lemmas.Nat.{le-div}
 use Rattle.std.proofs.lemmas.Option.{slice_get-get_or}
 use Rattle.std.proofs.Math.Nat.{div-mul-le_self, mul-div_cancel, mul-le-mul_left}
-use Rattle.mrp_planning_data.specs.declared.rows.BillRow.{BillRow}
-use Rattle.mrp_planning_data.specs.declared.rows.PairRow.{PairRow}
-use Rattle.mrp_planning_data.specs.declared.rows.SourceRow.{SourceRow}
-use Rattle.mrp_planning_data.specs.declared.rows.Supply.{Supply}
-use Rattle.mrp_planning_data.specs.declared.rows.Supply.TheVariants.{Make, Buy, From}
-use Rattle.mrp_planning_data.specs.Table.{Table, IsTable, IsPair, IsSourceRow, AreShares, HasSupply, is_same_pair, sources_of_pair, supply_at}
+use Rattle.mrp_master_data.specs.declared.rows.BillRow.{BillRow}
+use Rattle.mrp_master_data.specs.declared.rows.PairRow.{PairRow}
+use Rattle.mrp_master_data.specs.declared.rows.SourceRow.{SourceRow}
+use Rattle.mrp_master_data.specs.declared.rows.Supply.{Supply}
+use Rattle.mrp_master_data.specs.declared.rows.Supply.TheVariants.{Make, Buy, From}
+use Rattle.mrp_master_data.specs.Table.{Table, IsTable, IsPair, IsSourceRow, AreShares, HasSupply, is_same_pair, sources_of_pair, supply_at}
 use Rattle.mrp_net.specs.declared.edge.Edge.{Edge}
 use Rattle.mrp_net.specs.Edges.{part, edge_need, bill_edge, source_edge, edges}
 use Rattle.mrp_grouping.specs.Groups.{sorted_by}

@@ -9,10 +9,10 @@ use Rattle.std.proofs.lemmas.List.{get_or_read, get_or-map, length-map}
 use Rattle.std.proofs.lemmas.List.Elements.{All-head, All-tail, All-map, All-filter, filter_passes}
 use Rattle.std.proofs.lemmas.List.Folds.{list_any_at, list_any_none}
 use Rattle.std.proofs.lemmas.List.Sums.{sum_by-cons, fails_before_first, passes_at_first}
-use Rattle.mrp_planning_data.specs.declared.numbers.ItemNo.{ItemNo}
-use Rattle.mrp_planning_data.specs.declared.rows.CumRow.{CumRow}
-use Rattle.mrp_planning_data.specs.declared.rows.SourceRow.{SourceRow}
-use Rattle.mrp_planning_data.specs.Table.{Table, IsTable, IsPair, IsSourceRow, is_taken_from, pair_no}
+use Rattle.mrp_master_data.specs.declared.numbers.ItemNo.{ItemNo}
+use Rattle.mrp_master_data.specs.declared.rows.CumRow.{CumRow}
+use Rattle.mrp_master_data.specs.declared.rows.SourceRow.{SourceRow}
+use Rattle.mrp_master_data.specs.Table.{Table, IsTable, IsPair, IsSourceRow, is_taken_from, pair_no}
 use Rattle.mrp_net.specs.declared.lane.Lane.{Lane}
 use Rattle.mrp_net.specs.declared.lane.Shipment.{Shipment}
 use Rattle.mrp_net.specs.declared.lanes.Sent.{Sent}

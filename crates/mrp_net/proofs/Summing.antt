@@ -14,11 +14,11 @@ use Rattle.std.proofs.lemmas.Nat.{mul-add-lt}
 use Rattle.std.proofs.Math.Nat.{mul_comm, mul-le-mul_left}
 use Rattle.mrp_qty.specs.declared.quantity.TheConstants.{MOST}
 use Rattle.mrp_qty.specs.declared.limits.TheConstants.{MOST_IN_ROW, MOST_OF_A_KIND, MOST_PAIRS}
-use Rattle.mrp_planning_data.specs.declared.rows.DemandRow.{DemandRow}
-use Rattle.mrp_planning_data.specs.declared.rows.ReceiptRow.{ReceiptRow}
-use Rattle.mrp_planning_data.specs.declared.rows.ShipRow.{ShipRow}
-use Rattle.mrp_planning_data.specs.declared.rows.CumRow.{CumRow}
-use Rattle.mrp_planning_data.specs.Table.{Table, IsTable, IsPair, horizon, is_same_cum}
+use Rattle.mrp_master_data.specs.declared.rows.DemandRow.{DemandRow}
+use Rattle.mrp_master_data.specs.declared.rows.ReceiptRow.{ReceiptRow}
+use Rattle.mrp_master_data.specs.declared.rows.ShipRow.{ShipRow}
+use Rattle.mrp_master_data.specs.declared.rows.CumRow.{CumRow}
+use Rattle.mrp_master_data.specs.Table.{Table, IsTable, IsPair, horizon, is_same_cum}
 use Rattle.mrp_grouping.specs.Added.{AddsTotals, AddsAmounts, sum_in, sum_of}
 use Rattle.mrp_grouping.proofs.Adding.{AddsAmounts-same, AddsTotals-same}
 use Rattle.mrp_net.specs.Sums.{pair_at, no_pair, row_of, demand, demand_total, received, shipped}

@@ -6,7 +6,7 @@ use Rattle.std.proofs.lemmas.List.Sums.{sum_by-cons, sum_by-take-le, sum-map}
 use Rattle.std.proofs.Math.Nat.{mul-le-mul_left}
 use Rattle.mrp_netting.specs.One.{PlanRows}
 use Rattle.mrp_qty.proofs.RangeLaws.{sum_by-range-suc, sum_by-add, sum_by-none, sum_by-ext, sum_take-suc}
-use Rattle.mrp_planning_data.specs.Table.{Table, IsTable, horizon}
+use Rattle.mrp_master_data.specs.Table.{Table, IsTable, horizon}
 use Rattle.mrp_net.specs.Plan.{rows_at, gross}
 use Rattle.mrp_net.specs.Edges.{edge_need, part, demanders}
 use Rattle.mrp_net.specs.Sums.{demand, demand_total, row_of}

@@ -1,6 +1,6 @@
 -- What the lists of a built network hold.
 use Rattle.std.specs.Prelude.{◌≡◌, ℕ, ◌+◌, ◌-◌, ◌*◌, ◌^◌, ◌<◌, min, List, length, slice_index}
-use Rattle.mrp_planning_data.specs.Table.{Table, IsTable, IsPair, horizon}
+use Rattle.mrp_master_data.specs.Table.{Table, IsTable, IsPair, horizon}
 use Rattle.mrp_net.specs.declared.edge.Edge.{Edge}
 use Rattle.mrp_net.specs.declared.build.Edges.{Edges}
 use Rattle.mrp_net.specs.declared.build.Amounts.{Amounts}

@@ -2,7 +2,7 @@
 use Rattle.std.specs.Prelude.{◌≡◌, ◌≢◌, ℕ, ◌*◌, ◌==◌, not, Bool, true}
 use Rattle.std.specs.Prelude.{map, filter, All}
 use Rattle.std.specs.List.{AllPairs}
-use Rattle.mrp_planning_data.specs.Table.{Table, IsTable, IsPair, source_pair}
+use Rattle.mrp_master_data.specs.Table.{Table, IsTable, IsPair, source_pair}
 use Rattle.mrp_net.specs.declared.edge.Edge.{Edge}
 use Rattle.mrp_net.specs.Edges.{edge_need, bill_edge, source_edge, edges, demanders}
 use Rattle.mrp_net.specs.Lanes.{item_of_source}

@@ -1,9 +1,9 @@
 -- Who takes from whom: the edges of a network, read off its rows.
 use Rattle.std.specs.Prelude.{ℕ, ◌*◌, List, ◌++◌, length, map}
 use Rattle.mrp_grouping.specs.Groups.{group, sorted_by}
-use Rattle.mrp_planning_data.specs.declared.rows.BillRow.{BillRow}
-use Rattle.mrp_planning_data.specs.declared.rows.SourceRow.{SourceRow}
-use Rattle.mrp_planning_data.specs.Table.{Table, source_pair}
+use Rattle.mrp_master_data.specs.declared.rows.BillRow.{BillRow}
+use Rattle.mrp_master_data.specs.declared.rows.SourceRow.{SourceRow}
+use Rattle.mrp_master_data.specs.Table.{Table, source_pair}
 use Rattle.mrp_net.specs.declared.edge.Edge.{Edge}
 use Rattle.mrp_net.specs.Shares.{share_of}
 

@@ -1,6 +1,6 @@
 -- The names of pairs.
 use Rattle.std.specs.Prelude.{◌≡◌, ℕ, List, slice_get, Some}
-use Rattle.mrp_planning_data.specs.Table.{Table, IsPair}
+use Rattle.mrp_master_data.specs.Table.{Table, IsPair}
 use Rattle.mrp_net.specs.Sums.{pair_at}
 
 -- x is the pair of that plant and item

@@ -1,9 +1,9 @@
 -- Laws of plans: what the plan of a pair looks at, and where its gross requirements come from.
 use Rattle.std.specs.Prelude.{◌≡◌, ℕ, ◌+◌, ◌*◌, ◌==◌, if◌then◌else◌, List, sum_by, All, length}
 use Rattle.mrp_netting.specs.One.{PlanRows}
-use Rattle.mrp_planning_data.specs.declared.rows.BillRow.{BillRow}
-use Rattle.mrp_planning_data.specs.declared.rows.SourceRow.{SourceRow}
-use Rattle.mrp_planning_data.specs.Table.{Table, IsTable, IsPair, source_pair}
+use Rattle.mrp_master_data.specs.declared.rows.BillRow.{BillRow}
+use Rattle.mrp_master_data.specs.declared.rows.SourceRow.{SourceRow}
+use Rattle.mrp_master_data.specs.Table.{Table, IsTable, IsPair, source_pair}
 use Rattle.mrp_net.specs.Edges.{part, source_edge, demanders}
 use Rattle.mrp_net.specs.Plan.{rows_at, gross, pair_plan, release_at, plan_of}
 use Rattle.mrp_net.specs.Sums.{pair_at, demand}

@@ -2,8 +2,8 @@
 use Rattle.std.specs.Prelude.{◌≡◌, ℕ, ◌==◌, List}
 use Rattle.std.specs.Prelude.{length, filter, sum_by}
 use Rattle.std.specs.List.{range_with_len}
-use Rattle.mrp_planning_data.specs.declared.rows.SourceRow.{SourceRow}
-use Rattle.mrp_planning_data.specs.Table.{Table, IsTable}
+use Rattle.mrp_master_data.specs.declared.rows.SourceRow.{SourceRow}
+use Rattle.mrp_master_data.specs.Table.{Table, IsTable}
 use Rattle.mrp_net.specs.Lanes.{taken_over}
 use Rattle.mrp_net.specs.Sums.{pair_at}
 

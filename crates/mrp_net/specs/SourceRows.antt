@@ -1,9 +1,9 @@
 -- What is kept of each source of the table: the shipments on their way by it, and its figures.
 use Rattle.std.specs.Prelude.{◌≡◌, ℕ, true, List, length, map, slice_index, slice_index_or, Option, None}
-use Rattle.mrp_planning_data.specs.declared.numbers.ItemNo.{ItemNo}
-use Rattle.mrp_planning_data.specs.declared.rows.ResetRow.{ResetRow}
-use Rattle.mrp_planning_data.specs.declared.rows.ShipRow.{ShipRow}
-use Rattle.mrp_planning_data.specs.Table.{Table, is_taken_from, pair_no}
+use Rattle.mrp_master_data.specs.declared.numbers.ItemNo.{ItemNo}
+use Rattle.mrp_master_data.specs.declared.rows.ResetRow.{ResetRow}
+use Rattle.mrp_master_data.specs.declared.rows.ShipRow.{ShipRow}
+use Rattle.mrp_master_data.specs.Table.{Table, is_taken_from, pair_no}
 use Rattle.mrp_net.specs.declared.lane.Lane.{Lane}
 use Rattle.mrp_net.specs.declared.lane.Shipment.{Shipment}
 use Rattle.mrp_net.specs.declared.lanes.Sent.{Sent}

@@ -1,9 +1,9 @@
 -- What is kept of each source of the table: the shipments on their way by it, and its figures.
 use Rattle.std.specs.Prelude.{ℕ, ◌==◌, ◌&&◌, slice_index_or}
 use Rattle.std.specs.List.{position_or_len}
-use Rattle.mrp_planning_data.specs.declared.numbers.ItemNo.{ItemNo}
-use Rattle.mrp_planning_data.specs.declared.rows.SourceRow.{SourceRow}
-use Rattle.mrp_planning_data.specs.Table.{Table}
+use Rattle.mrp_master_data.specs.declared.numbers.ItemNo.{ItemNo}
+use Rattle.mrp_master_data.specs.declared.rows.SourceRow.{SourceRow}
+use Rattle.mrp_master_data.specs.Table.{Table}
 use Rattle.mrp_net.specs.declared.lane.Lane.{Lane}
 use Rattle.mrp_net.specs.Lanes.{pair_on, supplier_of}
 

@@ -3,10 +3,10 @@ use Rattle.std.specs.Prelude.{ℕ, ◌+◌, ◌==◌, ◌&&◌, if◌then◌else
 use Rattle.std.specs.List.{range_with_len}
 use Rattle.mrp_netting.specs.declared.params.PairParams.{PairParams}
 use Rattle.mrp_lot.specs.declared.rule.Rule.TheVariants.{LotForLot}
-use Rattle.mrp_planning_data.specs.declared.rows.PairRow.{PairRow}
-use Rattle.mrp_planning_data.specs.declared.rows.Supply.TheVariants.{Buy}
-use Rattle.mrp_planning_data.specs.Rows.{params_of}
-use Rattle.mrp_planning_data.specs.Table.{Table, horizon}
+use Rattle.mrp_master_data.specs.declared.rows.PairRow.{PairRow}
+use Rattle.mrp_master_data.specs.declared.rows.Supply.TheVariants.{Buy}
+use Rattle.mrp_master_data.specs.Rows.{params_of}
+use Rattle.mrp_master_data.specs.Table.{Table, horizon}
 
 -- what a look-up past the pairs of the table reads
 abbrev pub no_pair : PairRow

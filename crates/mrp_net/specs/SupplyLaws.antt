@@ -1,8 +1,8 @@
 -- Laws of what a pair takes: the parts of its release, its sources and its components.
 use Rattle.std.specs.Prelude.{◌≡◌, ℕ, ◌≤◌, ◌==◌}
 use Rattle.std.specs.Prelude.{[], length, map, filter, sum_by}
-use Rattle.mrp_planning_data.specs.declared.rows.Supply.TheVariants.{From, Buy}
-use Rattle.mrp_planning_data.specs.Table.{Table, IsTable, IsPair, pair_no, sources_of_pair}
+use Rattle.mrp_master_data.specs.declared.rows.Supply.TheVariants.{From, Buy}
+use Rattle.mrp_master_data.specs.Table.{Table, IsTable, IsPair, pair_no, sources_of_pair}
 use Rattle.mrp_net.specs.declared.edge.Edge.{Edge}
 use Rattle.mrp_net.specs.Edges.{part, edge_need, bill_edge, source_edge}
 use Rattle.mrp_net.specs.Suppliers.{suppliers, IsEdge}

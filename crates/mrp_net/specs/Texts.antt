@@ -1,7 +1,7 @@
 -- How long the text of a lane can be.
 use Rattle.std.specs.Prelude.{ℕ, ◌+◌, if◌then◌else◌, length, sum_by, is_some}
-use Rattle.mrp_planning_data.specs.declared.numbers.ItemNo.{ItemNo}
-use Rattle.mrp_planning_data.specs.Table.{Table, horizon}
+use Rattle.mrp_master_data.specs.declared.numbers.ItemNo.{ItemNo}
+use Rattle.mrp_master_data.specs.Table.{Table, horizon}
 use Rattle.mrp_net.specs.declared.lane.Lane.{Lane}
 use Rattle.mrp_net.specs.declared.lane.LaneKind.TheVariants.{Despatch, Schedule}
 use Rattle.mrp_net.specs.Lanes.{lane_items, shipments, reset}

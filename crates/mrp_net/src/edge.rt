@@ -1,6 +1,6 @@
 //! An edge: a pair takes from another one, by a bill or from a source.
 
-use mrp_planning_data::PairNo;
+use mrp_master_data::PairNo;
 
 /// An edge: the demander takes from the pair, `per` pieces for each piece of its part of a release.
 ///

@@ -2,7 +2,7 @@
 //! pairs have rows of their own.
 
 ghost use Rattle.std.specs.Prelude.{◌≡◌, ℕ, ◌-◌, ◌*◌, ◌<◌, ◌^◌, [], length, All, IfOk, slice_index};
-ghost use Rattle.mrp_planning_data.specs.Table.{horizon};
+ghost use Rattle.mrp_master_data.specs.Table.{horizon};
 ghost use Rattle.mrp_grouping.specs.Added.{AddsAmounts};
 ghost use Rattle.mrp_net.specs.Built.{ArePeriods};
 ghost use Rattle.mrp_net.specs.Incoming.{AreCounted, AreRows, IsIncoming};
@@ -11,7 +11,7 @@ ghost use Rattle.mrp_net.specs.Sums.{received};
 use crate::sums::{ByPeriod, Pieces};
 use mrp_grouping::{KeyOf, add_amounts};
 use mrp_qty::Memory;
-use mrp_planning_data::{ShipRow, Tables};
+use mrp_master_data::{ShipRow, Tables};
 use std::alloc::Global;
 
 /// What comes in for each pair to which something is on its way, row by row, and the place of each

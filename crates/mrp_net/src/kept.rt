@@ -1,11 +1,11 @@
 //! What a network keeps of its table.
 
 ghost use Rattle.std.specs.Prelude.{◌≡◌, ◌==◌, ◌&&◌, ◌↔◌, IsSome, IfSome, option_map, position};
-ghost use Rattle.mrp_planning_data.specs.Table.{IsPair, IsTable, horizon, pair_no};
-ghost use Rattle.mrp_planning_data.specs.Dropping.{without_bills_and_demands};
+ghost use Rattle.mrp_master_data.specs.Table.{IsPair, IsTable, horizon, pair_no};
+ghost use Rattle.mrp_master_data.specs.Dropping.{without_bills_and_demands};
 
 use mrp_qty::Horizon;
-use mrp_planning_data::{ItemNo, PairNo, PlantNo, RowLists, Tables};
+use mrp_master_data::{ItemNo, PairNo, PlantNo, RowLists, Tables};
 use std::alloc::Global;
 use std::marker::Model;
 use std::snapshot::Snapshot;
@@ -21,8 +21,8 @@ pub struct Kept {
 
 impl Model for Kept {
     ghost use Rattle.std.specs.Prelude.{◌≡◌};
-    ghost use Rattle.mrp_planning_data.specs.Table.{Table, IsTable};
-    ghost use Rattle.mrp_planning_data.specs.Dropping.{without_bills_and_demands};
+    ghost use Rattle.mrp_master_data.specs.Table.{Table, IsTable};
+    ghost use Rattle.mrp_master_data.specs.Dropping.{without_bills_and_demands};
 
     ghost Value = { Table };
 

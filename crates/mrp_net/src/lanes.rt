@@ -1,7 +1,7 @@
 //! The lanes of a network, and the items on each.
 
 ghost use Rattle.std.specs.Prelude.{◌≡◌, ◌+◌, ◌*◌, ◌<◌, ◌++◌, true, length, map, replicate, All, IfOk};
-ghost use Rattle.mrp_planning_data.specs.Table.{is_taken_from};
+ghost use Rattle.mrp_master_data.specs.Table.{is_taken_from};
 ghost use Rattle.mrp_grouping.specs.Added.{AddsTotals};
 ghost use Rattle.mrp_net.specs.Lanes.{lanes, lanes_of, both_lanes, figure, shipped_from};
 ghost use Rattle.mrp_net.specs.Routes.{taken, AreItems, AreLaneLists};
@@ -12,7 +12,7 @@ use crate::lane::{Lane, LaneKind, Shipment};
 use crate::sums::{OfPair, Pieces};
 use mrp_grouping::{AmountOf, Groups, KeyOf, add_totals, group, starts};
 use mrp_qty::Memory;
-use mrp_planning_data::{ItemNo, PairNo, PlantNo, Tables};
+use mrp_master_data::{ItemNo, PairNo, PlantNo, Tables};
 use std::alloc::Global;
 
 /// The lanes of a network, the items of each route, where the sources of each pair begin, and what

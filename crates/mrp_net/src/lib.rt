@@ -21,7 +21,7 @@ mod sums;
 
 pub use edge::Edge;
 pub use lane::{Lane, LaneKind, LaneNo, Shipment};
-pub use mrp_planning_data::{
+pub use mrp_master_data::{
     ItemNo, PairNo, PairRow, PlantNo, ReceiptRow, ShipRow, SourceRow, Supply,
 };
 pub use network::Network;

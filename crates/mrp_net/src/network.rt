@@ -2,7 +2,7 @@
 
 ghost use Rattle.std.specs.Prelude.{◌≡◌, ◌<◌, ◌^◌, ◌-◌, ◌+◌, ◌*◌, ℕ, true, min};
 ghost use Rattle.std.specs.Prelude.{length, slice_get, Option, Some, None, IfSome, IfNone, IfOk, Contains, All};
-ghost use Rattle.mrp_planning_data.specs.Table.{Table, IsTable, horizon, IsPair, is_taken_from, pair_no};
+ghost use Rattle.mrp_master_data.specs.Table.{Table, IsTable, horizon, IsPair, is_taken_from, pair_no};
 ghost use Rattle.mrp_net.specs.Edges.{demanders};
 ghost use Rattle.mrp_net.specs.Suppliers.{suppliers, IsEdge};
 ghost use Rattle.mrp_net.specs.Sums.{pair_at, row_of, demand, demand_total, incoming, received, supply};
@@ -20,7 +20,7 @@ use crate::lanes::{LaneLists, source_of};
 use crate::{Edge, build, lanes};
 use mrp_cal::Calendar;
 use mrp_qty::{Horizon, Memory};
-use mrp_planning_data::{ItemNo, PairNo, PairRow, PlantNo, ReceiptRow, ShipRow, SourceRow, Tables};
+use mrp_master_data::{ItemNo, PairNo, PairRow, PlantNo, ReceiptRow, ShipRow, SourceRow, Tables};
 use std::alloc::Global;
 use std::marker::Model;
 use std::mem;
@@ -39,7 +39,7 @@ pub struct Network {
 }
 
 impl Model for Network {
-    ghost use Rattle.mrp_planning_data.specs.Table.{Table};
+    ghost use Rattle.mrp_master_data.specs.Table.{Table};
     ghost use Rattle.mrp_net.specs.Built.{IsBuilt};
 
     ghost Value = { Table };

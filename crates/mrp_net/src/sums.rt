@@ -1,7 +1,7 @@
 //! Rows of a table by their pair and their period, by which they are put in order and added up.
 
 use mrp_grouping::{AmountOf, KeyOf};
-use mrp_planning_data::{CumRow, DemandRow, ReceiptRow, ShipRow, SourceRow};
+use mrp_master_data::{CumRow, DemandRow, ReceiptRow, ShipRow, SourceRow};
 
 /// The pair of a row as its key.
 pub struct OfPair;

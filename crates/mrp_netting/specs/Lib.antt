@@ -2,3 +2,4 @@ pub mod Bound
 pub mod One
 pub mod Rules
 pub mod Plan
+pub mod PlanningData

@@ -13,7 +13,7 @@ use Rattle.mrp_netting.specs.PlanningData.{plain, one}
 use Rattle.mrp_netting.specs.Bound.{IsWithin}
 use Rattle.mrp_netting.proofs.OneLaws.{release_at, releases-le, one-release, length-one-release}
 use Rattle.mrp_qty.proofs.RangeLaws.{map-range-same}
-use Rattle.mrp_planning_data.specs.Table.{Table, IsTable, horizon}
+use Rattle.mrp_master_data.specs.Table.{Table, IsTable, horizon}
 use Rattle.mrp_net.specs.Edges.{demanders, edge_need}
 use Rattle.mrp_net.specs.Sums.{demand, demand_total, incoming, params_at, pair_at, row_of, no_pair}
 use Rattle.mrp_net.specs.Plan.{rows_at, no_rows, gross, pair_plan, asked}

@@ -2,7 +2,7 @@
 use Rattle.std.specs.Prelude.{◌≡◌, ℕ, ◌<◌, ◌==◌, nat_lt, List, map, filter, sum_by, slice_index}
 use Rattle.mrp_netting.specs.One.{PlanRows}
 use Rattle.mrp_netting.specs.declared.params.Late.{Late}
-use Rattle.mrp_planning_data.specs.Table.{Table, IsPair, horizon}
+use Rattle.mrp_master_data.specs.Table.{Table, IsPair, horizon}
 use Rattle.mrp_net.specs.Plan.{rows_at}
 use Rattle.mrp_net.specs.PlanLaws.{Fits}
 use Rattle.mrp_plan.specs.declared.orders.PlannedOrder.{PlannedOrder}

@@ -2,7 +2,7 @@
 use Rattle.std.specs.Prelude.{◌<◌, ◌≤◌, length, Bool, ℕ, ◌==◌, if◌then◌else◌, List, ◌∷◌, map, filter, not, slice_index}
 use Rattle.mrp_qty.specs.declared.quantity.TheConstants.{MOST}
 use Rattle.mrp_netting.specs.One.{PlanRows}
-use Rattle.mrp_planning_data.specs.Table.{Table}
+use Rattle.mrp_master_data.specs.Table.{Table}
 use Rattle.mrp_net.specs.Edges.{demanders, edge_need, part}
 use Rattle.mrp_net.specs.Suppliers.{IsEdge}
 use Rattle.mrp_net.specs.Sums.{demand, pair_at}

@@ -2,7 +2,7 @@
 
 ghost use Rattle.std.specs.Prelude.{◌≡◌, ◌<◌, ◌≤◌, ◌+◌, ◌↔◌, IsTrue, length, map, All};
 ghost use Rattle.mrp_qty.specs.declared.quantity.TheConstants.{MOST};
-ghost use Rattle.mrp_planning_data.specs.Table.{IsPair, horizon};
+ghost use Rattle.mrp_master_data.specs.Table.{IsPair, horizon};
 ghost use Rattle.mrp_net.specs.Sums.{incoming, row_of};
 ghost use Rattle.mrp_net.specs.Plan.{gross, pair_plan, rows_at, asked};
 ghost use Rattle.mrp_net.specs.PlanLaws.{Fits};

@@ -1,6 +1,6 @@
 //! The plan of a whole network: each pair planned after all of its demanders, pegging, and planned orders.
 //!
-//! Used by `mrp_planner` and the reports, and by `mrp_world` for steps and figures.
+//! Used by `mrp_api` and the reports, and by `mrp_world` for steps and figures.
 //! Keeps true: `plan_all` makes the one plan of its network; terms and planned orders add up to its rows.
 #![tactic(auto)]
 

@@ -1,7 +1,7 @@
 //! Pegging: what a gross requirement consists of.
 
 ghost use Rattle.std.specs.Prelude.{◌≡◌, ◌<◌, ◌≤◌, ◌++◌, ◌∷◌, [], ℕ, length, filter, map, All, IfOk, OnOk};
-ghost use Rattle.mrp_planning_data.specs.Table.{IsPair, horizon};
+ghost use Rattle.mrp_master_data.specs.Table.{IsPair, horizon};
 ghost use Rattle.mrp_net.specs.Edges.{demanders};
 ghost use Rattle.mrp_net.specs.PlanLaws.{Fits};
 ghost use Rattle.mrp_plan.specs.Peg.{peg_terms, is_asked, IsPeggable, demand_term as demand_term_of};

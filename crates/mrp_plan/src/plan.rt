@@ -3,7 +3,7 @@
 ghost use Rattle.std.specs.Prelude.{◌≡◌, ◌+◌, ◌<◌, ◌≤◌, length, map, slice_set, IfOk};
 ghost use Rattle.mrp_qty.specs.declared.quantity.TheConstants.{MOST};
 ghost use Rattle.mrp_netting.specs.One.{one};
-ghost use Rattle.mrp_planning_data.specs.Table.{IsPair, horizon};
+ghost use Rattle.mrp_master_data.specs.Table.{IsPair, horizon};
 ghost use Rattle.mrp_net.specs.Sums.{demand, demand_total, incoming, received_total, shipped_total, row_of};
 ghost use Rattle.mrp_net.specs.Plan.{gross, pair_plan, plan_of, rows_at};
 ghost use Rattle.mrp_net.specs.PlanLaws.{Fits};

@@ -10,8 +10,8 @@ use Rattle.std.proofs.lemmas.List.Folds.{flat_map-map}
 use Rattle.std.proofs.lemmas.List.Kept.{AllPairs-cons, AllPairs-filter}
 use Rattle.std.proofs.lemmas.List.Sums.{sum_by-cons, sum_by-append}
 use Rattle.mrp_netting.specs.One.{PlanRows}
-use Rattle.mrp_planning_data.specs.declared.rows.BillRow.{BillRow}
-use Rattle.mrp_planning_data.specs.Table.{Table}
+use Rattle.mrp_master_data.specs.declared.rows.BillRow.{BillRow}
+use Rattle.mrp_master_data.specs.Table.{Table}
 use Rattle.mrp_net.specs.declared.edge.Edge.{Edge}
 use Rattle.mrp_plant_view.specs.declared.view.PlantEdge.{PlantEdge}
 use Rattle.mrp_plant_view.specs.declared.view.PlantPair.{PlantPair}

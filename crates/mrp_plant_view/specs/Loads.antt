@@ -1,6 +1,6 @@
 -- The items of a lane that a plant sends, each with what is called for of it and its shipments on their way.
 use Rattle.std.specs.Prelude.{ℕ, ◌≤◌, List, [], length, map, All, Option, None, unwrap_or, slice_range, slice_index_or}
-use Rattle.mrp_planning_data.specs.declared.numbers.ItemNo.{ItemNo}
+use Rattle.mrp_master_data.specs.declared.numbers.ItemNo.{ItemNo}
 use Rattle.mrp_net.specs.declared.lane.Shipment.{Shipment}
 use Rattle.mrp_plant_view.specs.declared.view.Call.{Call}
 use Rattle.mrp_plant_view.specs.declared.view.OutgoingItem.{OutgoingItem}

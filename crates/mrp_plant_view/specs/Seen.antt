@@ -6,11 +6,11 @@ use Rattle.mrp_qty.specs.declared.quantity.TheConstants.{MOST}
 use Rattle.mrp_qty.specs.declared.horizon.TheConstants.{LONGEST}
 use Rattle.mrp_lot.specs.Lot.{IsRule}
 use Rattle.mrp_lot.specs.declared.rule.TheConstants.{LONGEST_LEAD}
-use Rattle.mrp_planning_data.specs.declared.numbers.ItemNo.{ItemNo}
-use Rattle.mrp_planning_data.specs.declared.numbers.PairNo.{PairNo}
+use Rattle.mrp_master_data.specs.declared.numbers.ItemNo.{ItemNo}
+use Rattle.mrp_master_data.specs.declared.numbers.PairNo.{PairNo}
 use Rattle.mrp_qty.specs.declared.limits.TheConstants.{MOST_PAIRS, MOST_PER}
 use Rattle.mrp_qty.specs.declared.limits.TheConstants.{MOST_SHARE}
-use Rattle.mrp_planning_data.specs.Table.{IsAmount}
+use Rattle.mrp_master_data.specs.Table.{IsAmount}
 use Rattle.mrp_net.specs.declared.lane.LaneKind.TheVariants.{Despatch, Schedule}
 use Rattle.mrp_net.specs.declared.lane.Shipment.{Shipment}
 use Rattle.mrp_plant_view.specs.declared.view.IncomingItem.{IncomingItem}

@@ -1,7 +1,7 @@
 //! What the demand rows and the receipt rows of a plant's pairs add up to.
 ghost use Rattle.std.specs.Prelude.{◌≡◌, ◌≤◌, length, All, IfOk};
 ghost use Rattle.std.specs.List.{flat_map};
-ghost use Rattle.mrp_planning_data.specs.Table.{IsPair};
+ghost use Rattle.mrp_master_data.specs.Table.{IsPair};
 ghost use Rattle.mrp_net.specs.Sums.{row_of};
 ghost use Rattle.mrp_plant_view.specs.View.{amount_of};
 

@@ -1,10 +1,10 @@
 -- A schedule lane calls for the items of the pairs at its end: its item joins the customer's pair to the supplier's.
 use Rattle.std.proofs.Common.{◌≡◌, ℕ, ◌==◌, ◌&&◌, map, sym, ap, ◌∙◌, Contains}
 use Rattle.std.proofs.lemmas.Bool.{and_from, eq-eqb}
-use Rattle.mrp_planning_data.specs.declared.numbers.ItemNo.{ItemNo}
-use Rattle.mrp_planning_data.specs.declared.numbers.PlantNo.{PlantNo}
-use Rattle.mrp_planning_data.specs.declared.rows.SourceRow.{SourceRow}
-use Rattle.mrp_planning_data.specs.Table.{Table, IsTable, IsPair, pair_no, source_pair}
+use Rattle.mrp_master_data.specs.declared.numbers.ItemNo.{ItemNo}
+use Rattle.mrp_master_data.specs.declared.numbers.PlantNo.{PlantNo}
+use Rattle.mrp_master_data.specs.declared.rows.SourceRow.{SourceRow}
+use Rattle.mrp_master_data.specs.Table.{Table, IsTable, IsPair, pair_no, source_pair}
 use Rattle.mrp_net.specs.declared.lane.Lane.{Lane}
 use Rattle.mrp_net.specs.declared.lane.LaneKind.{LaneKind}
 use Rattle.mrp_net.specs.declared.lane.LaneKind.TheVariants.{Despatch, Schedule}

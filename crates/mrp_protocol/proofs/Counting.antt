@@ -6,7 +6,7 @@ use Rattle.std.proofs.lemmas.Bool.{cond-true, eq-eqb}
 use Rattle.std.proofs.lemmas.List.{append-nil, length-map}
 use Rattle.std.proofs.lemmas.List.Sums.{sum_by-cons}
 use Rattle.mrp_qty.proofs.RangeLaws.{sum_by-none}
-use Rattle.mrp_planning_data.specs.Table.{Table}
+use Rattle.mrp_master_data.specs.Table.{Table}
 use Rattle.mrp_net.specs.Lanes.{lanes, lane_at}
 use Rattle.mrp_net.proofs.Periods.{period-le}
 use Rattle.mrp_record.specs.declared.record.Record.{Record}
@@ -14,7 +14,7 @@ use Rattle.mrp_record.specs.Entries.{Entry, Closing, content, contents, is_closi
 use Rattle.mrp_record.specs.Text.{Load, block, text_of, IsBeginning}
 use Rattle.mrp_record.specs.Lengths.{length_of_text}
 use Rattle.mrp_record.proofs.Beginnings.{beginnings_are_no_longer, texts_have_one_length}
-use Rattle.mrp_planning_data.proofs.Lists.{any_right}
+use Rattle.mrp_master_data.proofs.Lists.{any_right}
 use Rattle.mrp_protocol.specs.declared.event.Event.{Event}
 use Rattle.mrp_protocol.specs.declared.event.Event.TheVariants.{Send, Receive, Plan}
 use Rattle.mrp_protocol.specs.Loads.{loads}

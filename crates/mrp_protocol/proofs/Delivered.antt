@@ -8,7 +8,7 @@ use Rattle.std.proofs.lemmas.List.Elements.{All-filter, filter_passes}
 use Rattle.std.proofs.lemmas.List.FromFn.{length-map-range_with_len, get_or-map-range_with_len}
 use Rattle.std.proofs.lemmas.List.Kept.{AllPairs-filter}
 use Rattle.std.proofs.lemmas.List.Sums.{sum_by-cons, length-filter, count_by-le-length}
-use Rattle.mrp_planning_data.specs.Table.{rises_from}
+use Rattle.mrp_master_data.specs.Table.{rises_from}
 use Rattle.mrp_record.specs.Entries.{Delivery}
 use Rattle.mrp_record.specs.Text.{total}
 use Rattle.mrp_protocol.specs.Loads.{delivery_in, has_pieces, by_period}

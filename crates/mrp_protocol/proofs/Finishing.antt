@@ -1,7 +1,7 @@
 -- No schedule sticks: a run that isn't finished can go on, and a longest run takes all steps.
 use Rattle.std.proofs.Common.{◌≡◌, ℕ, zero, suc, ◌+◌, ◌<◌, ◌≤◌, not, Bool, true, false, List, [], ◌∷◌, ◌⊎◌, inl, inr, length, refl, sym, ap, subst, ◌∙◌, arith}
 use Rattle.std.proofs.lemmas.Bool.{cases_Bool}
-use Rattle.mrp_planning_data.specs.Table.{Table, IsTable, IsPair}
+use Rattle.mrp_master_data.specs.Table.{Table, IsTable, IsPair}
 use Rattle.mrp_net.specs.Lanes.{lanes, lane_at, pair_on}
 use Rattle.mrp_net.specs.Sums.{pair_at}
 use Rattle.mrp_net.proofs.Behind.{items_have_sources}

@@ -7,8 +7,8 @@ use Rattle.std.proofs.lemmas.Bool.{cases_Bool, both_ways, eqb-true, eq-eqb, fals
 use Rattle.std.proofs.lemmas.List.{append-nil}
 use Rattle.std.proofs.lemmas.List.Elements.{All-map, filter-append}
 use Rattle.std.proofs.lemmas.List.Sorted.{IsPermutation-sym, IsPermutation-trans, IsPermutation-middle, IsPermutation-append_right}
-use Rattle.mrp_planning_data.specs.declared.numbers.ItemNo.{ItemNo}
-use Rattle.mrp_planning_data.specs.Table.{Table, pair_no}
+use Rattle.mrp_master_data.specs.declared.numbers.ItemNo.{ItemNo}
+use Rattle.mrp_master_data.specs.Table.{Table, pair_no}
 use Rattle.mrp_net.specs.declared.lane.Lane.{Lane}
 use Rattle.mrp_net.specs.declared.lane.LaneKind.{LaneKind}
 use Rattle.mrp_net.specs.declared.lane.LaneKind.TheVariants.{Despatch, Schedule}
@@ -23,7 +23,7 @@ use Rattle.mrp_record.proofs.Beginnings.{contents_parts}
 use Rattle.mrp_record.proofs.Loads as record_loads
 use Rattle.mrp_record.proofs.Own.{AllOf, AllOf-block, own_kept}
 use Rattle.mrp_record.proofs.Standing.{IsWithin, stands}
-use Rattle.mrp_planning_data.proofs.Lists.{any_left, any_right}
+use Rattle.mrp_master_data.proofs.Lists.{any_left, any_right}
 use Rattle.mrp_protocol.specs.declared.event.Event.{Event}
 use Rattle.mrp_protocol.specs.declared.event.Event.TheVariants.{Send, Receive}
 use Rattle.mrp_protocol.specs.Loads.{loads, load_of}

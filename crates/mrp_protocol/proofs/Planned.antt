@@ -7,9 +7,9 @@ use Rattle.std.proofs.lemmas.List.{map-append}
 use Rattle.std.proofs.lemmas.List.Elements.{filter-append, Contains-get_or}
 use Rattle.mrp_netting.specs.One.{PlanRows}
 use Rattle.mrp_netting.specs.PlanningData.{plain, one}
-use Rattle.mrp_planning_data.specs.declared.numbers.ItemNo.{ItemNo}
-use Rattle.mrp_planning_data.specs.declared.rows.BillRow.{BillRow}
-use Rattle.mrp_planning_data.specs.Table.{Table, IsTable, IsPair, IsBillRow, horizon, plant_at}
+use Rattle.mrp_master_data.specs.declared.numbers.ItemNo.{ItemNo}
+use Rattle.mrp_master_data.specs.declared.rows.BillRow.{BillRow}
+use Rattle.mrp_master_data.specs.Table.{Table, IsTable, IsPair, IsBillRow, horizon, plant_at}
 use Rattle.mrp_net.specs.Edges.{bill_edge, source_edge}
 use Rattle.mrp_net.specs.PlanLaws.{asked_by_bill}
 use Rattle.mrp_net.specs.Plan.{release_at}
@@ -26,7 +26,7 @@ use Rattle.mrp_loops.proofs.Edges.{HasEdge-from_in, HasEdge-pairs}
 use Rattle.mrp_loops.proofs.OnePlan.{one_plan}
 use Rattle.mrp_record.specs.declared.record.Record.{Record}
 use Rattle.mrp_record.specs.Entries.{Entry, content, contents, entries_of, is_end, is_ended, is_of}
-use Rattle.mrp_planning_data.proofs.Lists.{any_left}
+use Rattle.mrp_master_data.proofs.Lists.{any_left}
 use Rattle.mrp_protocol.specs.declared.event.Event.{Event}
 use Rattle.mrp_protocol.specs.declared.event.Event.TheVariants.{Send, Receive, Plan}
 use Rattle.mrp_protocol.specs.Local.{incoming_brought, gross_brought, AreLegal, PlannedStayReady, AreLocal, LocalPlansAreThePlan, ReachedPlansAreThePlan}

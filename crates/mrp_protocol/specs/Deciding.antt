@@ -1,6 +1,6 @@
 -- Whether an event is enabled is always settled, so each list of events has a run.
 use Rattle.std.specs.Prelude.{ℕ, List, [], ◌∷◌, ◌++◌, ◌⊎◌}
-use Rattle.mrp_planning_data.specs.Table.{Table, IsTable}
+use Rattle.mrp_master_data.specs.Table.{Table, IsTable}
 use Rattle.mrp_protocol.specs.declared.event.Event.{Event}
 use Rattle.mrp_protocol.specs.State.{State, opening_state, IsEnabled, Happens, Run, IsReached}
 

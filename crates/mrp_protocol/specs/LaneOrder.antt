@@ -1,7 +1,7 @@
 -- What is true of a lane in a state of a run: its order, and its figures.
 use Rattle.std.specs.Prelude.{◌≡◌, ℕ, ◌≤◌, List, [], ◌∷◌, ◌++◌, length}
-use Rattle.mrp_planning_data.specs.declared.numbers.ItemNo.{ItemNo}
-use Rattle.mrp_planning_data.specs.Table.{Table}
+use Rattle.mrp_master_data.specs.declared.numbers.ItemNo.{ItemNo}
+use Rattle.mrp_master_data.specs.Table.{Table}
 use Rattle.mrp_net.specs.Lanes.{lane_at, opening}
 use Rattle.mrp_record.specs.declared.record.Record.{Record}
 use Rattle.mrp_record.specs.Entries.{Closing, content, contents, cum}

@@ -1,8 +1,8 @@
 -- Laws of what lanes carry.
 use Rattle.std.specs.Prelude.{◌*◌, ◌≤◌, List, length, All, Contains}
 use Rattle.mrp_qty.specs.declared.quantity.TheConstants.{MOST}
-use Rattle.mrp_planning_data.specs.declared.numbers.ItemNo.{ItemNo}
-use Rattle.mrp_planning_data.specs.Table.{Table, IsTable, horizon}
+use Rattle.mrp_master_data.specs.declared.numbers.ItemNo.{ItemNo}
+use Rattle.mrp_master_data.specs.Table.{Table, IsTable, horizon}
 use Rattle.mrp_net.specs.declared.lane.Lane.{Lane}
 use Rattle.mrp_net.specs.Lanes.{lane_items, opening}
 use Rattle.mrp_net.specs.Texts.{longest_text}

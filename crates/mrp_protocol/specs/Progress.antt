@@ -1,7 +1,7 @@
 -- How far a run is from its end: no deadlock, and termination.
 use Rattle.std.specs.Prelude.{◌≡◌, ℕ, ◌+◌, ◌-◌, ◌≤◌, ◌↔◌, ◌⊎◌, not, Bool, List, [], ◌∷◌, length, sum_by, count_by}
 use Rattle.std.specs.List.{range_with_len}
-use Rattle.mrp_planning_data.specs.Table.{Table, IsTable}
+use Rattle.mrp_master_data.specs.Table.{Table, IsTable}
 use Rattle.mrp_net.specs.Lanes.{lanes, lane_at}
 use Rattle.mrp_loops.specs.Loop.{IsLoopFree}
 use Rattle.mrp_record.specs.Lengths.{length_of_text}

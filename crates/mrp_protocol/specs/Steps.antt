@@ -1,6 +1,6 @@
 -- How many events a run has.
 use Rattle.std.specs.Prelude.{ℕ, ◌+◌, ◌*◌, length, sum_by}
-use Rattle.mrp_planning_data.specs.Table.{Table}
+use Rattle.mrp_master_data.specs.Table.{Table}
 use Rattle.mrp_net.specs.Lanes.{lanes}
 use Rattle.mrp_record.specs.Lengths.{length_of_text}
 use Rattle.mrp_protocol.specs.Loads.{loads}

@@ -7,7 +7,7 @@ use Rattle.std.proofs.lemmas.List.{get_or-set_same, get_or-set_other, get_or-tak
 use Rattle.std.proofs.lemmas.List.{length-take-le, length-drop, take_more, take-set-le, drop-take, drop-append-le, ext_get_or}
 use Rattle.std.proofs.lemmas.List.Edits.{swapped_from_swap, swap_is, length-swap}
 use Rattle.std.proofs.lemmas.List.FromFn.{get_or-range_with_len, length-range_with_len, fill_by_all}
-use Rattle.mrp_planning_data.specs.declared.numbers.PairNo.{PairNo}
+use Rattle.mrp_master_data.specs.declared.numbers.PairNo.{PairNo}
 use Rattle.mrp_readiness.specs.Chosen.{AreApart, AreSlotted, Chosen, chosen, number_at, slots_after}
 
 -- what is read after the exchange

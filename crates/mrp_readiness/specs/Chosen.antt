@@ -1,7 +1,7 @@
 -- Some of the pairs of a plant, and how slots keep them.
 use Rattle.std.specs.Prelude.{◌≡◌, ◌≢◌, ◌≤◌, ◌<◌, ℕ, List, length, map, take, slice_index, slice_range, slice_index_or}
 use Rattle.std.specs.Prelude.{slice_set, AllPairs}
-use Rattle.mrp_planning_data.specs.declared.numbers.PairNo.{PairNo}
+use Rattle.mrp_master_data.specs.declared.numbers.PairNo.{PairNo}
 
 -- the pair's number at each place of the plant, the places that were chosen and taken out, and those that are chosen
 pub record Chosen : Type 0 where

@@ -1,7 +1,7 @@
 -- How far the planning of a plant's pairs is. A pair is named by its place there.
 use Rattle.std.specs.Prelude.{◌≡◌, ◌↔◌, ◌<◌, ◌+◌, ◌==◌, ℕ, Bool, true, false, not, List, length, count_by, slice_index}
 use Rattle.std.specs.Prelude.{slice_index_or, Contains}
-use Rattle.mrp_planning_data.specs.declared.numbers.PairNo.{PairNo}
+use Rattle.mrp_master_data.specs.declared.numbers.PairNo.{PairNo}
 use Rattle.mrp_readiness.specs.Chosen.{Chosen}
 
 -- by place the pair's number, how much it waits for, and whether it is planned; and the pairs that can be planned

@@ -18,6 +18,6 @@ mod waits;
 
 pub use components::Components;
 pub use join::Join;
-pub use mrp_planning_data::PairNo;
+pub use mrp_master_data::PairNo;
 pub use readiness::Readiness;
 pub use waits::first_waits;

@@ -15,7 +15,7 @@ use Rattle.mrp_record.specs.Text.{Load, block, body, last_figure, IsBeginning}
 use Rattle.mrp_record.proofs.Beginnings.{closed_is_whole, texts_have_one_length, beginnings_are_no_longer, ended_items_are_done}
 use Rattle.mrp_record.proofs.Own.{AllOf-block, own_kept}
 use Rattle.mrp_record.proofs.Running.{length-block}
-use Rattle.mrp_planning_data.proofs.Lists.{any_left, any_right}
+use Rattle.mrp_master_data.proofs.Lists.{any_left, any_right}
 use Rattle.mrp_record.specs.Cursor.{OutFigures, Goods, goods_load, blocks}
 use Rattle.mrp_record.specs.CursorLaws.{Agrees, IsQueued, MaySend, NoneIsLeft}
 use Rattle.mrp_record.specs.Shows.{ShowsSent}

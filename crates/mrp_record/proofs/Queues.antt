@@ -12,7 +12,7 @@ use Rattle.std.proofs.lemmas.List.Sorted.{Contains-permutation, IsPermutation-mo
 use Rattle.mrp_record.specs.declared.record.Record.{Record}
 use Rattle.mrp_record.specs.Entries.{Entry}
 use Rattle.mrp_record.specs.Text.{block}
-use Rattle.mrp_planning_data.proofs.Lists.{slice_get-append}
+use Rattle.mrp_master_data.proofs.Lists.{slice_get-append}
 use Rattle.mrp_record.specs.Cursor.{OutFigures, IsQueue, Goods, goods_load, blocks, unsent}
 use Rattle.mrp_record.specs.CursorLaws.{QueuesShow, LooksAtQueued}
 use Rattle.mrp_record.specs.Next.{queued}

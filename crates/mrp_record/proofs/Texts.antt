@@ -18,7 +18,7 @@ use Rattle.mrp_record.specs.Text.{Load, block, IsText}
 use Rattle.mrp_record.specs.Lengths.{block_length}
 use Rattle.mrp_record.proofs.Own.{AllOf-block, none_closing, list_any-append, list_any-front}
 use Rattle.mrp_record.proofs.Running.{length-block}
-use Rattle.mrp_planning_data.proofs.Lists.{any_right}
+use Rattle.mrp_master_data.proofs.Lists.{any_right}
 use Rattle.mrp_record.specs.Cursor.{OutFigures, Goods, goods_load, blocks}
 use Rattle.mrp_record.specs.CursorLaws.{Agrees, ShownBegin, ClosedIsShown, ClosedShowsWhole, ShownAreShort, SmallAreBounded, QueuedArePlaces}
 use Rattle.mrp_record.specs.Shows.{ShowsSent, left_from, figure_at, reset_at}

@@ -15,6 +15,6 @@ mod record;
 mod remainder;
 
 pub use cursor::OutCursor;
-pub use mrp_planning_data::ItemNo;
+pub use mrp_master_data::ItemNo;
 pub use record::Record;
 pub use remainder::{NextLine, Remainder};

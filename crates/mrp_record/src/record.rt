@@ -1,6 +1,6 @@
 //! The records of a lane: lines, resets, item ends and the closing.
 
-use mrp_planning_data::ItemNo;
+use mrp_master_data::ItemNo;
 
 /// One record of a lane.
 ///

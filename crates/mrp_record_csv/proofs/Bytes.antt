@@ -9,9 +9,9 @@ use Rattle.std.proofs.lemmas.Str.{IsUtf8-from_ascii, is_utf8-from_IsUtf8}
 use Rattle.std.proofs.lemmas.Str.Ascii.{IsAscii-nil}
 use Rattle.std.specs.Prelude.{decimal}
 use Rattle.csv.specs.Writing.{default_writer, needs_byte}
-use Rattle.mrp_planning_data.specs.Spelling.{is_name, is_name_byte}
-use Rattle.mrp_planning_data.specs.Parsing.{IsShort, is_number, spelled_number, read_on}
-use Rattle.mrp_planning_data.proofs.Decimals.{number-written}
+use Rattle.mrp_master_data.specs.Spelling.{is_name, is_name_byte}
+use Rattle.mrp_master_data.specs.Parsing.{IsShort, is_number, spelled_number, read_on}
+use Rattle.mrp_master_data.proofs.Decimals.{number-written}
 
 pub both_true : (a b : Bool) → (a && b) ≡ true → (a ≡ true) × (b ≡ true)
 both_true true b e = (refl, e)

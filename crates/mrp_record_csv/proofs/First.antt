@@ -3,12 +3,12 @@ use Rattle.std.proofs.Common.{◌≡◌, ℕ, ◌==◌, ◌&&◌, not, Bool, tru
 use Rattle.std.specs.Result.{result_err}
 use Rattle.std.specs.List.{list_all}
 use Rattle.std.specs.Str.{is_utf8}
-use Rattle.mrp_planning_data.specs.Parsing.{spelled_number}
-use Rattle.mrp_planning_data.specs.declared.numbers.ItemNo.{ItemNo}
-use Rattle.mrp_planning_data.specs.Table.{Table}
+use Rattle.mrp_master_data.specs.Parsing.{spelled_number}
+use Rattle.mrp_master_data.specs.declared.numbers.ItemNo.{ItemNo}
+use Rattle.mrp_master_data.specs.Table.{Table}
 use Rattle.mrp_record.specs.declared.record.Record.{Record}
 use Rattle.mrp_record.specs.declared.record.Record.TheVariants.{Line, ItemEnd, Reset, Close}
-use Rattle.mrp_grammar.specs.Grammar.{◌>>=◌, check, field}
+use Rattle.mrp_validation.specs.Grammar.{◌>>=◌, check, field}
 use Rattle.mrp_record_csv.specs.declared.fault.RecordFaultKind.{RecordFaultKind}
 use Rattle.mrp_record_csv.specs.declared.fault.RecordFaultKind.TheVariants as fault
 use Rattle.mrp_record_csv.specs.declared.kind.Kind.{Kind}

@@ -2,11 +2,11 @@
 use Rattle.std.proofs.Common.{◌≡◌, ℕ, ◌==◌, List, length, Result, Ok, Err, IfErr, refl, ◌∙◌, arith}
 use Rattle.std.specs.List.{Contains, list_all}
 use Rattle.std.specs.Str.{is_utf8}
-use Rattle.mrp_planning_data.specs.Parsing.{spelled_number}
-use Rattle.mrp_planning_data.specs.Table.{Table}
+use Rattle.mrp_master_data.specs.Parsing.{spelled_number}
+use Rattle.mrp_master_data.specs.Table.{Table}
 use Rattle.mrp_record.specs.declared.record.Record.{Record}
-use Rattle.mrp_grammar.specs.Grammar.{field}
-use Rattle.mrp_grammar.proofs.KeepingSteps.{chosen, found, steps, tested}
+use Rattle.mrp_validation.specs.Grammar.{field}
+use Rattle.mrp_validation.proofs.KeepingSteps.{chosen, found, steps, tested}
 use Rattle.mrp_record_csv.specs.declared.fault.RecordFaultKind.{RecordFaultKind}
 use Rattle.mrp_record_csv.specs.declared.fault.RecordFaultKind.TheVariants as fault
 use Rattle.mrp_record_csv.specs.declared.kind.Kind.{Kind}

@@ -6,9 +6,9 @@ use Rattle.std.proofs.lemmas.Bool.{true≢false}
 use Rattle.std.proofs.lemmas.Bool.Decides.{nat_tests}
 use Rattle.std.proofs.lemmas.List.{length-map, length_push, map-append}
 use Rattle.std.proofs.lemmas.List.Elements.{All-push}
-use Rattle.mrp_planning_data.specs.Table.{Table}
+use Rattle.mrp_master_data.specs.Table.{Table}
 use Rattle.mrp_record.specs.declared.record.Record.{Record}
-use Rattle.mrp_grammar.specs.Left.{OfLeft, TakesRow}
+use Rattle.mrp_validation.specs.Left.{OfLeft, TakesRow}
 use Rattle.mrp_record_csv.specs.declared.fault.RecordFaultKind.{RecordFaultKind}
 use Rattle.mrp_record_csv.specs.declared.fault.RecordFaultKind.TheVariants as fault
 use Rattle.mrp_qty.specs.declared.limits.TheConstants.{MOST_RECORDS}

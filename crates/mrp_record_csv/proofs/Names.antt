@@ -9,12 +9,12 @@ use Rattle.std.specs.Str.{bytes_eq}
 use Rattle.std.proofs.lemmas.Map.Keys.{apart_from_distinct}
 use Rattle.std.proofs.lemmas.Option.{get_or_from_slice_get, slice_get_within, slice_get-get_or}
 use Rattle.std.proofs.lemmas.Slice.Eq.{bytes_eq-Decides}
-use Rattle.mrp_planning_data.proofs.Apart.{bytes_symm}
-use Rattle.mrp_planning_data.proofs.Keys.{position_is}
-use Rattle.mrp_planning_data.specs.declared.numbers.ItemNo.{ItemNo}
-use Rattle.mrp_planning_data.specs.Table.{IsTable, Table}
+use Rattle.mrp_master_data.proofs.Apart.{bytes_symm}
+use Rattle.mrp_master_data.proofs.Keys.{position_is}
+use Rattle.mrp_master_data.specs.declared.numbers.ItemNo.{ItemNo}
+use Rattle.mrp_master_data.specs.Table.{IsTable, Table}
 use Rattle.mrp_net.proofs.Naming.{name_at_place}
-use Rattle.mrp_planning_data.specs.Said.{item_name}
+use Rattle.mrp_master_data.specs.Said.{item_name}
 use Rattle.mrp_record_csv.specs.Grammar.{item_named}
 
 -- where no name stands twice, a name has one place

@@ -10,14 +10,14 @@ use Rattle.std.proofs.lemmas.Slice.Eq.{bytes_eq-Decides}
 use Rattle.std.proofs.lemmas.Str.{is_utf8-from_IsUtf8}
 use Rattle.std.specs.Prelude.{decimal}
 use Rattle.csv.specs.Records.{AllText, field_at}
-use Rattle.mrp_planning_data.specs.Parsing.{IsShort, spelled_number}
-use Rattle.mrp_planning_data.proofs.Decimals.{number-spelled}
-use Rattle.mrp_planning_data.specs.declared.numbers.ItemNo.{ItemNo}
-use Rattle.mrp_planning_data.specs.Table.{Table}
+use Rattle.mrp_master_data.specs.Parsing.{IsShort, spelled_number}
+use Rattle.mrp_master_data.proofs.Decimals.{number-spelled}
+use Rattle.mrp_master_data.specs.declared.numbers.ItemNo.{ItemNo}
+use Rattle.mrp_master_data.specs.Table.{Table}
 use Rattle.mrp_record.specs.declared.record.Record.{Record}
-use Rattle.mrp_grammar.specs.Grammar.{◌>>=◌, field, is_empty}
-use Rattle.mrp_grammar.proofs.KeepingSteps.{after, after_check, after_some, same_Ok}
-use Rattle.mrp_planning_data.specs.Said.{item_name}
+use Rattle.mrp_validation.specs.Grammar.{◌>>=◌, field, is_empty}
+use Rattle.mrp_validation.proofs.KeepingSteps.{after, after_check, after_some, same_Ok}
+use Rattle.mrp_master_data.specs.Said.{item_name}
 use Rattle.mrp_record_csv.specs.declared.fault.RecordFaultKind.{RecordFaultKind}
 use Rattle.mrp_record_csv.specs.declared.fault.RecordFaultKind.TheVariants as fault
 use Rattle.mrp_record_csv.specs.declared.kind.Kind.{Kind}

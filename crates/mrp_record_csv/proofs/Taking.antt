@@ -8,12 +8,12 @@ use Rattle.csv.specs.declared.error.ErrorKind.{ErrorKind}
 use Rattle.csv.specs.declared.error.ErrorKind.TheVariants as error
 use Rattle.csv.specs.declared.reader.Reader.{Reader}
 use Rattle.csv.specs.declared.reader.Trim.TheVariants as trim
-use Rattle.mrp_planning_data.specs.Table.{Table}
-use Rattle.mrp_planning_data.specs.Growing.{empty_table}
-use Rattle.mrp_grammar.specs.declared.fault.TableFaultKind.TheVariants as table_fault
-use Rattle.mrp_grammar.specs.Left.{GivesAll, rows_left, OfLeft, StartsBadly, TakesRow}
+use Rattle.mrp_master_data.specs.Table.{Table}
+use Rattle.mrp_master_data.specs.Growing.{empty_table}
+use Rattle.mrp_validation.specs.declared.fault.TableFaultKind.TheVariants as table_fault
+use Rattle.mrp_validation.specs.Left.{GivesAll, rows_left, OfLeft, StartsBadly, TakesRow}
 use Rattle.mrp_tables.proofs.Taken.{ends_rows, explains, takes_row}
-use Rattle.mrp_grammar.proofs.Loop.{of_left_from}
+use Rattle.mrp_validation.proofs.Loop.{of_left_from}
 use Rattle.mrp_record_csv.specs.declared.fault.RecordFaultKind.{RecordFaultKind}
 use Rattle.mrp_record_csv.specs.declared.fault.RecordFaultKind.TheVariants as fault
 use Rattle.mrp_record_csv.specs.Grammar.{record_of}

@@ -10,14 +10,14 @@ use Rattle.csv.specs.Records.{field_at}
 use Rattle.csv.specs.Writing.{comma, default_writer, fields_text, is_blank, row_text}
 use Rattle.csv.specs.declared.parser.State.TheVariants.{StartRecord}
 use Rattle.csv.proofs.RoundTrip.{read-write-many}
-use Rattle.mrp_planning_data.specs.Parsing.{IsShort, spelled_number}
-use Rattle.mrp_planning_data.proofs.Decimals.{number-written}
-use Rattle.mrp_planning_data.specs.declared.numbers.ItemNo.{ItemNo}
-use Rattle.mrp_planning_data.specs.Table.{IsName, IsTable, Table}
+use Rattle.mrp_master_data.specs.Parsing.{IsShort, spelled_number}
+use Rattle.mrp_master_data.proofs.Decimals.{number-written}
+use Rattle.mrp_master_data.specs.declared.numbers.ItemNo.{ItemNo}
+use Rattle.mrp_master_data.specs.Table.{IsName, IsTable, Table}
 use Rattle.mrp_record.specs.declared.record.Record.{Record}
 use Rattle.mrp_record.specs.declared.record.Record.TheVariants.{Line, ItemEnd, Reset, Close}
-use Rattle.mrp_grammar.proofs.Records.{none_left, one_left}
-use Rattle.mrp_planning_data.specs.Said.{item_name}
+use Rattle.mrp_validation.proofs.Records.{none_left, one_left}
+use Rattle.mrp_master_data.specs.Said.{item_name}
 use Rattle.mrp_record_csv.specs.Rows.{HasRow, record_fields, record_text, records_text}
 use Rattle.mrp_record_csv.specs.Grammar.{spelled_close, spelled_end, item_named, spelled_line, record_of, spelled_reset, record_row_kind, spelled_record}
 use Rattle.mrp_record_csv.proofs.Bytes.{IsPlain, name_plain, decimal_plain, plain_unquoted, plain_utf8}

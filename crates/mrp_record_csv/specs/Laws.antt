@@ -2,7 +2,7 @@
 use Rattle.std.specs.Prelude.{◌≡◌, ◌⊎◌, ◌↔◌, ℕ, List, [], ◌∷◌, map, All, Ok, IfErr}
 use Rattle.std.specs.List.{Contains}
 use Rattle.mrp_csv_out.specs.Sheets.{sheet_of}
-use Rattle.mrp_planning_data.specs.Table.{IsTable, Table}
+use Rattle.mrp_master_data.specs.Table.{IsTable, Table}
 use Rattle.mrp_record.specs.declared.record.Record.{Record}
 use Rattle.mrp_record_csv.specs.declared.fault.RecordFault.{RecordFault}
 use Rattle.mrp_record_csv.specs.declared.fault.RecordFaultKind.{RecordFaultKind}

@@ -3,9 +3,9 @@ use Rattle.std.specs.Prelude.{◌≡◌, ◌⊎◌, ℕ, ◌<◌, Bool, true, fa
 use Rattle.std.specs.Prelude.{Result, Ok, Err}
 use Rattle.csv.specs.declared.error.ErrorKind.{ErrorKind}
 use Rattle.csv.specs.declared.error.ErrorKind.TheVariants as error
-use Rattle.mrp_planning_data.specs.Table.{Table}
+use Rattle.mrp_master_data.specs.Table.{Table}
 use Rattle.mrp_record.specs.declared.record.Record.{Record}
-use Rattle.mrp_grammar.specs.Left.{OfLeft, TakesRow}
+use Rattle.mrp_validation.specs.Left.{OfLeft, TakesRow}
 use Rattle.mrp_record_csv.specs.declared.fault.RecordFaultKind.{RecordFaultKind}
 use Rattle.mrp_record_csv.specs.declared.fault.RecordFaultKind.TheVariants as fault
 use Rattle.mrp_qty.specs.declared.limits.TheConstants.{MOST_RECORDS}

@@ -6,9 +6,9 @@ use Rattle.std.specs.Prelude.{None, is_some}
 use Rattle.std.specs.Result.{result_err}
 use Rattle.std.specs.List.{list_all}
 use Rattle.std.specs.Str.{is_utf8}
-use Rattle.mrp_planning_data.specs.Parsing.{spelled_number}
-use Rattle.mrp_planning_data.specs.Table.{Table}
-use Rattle.mrp_grammar.specs.Grammar.{field}
+use Rattle.mrp_master_data.specs.Parsing.{spelled_number}
+use Rattle.mrp_master_data.specs.Table.{Table}
+use Rattle.mrp_validation.specs.Grammar.{field}
 use Rattle.mrp_record_csv.specs.declared.fault.RecordFaultKind.{RecordFaultKind}
 use Rattle.mrp_record_csv.specs.declared.fault.RecordFaultKind.TheVariants as fault
 use Rattle.mrp_record_csv.specs.declared.kind.Kind.{Kind}

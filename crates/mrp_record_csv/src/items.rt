@@ -17,7 +17,7 @@ impl<'n> Model for NamedItems<'n> {
     ghost use Rattle.std.specs.HashMap.{get_by};
     ghost use Rattle.std.specs.Prelude.{◌≡◌, ℕ, List};
     ghost use Rattle.std.specs.Str.{bytes_eq};
-    ghost use Rattle.mrp_planning_data.specs.Table.{Table};
+    ghost use Rattle.mrp_master_data.specs.Table.{Table};
     ghost use Rattle.mrp_record_csv.specs.Grammar.{item_named};
 
     ghost Value = { Table };

@@ -3,11 +3,11 @@
 ghost use Rattle.std.specs.Prelude.{true, false, ◌≡◌, ◌+◌, ◌≤◌, [], length, IfOk, IfErr, OnOk, OnErr, option_map};
 ghost use Rattle.csv.specs.Reading.{has_failed, strip_bom};
 ghost use Rattle.csv.specs.Records.{AllText, fields_of};
-ghost use Rattle.mrp_grammar.specs.Left.{GivesAll, MayCome, OfLeft, rows_left};
-ghost use Rattle.mrp_grammar.specs.Written.{OfRecords};
+ghost use Rattle.mrp_validation.specs.Left.{GivesAll, MayCome, OfLeft, rows_left};
+ghost use Rattle.mrp_validation.specs.Written.{OfRecords};
 ghost use Rattle.mrp_record_csv.specs.Left.{record_fault_of, is_of_row, StopsReading};
 ghost use Rattle.mrp_record_csv.specs.Left.{TellsNextRecord, TellsTakenRecord};
-ghost use Rattle.mrp_planning_data.specs.Table.{Table};
+ghost use Rattle.mrp_master_data.specs.Table.{Table};
 ghost use Rattle.mrp_record_csv.specs.Reading.{AreRowsOf, HasFault};
 
 use crate::items::NamedItems;

@@ -12,8 +12,8 @@ use crate::kind::Kind;
 use csv::StringRecord;
 use mrp_net::ItemNo;
 use mrp_record::Record;
-use mrp_planning_data::number;
-use mrp_grammar::{field, is_free};
+use mrp_master_data::number;
+use mrp_validation::{field, is_free};
 
 /// How many fields a row has.
 const FIELDS: usize = 6;

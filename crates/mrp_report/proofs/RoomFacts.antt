@@ -3,8 +3,8 @@ use Rattle.std.proofs.Common.{◌≡◌, ◌≤◌, ◌<◌, ◌+◌, ◌-◌, �
 use Rattle.std.specs.List.{list_all}
 use Rattle.std.proofs.lemmas.Bool.Decides.{nat_tests}
 use Rattle.std.proofs.Math.Nat.{mul-le-mul_left}
-use Rattle.mrp_planning_data.specs.Spelling.{is_name_byte}
-use Rattle.mrp_planning_data.specs.Table.{IsName, IsTable, Table}
+use Rattle.mrp_master_data.specs.Spelling.{is_name_byte}
+use Rattle.mrp_master_data.specs.Table.{IsName, IsTable, Table}
 use Rattle.mrp_net.specs.Names.{IsNamed}
 use Rattle.mrp_net.specs.Sums.{no_pair, pair_at}
 use Rattle.mrp_csv_out.proofs.RowFacts.{item_is, plant_is}

@@ -5,7 +5,7 @@ use Rattle.mrp_netting.specs.One.{PlanRows}
 use Rattle.mrp_netting.specs.PlanningData.{plain, one}
 use Rattle.mrp_netting.proofs.OneLaws.{one-gross, one-incoming, length-one-order, length-one-release, length-one-available}
 use Rattle.mrp_netting.specs.declared.params.PairParams.{PairParams}
-use Rattle.mrp_planning_data.specs.Table.{Table, IsPair, horizon}
+use Rattle.mrp_master_data.specs.Table.{Table, IsPair, horizon}
 use Rattle.mrp_net.specs.Sums.{params_at, row_of, incoming}
 use Rattle.mrp_net.specs.Plan.{gross, rows_at}
 use Rattle.mrp_net.specs.PlanLaws.{Fits}

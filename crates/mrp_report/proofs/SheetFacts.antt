@@ -7,7 +7,7 @@ use Rattle.std.proofs.lemmas.Grind.{flat_map-append}
 use Rattle.csv.specs.Reading.{strip_bom}
 use Rattle.mrp_netting.specs.One.{PlanRows}
 use Rattle.mrp_netting.specs.declared.params.Late.{Late}
-use Rattle.mrp_planning_data.specs.Table.{IsTable, Table, horizon}
+use Rattle.mrp_master_data.specs.Table.{IsTable, Table, horizon}
 use Rattle.mrp_net.specs.Lanes.{lane_at}
 use Rattle.mrp_net.specs.Plan.{rows_at}
 use Rattle.mrp_net.specs.Sums.{pair_at}

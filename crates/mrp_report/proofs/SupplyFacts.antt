@@ -10,12 +10,12 @@ use Rattle.std.proofs.lemmas.Option.{slice_get-get_or}
 use Rattle.mrp_grouping.specs.Groups.{group, sorted_by}
 use Rattle.mrp_grouping.proofs.Grouping.{sorted_by-suc}
 use Rattle.mrp_grouping.proofs.Sorting.{filter-no, filter-sorted_by, filter-yes, filter_none}
-use Rattle.mrp_planning_data.specs.declared.rows.BillRow.{BillRow}
-use Rattle.mrp_planning_data.specs.declared.rows.PairRow.{PairRow}
-use Rattle.mrp_planning_data.specs.declared.rows.SourceRow.{SourceRow}
-use Rattle.mrp_planning_data.specs.declared.rows.Supply.{Supply}
-use Rattle.mrp_planning_data.specs.declared.rows.Supply.TheVariants.{Buy, From, Make}
-use Rattle.mrp_planning_data.specs.Table.{AreShares, HasSupply, IsPair, IsSourceRow, IsTable, source_pair, sources_of_pair, supply_at as supply_kind, Table}
+use Rattle.mrp_master_data.specs.declared.rows.BillRow.{BillRow}
+use Rattle.mrp_master_data.specs.declared.rows.PairRow.{PairRow}
+use Rattle.mrp_master_data.specs.declared.rows.SourceRow.{SourceRow}
+use Rattle.mrp_master_data.specs.declared.rows.Supply.{Supply}
+use Rattle.mrp_master_data.specs.declared.rows.Supply.TheVariants.{Buy, From, Make}
+use Rattle.mrp_master_data.specs.Table.{AreShares, HasSupply, IsPair, IsSourceRow, IsTable, source_pair, sources_of_pair, supply_at as supply_kind, Table}
 use Rattle.mrp_net.specs.declared.edge.Edge.{Edge}
 use Rattle.mrp_net.specs.Edges.{bill_edge, edges, source_edge}
 use Rattle.mrp_net.specs.Suppliers.{suppliers}
@@ -24,9 +24,9 @@ use Rattle.mrp_net.proofs.Local.{source_pairs_are_there}
 use Rattle.mrp_net.proofs.Routing.{filter-map}
 use Rattle.mrp_report.specs.Orders.{source_part, spelled_supply}
 use Rattle.mrp_csv_out.specs.Names.{plant_of}
-use Rattle.mrp_planning_data.specs.Supplies.{supply_text}
-use Rattle.mrp_planning_data.specs.Said.{plant_name, supply_said}
-use Rattle.mrp_planning_data.specs.declared.numbers.PlantNo.{PlantNo}
+use Rattle.mrp_master_data.specs.Supplies.{supply_text}
+use Rattle.mrp_master_data.specs.Said.{plant_name, supply_said}
+use Rattle.mrp_master_data.specs.declared.numbers.PlantNo.{PlantNo}
 use Rattle.std.specs.Prelude.{codes, slice_index_or}
 use Rattle.mrp_report.proofs.SupplyTexts.{said_part, supply_spelled}
 

@@ -5,12 +5,12 @@ use Rattle.std.specs.List.{flat_map, join_with_byte}
 use Rattle.std.proofs.lemmas.Bool.{ne_eqb, eq-eqb}
 use Rattle.std.proofs.lemmas.List.Elements.{All-cons, All-head, All-nil, All-tail}
 use Rattle.csv.specs.Writing.{default_writer, needs_byte}
-use Rattle.mrp_planning_data.specs.Supplies.{FromTerms, source_fields, sources_text, supply_text}
-use Rattle.mrp_planning_data.specs.declared.rows.SourceRow.{SourceRow}
-use Rattle.mrp_planning_data.specs.declared.rows.Supply.{Supply}
-use Rattle.mrp_planning_data.specs.declared.rows.Supply.TheVariants as supply
-use Rattle.mrp_planning_data.specs.Table.{AreShares, IsSourceRow, IsTable, sources_of_pair, Table}
-use Rattle.mrp_planning_data.specs.Said.{plant_name, source_said, supply_said}
+use Rattle.mrp_master_data.specs.Supplies.{FromTerms, source_fields, sources_text, supply_text}
+use Rattle.mrp_master_data.specs.declared.rows.SourceRow.{SourceRow}
+use Rattle.mrp_master_data.specs.declared.rows.Supply.{Supply}
+use Rattle.mrp_master_data.specs.declared.rows.Supply.TheVariants as supply
+use Rattle.mrp_master_data.specs.Table.{AreShares, IsSourceRow, IsTable, sources_of_pair, Table}
+use Rattle.mrp_master_data.specs.Said.{plant_name, source_said, supply_said}
 use Rattle.mrp_net.specs.Sums.{pair_at}
 use Rattle.mrp_report.specs.Orders.{share_part, source_part, spelled_supply}
 use Rattle.mrp_csv_out.specs.Sheets.{IsPlain}

@@ -1,7 +1,7 @@
 -- The rows of low-level codes.
 use Rattle.std.specs.Prelude.{ℕ, List, [], ◌∷◌, slice_index, decimal, codes as text_bytes}
 use Rattle.std.specs.List.{flat_map}
-use Rattle.mrp_planning_data.specs.Table.{Table}
+use Rattle.mrp_master_data.specs.Table.{Table}
 use Rattle.mrp_csv_out.specs.Rows.{row}
 use Rattle.mrp_csv_out.specs.Names.{item_of, pairs_of, plant_of}
 

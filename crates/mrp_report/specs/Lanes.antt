@@ -1,13 +1,13 @@
 -- The report of the cumulative figures of lanes.
 use Rattle.std.specs.Prelude.{ℕ, ◌-◌, List, [], ◌∷◌, decimal, codes as text_bytes}
 use Rattle.std.specs.List.{flat_map}
-use Rattle.mrp_planning_data.specs.Table.{Table}
+use Rattle.mrp_master_data.specs.Table.{Table}
 use Rattle.mrp_net.specs.declared.lane.Lane.{Lane}
 use Rattle.mrp_net.specs.declared.lane.LaneKind.{LaneKind}
 use Rattle.mrp_net.specs.declared.lane.LaneKind.TheVariants.{Despatch, Schedule}
 use Rattle.mrp_net.specs.Lanes.{lane_at}
 use Rattle.mrp_book.specs.declared.figure.LaneFigure.{LaneFigure}
-use Rattle.mrp_planning_data.specs.Said.{item_name, plant_name}
+use Rattle.mrp_master_data.specs.Said.{item_name, plant_name}
 use Rattle.mrp_csv_out.specs.Rows.{row}
 
 -- what the row of a figure calls the kind of its lane

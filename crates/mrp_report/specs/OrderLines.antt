@@ -2,7 +2,7 @@
 use Rattle.std.specs.Prelude.{◌≡◌, ℕ, if◌then◌else◌, List, [], length, Option}
 use Rattle.std.specs.List.{flat_map, range_with_len}
 use Rattle.mrp_netting.specs.One.{PlanRows}
-use Rattle.mrp_planning_data.specs.Table.{Table}
+use Rattle.mrp_master_data.specs.Table.{Table}
 use Rattle.mrp_net.specs.Sums.{params_at}
 use Rattle.mrp_plan.specs.Orders.{has_order, is_released_by, planned_order}
 use Rattle.mrp_plan.specs.declared.orders.PlannedOrder.{PlannedOrder}

@@ -2,10 +2,10 @@
 use Rattle.std.specs.Prelude.{ℕ, ◌==◌, if◌then◌else◌, List, [], ◌∷◌, ◌++◌, decimal, codes as text_bytes, Option}
 use Rattle.std.specs.List.{flat_map}
 use Rattle.mrp_qty.specs.declared.limits.TheConstants.{MOST_SHARE}
-use Rattle.mrp_planning_data.specs.Supplies.{supply_text}
+use Rattle.mrp_master_data.specs.Supplies.{supply_text}
 use Rattle.mrp_netting.specs.One.{PlanRows}
-use Rattle.mrp_planning_data.specs.Table.{Table}
-use Rattle.mrp_planning_data.specs.Said.{supply_said}
+use Rattle.mrp_master_data.specs.Table.{Table}
+use Rattle.mrp_master_data.specs.Said.{supply_said}
 use Rattle.mrp_commands.specs.declared.choice.Heading.{Heading}
 use Rattle.mrp_net.specs.Sums.{pair_at}
 use Rattle.mrp_plan.specs.Orders.{orders_by}

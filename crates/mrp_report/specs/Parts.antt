@@ -3,7 +3,7 @@ use Rattle.std.specs.Prelude.{ℕ, ◌<◌, List, [], ◌∷◌, length, slice_i
 use Rattle.std.specs.List.{flat_map, range_with_len}
 use Rattle.mrp_netting.specs.One.{PlanRows}
 use Rattle.mrp_netting.specs.declared.params.Late.{Late}
-use Rattle.mrp_planning_data.specs.Table.{Table}
+use Rattle.mrp_master_data.specs.Table.{Table}
 use Rattle.mrp_net.specs.Plan.{rows_at}
 use Rattle.mrp_csv_out.specs.DateLists.{date_in}
 use Rattle.mrp_csv_out.specs.Dates.{dates_of}

@@ -2,7 +2,7 @@
 use Rattle.std.specs.Prelude.{◌≡◌, ◌≤◌, ℕ, if◌then◌else◌, List, [], ◌∷◌, length, decimal, codes as text_bytes}
 use Rattle.std.specs.List.{flat_map}
 use Rattle.mrp_netting.specs.One.{PlanRows}
-use Rattle.mrp_planning_data.specs.Table.{IsPair, IsTable, Table}
+use Rattle.mrp_master_data.specs.Table.{IsPair, IsTable, Table}
 use Rattle.mrp_net.specs.PlanLaws.{Fits}
 use Rattle.mrp_net.specs.declared.edge.Edge.{Edge}
 use Rattle.mrp_plan.specs.Peg.{edge_term, is_asked}

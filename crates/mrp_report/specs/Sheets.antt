@@ -2,7 +2,7 @@
 use Rattle.std.specs.Prelude.{ℕ, List, ◌++◌, length, map, slice_index, Option}
 use Rattle.std.specs.List.{flat_map, range_with_len}
 use Rattle.mrp_netting.specs.One.{PlanRows}
-use Rattle.mrp_planning_data.specs.Table.{Table, horizon}
+use Rattle.mrp_master_data.specs.Table.{Table, horizon}
 use Rattle.mrp_commands.specs.declared.choice.Heading.{Heading}
 use Rattle.mrp_net.specs.Lanes.{lane_at}
 use Rattle.mrp_net.specs.Plan.{rows_at}

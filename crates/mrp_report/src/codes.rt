@@ -1,7 +1,7 @@
 //! The code rows: the low-level code of each pair.
 
 ghost use Rattle.std.specs.Prelude.{◌≡◌, ◌++◌, Err, OnOk, IfOk, IfErr};
-ghost use Rattle.mrp_planning_data.specs.Table.{IsPair};
+ghost use Rattle.mrp_master_data.specs.Table.{IsPair};
 ghost use Rattle.mrp_loops.specs.Codes.{AreCodes};
 ghost use Rattle.mrp_report.specs.Headings.{code_names};
 ghost use Rattle.mrp_csv_out.specs.Headings.{header_row};

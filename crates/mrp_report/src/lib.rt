@@ -6,7 +6,7 @@
 //! their columns. The room for a report is taken before its first byte is sent: where it is refused, the
 //! writer is as it was.
 //!
-//! Used by `mrp_planner`, which writes the reports, by the program and by the library for C.
+//! Used by `mrp_api`, which writes the reports, by the program and by the library for C.
 //! Keeps true: a report is its definition in `specs/`, and csv reads back the fields that its rows are made of.
 #![tactic(auto)]
 

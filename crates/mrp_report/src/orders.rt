@@ -1,7 +1,7 @@
 //! The order rows: each planned order, with where its pair comes from and when it is released and due.
 
 ghost use Rattle.std.specs.Prelude.{◌≡◌, ◌<◌, ◌++◌, Err, OnOk, IfOk, IfErr, length};
-ghost use Rattle.mrp_planning_data.specs.Table.{IsPair};
+ghost use Rattle.mrp_master_data.specs.Table.{IsPair};
 ghost use Rattle.mrp_net.specs.PlanLaws.{Fits};
 ghost use Rattle.mrp_csv_out.specs.Dates.{dates_of};
 ghost use Rattle.mrp_csv_out.specs.Headings.{header_row};

@@ -2,7 +2,7 @@
 
 ghost use Rattle.std.specs.Prelude.{◌≡◌, ◌≤◌, ◌<◌, ◌++◌, drop, length, All, Err, OnOk};
 ghost use Rattle.std.specs.Prelude.{IfErr, OnErr};
-ghost use Rattle.mrp_planning_data.specs.Table.{IsPair, IsTable, horizon};
+ghost use Rattle.mrp_master_data.specs.Table.{IsPair, IsTable, horizon};
 ghost use Rattle.mrp_net.specs.PlanLaws.{Fits};
 ghost use Rattle.mrp_plan.specs.Peg.{IsPeggable};
 ghost use Rattle.mrp_csv_out.specs.Headings.{header_row};

@@ -1,7 +1,7 @@
 //! The peg rows: the terms of a gross requirement.
 
 ghost use Rattle.std.specs.Prelude.{◌≡◌, ◌++◌, Err, OnOk, IfOk, IfErr, All};
-ghost use Rattle.mrp_planning_data.specs.Table.{IsPair};
+ghost use Rattle.mrp_master_data.specs.Table.{IsPair};
 ghost use Rattle.mrp_csv_out.specs.Headings.{header_row};
 ghost use Rattle.mrp_report.specs.Headings.{peg_names};
 ghost use Rattle.mrp_csv_out.specs.Writing.{IsBetweenRows, written};

@@ -3,7 +3,7 @@
 ghost use Rattle.std.specs.Prelude.{◌≡◌, ◌+◌, ◌-◌, ◌*◌, ◌++◌, ◌∷◌, [], ◌≤◌, drop, take, length, decimal, Err};
 ghost use Rattle.std.specs.Prelude.{OnOk, IfErr, OnErr};
 ghost use Rattle.csv.specs.Writing.{comma};
-ghost use Rattle.mrp_planning_data.specs.Table.{IsTable};
+ghost use Rattle.mrp_master_data.specs.Table.{IsTable};
 ghost use Rattle.mrp_net.specs.PlanLaws.{Fits};
 ghost use Rattle.mrp_csv_out.specs.Rows.{row};
 ghost use Rattle.std.specs.Io.KnownBytes.{Appends};

@@ -2,8 +2,8 @@
 
 ghost use Rattle.std.specs.Prelude.{◌≡◌, ◌<◌, ◌-◌, ◌++◌, ◌==◌, [], OnOk, IfErr};
 ghost use Rattle.std.specs.List.{find};
-ghost use Rattle.mrp_planning_data.specs.declared.rows.Supply.TheVariants.{From};
-ghost use Rattle.mrp_planning_data.specs.Table.{IsPair};
+ghost use Rattle.mrp_master_data.specs.declared.rows.Supply.TheVariants.{From};
+ghost use Rattle.mrp_master_data.specs.Table.{IsPair};
 ghost use Rattle.mrp_net.specs.Sums.{pair_at};
 ghost use Rattle.mrp_csv_out.specs.Names.{plant_of};
 ghost use Rattle.mrp_report.specs.Orders.{share_part, source_part, spelled_supply};

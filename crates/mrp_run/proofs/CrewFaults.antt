@@ -1,6 +1,6 @@
 -- A crew's fault as that of the run.
 use Rattle.std.proofs.Common.{◌≡◌, ℕ, refl, sym, subst}
-use Rattle.mrp_planning_data.specs.declared.numbers.PlantNo.{PlantNo}
+use Rattle.mrp_master_data.specs.declared.numbers.PlantNo.{PlantNo}
 use Rattle.mrp_crew.specs.declared.fault.CrewFault.{CrewFault}
 use Rattle.mrp_crew.specs.declared.fault.CrewFault.TheVariants.{Memory, ThreadRefused, GateShut}
 use Rattle.mrp_run.specs.declared.fault.RunFault.{RunFault}

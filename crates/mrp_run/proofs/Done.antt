@@ -2,7 +2,7 @@
 use Rattle.std.proofs.Common.{◌≡◌, ◌↔◌, ℕ, Bool, true, List, get_or, sym, ◌∙◌, subst, Contains}
 use Rattle.std.specs.Bool.{IsTrue}
 use Rattle.std.proofs.lemmas.List.Elements.{Contains-get_or}
-use Rattle.mrp_planning_data.specs.Table.{Table}
+use Rattle.mrp_master_data.specs.Table.{Table}
 use Rattle.mrp_net.proofs.Members.{Contains-from_in}
 use Rattle.mrp_plant_view.specs.View.{PlantRows, incoming_lane, outgoing_lane, plant_pair, plant_pairs}
 use Rattle.mrp_record.specs.declared.record.Record.{Record}

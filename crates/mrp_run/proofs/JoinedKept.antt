@@ -5,7 +5,7 @@ use Rattle.std.specs.List.{AllZip}
 use Rattle.std.specs.Result.{IfOk, OnOk}
 use Rattle.std.proofs.lemmas.List.{length-map}
 use Rattle.std.proofs.lemmas.List.Elements.{All-cons}
-use Rattle.mrp_planning_data.specs.declared.numbers.PlantNo.{PlantNo}
+use Rattle.mrp_master_data.specs.declared.numbers.PlantNo.{PlantNo}
 use Rattle.mrp_run.specs.declared.fault.RunFault.{RunFault}
 use Rattle.mrp_run.specs.declared.plant.Plant.{Plant}
 use Rattle.mrp_run.specs.Faults.{AllTurned, HasTurned}

@@ -3,7 +3,7 @@ use Rattle.std.proofs.Common.{◌≡◌, ℕ, List, length, get_or, Result, Ok, 
 use Rattle.std.specs.List.{All}
 use Rattle.std.specs.Result.{IfErr, IfOk, IsErrAnd}
 use Rattle.std.proofs.lemmas.Result.{IfErr-weaker}
-use Rattle.mrp_planning_data.specs.Table.{Table}
+use Rattle.mrp_master_data.specs.Table.{Table}
 use Rattle.mrp_run.specs.declared.fault.RunFault.{RunFault}
 use Rattle.mrp_run.specs.declared.fault.RunFault.TheVariants.{Memory}
 use Rattle.mrp_run.specs.declared.plant.Plant.{Plant}

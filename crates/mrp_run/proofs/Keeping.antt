@@ -1,6 +1,6 @@
 -- What work keeps: nothing done keeps it, one step after another keeps it, and so does planning.
 use Rattle.std.proofs.Common.{◌≡◌, ℕ, Bool, true, List, [], ◌∷◌, refl, ◌∙◌}
-use Rattle.mrp_planning_data.specs.declared.numbers.PairNo.{PairNo}
+use Rattle.mrp_master_data.specs.declared.numbers.PairNo.{PairNo}
 use Rattle.mrp_protocol.specs.State.{State, changed}
 use Rattle.mrp_protocol.proofs.Keeping.{changed_by}
 use Rattle.mrp_history.proofs.Passing.{planned_is_explained}

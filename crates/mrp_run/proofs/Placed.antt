@@ -1,7 +1,7 @@
 -- The ends of a plant's lanes and the lanes that it sees are both in lane order: a lane has the place of its end.
 use Rattle.std.proofs.Common.{◌≡◌, ℕ, ◌<◌, List, length, get_or, sym, ap, ◌∙◌, arith}
 use Rattle.std.proofs.lemmas.List.{get_or-map, length-map}
-use Rattle.mrp_planning_data.specs.Table.{Table}
+use Rattle.mrp_master_data.specs.Table.{Table}
 use Rattle.mrp_plant_view.specs.View.{PlantRows, incoming_lane, outgoing_lane, plant_rows}
 use Rattle.mrp_record.specs.declared.record.Record.{Record}
 use Rattle.mrp_lane.specs.Ends.{End}

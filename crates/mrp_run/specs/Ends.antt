@@ -2,7 +2,7 @@
 -- and the receiver's end of each that comes to it, in lane order.
 use Rattle.std.specs.Prelude.{◌≡◌, ℕ, zero, suc, ◌<◌, Bool, List, [], ◌∷◌, ◌++◌, min, length, filter, slice_index_or}
 use Rattle.std.specs.Prelude.{All, Contains}
-use Rattle.mrp_planning_data.specs.Table.{Table}
+use Rattle.mrp_master_data.specs.Table.{Table}
 use Rattle.mrp_net.specs.Lanes.{lanes, lane_at}
 use Rattle.mrp_net.specs.Texts.{longest_text}
 use Rattle.mrp_plant_view.specs.View.{comes_to, goes_from, plant_rows}

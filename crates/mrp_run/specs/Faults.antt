@@ -1,6 +1,6 @@
 -- Whose fault it is that a run ends early, and what a crew's fault is to the run.
 use Rattle.std.specs.Prelude.{◌≡◌, ◌+◌, ◌≤◌, ◌<◌, ◌⊎◌, ℕ}
-use Rattle.mrp_planning_data.specs.declared.numbers.PlantNo.{PlantNo}
+use Rattle.mrp_master_data.specs.declared.numbers.PlantNo.{PlantNo}
 use Rattle.mrp_crew.specs.Shut as crews
 use Rattle.mrp_crew.specs.declared.fault.CrewFault.{CrewFault}
 use Rattle.mrp_crew.specs.declared.fault.CrewFault.TheVariants as crew

@@ -1,6 +1,6 @@
 -- What the end of a run says of its gate and of the turns of its plants.
 use Rattle.std.specs.Prelude.{ℕ, length, Result, IfErr, OnOk}
-use Rattle.mrp_planning_data.specs.Table.{Table}
+use Rattle.mrp_master_data.specs.Table.{Table}
 use Rattle.mrp_run.specs.declared.fault.RunFault.{RunFault}
 use Rattle.mrp_run.specs.Faults.{AllTurned, WasShut, WasSpent}
 use Rattle.mrp_run.specs.Worst.{IsFaultIn}

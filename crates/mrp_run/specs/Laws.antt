@@ -1,6 +1,6 @@
 -- Laws of what a run comes to.
 use Rattle.std.specs.Prelude.{◌≡◌, ℕ, List, length}
-use Rattle.mrp_planning_data.specs.Table.{Table}
+use Rattle.mrp_master_data.specs.Table.{Table}
 use Rattle.mrp_net.specs.Lanes.{lane_at}
 use Rattle.mrp_record.specs.declared.record.Record.{Record}
 use Rattle.mrp_record.specs.Text.{IsWhole}

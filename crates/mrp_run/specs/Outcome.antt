@@ -1,6 +1,6 @@
 -- What a run of a network comes to: the plan of the network, and what went over its lanes, as in a run of the events.
 use Rattle.std.specs.Prelude.{◌≡◌, ℕ, ◌≤◌, List, [], length}
-use Rattle.mrp_planning_data.specs.Table.{Table}
+use Rattle.mrp_master_data.specs.Table.{Table}
 use Rattle.mrp_net.specs.Lanes.{lanes, lane_at}
 use Rattle.mrp_net.specs.Plan.{plan_of}
 use Rattle.mrp_record.specs.Text.{IsWhole}

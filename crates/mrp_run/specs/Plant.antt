@@ -1,6 +1,6 @@
 -- A plant at work in a network: its agent, and the ends of its lanes.
 use Rattle.std.specs.Prelude.{◌≡◌, ℕ, true, List, map, filter, All}
-use Rattle.mrp_planning_data.specs.Table.{Table}
+use Rattle.mrp_master_data.specs.Table.{Table}
 use Rattle.mrp_plant_view.specs.View.{comes_to, goes_from, lane_numbers}
 use Rattle.mrp_loops.specs.Sized.{IsSized}
 use Rattle.mrp_loops.specs.Within.{plan_at}

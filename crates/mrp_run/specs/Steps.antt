@@ -1,6 +1,6 @@
 -- What the steps of a plant's thread keep, in the words of `Plant` of the code.
 use Rattle.std.specs.Prelude.{◌≡◌, ◌⊎◌, ℕ, false, length}
-use Rattle.mrp_planning_data.specs.Table.{Table}
+use Rattle.mrp_master_data.specs.Table.{Table}
 use Rattle.mrp_agent.specs.Shows.{is_done}
 use Rattle.mrp_run.specs.declared.moving.Lanes.{Lanes}
 use Rattle.mrp_run.specs.declared.moving.Lanes.TheVariants.{Incoming, Outgoing}

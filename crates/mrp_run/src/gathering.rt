@@ -1,6 +1,6 @@
 //! What the plants give to the plan of the network.
 ghost use Rattle.std.specs.Prelude.{◌≡◌, IfErr, IfOk, length};
-ghost use Rattle.mrp_planning_data.specs.Table.{Table};
+ghost use Rattle.mrp_master_data.specs.Table.{Table};
 ghost use Rattle.mrp_net.specs.Plan.{plan_of};
 ghost use Rattle.mrp_loops.specs.Sized.{IsSized};
 ghost use Rattle.mrp_run.specs.Ends.{HavePlans};

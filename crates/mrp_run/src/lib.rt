@@ -10,7 +10,7 @@
 //! [`run_network`] and [`plan_network`] make the same run: from the one the numbers of messages and the figures can be
 //! read, from the other the plans alone.
 //!
-//! Used by `mrp_planner` for plans by threads.
+//! Used by `mrp_api` for plans by threads.
 //! Keeps true: a run that ends well has the one plan of its network, in whatever order its threads went.
 #![tactic(auto)]
 

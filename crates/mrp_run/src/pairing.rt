@@ -1,6 +1,6 @@
 //! How the ends of the lanes are paired again after the joins, and reconciled.
 ghost use Rattle.std.specs.Prelude.{◌≡◌, ◌+◌, ◌<◌, [], ◌∷◌, ◌++◌, List, length, All, IfOk, IfSome, IsSomeAnd};
-ghost use Rattle.mrp_planning_data.specs.Table.{Table};
+ghost use Rattle.mrp_master_data.specs.Table.{Table};
 ghost use Rattle.mrp_net.specs.Lanes.{lanes, lane_at};
 ghost use Rattle.mrp_lane.specs.Ends.{Name};
 ghost use Rattle.mrp_run.specs.Ends.{AreNames, EachAt, HasNoEnds, HaveEnded, HaveLeft, HaveLeftOf, HavePlans};

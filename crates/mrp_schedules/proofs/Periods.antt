@@ -1,7 +1,7 @@
 -- The calls from a period on: one more, or none, and those behind it.
 use Rattle.std.proofs.Common.{◌≡◌, ℕ, suc, ◌+◌, ◌-◌, ◌<◌, ◌≤◌, List, [], ◌∷◌, ◌++◌, sym, ap, ◌∙◌, append_assoc, arith, slice_index}
 use Rattle.std.specs.Prelude.{Option, Some, None, filter_map}
-use Rattle.mrp_planning_data.specs.declared.rows.SourceRow.{SourceRow}
+use Rattle.mrp_master_data.specs.declared.rows.SourceRow.{SourceRow}
 use Rattle.mrp_record.specs.Entries.{Delivery}
 use Rattle.mrp_record.specs.Text.{body, early, late, total}
 use Rattle.mrp_net.specs.Shares.{share_of}

@@ -3,10 +3,10 @@ use Rattle.std.proofs.Common.{◌≡◌, ℕ, List, All, arith, refl}
 use Rattle.std.specs.Prelude.{Option, Some, None, codes as text_bytes, filter}
 use Rattle.std.specs.List.{flat_map}
 use Rattle.csv.specs.Reading.{strip_bom}
-use Rattle.mrp_planning_data.specs.Said.{item_name}
-use Rattle.mrp_planning_data.specs.declared.numbers.ItemNo.{ItemNo}
-use Rattle.mrp_planning_data.specs.declared.numbers.PlantNo.{PlantNo}
-use Rattle.mrp_planning_data.specs.Table.{IsTable, Table}
+use Rattle.mrp_master_data.specs.Said.{item_name}
+use Rattle.mrp_master_data.specs.declared.numbers.ItemNo.{ItemNo}
+use Rattle.mrp_master_data.specs.declared.numbers.PlantNo.{PlantNo}
+use Rattle.mrp_master_data.specs.Table.{IsTable, Table}
 use Rattle.mrp_net.specs.declared.lane.Lane.{Lane}
 use Rattle.mrp_net.specs.Lanes.{customer_of, lane_items, lanes, supplier_of}
 use Rattle.mrp_csv_out.specs.Dates.{dates_of}

@@ -1,7 +1,7 @@
 -- The calls of some of the periods.
 use Rattle.std.specs.Prelude.{ℕ, ◌+◌, ◌-◌, List, [], ◌∷◌, map, filter, slice_index}
 use Rattle.std.specs.List.{range_with_len}
-use Rattle.mrp_planning_data.specs.declared.rows.SourceRow.{SourceRow}
+use Rattle.mrp_master_data.specs.declared.rows.SourceRow.{SourceRow}
 use Rattle.mrp_record.specs.Entries.{Delivery}
 use Rattle.mrp_protocol.specs.Loads.{delivery_in, has_pieces}
 use Rattle.mrp_net.specs.Shares.{share_of}

@@ -1,9 +1,9 @@
 -- Laws of schedules.
 use Rattle.std.specs.Prelude.{◌≡◌, ℕ, ◌+◌, ◌==◌, if◌then◌else◌, List, ◌∷◌, sum_by, filter_map, Contains}
-use Rattle.mrp_planning_data.specs.declared.numbers.ItemNo.{ItemNo}
-use Rattle.mrp_planning_data.specs.declared.rows.SourceRow.{SourceRow}
-use Rattle.mrp_planning_data.specs.declared.rows.Supply.TheVariants.{From}
-use Rattle.mrp_planning_data.specs.Table.{Table, IsTable, IsPair, sources_of_pair}
+use Rattle.mrp_master_data.specs.declared.numbers.ItemNo.{ItemNo}
+use Rattle.mrp_master_data.specs.declared.rows.SourceRow.{SourceRow}
+use Rattle.mrp_master_data.specs.declared.rows.Supply.TheVariants.{From}
+use Rattle.mrp_master_data.specs.Table.{Table, IsTable, IsPair, sources_of_pair}
 use Rattle.mrp_net.specs.declared.lane.Lane.{Lane}
 use Rattle.mrp_net.specs.LaneLaws.{schedule_lane}
 use Rattle.mrp_net.specs.Lanes.{lane_at, lane_items, item_of_source, opening, reset}

@@ -1,8 +1,8 @@
 -- The delivery schedule of an item of a schedule lane: what the lane's records say of it, without their numbers,
 -- the item's end and the closing.
 use Rattle.std.specs.Prelude.{ℕ, List, ◌∷◌, filter_map, sum_by, Option, Some, None, option_map}
-use Rattle.mrp_planning_data.specs.declared.numbers.ItemNo.{ItemNo}
-use Rattle.mrp_planning_data.specs.Table.{Table}
+use Rattle.mrp_master_data.specs.declared.numbers.ItemNo.{ItemNo}
+use Rattle.mrp_master_data.specs.Table.{Table}
 use Rattle.mrp_net.specs.declared.lane.Lane.{Lane}
 use Rattle.mrp_net.specs.Lanes.{opening, shipments, reset}
 use Rattle.mrp_record.specs.Entries.{Entry, LineOf, EndOf, ResetOf, Closing}

@@ -3,10 +3,10 @@ use Rattle.std.specs.Prelude.{ℕ, ◌==◌, ◌&&◌, Bool, true, List, [], ◌
 use Rattle.std.specs.Prelude.{codes as text_bytes, Option, Some, None}
 use Rattle.std.specs.List.{flat_map}
 use Rattle.mrp_net.specs.LaneLaws.{is_schedule}
-use Rattle.mrp_planning_data.specs.Said.{item_name, plant_name}
-use Rattle.mrp_planning_data.specs.declared.numbers.ItemNo.{ItemNo}
-use Rattle.mrp_planning_data.specs.declared.numbers.PlantNo.{PlantNo}
-use Rattle.mrp_planning_data.specs.Table.{Table}
+use Rattle.mrp_master_data.specs.Said.{item_name, plant_name}
+use Rattle.mrp_master_data.specs.declared.numbers.ItemNo.{ItemNo}
+use Rattle.mrp_master_data.specs.declared.numbers.PlantNo.{PlantNo}
+use Rattle.mrp_master_data.specs.Table.{Table}
 use Rattle.mrp_commands.specs.declared.choice.Heading.{Heading}
 use Rattle.mrp_net.specs.declared.lane.Lane.{Lane}
 use Rattle.mrp_net.specs.Lanes.{customer_of, lane_items, lanes, supplier_of}

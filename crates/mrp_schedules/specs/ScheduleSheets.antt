@@ -1,10 +1,10 @@
 -- The report as a sheet: what a reader of comma-separated values has to find in it.
 use Rattle.std.specs.Prelude.{◌++◌, map, filter, Option}
 use Rattle.std.specs.List.{flat_map}
-use Rattle.mrp_planning_data.specs.Said.{item_name}
-use Rattle.mrp_planning_data.specs.declared.numbers.ItemNo.{ItemNo}
-use Rattle.mrp_planning_data.specs.declared.numbers.PlantNo.{PlantNo}
-use Rattle.mrp_planning_data.specs.Table.{IsTable, Table}
+use Rattle.mrp_master_data.specs.Said.{item_name}
+use Rattle.mrp_master_data.specs.declared.numbers.ItemNo.{ItemNo}
+use Rattle.mrp_master_data.specs.declared.numbers.PlantNo.{PlantNo}
+use Rattle.mrp_master_data.specs.Table.{IsTable, Table}
 use Rattle.mrp_commands.specs.declared.choice.Heading.{Heading}
 use Rattle.mrp_net.specs.declared.lane.Lane.{Lane}
 use Rattle.mrp_net.specs.Lanes.{lane_items, lanes}

@@ -10,7 +10,7 @@ ghost use Rattle.mrp_schedules.specs.Calls.{call_lines, calls_by};
 use crate::ScheduleLine;
 use mrp_net::share_of;
 use mrp_qty::{Qty, Row};
-use mrp_planning_data::SourceRow;
+use mrp_master_data::SourceRow;
 
 /// Appends the calls of a source for its share of each period's release to a list that has room for them, from
 /// a figure on, and the reset before the first call that is counted anew.

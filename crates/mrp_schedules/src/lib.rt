@@ -6,7 +6,7 @@
 //! feed, and the names of the columns may stand above. The room for the report is taken before its first byte is
 //! sent: where it is refused, the writer is as it was.
 //!
-//! Used by `mrp_planner`, which writes the report.
+//! Used by `mrp_api`, which writes the report.
 //! Keeps true: a schedule is what a whole text of its lane says of the item, and its calls add up to the release.
 #![tactic(auto)]
 

@@ -4,7 +4,7 @@ ghost use Rattle.std.specs.Prelude.{◌≡◌, ◌+◌, ◌<◌, ◌≤◌, ◌+
 ghost use Rattle.mrp_net.specs.declared.lane.LaneKind.TheVariants.{Schedule};
 ghost use Rattle.mrp_net.specs.Lanes.{lanes, lane_at, lane_items, opening};
 ghost use Rattle.mrp_net.specs.PlanLaws.{Fits};
-ghost use Rattle.mrp_planning_data.specs.Table.{horizon};
+ghost use Rattle.mrp_master_data.specs.Table.{horizon};
 ghost use Rattle.mrp_loops.specs.Sized.{IsSized};
 ghost use Rattle.mrp_schedules.specs.declared.line.ScheduleLine.TheVariants.{Opening};
 ghost use Rattle.mrp_schedules.specs.Schedule.{in_transit, schedule_of};

@@ -2,15 +2,15 @@
 use Rattle.std.proofs.Common.{◌≡◌, ℕ, List, Option, Result, Ok, Err, MatchResult, sym, ap, ◌∙◌}
 use Rattle.mrp_tables.specs.Drafts.{draft_state, TellsAdded}
 use Rattle.mrp_tables.specs.declared.draft.Draft.{Draft}
-use Rattle.mrp_grammar.specs.declared.fault.TableFault.{TableFault}
-use Rattle.mrp_grammar.specs.declared.fault.TableFaultKind.{TableFaultKind}
-use Rattle.mrp_grammar.specs.declared.fault.TableFaultKind.TheVariants as fault
-use Rattle.mrp_grammar.specs.declared.kind.Kind.{Kind}
-use Rattle.mrp_planning_data.specs.Table.{Table}
-use Rattle.mrp_grammar.specs.Left.{OfLeft, TakesRow}
-use Rattle.mrp_grammar.specs.Reading.{OfRows, row_after, rows_after}
-use Rattle.mrp_grammar.proofs.Listed.{later_no_read_fault}
-use Rattle.mrp_grammar.proofs.Loop.{stops_row}
+use Rattle.mrp_validation.specs.declared.fault.TableFault.{TableFault}
+use Rattle.mrp_validation.specs.declared.fault.TableFaultKind.{TableFaultKind}
+use Rattle.mrp_validation.specs.declared.fault.TableFaultKind.TheVariants as fault
+use Rattle.mrp_validation.specs.declared.kind.Kind.{Kind}
+use Rattle.mrp_master_data.specs.Table.{Table}
+use Rattle.mrp_validation.specs.Left.{OfLeft, TakesRow}
+use Rattle.mrp_validation.specs.Reading.{OfRows, row_after, rows_after}
+use Rattle.mrp_validation.proofs.Listed.{later_no_read_fault}
+use Rattle.mrp_validation.proofs.Loop.{stops_row}
 
 -- a row that was added, and one with a fault
 pub added : (old new : Draft) (number : ℕ) (row : List (List ℕ)) (answer : Result (Unit {0}) TableFaultKind) (r : Result (Unit {0}) TableFault) (u : Unit {0})

@@ -6,17 +6,17 @@ use Rattle.std.specs.Str.{bytes_eq}
 use Rattle.std.proofs.lemmas.Bool.Decides.{nat_tests}
 use Rattle.std.proofs.lemmas.List.Quantifiers.{position-Some}
 use Rattle.std.proofs.lemmas.Slice.Eq.{bytes_eq-Decides}
-use Rattle.mrp_planning_data.specs.declared.numbers.PairNo.{PairNo}
-use Rattle.mrp_planning_data.specs.declared.numbers.PlantNo.{PlantNo}
-use Rattle.mrp_planning_data.specs.Names.{pair_named, pair_of_item, plant_no}
-use Rattle.mrp_planning_data.specs.Table.{horizon, IsName, Table}
+use Rattle.mrp_master_data.specs.declared.numbers.PairNo.{PairNo}
+use Rattle.mrp_master_data.specs.declared.numbers.PlantNo.{PlantNo}
+use Rattle.mrp_master_data.specs.Names.{pair_named, pair_of_item, plant_no}
+use Rattle.mrp_master_data.specs.Table.{horizon, IsName, Table}
 use Rattle.mrp_tables.specs.Amounts.{known_amount}
-use Rattle.mrp_grammar.specs.Grammar.{◌>>=◌, amount_row, amount_terms, AmountTerms, check, known_pair}
+use Rattle.mrp_validation.specs.Grammar.{◌>>=◌, amount_row, amount_terms, AmountTerms, check, known_pair}
 use Rattle.mrp_tables.specs.Keys.{Knows}
-use Rattle.mrp_grammar.specs.declared.fault.TableFaultKind.{TableFaultKind}
-use Rattle.mrp_grammar.specs.declared.fault.TableFaultKind.TheVariants as fault
+use Rattle.mrp_validation.specs.declared.fault.TableFaultKind.{TableFaultKind}
+use Rattle.mrp_validation.specs.declared.fault.TableFaultKind.TheVariants as fault
 use Rattle.mrp_tables.specs.declared.names.KnownNames.{KnownNames}
-use Rattle.mrp_grammar.proofs.KeepingSteps.{same_Ok}
+use Rattle.mrp_validation.proofs.KeepingSteps.{same_Ok}
 
 -- ---- a pair that is there
 

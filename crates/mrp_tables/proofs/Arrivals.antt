@@ -15,16 +15,16 @@ use Rattle.std.proofs.lemmas.Map.Keys.{apart_from_distinct}
 use Rattle.std.proofs.Math.ListN.{get_or-map}
 use Rattle.mrp_tables.specs.declared.draft.Arrivals.{Arrivals}
 use Rattle.mrp_tables.specs.declared.draft.LaneKey.{LaneKey}
-use Rattle.mrp_planning_data.specs.declared.numbers.PairNo.{PairNo}
-use Rattle.mrp_planning_data.specs.declared.numbers.PlantNo.{PlantNo}
-use Rattle.mrp_planning_data.specs.declared.rows.ShipRow.{ShipRow}
-use Rattle.mrp_planning_data.specs.declared.rows.SourceRow.{SourceRow}
-use Rattle.mrp_planning_data.specs.Table.{Table}
+use Rattle.mrp_master_data.specs.declared.numbers.PairNo.{PairNo}
+use Rattle.mrp_master_data.specs.declared.numbers.PlantNo.{PlantNo}
+use Rattle.mrp_master_data.specs.declared.rows.ShipRow.{ShipRow}
+use Rattle.mrp_master_data.specs.declared.rows.SourceRow.{SourceRow}
+use Rattle.mrp_master_data.specs.Table.{Table}
 use Rattle.mrp_tables.specs.Lists.{after_ship, AreLanes, FitsRows, has_lane, is_same_lane, lane_of, lane_state, last_from, arrivals_state}
-use Rattle.mrp_planning_data.specs.Table.{arrivals_of, rises_from}
-use Rattle.mrp_planning_data.specs.Growing.{with_source}
+use Rattle.mrp_master_data.specs.Table.{arrivals_of, rises_from}
+use Rattle.mrp_master_data.specs.Growing.{with_source}
 use Rattle.mrp_tables.proofs.Keys.{any_source}
-use Rattle.mrp_planning_data.proofs.Keys.{same_test}
+use Rattle.mrp_master_data.proofs.Keys.{same_test}
 
 pub both : (a b : Bool) → (a && b) ≡ true → (a ≡ true) × (b ≡ true)
 both true b h = (refl, h)

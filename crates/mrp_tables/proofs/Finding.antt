@@ -3,20 +3,20 @@ use Rattle.std.proofs.Common.{◌-◌, ◌≡◌, ℕ, ◌<◌, ◌≤◌, ◌==
 use Rattle.std.proofs.Common.{subst, Ok, Err, true}
 use Rattle.std.proofs.Common.{false, refl, sym, ap, ◌∙◌}
 use Rattle.std.proofs.lemmas.Bool.Decides.{nat_tests}
-use Rattle.mrp_planning_data.specs.declared.numbers.PairNo.{PairNo}
-use Rattle.mrp_planning_data.specs.declared.numbers.PlantNo.{PlantNo}
-use Rattle.mrp_planning_data.specs.Names.{pair_named, plant_no}
-use Rattle.mrp_planning_data.specs.Table.{arrivals, horizon, is_taken_from, rises_from, Table}
+use Rattle.mrp_master_data.specs.declared.numbers.PairNo.{PairNo}
+use Rattle.mrp_master_data.specs.declared.numbers.PlantNo.{PlantNo}
+use Rattle.mrp_master_data.specs.Names.{pair_named, plant_no}
+use Rattle.mrp_master_data.specs.Table.{arrivals, horizon, is_taken_from, rises_from, Table}
 use Rattle.mrp_qty.specs.declared.limits.TheConstants.{MOST_OF_A_KIND}
 use Rattle.mrp_qty.specs.declared.quantity.TheConstants.{MOST}
-use Rattle.mrp_grammar.specs.declared.fault.TableFaultKind.{TableFaultKind}
-use Rattle.mrp_grammar.specs.declared.fault.TableFaultKind.TheVariants as fault
+use Rattle.mrp_validation.specs.declared.fault.TableFaultKind.{TableFaultKind}
+use Rattle.mrp_validation.specs.declared.fault.TableFaultKind.TheVariants as fault
 use Rattle.mrp_tables.specs.declared.lanes.KnownLane.{KnownLane}
 use Rattle.mrp_tables.specs.declared.lanes.NamedLane.{NamedLane}
-use Rattle.mrp_grammar.specs.Grammar.{cum_between, cum_of, lane_number, has_cum, has_reset, known_lane, LaneTerms, reset_between, reset_in_row, seen}
-use Rattle.mrp_grammar.specs.Grammar.{ship_of, ship_terms}
+use Rattle.mrp_validation.specs.Grammar.{cum_between, cum_of, lane_number, has_cum, has_reset, known_lane, LaneTerms, reset_between, reset_in_row, seen}
+use Rattle.mrp_validation.specs.Grammar.{ship_of, ship_terms}
 use Rattle.mrp_tables.specs.Lists.{Finds, known_found, source_at, source_named}
-use Rattle.mrp_planning_data.proofs.Keys.{any-from_no_position, any-from_position}
+use Rattle.mrp_master_data.proofs.Keys.{any-from_no_position, any-from_position}
 
 -- a lane without the place of its source
 abbrev pub lane_ends : KnownLane → PlantNo × PairNo

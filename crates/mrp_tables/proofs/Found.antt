@@ -13,16 +13,16 @@ use Rattle.std.proofs.lemmas.Map.Keys.{apart_from_distinct}
 use Rattle.std.proofs.lemmas.Option.{get_or_from_slice_get}
 use Rattle.std.proofs.lemmas.Slice.Eq.{bytes_eq-Decides}
 use Rattle.mrp_tables.specs.Keys.{FindsNames, key_of, Knows, pair_key}
-use Rattle.mrp_planning_data.specs.Names.{pair_named, pair_of_item, plant_no}
-use Rattle.mrp_planning_data.specs.Table.{IsName, IsPairRow, IsRead, Table}
+use Rattle.mrp_master_data.specs.Names.{pair_named, pair_of_item, plant_no}
+use Rattle.mrp_master_data.specs.Table.{IsName, IsPairRow, IsRead, Table}
 use Rattle.mrp_tables.specs.contracts.name_key.NameKeyPartialEq.TheImpl.{eq-value as same_name}
 use Rattle.mrp_tables.specs.contracts.name_key.PairKeyPartialEq.TheImpl.{eq-value as same_pair}
 use Rattle.mrp_tables.specs.declared.name_key.NameKey.{NameKey}
 use Rattle.mrp_tables.specs.declared.name_key.PairKey.{PairKey}
 use Rattle.mrp_tables.specs.declared.names.KnownNames.{KnownNames}
-use Rattle.mrp_planning_data.specs.declared.rows.PairRow.{PairRow}
-use Rattle.mrp_planning_data.proofs.Keys.{All-from_position, any_of_keys, map_within, no_position, position_is, position_of_keys, same_test}
-use Rattle.mrp_planning_data.proofs.Naming.{distinct_name}
+use Rattle.mrp_master_data.specs.declared.rows.PairRow.{PairRow}
+use Rattle.mrp_master_data.proofs.Keys.{All-from_position, any_of_keys, map_within, no_position, position_is, position_of_keys, same_test}
+use Rattle.mrp_master_data.proofs.Naming.{distinct_name}
 use Rattle.mrp_tables.proofs.Words.{IsByte, key_test, name_bytes, name_short}
 
 -- ---- names

@@ -1,21 +1,21 @@
 -- The places of keys.
 use Rattle.std.proofs.Common.{◌≡◌, ◌==◌, ◌&&◌, false, List, map, position, Option, Some, None, option_map, ap, refl, ◌∙◌}
 use Rattle.std.specs.List.{list_any}
-use Rattle.mrp_planning_data.specs.declared.rows.ResetRow.{ResetRow}
-use Rattle.mrp_planning_data.specs.Table.{Table}
-use Rattle.mrp_grammar.specs.Grammar.{cum_between, reset_between}
+use Rattle.mrp_master_data.specs.declared.rows.ResetRow.{ResetRow}
+use Rattle.mrp_master_data.specs.Table.{Table}
+use Rattle.mrp_validation.specs.Grammar.{cum_between, reset_between}
 use Rattle.mrp_tables.specs.Lists.{bill_key_of, cum_key_of, key_between, lane_of, reset_key_of}
 use Rattle.mrp_tables.specs.contracts.draft.BillKeyPartialEq.TheImpl as bill
 use Rattle.mrp_tables.specs.contracts.draft.LaneKeyPartialEq.TheImpl as lane
 use Rattle.mrp_tables.specs.declared.draft.BillKey.{BillKey}
 use Rattle.mrp_tables.specs.declared.draft.LaneKey.{LaneKey}
-use Rattle.mrp_planning_data.specs.declared.rows.BillRow.{BillRow}
-use Rattle.mrp_planning_data.specs.declared.rows.CumRow.{CumRow}
-use Rattle.mrp_planning_data.specs.declared.rows.SourceRow.{SourceRow}
-use Rattle.mrp_planning_data.specs.declared.numbers.PlantNo.{PlantNo}
-use Rattle.mrp_planning_data.specs.declared.numbers.PairNo.{PairNo}
-use Rattle.mrp_planning_data.proofs.Mapped.{list_any_keys}
-use Rattle.mrp_planning_data.proofs.Keys.{position_keys, swap}
+use Rattle.mrp_master_data.specs.declared.rows.BillRow.{BillRow}
+use Rattle.mrp_master_data.specs.declared.rows.CumRow.{CumRow}
+use Rattle.mrp_master_data.specs.declared.rows.SourceRow.{SourceRow}
+use Rattle.mrp_master_data.specs.declared.numbers.PlantNo.{PlantNo}
+use Rattle.mrp_master_data.specs.declared.numbers.PairNo.{PairNo}
+use Rattle.mrp_master_data.proofs.Mapped.{list_any_keys}
+use Rattle.mrp_master_data.proofs.Keys.{position_keys, swap}
 
 -- whether there is a bill row of two pairs
 pub any_bill : (x y : PairNo) (keys : List BillKey) (bills : List BillRow) → keys ≡ map bill_key_of bills

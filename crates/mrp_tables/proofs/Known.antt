@@ -5,10 +5,10 @@ use Rattle.std.specs.List.{IsDistinct, list_any, position_or_len}
 use Rattle.std.specs.Str.{bytes_eq}
 use Rattle.std.proofs.lemmas.Bool.{or_parts}
 use Rattle.std.proofs.lemmas.List.{length-map}
-use Rattle.mrp_planning_data.specs.Growing.{add_item, with_item, with_pair, with_plant}
-use Rattle.mrp_planning_data.specs.Table.{IsName, IsRead, Table}
-use Rattle.mrp_planning_data.specs.declared.rows.PairRow.{PairRow}
-use Rattle.mrp_planning_data.proofs.Keys.{any-from_no_position}
+use Rattle.mrp_master_data.specs.Growing.{add_item, with_item, with_pair, with_plant}
+use Rattle.mrp_master_data.specs.Table.{IsName, IsRead, Table}
+use Rattle.mrp_master_data.specs.declared.rows.PairRow.{PairRow}
+use Rattle.mrp_master_data.proofs.Keys.{any-from_no_position}
 use Rattle.mrp_tables.specs.Keys.{FindsAll, FindsNames, key_of, Knows, pair_key}
 use Rattle.mrp_tables.specs.contracts.name_key.NameKeyPartialEq.TheImpl.{eq-value as same_name}
 use Rattle.mrp_tables.specs.declared.name_key.NameKey.{NameKey}

@@ -14,18 +14,18 @@ use Rattle.std.proofs.lemmas.Option.{get_or_from_slice_get, slice_get-get_or}
 use Rattle.std.proofs.lemmas.Slice.Eq.{bytes_eq-Decides}
 use Rattle.mrp_tables.specs.declared.draft.Arrivals.{Arrivals}
 use Rattle.mrp_tables.specs.declared.draft.LaneKey.{LaneKey}
-use Rattle.mrp_planning_data.specs.declared.rows.PairRow.{PairRow}
-use Rattle.mrp_planning_data.specs.declared.rows.SourceRow.{SourceRow}
+use Rattle.mrp_master_data.specs.declared.rows.PairRow.{PairRow}
+use Rattle.mrp_master_data.specs.declared.rows.SourceRow.{SourceRow}
 use Rattle.mrp_tables.specs.Drafts.{IsNewPair, with_sources}
-use Rattle.mrp_planning_data.specs.Names.{has_plant, pair_named, pair_of_item, plant_no}
-use Rattle.mrp_grammar.specs.Grammar.{knows_sources, source_row}
-use Rattle.mrp_planning_data.specs.Growing.{add_item, with_item, with_pair, with_source}
+use Rattle.mrp_master_data.specs.Names.{has_plant, pair_named, pair_of_item, plant_no}
+use Rattle.mrp_validation.specs.Grammar.{knows_sources, source_row}
+use Rattle.mrp_master_data.specs.Growing.{add_item, with_item, with_pair, with_source}
 use Rattle.mrp_tables.specs.Lists.{FitsRows}
-use Rattle.mrp_planning_data.specs.Supplies.{SourceTerms}
-use Rattle.mrp_planning_data.specs.Table.{IsRead, is_taken_from, Table}
-use Rattle.mrp_planning_data.proofs.Grow.{length-add_item-le}
-use Rattle.mrp_planning_data.proofs.Keys.{All-from_position, position_is}
-use Rattle.mrp_planning_data.proofs.Mapped.{list_any_keys}
+use Rattle.mrp_master_data.specs.Supplies.{SourceTerms}
+use Rattle.mrp_master_data.specs.Table.{IsRead, is_taken_from, Table}
+use Rattle.mrp_master_data.proofs.Grow.{length-add_item-le}
+use Rattle.mrp_master_data.proofs.Keys.{All-from_position, position_is}
+use Rattle.mrp_master_data.proofs.Mapped.{list_any_keys}
 
 -- a read within a list has any default
 any_default : {X : Type 0} (xs : List X) (k : ℕ) (a b : X) → k < length xs → get_or xs k a ≡ get_or xs k b

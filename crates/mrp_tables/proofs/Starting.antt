@@ -4,15 +4,15 @@ use Rattle.std.specs.List.{list_all}
 use Rattle.std.specs.Str.{is_utf8}
 use Rattle.std.proofs.lemmas.Str.{is_utf8-from_IsUtf8}
 use Rattle.csv.specs.Records.{AllText}
-use Rattle.mrp_grammar.specs.declared.fault.TableFaultKind.{TableFaultKind}
-use Rattle.mrp_grammar.specs.declared.fault.TableFaultKind.TheVariants as fault
+use Rattle.mrp_validation.specs.declared.fault.TableFaultKind.{TableFaultKind}
+use Rattle.mrp_validation.specs.declared.fault.TableFaultKind.TheVariants as fault
 use denote.Enum.Bare.{sameb}
-use Rattle.mrp_grammar.specs.contracts.kind.Kind.{the_type as kind_type}
-use Rattle.mrp_grammar.specs.declared.kind.Kind.{Kind}
-use Rattle.mrp_grammar.specs.declared.kind.Kind.TheVariants as kind
-use Rattle.mrp_planning_data.specs.Table.{Table}
-use Rattle.mrp_grammar.specs.Grammar.{◌>>=◌, may_follow, row_kind, run_terms, RunTerms, TellsFault}
-use Rattle.mrp_grammar.specs.Reading.{first_terms, is_run, kind_of_row, row_after, row_of_kind, Starts, StartsWith, UnlessMemory}
+use Rattle.mrp_validation.specs.contracts.kind.Kind.{the_type as kind_type}
+use Rattle.mrp_validation.specs.declared.kind.Kind.{Kind}
+use Rattle.mrp_validation.specs.declared.kind.Kind.TheVariants as kind
+use Rattle.mrp_master_data.specs.Table.{Table}
+use Rattle.mrp_validation.specs.Grammar.{◌>>=◌, may_follow, row_kind, run_terms, RunTerms, TellsFault}
+use Rattle.mrp_validation.specs.Reading.{first_terms, is_run, kind_of_row, row_after, row_of_kind, Starts, StartsWith, UnlessMemory}
 
 -- fields that are text pass the test for it
 pub all_text : (fs : List (List ℕ)) → AllText fs → list_all is_utf8 fs ≡ true

@@ -12,11 +12,11 @@ use Rattle.csv.specs.declared.error.ErrorKind.TheVariants as error
 use Rattle.csv.specs.declared.parser.State.{State}
 use Rattle.csv.specs.declared.reader.Reader.{Reader}
 use Rattle.csv.specs.declared.reader.Trim.TheVariants as trim
-use Rattle.mrp_grammar.specs.declared.fault.TableFaultKind.{TableFaultKind}
-use Rattle.mrp_grammar.specs.declared.fault.TableFaultKind.TheVariants as fault
-use Rattle.mrp_grammar.specs.Left.{fault_of, GivesAll, rows_left, MayCome, OfLeft, records_in, StartsBadly, TakesRow}
-use Rattle.mrp_grammar.specs.Reading.{OfRows}
-use Rattle.mrp_grammar.proofs.Records.{none_left, one_left}
+use Rattle.mrp_validation.specs.declared.fault.TableFaultKind.{TableFaultKind}
+use Rattle.mrp_validation.specs.declared.fault.TableFaultKind.TheVariants as fault
+use Rattle.mrp_validation.specs.Left.{fault_of, GivesAll, rows_left, MayCome, OfLeft, records_in, StartsBadly, TakesRow}
+use Rattle.mrp_validation.specs.Reading.{OfRows}
+use Rattle.mrp_validation.proofs.Records.{none_left, one_left}
 
 both : (a b : Bool) → (a && b) ≡ true → (a ≡ true) × (b ≡ true)
 both true b e = (refl, e)

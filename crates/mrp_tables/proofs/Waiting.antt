@@ -1,13 +1,13 @@
 -- The test that waits for the last row.
 use Rattle.std.proofs.Common.{◌≡◌, ℕ, zero, suc, ◌<◌, ◌≤◌, true, false, List, [], ◌∷◌, length, get_or, position, Some, None, Ok, Err, refl, sym, ap, ◌∙◌, arith}
 use Rattle.std.proofs.lemmas.List.Quantifiers.{position-Some}
-use Rattle.mrp_grammar.specs.declared.fault.TableFaultKind.TheVariants as fault
-use Rattle.mrp_planning_data.specs.declared.rows.SourceRow.{SourceRow}
-use Rattle.mrp_planning_data.specs.Growing.{lacks_pair}
-use Rattle.mrp_grammar.specs.Reading.{first_lacking, pair_row_number, waiting}
-use Rattle.mrp_planning_data.specs.Table.{IsRead, Table}
-use Rattle.mrp_planning_data.specs.Turns.{row_count}
-use Rattle.mrp_planning_data.proofs.Keys.{All-from_position}
+use Rattle.mrp_validation.specs.declared.fault.TableFaultKind.TheVariants as fault
+use Rattle.mrp_master_data.specs.declared.rows.SourceRow.{SourceRow}
+use Rattle.mrp_master_data.specs.Growing.{lacks_pair}
+use Rattle.mrp_validation.specs.Reading.{first_lacking, pair_row_number, waiting}
+use Rattle.mrp_master_data.specs.Table.{IsRead, Table}
+use Rattle.mrp_master_data.specs.Turns.{row_count}
+use Rattle.mrp_master_data.proofs.Keys.{All-from_position}
 
 none_lacks : (N : Table) (ss : List SourceRow) → ((k : ℕ) (d : SourceRow) → k < length ss → lacks_pair N (get_or ss k d) ≡ false) → first_lacking N ss ≡ None
 unfolding first_lacking

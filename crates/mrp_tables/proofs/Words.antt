@@ -10,8 +10,8 @@ use Rattle.std.proofs.lemmas.Slice.Eq.{bytes_eq-Decides}
 use Rattle.std.specs.Cmp.Lexicographic.{nat_list_eq_equiv}
 use Rattle.std.specs.List.{list_all}
 use Rattle.std.specs.Str.{bytes_eq}
-use Rattle.mrp_planning_data.specs.Spelling.{is_name_byte}
-use Rattle.mrp_planning_data.specs.Table.{IsName}
+use Rattle.mrp_master_data.specs.Spelling.{is_name_byte}
+use Rattle.mrp_master_data.specs.Table.{IsName}
 use Rattle.mrp_tables.specs.contracts.name_key.NameKeyPartialEq.TheImpl.{eq-value as same_name}
 use Rattle.mrp_tables.specs.declared.name_key.NameKey.{NameKey}
 use Rattle.mrp_tables.specs.Keys.{key_of, word_of}

@@ -1,9 +1,9 @@
 -- What a demand or a receipt row says of a pair.
 use Rattle.std.specs.Prelude.{ℕ, List, Result, Ok}
-use Rattle.mrp_planning_data.specs.declared.numbers.PairNo.{PairNo}
-use Rattle.mrp_planning_data.specs.Table.{Table, horizon}
-use Rattle.mrp_grammar.specs.declared.fault.TableFaultKind.{TableFaultKind}
-use Rattle.mrp_grammar.specs.Grammar.{◌>>=◌, amount_terms, known_pair}
+use Rattle.mrp_master_data.specs.declared.numbers.PairNo.{PairNo}
+use Rattle.mrp_master_data.specs.Table.{Table, horizon}
+use Rattle.mrp_validation.specs.declared.fault.TableFaultKind.{TableFaultKind}
+use Rattle.mrp_validation.specs.Grammar.{◌>>=◌, amount_terms, known_pair}
 
 -- the pair that it names, its period and its quantity, or its first fault
 unfoldable pub known_amount : Table → List (List ℕ) → Result (PairNo × ℕ × ℕ) TableFaultKind

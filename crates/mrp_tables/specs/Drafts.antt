@@ -1,20 +1,20 @@
 -- What the steps of reading answer, in the words of the grammar.
 use Rattle.std.specs.Prelude.{◌≡◌, ℕ, ◌<◌, true, List, ◌++◌, length, map, All, Some, None, Result, Ok, Err}
 use Rattle.mrp_tables.specs.declared.draft.Draft.{Draft}
-use Rattle.mrp_grammar.specs.declared.fault.TableFault.{TableFault}
-use Rattle.mrp_grammar.specs.declared.fault.TableFaultKind.{TableFaultKind}
-use Rattle.mrp_grammar.specs.declared.kind.Kind.{Kind}
-use Rattle.mrp_grammar.specs.declared.kind.Kind.TheVariants as kind
+use Rattle.mrp_validation.specs.declared.fault.TableFault.{TableFault}
+use Rattle.mrp_validation.specs.declared.fault.TableFaultKind.{TableFaultKind}
+use Rattle.mrp_validation.specs.declared.kind.Kind.{Kind}
+use Rattle.mrp_validation.specs.declared.kind.Kind.TheVariants as kind
 use Rattle.mrp_cal.specs.Calendar.{CalendarTerms}
-use Rattle.mrp_planning_data.specs.declared.numbers.PlantNo.{PlantNo}
+use Rattle.mrp_master_data.specs.declared.numbers.PlantNo.{PlantNo}
 use Rattle.mrp_qty.specs.declared.limits.TheConstants.{MOST_PAIRS}
-use Rattle.mrp_planning_data.specs.Table.{Table}
-use Rattle.mrp_planning_data.specs.Growing.{empty_table}
-use Rattle.mrp_planning_data.specs.Supplies.{SourceTerms}
-use Rattle.mrp_grammar.specs.Grammar.{knows_sources, PairTerms, run_terms, seen, source_row, TellsFault}
-use Rattle.mrp_planning_data.specs.SupplyParsing.{named_sources}
-use Rattle.mrp_planning_data.specs.Names.{pair_named, plant_no}
-use Rattle.mrp_grammar.specs.Reading.{IsReadSoFar, row_after, Starts, StartsWith, UnlessMemory}
+use Rattle.mrp_master_data.specs.Table.{Table}
+use Rattle.mrp_master_data.specs.Growing.{empty_table}
+use Rattle.mrp_master_data.specs.Supplies.{SourceTerms}
+use Rattle.mrp_validation.specs.Grammar.{knows_sources, PairTerms, run_terms, seen, source_row, TellsFault}
+use Rattle.mrp_master_data.specs.SupplyParsing.{named_sources}
+use Rattle.mrp_master_data.specs.Names.{pair_named, plant_no}
+use Rattle.mrp_validation.specs.Reading.{IsReadSoFar, row_after, Starts, StartsWith, UnlessMemory}
 
 -- a pair row that fits the rows before it, at that plant
 pub record FitsPair (N : Table) (p : PlantNo) (t : PairTerms) : Type 0 where

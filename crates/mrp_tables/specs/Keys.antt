@@ -2,10 +2,10 @@
 use Rattle.std.specs.Prelude.{◌≡◌, ℕ, ◌+◌, ◌*◌, ◌%◌, ◌∷◌, [], List, map, take, drop, All}
 use Rattle.std.specs.List.{IsDistinct, slice_index_or}
 use Rattle.std.specs.Str.{bytes_eq}
-use Rattle.mrp_planning_data.specs.Table.{IsName, Table}
+use Rattle.mrp_master_data.specs.Table.{IsName, Table}
 use Rattle.mrp_tables.specs.declared.name_key.NameKey.{NameKey}
 use Rattle.mrp_tables.specs.declared.name_key.PairKey.{PairKey}
-use Rattle.mrp_planning_data.specs.declared.rows.PairRow.{PairRow}
+use Rattle.mrp_master_data.specs.declared.rows.PairRow.{PairRow}
 use Rattle.mrp_tables.specs.declared.names.KnownNames.{KnownNames}
 
 -- the number whose digits to the base 512 are one more than the bytes, the first of them the lowest

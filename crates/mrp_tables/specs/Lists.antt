@@ -3,19 +3,19 @@ use Rattle.std.specs.Prelude.{◌≡◌, ℕ, ◌+◌, ◌*◌, ◌≤◌, ◌<�
 use Rattle.std.specs.Prelude.{Bool, true, not, nat_lt}
 use Rattle.std.specs.Prelude.{Option, Some, None, is_some, option_map, position, ok_or, Result, Ok}
 use Rattle.std.specs.List.{IsDistinct, list_all, list_any}
-use Rattle.mrp_planning_data.specs.Names.{pair_named, plant_no}
-use Rattle.mrp_planning_data.specs.Table.{Table, IsRead, arrivals_of, rises_from}
-use Rattle.mrp_planning_data.specs.Turns.{row_count}
+use Rattle.mrp_master_data.specs.Names.{pair_named, plant_no}
+use Rattle.mrp_master_data.specs.Table.{Table, IsRead, arrivals_of, rises_from}
+use Rattle.mrp_master_data.specs.Turns.{row_count}
 use Rattle.mrp_qty.specs.declared.limits.TheConstants.{MOST_SOURCES_OF_PAIR}
-use Rattle.mrp_planning_data.specs.declared.numbers.PairNo.{PairNo}
-use Rattle.mrp_planning_data.specs.declared.numbers.PlantNo.{PlantNo}
-use Rattle.mrp_planning_data.specs.declared.rows.SourceRow.{SourceRow}
-use Rattle.mrp_planning_data.specs.declared.rows.BillRow.{BillRow}
-use Rattle.mrp_planning_data.specs.declared.rows.ShipRow.{ShipRow}
-use Rattle.mrp_planning_data.specs.declared.rows.CumRow.{CumRow}
-use Rattle.mrp_planning_data.specs.declared.rows.ResetRow.{ResetRow}
-use Rattle.mrp_grammar.specs.declared.fault.TableFaultKind.{TableFaultKind}
-use Rattle.mrp_grammar.specs.declared.fault.TableFaultKind.TheVariants as fault
+use Rattle.mrp_master_data.specs.declared.numbers.PairNo.{PairNo}
+use Rattle.mrp_master_data.specs.declared.numbers.PlantNo.{PlantNo}
+use Rattle.mrp_master_data.specs.declared.rows.SourceRow.{SourceRow}
+use Rattle.mrp_master_data.specs.declared.rows.BillRow.{BillRow}
+use Rattle.mrp_master_data.specs.declared.rows.ShipRow.{ShipRow}
+use Rattle.mrp_master_data.specs.declared.rows.CumRow.{CumRow}
+use Rattle.mrp_master_data.specs.declared.rows.ResetRow.{ResetRow}
+use Rattle.mrp_validation.specs.declared.fault.TableFaultKind.{TableFaultKind}
+use Rattle.mrp_validation.specs.declared.fault.TableFaultKind.TheVariants as fault
 use Rattle.mrp_tables.specs.Keys.{Knows}
 use Rattle.mrp_tables.specs.declared.draft.LaneKey.{LaneKey}
 use Rattle.mrp_tables.specs.declared.draft.BillKey.{BillKey}
@@ -23,7 +23,7 @@ use Rattle.mrp_tables.specs.declared.draft.Draft.{Draft}
 use Rattle.mrp_tables.specs.declared.draft.Arrivals.{Arrivals}
 use Rattle.mrp_tables.specs.declared.lanes.KnownLane.{KnownLane}
 use Rattle.mrp_tables.specs.declared.lanes.NamedLane.{NamedLane}
-use Rattle.mrp_grammar.specs.Grammar.{◌>>=◌, check, BillTerms, LaneTerms}
+use Rattle.mrp_validation.specs.Grammar.{◌>>=◌, check, BillTerms, LaneTerms}
 
 abbrev pub lane_of : SourceRow → LaneKey
 lane_of s = record { from = s.plant; pair = s.pair }

@@ -3,11 +3,11 @@ use Rattle.std.specs.Prelude.{ℕ, ◌≤◌, List}
 use Rattle.mrp_lot.specs.Lot.{IsRule}
 use Rattle.mrp_lot.specs.declared.rule.TheConstants.{LONGEST_LEAD}
 use Rattle.mrp_qty.specs.declared.limits.TheConstants.{MOST_IN_ROW}
-use Rattle.mrp_planning_data.specs.Spelled.{HasSources, supply_view}
+use Rattle.mrp_master_data.specs.Spelled.{HasSources, supply_view}
 use Rattle.mrp_tables.specs.declared.spelled.SpelledPair.{SpelledPair}
 use Rattle.mrp_tables.specs.declared.spelled.SpelledRun.{SpelledRun}
-use Rattle.mrp_planning_data.specs.Table.{IsName}
-use Rattle.mrp_grammar.specs.Grammar.{field, AmountTerms, BillTerms, LaneTerms, PairTerms, RunTerms}
+use Rattle.mrp_master_data.specs.Table.{IsName}
+use Rattle.mrp_validation.specs.Grammar.{field, AmountTerms, BillTerms, LaneTerms, PairTerms, RunTerms}
 
 -- a pair row whose item is a name, and whose numbers are in their ranges
 pub record IsSpelledPair (p : SpelledPair) : Type 0 where

@@ -1,12 +1,12 @@
 //! Bill, demand and receipt rows, tested against the rows before them. Names that find a pair aren't tested for being
 //! names.
 
-use mrp_grammar::{TableFaultKind, field};
+use mrp_validation::{TableFaultKind, field};
 use crate::draft::{BillKey, Draft};
 use crate::spelled::{spelled_amount, spelled_bill};
 use csv::StringRecord;
 use mrp_qty::Qty;
-use mrp_planning_data::{BillRow, DemandRow, MOST_BILLS, MOST_OF_A_KIND, PairNo, ReceiptRow, Supply};
+use mrp_master_data::{BillRow, DemandRow, MOST_BILLS, MOST_OF_A_KIND, PairNo, ReceiptRow, Supply};
 
 /// What a demand or a receipt row says of a pair that is there: a period, counted from 0, and so many pieces.
 #[derive(Clone, Copy)]
@@ -21,14 +21,14 @@ impl Draft {
     ghost use Rattle.csv.specs.Records.{fields_of};
     ghost use Rattle.mrp_qty.specs.declared.limits.TheConstants.{MOST_BILLS, MOST_IN_ROW, MOST_OF_A_KIND};
     ghost use Rattle.mrp_qty.specs.declared.limits.TheConstants.{MOST_PER};
-    ghost use Rattle.mrp_grammar.specs.Grammar.{bill_fits, bill_of, bill_row, demand_of, demand_row, has_bill};
-    ghost use Rattle.mrp_grammar.specs.Grammar.{is_made, receipt_of, receipt_row, seen, TellsMade};
+    ghost use Rattle.mrp_validation.specs.Grammar.{bill_fits, bill_of, bill_row, demand_of, demand_row, has_bill};
+    ghost use Rattle.mrp_validation.specs.Grammar.{is_made, receipt_of, receipt_row, seen, TellsMade};
     ghost use Rattle.mrp_tables.specs.Amounts.{known_amount};
     ghost use Rattle.mrp_tables.specs.Spelled.{terms_of_bill};
-    ghost use Rattle.mrp_planning_data.specs.Table.{IsBillRow, IsDemandRow, IsReceiptRow};
+    ghost use Rattle.mrp_master_data.specs.Table.{IsBillRow, IsDemandRow, IsReceiptRow};
     ghost use Rattle.mrp_tables.specs.Keys.{Knows};
     ghost use Rattle.mrp_tables.specs.Lists.{AddsRow, FindsBill, IsDraft};
-    ghost use Rattle.mrp_planning_data.specs.Table.{IsRead, horizon};
+    ghost use Rattle.mrp_master_data.specs.Table.{IsRead, horizon};
 
     /// Adds a bill row.
     pub(crate) fn add_bill(&mut self, row: &StringRecord) -> Result<(), TableFaultKind>

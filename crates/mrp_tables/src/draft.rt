@@ -4,10 +4,10 @@ ghost use Rattle.std.specs.Prelude.{◌≡◌, ◌+◌, OnOk, IfOk};
 
 use crate::names::KnownNames;
 use crate::spelled::{row_kind, spelled_run};
-use mrp_grammar::{Kind, TableFaultKind, may_follow};
+use mrp_validation::{Kind, TableFaultKind, may_follow};
 use csv::StringRecord;
 use indexmap::IndexSet;
-use mrp_planning_data::{PairNo, PlantNo, RowLists};
+use mrp_master_data::{PairNo, PlantNo, RowLists};
 use std::alloc::Global;
 
 /// A source of a pair by its plant and the pair.
@@ -68,9 +68,9 @@ impl Draft {
     ghost use Rattle.std.specs.Prelude.{◌≡◌, ◌+◌, ◌<◌, OnOk, IfOk};
     ghost use Rattle.csv.specs.Records.{AllText, fields_of};
     ghost use Rattle.mrp_qty.specs.declared.limits.TheConstants.{MAX_TURNS};
-    ghost use Rattle.mrp_grammar.specs.Grammar.{TellsMade};
+    ghost use Rattle.mrp_validation.specs.Grammar.{TellsMade};
     ghost use Rattle.mrp_tables.specs.Lists.{IsDraft, AddsRow};
-    ghost use Rattle.mrp_grammar.specs.Reading.{row_of_kind};
+    ghost use Rattle.mrp_validation.specs.Reading.{row_of_kind};
     ghost use Rattle.mrp_tables.specs.Drafts.{TellsAdded, TellsFirst};
 
     /// What a first row makes.

@@ -4,12 +4,12 @@
 ghost use Rattle.std.specs.Prelude.{◌≡◌, IfOk};
 ghost use Rattle.mrp_tables.specs.Lists.{key_between};
 
-use mrp_grammar::{TableFaultKind, field};
+use mrp_validation::{TableFaultKind, field};
 use crate::draft::{Draft, LaneKey};
 use crate::spelled::{spelled_lane_number, spelled_ship};
 use csv::StringRecord;
 use mrp_qty::{MOST, Qty};
-use mrp_planning_data::{CumRow, MOST_OF_A_KIND, PairNo, PlantNo, ResetRow, ShipRow};
+use mrp_master_data::{CumRow, MOST_OF_A_KIND, PairNo, PlantNo, ResetRow, ShipRow};
 
 /// What a row on a lane names, as far as it is there.
 #[derive(Clone, Copy)]
@@ -73,12 +73,12 @@ impl Draft {
     ghost use Rattle.std.specs.Prelude.{◌≡◌, ◌<◌, length, OnOk, IfOk, IfSome};
     ghost use Rattle.std.specs.Prelude.{option_map};
     ghost use Rattle.mrp_qty.specs.declared.limits.TheConstants.{MOST_OF_A_KIND};
-    ghost use Rattle.mrp_planning_data.specs.Table.{IsCumRow, IsResetRow, IsShipRow};
+    ghost use Rattle.mrp_master_data.specs.Table.{IsCumRow, IsResetRow, IsShipRow};
     ghost use Rattle.std.specs.Prelude.{◌&&◌, false, is_some, not, true, IsSome, Some};
     ghost use Rattle.csv.specs.Records.{fields_of};
-    ghost use Rattle.mrp_planning_data.specs.Table.{arrivals, rises_from};
-    ghost use Rattle.mrp_grammar.specs.Grammar.{cum_between, cum_of, cum_row, reset_between, reset_in_row};
-    ghost use Rattle.mrp_grammar.specs.Grammar.{reset_row, seen, ship_of, ship_row, TellsMade};
+    ghost use Rattle.mrp_master_data.specs.Table.{arrivals, rises_from};
+    ghost use Rattle.mrp_validation.specs.Grammar.{cum_between, cum_of, cum_row, reset_between, reset_in_row};
+    ghost use Rattle.mrp_validation.specs.Grammar.{reset_row, seen, ship_of, ship_row, TellsMade};
     ghost use Rattle.mrp_tables.specs.Spelled.{terms_of_lane, HasThreeNames};
     ghost use Rattle.mrp_tables.specs.Lists.{AddsRow, Finds, IsDraft, IsNamedLane, source_at, source_named};
 

@@ -2,10 +2,10 @@
 //!
 //! A table is comma-separated text of eight fields a row: the run, plants, pairs, bills, demands,
 //! receipts, shipments between plants, cumulative figures and where those start anew. What is
-//! accepted are the [`Tables`](mrp_planning_data::Tables) of its rows, by the grammar of `mrp_grammar`: what each row
+//! accepted are the [`Tables`](mrp_master_data::Tables) of its rows, by the grammar of `mrp_validation`: what each row
 //! says, which rows make which table, and which fault a text has first.
 //!
-//! Used by `mrp_planner` and `mrp_record_csv`, and by tests.
+//! Used by `mrp_api` and `mrp_record_csv`, and by tests.
 //! Keeps true: bytes make one table or have one first fault, and a table is read back from its own rows.
 #![tactic(auto)]
 
@@ -20,7 +20,7 @@ mod spelled;
 mod spelling;
 mod steps;
 
-pub use mrp_grammar::{TableFault, TableFaultKind};
+pub use mrp_validation::{TableFault, TableFaultKind};
 pub use mrp_qty::MAX_TURNS;
 pub use reading::{read_tables, read_tables_uncounted};
 pub use steps::Steps;

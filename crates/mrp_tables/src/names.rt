@@ -4,11 +4,11 @@ ghost use Rattle.std.specs.Prelude.{◌≡◌, ℕ, List, position};
 ghost use Rattle.std.specs.Str.{bytes_eq};
 ghost use Rattle.mrp_tables.specs.Keys.{FindsNames};
 
-use mrp_grammar::TableFaultKind;
+use mrp_validation::TableFaultKind;
 use crate::draft::Draft;
 use crate::name_key::{NameKey, PairKey};
 use indexmap::IndexSet;
-use mrp_planning_data::{ItemNo, PairNo, PairRow, PlantNo, RowLists};
+use mrp_master_data::{ItemNo, PairNo, PairRow, PlantNo, RowLists};
 use std::alloc::Global;
 
 /// The plants, the items and the pairs of the rows so far by their keys, in their order. A pair is found by the names
@@ -25,11 +25,11 @@ impl KnownNames {
     ghost use Rattle.std.specs.Prelude.{OnOk};
     ghost use Rattle.std.specs.List.{list_any};
     ghost use Rattle.std.specs.Str.{bytes_eq};
-    ghost use Rattle.mrp_grammar.specs.declared.fault.TableFaultKind.TheVariants.{Memory};
+    ghost use Rattle.mrp_validation.specs.declared.fault.TableFaultKind.TheVariants.{Memory};
     ghost use Rattle.mrp_qty.specs.declared.limits.TheConstants.{MOST_PAIRS, MOST_PLANTS};
-    ghost use Rattle.mrp_planning_data.specs.Growing.{with_item, with_pair, with_plant};
-    ghost use Rattle.mrp_planning_data.specs.Names.{has_plant};
-    ghost use Rattle.mrp_planning_data.specs.Table.{IsName, IsPairRow, IsRead};
+    ghost use Rattle.mrp_master_data.specs.Growing.{with_item, with_pair, with_plant};
+    ghost use Rattle.mrp_master_data.specs.Names.{has_plant};
+    ghost use Rattle.mrp_master_data.specs.Table.{IsName, IsPairRow, IsRead};
     ghost use Rattle.mrp_tables.specs.Keys.{FindsAll, Knows};
 
     /// No names.
@@ -132,8 +132,8 @@ impl KnownNames {
 
 impl Draft {
     ghost use Rattle.std.specs.Prelude.{◌≡◌, ◌<◌, is_some, length, option_map, true, IfSome, OnSome};
-    ghost use Rattle.mrp_planning_data.specs.Names.{has_plant, pair_named, plant_no};
-    ghost use Rattle.mrp_planning_data.specs.Table.{IsName, IsRead};
+    ghost use Rattle.mrp_master_data.specs.Names.{has_plant, pair_named, plant_no};
+    ghost use Rattle.mrp_master_data.specs.Table.{IsName, IsRead};
     ghost use Rattle.mrp_tables.specs.Keys.{Knows};
 
     /// Whether there is a plant of that name.

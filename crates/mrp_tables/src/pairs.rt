@@ -1,16 +1,16 @@
 //! Plant and pair rows, tested against the rows before them.
 
 ghost use Rattle.std.specs.Prelude.{◌≡◌, map};
-ghost use Rattle.mrp_planning_data.specs.SupplyParsing.{named_sources};
-ghost use Rattle.mrp_grammar.specs.Grammar.{supply_kind};
-ghost use Rattle.mrp_planning_data.specs.Spelled.{source_view, supply_view, AreSources, HasSources};
+ghost use Rattle.mrp_master_data.specs.SupplyParsing.{named_sources};
+ghost use Rattle.mrp_validation.specs.Grammar.{supply_kind};
+ghost use Rattle.mrp_master_data.specs.Spelled.{source_view, supply_view, AreSources, HasSources};
 
-use mrp_grammar::TableFaultKind;
+use mrp_validation::TableFaultKind;
 use crate::draft::{Arrivals, Draft, LaneKey};
 use crate::spelled::{SpelledPair, spelled_pair, spelled_plant};
 use csv::StringRecord;
 use mrp_qty::Qty;
-use mrp_planning_data::{
+use mrp_master_data::{
     MOST_PAIRS, MOST_PLANTS, PairNo, PairRow, PlantNo, SourceRow, SpelledSource, SpelledSupply,
     Supply, names_plant,
 };
@@ -19,20 +19,20 @@ use std::alloc::Global;
 impl Draft {
     ghost use Rattle.std.specs.Prelude.{◌≡◌, ◌+◌, ◌*◌, ◌≤◌, ◌<◌, false, true, length, map, All, OnOk, IfErr, IfOk};
     ghost use Rattle.csv.specs.Records.{fields_of};
-    ghost use Rattle.mrp_grammar.specs.declared.fault.TableFaultKind.TheVariants.{Memory};
+    ghost use Rattle.mrp_validation.specs.declared.fault.TableFaultKind.TheVariants.{Memory};
     ghost use Rattle.mrp_qty.specs.declared.limits.TheConstants.{MOST_PLANTS};
     ghost use Rattle.mrp_qty.specs.declared.limits.TheConstants.{MOST_SOURCES_OF_PAIR};
     ghost use Rattle.mrp_tables.specs.Drafts.{FitsPair, IsNewPair, with_sources};
-    ghost use Rattle.mrp_planning_data.specs.Names.{has_plant};
-    ghost use Rattle.mrp_grammar.specs.Grammar.{knows_sources, pair_fits, pair_row, plant_in_row, plant_row, seen};
-    ghost use Rattle.mrp_grammar.specs.Grammar.{source_row, TellsMade, with_pair_terms};
+    ghost use Rattle.mrp_master_data.specs.Names.{has_plant};
+    ghost use Rattle.mrp_validation.specs.Grammar.{knows_sources, pair_fits, pair_row, plant_in_row, plant_row, seen};
+    ghost use Rattle.mrp_validation.specs.Grammar.{source_row, TellsMade, with_pair_terms};
     ghost use Rattle.mrp_tables.specs.Keys.{Knows};
     ghost use Rattle.mrp_tables.specs.Lists.{IsDraft, AddsRow, FitsRows, AddsSources};
-    ghost use Rattle.mrp_planning_data.specs.Table.{IsRead};
-    ghost use Rattle.mrp_planning_data.specs.Growing.{with_source};
+    ghost use Rattle.mrp_master_data.specs.Table.{IsRead};
+    ghost use Rattle.mrp_master_data.specs.Growing.{with_source};
     ghost use Rattle.mrp_tables.specs.Spelled.{pair_view, IsSpelledPair};
-    ghost use Rattle.mrp_planning_data.specs.Spelled.{source_view, AreSources, IsSource};
-    ghost use Rattle.mrp_planning_data.specs.Table.{is_taken_from, IsName};
+    ghost use Rattle.mrp_master_data.specs.Spelled.{source_view, AreSources, IsSource};
+    ghost use Rattle.mrp_master_data.specs.Table.{is_taken_from, IsName};
 
     /// Adds a plant row.
     pub(crate) fn add_plant(

@@ -4,21 +4,21 @@ ghost use Rattle.std.specs.Prelude.{◌≡◌, ◌≤◌, ◌<◌, true, IfOk};
 ghost use Rattle.mrp_qty.specs.declared.horizon.TheConstants.{LONGEST};
 ghost use Rattle.mrp_qty.specs.declared.limits.TheConstants.{MOST_IN_ROW, MOST_PER};
 ghost use Rattle.csv.specs.Records.{fields_of};
-ghost use Rattle.mrp_grammar.specs.Grammar.{amount_terms, bill_terms, field, is_empty_from};
-ghost use Rattle.mrp_grammar.specs.Grammar.{kind_of, lane_number, lane_terms, name_field, pair_terms, plant_terms};
-ghost use Rattle.mrp_grammar.specs.Grammar.{row_kind, run_terms, seen, ship_terms, TellsSeen};
+ghost use Rattle.mrp_validation.specs.Grammar.{amount_terms, bill_terms, field, is_empty_from};
+ghost use Rattle.mrp_validation.specs.Grammar.{kind_of, lane_number, lane_terms, name_field, pair_terms, plant_terms};
+ghost use Rattle.mrp_validation.specs.Grammar.{row_kind, run_terms, seen, ship_terms, TellsSeen};
 ghost use Rattle.mrp_tables.specs.Spelled.{terms_of_amount, terms_of_bill, terms_of_lane, pair_view, run_view};
 ghost use Rattle.mrp_tables.specs.Spelled.{HasThreeNames, HasTwoNames, IsSpelledPair};
-ghost use Rattle.mrp_planning_data.specs.Table.{IsName};
+ghost use Rattle.mrp_master_data.specs.Table.{IsName};
 ghost use Rattle.mrp_tables.specs.Drafts.{TellsRun};
 
 use crate::spelling::{name, ranged};
-use mrp_grammar::{Kind, TableFaultKind, field, is_free, used};
+use mrp_validation::{Kind, TableFaultKind, field, is_free, used};
 use csv::StringRecord;
 use mrp_cal::Calendar;
 use mrp_lot::{LONGEST_LEAD, Rule};
 use mrp_qty::{Horizon, LONGEST};
-use mrp_planning_data::{MOST_IN_ROW, MOST_PER, SpelledSupply, is_same_text, number, rule, supply};
+use mrp_master_data::{MOST_IN_ROW, MOST_PER, SpelledSupply, is_same_text, number, rule, supply};
 use std::alloc::Global;
 
 /// How many fields a row has.

@@ -1,11 +1,11 @@
 //! Fields of a row: names and numbers in their ranges.
 
 ghost use Rattle.std.specs.Prelude.{◌≡◌, ◌≤◌, IfOk};
-ghost use Rattle.mrp_planning_data.specs.Table.{IsName};
-ghost use Rattle.mrp_grammar.specs.Grammar.{name_field, ranged, seen};
+ghost use Rattle.mrp_master_data.specs.Table.{IsName};
+ghost use Rattle.mrp_validation.specs.Grammar.{name_field, ranged, seen};
 
-use mrp_grammar::TableFaultKind;
-use mrp_planning_data::{is_name, number_within};
+use mrp_validation::TableFaultKind;
+use mrp_master_data::{is_name, number_within};
 
 /// The text itself, where it is a name.
 pub(crate) fn name(text: &str) -> Result<&str, TableFaultKind>

@@ -1,8 +1,8 @@
 -- The lanes and pairs of a plant stand in what it sees, and no others do.
 use Rattle.std.proofs.Common.{◌≡◌, ℕ, length, sym, subst, Contains}
 use Rattle.std.specs.List.{filter}
-use Rattle.mrp_planning_data.specs.Table.{Table}
-use Rattle.mrp_planning_data.specs.declared.numbers.PairNo.{PairNo}
+use Rattle.mrp_master_data.specs.Table.{Table}
+use Rattle.mrp_master_data.specs.declared.numbers.PairNo.{PairNo}
 use Rattle.mrp_net.specs.Lanes.{lanes, lane_at}
 use Rattle.mrp_net.proofs.Members.{Contains-from_in, In-map}
 use Rattle.mrp_plant_view.specs.Seen as seen

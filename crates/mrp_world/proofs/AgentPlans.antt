@@ -4,7 +4,7 @@ use Rattle.std.specs.Prelude.{IfSome, IfNone, IsTrue}
 use Rattle.std.specs.Bool.{OnTrue}
 use Rattle.std.proofs.lemmas.Bool.{false≢true}
 use Rattle.mrp_netting.specs.Bound.{IsWithin}
-use Rattle.mrp_planning_data.specs.declared.numbers.PairNo.{PairNo}
+use Rattle.mrp_master_data.specs.declared.numbers.PairNo.{PairNo}
 use Rattle.mrp_plant_view.specs.declared.view.PlantPair.{PlantPair}
 use Rattle.mrp_plant_view.specs.Seen as seen
 use Rattle.mrp_plant_view.specs.View.{PlantRows, plant_pair, plant_rows}

@@ -1,6 +1,6 @@
 -- How many events of a run are enabled: as many as its steps become fewer.
 use Rattle.std.proofs.Common.{◌≡◌, ℕ, ◌+◌, ◌-◌, ◌≤◌, inl, inr, List, [], ◌∷◌, refl, ap, arith}
-use Rattle.mrp_planning_data.specs.Table.{Table}
+use Rattle.mrp_master_data.specs.Table.{Table}
 use Rattle.mrp_protocol.specs.declared.event.Event.{Event}
 use Rattle.mrp_protocol.specs.Progress.{steps_left}
 use Rattle.mrp_protocol.specs.State.{State, Run, IsReached}

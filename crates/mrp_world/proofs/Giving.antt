@@ -4,7 +4,7 @@ use Rattle.std.proofs.Common.{length-append}
 use Rattle.std.proofs.lemmas.List.{get_or_at}
 use Rattle.mrp_netting.specs.One.{PlanRows}
 use Rattle.mrp_netting.specs.declared.plan.PairPlan.{PairPlan}
-use Rattle.mrp_planning_data.specs.Table.{Table}
+use Rattle.mrp_master_data.specs.Table.{Table}
 use Rattle.mrp_protocol.specs.State.{State, IsFinished}
 use Rattle.mrp_world.specs.Gathering.{own_plans, HasPlannedAll}
 use Rattle.mrp_world.specs.Moments.{Moment, IsAt}

@@ -2,7 +2,7 @@
 use Rattle.std.proofs.Common.{◌≡◌, ℕ, ◌<◌, inl, inr, List, length, refl, sym, subst, arith}
 use Rattle.std.specs.Prelude.{slice_get, Option, IsSomeAnd}
 use Rattle.std.proofs.lemmas.Option.{slice_get_cases}
-use Rattle.mrp_planning_data.specs.Table.{Table}
+use Rattle.mrp_master_data.specs.Table.{Table}
 use Rattle.mrp_net.specs.Plan.{rows_at, plan_of}
 use Rattle.mrp_net.specs.Sums.{pair_at}
 use Rattle.mrp_plant_view.specs.View.{plant_rows}

@@ -2,8 +2,8 @@
 use Rattle.std.proofs.Common.{◌≡◌, ℕ, ◌+◌, ◌<◌, List, [], ◌∷◌, ◌++◌, inl, inr, length, map, refl, sym, ap, subst, ◌∙◌, arith, append-nil, All, Contains, zero}
 use Rattle.std.proofs.Common.{suc}
 use Rattle.std.specs.List.{flat_map, range_with_len, filter_map}
-use Rattle.mrp_planning_data.specs.declared.numbers.ItemNo.{ItemNo}
-use Rattle.mrp_planning_data.specs.Table.{Table, IsTable}
+use Rattle.mrp_master_data.specs.declared.numbers.ItemNo.{ItemNo}
+use Rattle.mrp_master_data.specs.Table.{Table, IsTable}
 use Rattle.mrp_net.specs.declared.lane.Lane.{Lane}
 use Rattle.mrp_net.specs.Lanes.{lanes, lane_at, lane_items, opening}
 use Rattle.mrp_net.proofs.Members.{In, In-from_contains, Contains-from_in, map_only, flat_map_only, range_only, All-in}

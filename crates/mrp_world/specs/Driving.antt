@@ -1,6 +1,6 @@
 -- Where plants and mailboxes are driven to.
 use Rattle.std.specs.Prelude.{ℕ, List}
-use Rattle.mrp_planning_data.specs.Table.{Table}
+use Rattle.mrp_master_data.specs.Table.{Table}
 use Rattle.mrp_protocol.specs.declared.event.Event.{Event}
 use Rattle.mrp_protocol.specs.State.{State, Run}
 use Rattle.mrp_world.specs.Showing.{Showing}

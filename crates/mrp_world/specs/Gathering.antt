@@ -1,7 +1,7 @@
 -- The plans that plants give.
 use Rattle.std.specs.Prelude.{◌≡◌, ℕ, ◌-◌, true, List, length}
 use Rattle.mrp_netting.specs.One.{PlanRows}
-use Rattle.mrp_planning_data.specs.Table.{Table}
+use Rattle.mrp_master_data.specs.Table.{Table}
 use Rattle.mrp_agent.specs.Given.{plans_below}
 use Rattle.mrp_world.specs.Moments.{Moment}
 use Rattle.mrp_agent.specs.OwnPart.{IsOwn}

@@ -1,8 +1,8 @@
 -- What holds in each state that a world shows.
 use Rattle.std.specs.Prelude.{◌≡◌, ℕ, ◌+◌, ◌<◌, true, length, slice_get, Contains, IsSomeAnd}
 use Rattle.mrp_netting.specs.One.{PlanRows}
-use Rattle.mrp_planning_data.specs.declared.numbers.ItemNo.{ItemNo}
-use Rattle.mrp_planning_data.specs.Table.{IsPair}
+use Rattle.mrp_master_data.specs.declared.numbers.ItemNo.{ItemNo}
+use Rattle.mrp_master_data.specs.Table.{IsPair}
 use Rattle.mrp_net.specs.Lanes.{lanes, lane_at, lane_items}
 use Rattle.mrp_net.specs.Plan.{rows_at, plan_of}
 use Rattle.mrp_net.specs.Sums.{pair_at}

@@ -1,6 +1,6 @@
 -- What a plant shows of a run over a network, and what it can do at a moment of the run.
 use Rattle.std.specs.Prelude.{◌≡◌, ℕ, ◌<◌, [], ◌∷◌, ◌++◌, length}
-use Rattle.mrp_planning_data.specs.Table.{Table}
+use Rattle.mrp_master_data.specs.Table.{Table}
 use Rattle.mrp_net.specs.Lanes.{lane_at}
 use Rattle.mrp_plant_view.specs.View.{PlantRows, plant_rows}
 use Rattle.mrp_loops.specs.Sized.{IsSized}

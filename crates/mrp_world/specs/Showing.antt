@@ -1,6 +1,6 @@
 -- Which states of a network a plant shows.
 use Rattle.std.specs.Prelude.{ℕ}
-use Rattle.mrp_planning_data.specs.Table.{Table}
+use Rattle.mrp_master_data.specs.Table.{Table}
 use Rattle.mrp_protocol.specs.State.{State}
 
 -- which states of a network a plant with a number shows

@@ -1,6 +1,6 @@
 //! One event over plants and mailboxes.
 ghost use Rattle.std.specs.Prelude.{◌≡◌, ◌<◌, List, true, false, length};
-ghost use Rattle.mrp_planning_data.specs.Table.{IsPair};
+ghost use Rattle.mrp_master_data.specs.Table.{IsPair};
 ghost use Rattle.mrp_net.specs.Lanes.{lanes};
 ghost use Rattle.mrp_protocol.specs.declared.event.Event.TheVariants.{Send, Receive, Plan};
 ghost use Rattle.mrp_world.specs.Mailbox.{Held};

@@ -1,7 +1,7 @@
 //! What a lane carries of an item, by the plan of the network.
 ghost use Rattle.std.specs.Prelude.{◌≡◌, ◌<◌, ◌≤◌, Contains, length, slice_index};
 ghost use Rattle.mrp_qty.specs.declared.quantity.TheConstants.{MOST};
-ghost use Rattle.mrp_planning_data.specs.Table.{IsPair, horizon};
+ghost use Rattle.mrp_master_data.specs.Table.{IsPair, horizon};
 ghost use Rattle.mrp_net.specs.Lanes.{lanes, lane_at, lane_items};
 ghost use Rattle.mrp_net.specs.Plan.{plan_of};
 ghost use Rattle.mrp_net.specs.PlanLaws.{Fits};

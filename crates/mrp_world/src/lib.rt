@@ -14,7 +14,7 @@
 //! run that it shows ([`World`]); [`laws`] says what follows for every run. The cumulative figures of each finished
 //! run are those of the plan ([`last_figures`]).
 //!
-//! Used by `mrp_planner` for plans on one thread and for cumulative figures.
+//! Used by `mrp_api` for plans on one thread and for cumulative figures.
 //! Keeps true: a world takes exactly the enabled events, each as one step of the run that it shows.
 #![tactic(auto)]
 

@@ -2,7 +2,7 @@
 
 ghost use Rattle.std.specs.Prelude.{◌≡◌, ◌+◌, ℕ, ◌-◌, ◌≤◌, true, false, slice_get, All, List, IfOk, IfSome, IfNone};
 ghost use Rattle.std.specs.Prelude.{IsSome, IsSomeAnd, MatchBool, IsTrue, ◌↔◌};
-ghost use Rattle.mrp_planning_data.specs.Table.{IsPair};
+ghost use Rattle.mrp_master_data.specs.Table.{IsPair};
 ghost use Rattle.mrp_qty.specs.declared.limits.TheConstants.{MOST_ROOM};
 
 use crate::acting::act_on;

@@ -1,5 +1,5 @@
 use Rattle.std.proofs.Common.{◌≡◌, ◌<◌, length, ap, sym, arith}
-use Rattle.mrp_planning_data.specs.declared.rows.PairRow.{PairRow}
+use Rattle.mrp_master_data.specs.declared.rows.PairRow.{PairRow}
 use Rattle.mrp_net.specs.Sums.{pair_at}
 use Rattle.mrp_agent.proofs.Gathers as gather
 use Rattle.mrp_agent.proofs.gathering.take_last.Goals as goal

@@ -1,7 +1,7 @@
 use Rattle.std.proofs.Common.{◌≡◌, ◌<◌, ◌∙◌, ℕ, List, length, map, sym, ap, subst, arith, false, replicate}
 use Rattle.std.specs.List.{All, flat_map}
 use Rattle.std.proofs.lemmas.List.{length-map}
-use Rattle.mrp_planning_data.specs.declared.numbers.PairNo.{PairNo}
+use Rattle.mrp_master_data.specs.declared.numbers.PairNo.{PairNo}
 use Rattle.mrp_readiness.specs.Counts.{AreFirstCounts}
 use Rattle.mrp_readiness.specs.Progress.{times}
 use Rattle.mrp_plant_view.specs.declared.view.IncomingLane.{IncomingLane}

@@ -1,4 +1,4 @@
-use Rattle.mrp_planner.specs.Answer.{IsAnswer, question_of}
+use Rattle.mrp_api.specs.Answer.{IsAnswer, question_of}
 use Rattle.mrp_c_api.proofs.AnswerFacts.{answers-of}
 use Rattle.mrp_c_api.proofs.buffer.answer.Goals as goal
 

@@ -1,6 +1,6 @@
 use Rattle.std.proofs.Common.{◌<◌, length, min, refl, sym, ap, subst, ◌∙◌, arith}
 use Rattle.std.specs.Arc.{arc_value}
-use Rattle.mrp_planning_data.specs.Table.{Table}
+use Rattle.mrp_master_data.specs.Table.{Table}
 use Rattle.mrp_net.specs.Lanes.{lane_at, lanes}
 use Rattle.mrp_net.specs.Texts.{longest_text}
 use Rattle.mrp_loops.specs.Sized.{IsSized}

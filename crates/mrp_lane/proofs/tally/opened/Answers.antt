@@ -1,7 +1,7 @@
 use Rattle.std.proofs.Common.{List, get_or, sym, subst, arith}
 use Rattle.std.specs.List.{Contains, IsDistinct}
 use Rattle.std.proofs.lemmas.List.{get_or_default}
-use Rattle.mrp_planning_data.specs.declared.numbers.ItemNo.{ItemNo}
+use Rattle.mrp_master_data.specs.declared.numbers.ItemNo.{ItemNo}
 use Rattle.mrp_lane.specs.Tallies.{is_same_pieces}
 use Rattle.mrp_lane.proofs.Counting.{opened_all, opened_apart, opened_more}
 use Rattle.mrp_lane.proofs.tally.opened.Goals as goal

@@ -1,6 +1,6 @@
 use Rattle.std.proofs.Common.{List, map, sym, ◌∙◌, subst}
 use Rattle.std.proofs.lemmas.Result.{err_from_is_err_and}
-use Rattle.mrp_planning_data.specs.declared.numbers.PairNo.{PairNo}
+use Rattle.mrp_master_data.specs.declared.numbers.PairNo.{PairNo}
 use Rattle.mrp_loops.specs.Order.{IsInCodeOrder}
 use Rattle.mrp_loops.specs.Planning.{IsPlanningOrder}
 use Rattle.mrp_loops.proofs.Codes.{sized_from_codes}

@@ -1,7 +1,7 @@
 use Rattle.std.proofs.Common.{◌≡◌, ◌-◌, ◌^◌, ◌∙◌, ℕ, List, min, get_or, arith, ap}
 use Rattle.std.proofs.lemmas.List.{get_or_default}
 use Rattle.mrp_qty.specs.declared.quantity.TheConstants.{MOST}
-use Rattle.mrp_planning_data.specs.declared.numbers.PairNo.{PairNo}
+use Rattle.mrp_master_data.specs.declared.numbers.PairNo.{PairNo}
 use Rattle.mrp_net.specs.Sums.{supply}
 use Rattle.mrp_loops.specs.Need.{need_at}
 use Rattle.mrp_loops.proofs.Orders.{pair_placed}

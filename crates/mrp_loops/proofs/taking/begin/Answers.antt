@@ -1,6 +1,6 @@
 use Rattle.std.proofs.Common.{◌≡◌, ℕ, ◌==◌, cond, ◌++◌, ◌∷◌, [], length, sym, subst, ◌∙◌, ap, arith, Vec, Global}
 use Rattle.std.proofs.lemmas.Bool.{eq-eqb, ne_eqb, cond-true, cond-false}
-use Rattle.mrp_planning_data.specs.declared.numbers.PairNo.{PairNo}
+use Rattle.mrp_master_data.specs.declared.numbers.PairNo.{PairNo}
 use Rattle.mrp_loops.proofs.Passing.{IsBegun}
 use Rattle.mrp_loops.proofs.Steps.{begun_more, taken_none}
 use Rattle.mrp_loops.proofs.taking.begin.Goals as goal

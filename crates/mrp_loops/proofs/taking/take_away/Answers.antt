@@ -1,6 +1,6 @@
 use Rattle.std.proofs.Common.{◌≤◌, List, length, subst, arith}
 use Rattle.std.proofs.lemmas.List.{take_all}
-use Rattle.mrp_planning_data.specs.declared.numbers.PairNo.{PairNo}
+use Rattle.mrp_master_data.specs.declared.numbers.PairNo.{PairNo}
 use Rattle.mrp_loops.specs.Taking.{IsTaken}
 use Rattle.mrp_loops.proofs.Taken.{length-apart}
 use Rattle.mrp_loops.proofs.taking.take_away.Goals as goal

@@ -1,6 +1,6 @@
 use Rattle.std.proofs.Common.{◌-◌, length, drop}
 use Rattle.std.proofs.lemmas.List.Elements.{All-take}
-use Rattle.mrp_planning_data.specs.declared.numbers.PairNo.{PairNo}
+use Rattle.mrp_master_data.specs.declared.numbers.PairNo.{PairNo}
 use Rattle.mrp_loops.specs.Upstream.{IsMet}
 use Rattle.mrp_loops.proofs.walk.loop_above.Goals as goal
 

@@ -1,5 +1,5 @@
 use Rattle.std.proofs.Common.{◌≡◌, length, ap, ◌∙◌, arith, take, drop, reverse, ◌++◌, List}
-use Rattle.mrp_planning_data.specs.declared.numbers.PairNo.{PairNo}
+use Rattle.mrp_master_data.specs.declared.numbers.PairNo.{PairNo}
 use Rattle.std.proofs.lemmas.List.{take_at}
 use Rattle.mrp_loops.proofs.Rings.{found_from_ring}
 use Rattle.mrp_loops.proofs.walk.turned.Goals as goal

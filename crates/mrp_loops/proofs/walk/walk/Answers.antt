@@ -1,8 +1,8 @@
 use Rattle.std.proofs.Common.{◌≡◌, ℕ, ◌<◌, ◌≤◌, suc, List, length, ap, ◌∙◌, arith, true, length-set}
 use Rattle.std.proofs.lemmas.List.{length_push, length-replicate}
 use Rattle.std.proofs.lemmas.List.Elements.{All-nil, All-push, All-drop}
-use Rattle.mrp_planning_data.specs.Table.{IsPair}
-use Rattle.mrp_planning_data.specs.declared.numbers.PairNo.{PairNo}
+use Rattle.mrp_master_data.specs.Table.{IsPair}
+use Rattle.mrp_master_data.specs.declared.numbers.PairNo.{PairNo}
 use Rattle.mrp_loops.specs.Upstream.{ComesFrom, IsMet}
 use Rattle.mrp_loops.proofs.Taken.{Apart-push}
 use Rattle.mrp_loops.proofs.Rings.{Apart-none, none_seen, not_seen, seen_again, seen_more, climbs_more, path_short, ring_from_walk}

@@ -1,5 +1,5 @@
 use Rattle.std.proofs.Common.{◌≡◌, ◌-◌, ◌<◌, ℕ, false, All, reverse, length, get_or, slice_index}
-use Rattle.mrp_planning_data.specs.Table.{IsPair}
+use Rattle.mrp_master_data.specs.Table.{IsPair}
 use Rattle.mrp_loops.specs.Taking.{is_in}
 use Rattle.mrp_loops.specs.Upstream.{ComesFrom, IsMet}
 use Rattle.mrp_loops.specs.Walk.{IsApart}

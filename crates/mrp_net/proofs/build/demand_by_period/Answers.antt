@@ -1,6 +1,6 @@
 use Rattle.std.proofs.Common.{List, subst, ap, ◌∙◌}
 use Rattle.std.specs.Prelude.{IfOk}
-use Rattle.mrp_planning_data.specs.declared.rows.DemandRow.{DemandRow}
+use Rattle.mrp_master_data.specs.declared.rows.DemandRow.{DemandRow}
 use Rattle.mrp_grouping.specs.Added.{sum_in}
 use Rattle.mrp_net.specs.Built.{ArePeriods}
 use Rattle.mrp_net.proofs.Summing.{demand_within}

@@ -1,6 +1,6 @@
 use Rattle.std.proofs.Common.{◌≡◌, ℕ, ◌+◌, ◌-◌, ◌^◌, true, List, get_or, min, sym, ap, ◌∙◌, subst, arith}
-use Rattle.mrp_planning_data.specs.declared.rows.CumRow.{CumRow}
-use Rattle.mrp_planning_data.specs.Table.{is_taken_from}
+use Rattle.mrp_master_data.specs.declared.rows.CumRow.{CumRow}
+use Rattle.mrp_master_data.specs.Table.{is_taken_from}
 use Rattle.mrp_grouping.specs.Added.{AddsTotals}
 use Rattle.mrp_net.specs.Sources.{source_no}
 use Rattle.mrp_net.proofs.Growing.{taken_whole, read_within, AddsTotals-more}

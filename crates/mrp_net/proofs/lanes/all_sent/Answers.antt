@@ -1,6 +1,6 @@
 use Rattle.std.proofs.Common.{◌≡◌, true, map, sym, ap, ◌∙◌, subst}
-use Rattle.mrp_planning_data.specs.declared.rows.ShipRow.{ShipRow}
-use Rattle.mrp_planning_data.specs.Table.{is_taken_from}
+use Rattle.mrp_master_data.specs.declared.rows.ShipRow.{ShipRow}
+use Rattle.mrp_master_data.specs.Table.{is_taken_from}
 use Rattle.mrp_net.specs.SourceRows.{sent}
 use Rattle.mrp_net.proofs.Growing.{map_pushed, taken_whole, read_within, sent_read}
 use Rattle.mrp_net.proofs.lanes.all_sent.Goals as goal

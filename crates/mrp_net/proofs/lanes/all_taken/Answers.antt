@@ -1,6 +1,6 @@
 use Rattle.std.proofs.Common.{length, get_or, map, ap, ◌∙◌, arith}
-use Rattle.mrp_planning_data.specs.declared.rows.SourceRow.{SourceRow}
-use Rattle.mrp_planning_data.specs.Table.{IsSourceRow}
+use Rattle.mrp_master_data.specs.declared.rows.SourceRow.{SourceRow}
+use Rattle.mrp_master_data.specs.Table.{IsSourceRow}
 use Rattle.mrp_net.specs.Routes.{taken}
 use Rattle.mrp_net.specs.Sources.{no_source}
 use Rattle.mrp_net.proofs.Growing.{map_pushed, taken_whole, read_within, source_fits, taken_read}

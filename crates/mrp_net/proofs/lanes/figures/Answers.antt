@@ -1,5 +1,5 @@
 use Rattle.std.proofs.Common.{rules, refl, arith, ap, ◌∙◌}
-use Rattle.mrp_planning_data.specs.declared.rows.CumRow.{CumRow}
+use Rattle.mrp_master_data.specs.declared.rows.CumRow.{CumRow}
 use Rattle.mrp_net.specs.Sources.{source_no}
 use Rattle.mrp_net.proofs.Summing.{totals_built}
 use Rattle.mrp_net.proofs.Sourcing.{figures_built}

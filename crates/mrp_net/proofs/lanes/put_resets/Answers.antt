@@ -1,6 +1,6 @@
 use Rattle.std.proofs.Common.{◌≡◌, List, take, ◌∙◌, subst, ap}
 use Rattle.std.proofs.lemmas.List.{take_all}
-use Rattle.mrp_planning_data.specs.declared.rows.ResetRow.{ResetRow}
+use Rattle.mrp_master_data.specs.declared.rows.ResetRow.{ResetRow}
 use Rattle.mrp_net.specs.SourceRows.{AreResetsOf}
 use Rattle.mrp_net.proofs.Anew.{resets_none, resets_step}
 use Rattle.mrp_net.proofs.lanes.put_resets.Goals as goal

@@ -1,6 +1,6 @@
 use Rattle.std.proofs.Common.{◌≡◌, ℕ, List, Option, None, length, drop, replicate, rules, arith, ap, ◌∙◌}
 use Rattle.std.proofs.lemmas.List.{take_at}
-use Rattle.mrp_planning_data.specs.declared.rows.SourceRow.{SourceRow}
+use Rattle.mrp_master_data.specs.declared.rows.SourceRow.{SourceRow}
 use Rattle.mrp_net.proofs.lanes.resets.Goals as goal
 
 pub put_resets-requires-clause-none : goal.put_resets-requires-clause-none

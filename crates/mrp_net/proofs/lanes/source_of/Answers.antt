@@ -1,6 +1,6 @@
 use Rattle.std.proofs.Common.{ℕ, List, length, get_or, arith, sym, ap, ◌∙◌}
-use Rattle.mrp_planning_data.specs.declared.rows.SourceRow.{SourceRow}
-use Rattle.mrp_planning_data.specs.Table.{IsPair}
+use Rattle.mrp_master_data.specs.declared.rows.SourceRow.{SourceRow}
+use Rattle.mrp_master_data.specs.Table.{IsPair}
 use Rattle.mrp_net.proofs.Sourcing.{no_source, source_within, taker_within, source_from_start, source_after, source_found}
 use Rattle.mrp_net.proofs.lanes.source_of.Goals as goal
 

@@ -4,7 +4,7 @@ use Rattle.mrp_netting.specs.One.{PlanRows}
 use Rattle.mrp_netting.specs.PlanningData.{plain, one}
 use Rattle.mrp_netting.specs.Bound.{IsWithin}
 use Rattle.mrp_netting.specs.declared.params.PairParams.{PairParams}
-use Rattle.mrp_planning_data.specs.Rows.{params_of}
+use Rattle.mrp_master_data.specs.Rows.{params_of}
 use Rattle.mrp_net.specs.Sums.{incoming, params_at, row_of}
 use Rattle.mrp_net.specs.Plan.{gross, pair_plan}
 use Rattle.mrp_plan.proofs.Planning.{one-gross, one-incoming, pair_within}

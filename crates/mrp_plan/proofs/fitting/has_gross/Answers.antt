@@ -1,7 +1,7 @@
 use Rattle.std.proofs.Common.{List, refl, ap, arith}
 use Rattle.std.proofs.lemmas.Bool.{false≢true}
 use Rattle.std.proofs.lemmas.List.FromFn.{fill_by_all}
-use Rattle.mrp_planning_data.specs.Table.{horizon}
+use Rattle.mrp_master_data.specs.Table.{horizon}
 use Rattle.mrp_net.specs.Edges.{demanders}
 use Rattle.mrp_net.specs.Plan.{gross, asked}
 use Rattle.mrp_net.specs.declared.edge.Edge.{Edge}

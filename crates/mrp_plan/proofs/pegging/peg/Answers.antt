@@ -1,5 +1,5 @@
 use Rattle.std.proofs.Common.{◌≡◌, List, ap, ◌∙◌, sym, subst}
-use Rattle.mrp_planning_data.specs.Table.{Table, IsPair}
+use Rattle.mrp_master_data.specs.Table.{Table, IsPair}
 use Rattle.std.specs.List.{All}
 use Rattle.mrp_net.specs.Edges.{demanders}
 use Rattle.mrp_plan.specs.Peg.{IsPeggable, peg_terms}

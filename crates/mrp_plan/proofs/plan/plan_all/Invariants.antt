@@ -1,5 +1,5 @@
 use Rattle.std.proofs.Common.{◌≡◌, length, map}
-use Rattle.mrp_planning_data.specs.Table.{horizon}
+use Rattle.mrp_master_data.specs.Table.{horizon}
 use Rattle.mrp_plan.specs.Progress.{IsPlannedTo}
 use Rattle.mrp_plan.proofs.plan.plan_all.Given as goal
 

@@ -5,8 +5,8 @@ use Rattle.mrp_netting.specs.One.{PlanRows}
 use Rattle.mrp_netting.specs.PlanningData.{plain, one}
 use Rattle.mrp_netting.specs.Bound.{IsWithin}
 use Rattle.mrp_netting.specs.declared.params.PairParams.{PairParams}
-use Rattle.mrp_planning_data.specs.Rows.{params_of}
-use Rattle.mrp_planning_data.specs.Table.{horizon}
+use Rattle.mrp_master_data.specs.Rows.{params_of}
+use Rattle.mrp_master_data.specs.Table.{horizon}
 use Rattle.mrp_net.specs.Edges.{demanders}
 use Rattle.mrp_net.specs.declared.edge.Edge.{Edge}
 use Rattle.mrp_net.specs.Sums.{demand, demand_total, incoming, params_at, row_of}

@@ -1,7 +1,7 @@
 use Rattle.std.proofs.Common.{◌≡◌, ℕ, ◌≤◌, List, length, map, arith, sym, ap, ◌∙◌, subst}
 use Rattle.std.specs.List.{All, filter, range_with_len}
-use Rattle.mrp_planning_data.specs.declared.rows.PairRow.{PairRow}
-use Rattle.mrp_planning_data.specs.Table.{Table, IsPair}
+use Rattle.mrp_master_data.specs.declared.rows.PairRow.{PairRow}
+use Rattle.mrp_master_data.specs.Table.{Table, IsPair}
 use Rattle.mrp_plant_view.specs.declared.view.PlantPair.{PlantPair}
 use Rattle.mrp_net.specs.Sums.{pair_at}
 use Rattle.mrp_plant_view.specs.View.{is_of_plant, plant_pair, plant_pairs}

@@ -1,7 +1,7 @@
 use Rattle.std.proofs.Common.{sym}
 use Rattle.csv.specs.Reading.{has_failed}
 use Rattle.csv.specs.Records.{fields_of}
-use Rattle.mrp_grammar.specs.Left.{rows_left}
+use Rattle.mrp_validation.specs.Left.{rows_left}
 use Rattle.mrp_record_csv.proofs.Taking.{one_more}
 use Rattle.mrp_record_csv.proofs.reading.next_row.Goals as goal
 

@@ -1,8 +1,8 @@
 use Rattle.std.proofs.Common.{◌≡◌, Err, Ok, length, refl, rules, sym, ◌∙◌}
 use Rattle.csv.specs.Reading.{has_failed}
 use Rattle.csv.specs.Records.{fields_of}
-use Rattle.mrp_grammar.specs.Left.{rows_left}
-use Rattle.mrp_grammar.proofs.KeepingSteps.{handed_on}
+use Rattle.mrp_validation.specs.Left.{rows_left}
+use Rattle.mrp_validation.proofs.KeepingSteps.{handed_on}
 use Rattle.mrp_record_csv.proofs.Listed.{no_read_fault}
 use Rattle.mrp_record_csv.proofs.Loop.{adds_record, bad_told, fault_told, none_there, room_for, some_there, stops_full}
 use Rattle.mrp_record_csv.proofs.Spelling.{text_record}

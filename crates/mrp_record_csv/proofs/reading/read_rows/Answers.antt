@@ -1,6 +1,6 @@
 use Rattle.std.proofs.Common.{◌≤◌, arith, length, sym}
 use Rattle.csv.specs.Reading.{has_failed}
-use Rattle.mrp_grammar.specs.Left.{rows_left}
+use Rattle.mrp_validation.specs.Left.{rows_left}
 use Rattle.mrp_record_csv.proofs.Loop.{count_next, ended, few_next, next_so_far, stopped, stops_all, told_none, told_record}
 use Rattle.mrp_record_csv.proofs.reading.read_rows.Goals as goal
 

@@ -1,6 +1,6 @@
 use Rattle.std.proofs.Common.{◌≡◌, ◌+◌, ◌≤◌, length}
 use Rattle.mrp_qty.specs.declared.limits.TheConstants.{MOST_RECORDS}
-use Rattle.mrp_grammar.specs.Left.{GivesAll, rows_left}
+use Rattle.mrp_validation.specs.Left.{GivesAll, rows_left}
 use Rattle.mrp_record_csv.proofs.Loop.{IsReadSoFar}
 use Rattle.mrp_record_csv.proofs.reading.read_rows.Given as goal
 

@@ -1,7 +1,7 @@
 use Rattle.std.proofs.Common.{◌≡◌, [], rules}
 use Rattle.std.proofs.lemmas.Option.{get_or_from_slice_get}
 use Rattle.mrp_report.specs.Lanes.{figure_row}
-use Rattle.mrp_planning_data.specs.Said.{item_name, plant_name}
+use Rattle.mrp_master_data.specs.Said.{item_name, plant_name}
 use Rattle.mrp_report.proofs.lanes.put_figure.Goals as goal
 
 pub returns-clause-row : goal.returns-clause-row

@@ -1,7 +1,7 @@
 use Rattle.std.proofs.Common.{◌≡◌, ◌<◌, ℕ, ap, arith}
 use Rattle.std.specs.List.{flat_map, range_with_len}
 use Rattle.std.proofs.lemmas.Result.{err_from_is_err_and}
-use Rattle.mrp_planning_data.specs.Table.{horizon}
+use Rattle.mrp_master_data.specs.Table.{horizon}
 use Rattle.mrp_report.specs.Pegs.{pair_pegs_text, period_pegs_text}
 use Rattle.mrp_report.proofs.GatherFacts.{gathers-as, gathers-next, gathers-stop}
 use Rattle.mrp_report.proofs.pegging.put_pair_pegs.Goals as goal

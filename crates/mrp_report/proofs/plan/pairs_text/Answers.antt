@@ -1,6 +1,6 @@
 use Rattle.std.proofs.Common.{◌≡◌, ◌-◌, ◌+◌, ◌*◌, [], length, arith, ap, ◌∙◌}
 use Rattle.std.proofs.lemmas.List.FromFn.{length-map-range_with_len}
-use Rattle.mrp_planning_data.specs.Table.{horizon}
+use Rattle.mrp_master_data.specs.Table.{horizon}
 use Rattle.mrp_net.specs.Plan.{rows_at}
 use Rattle.mrp_csv_out.specs.Dates.{dates_of, period_date}
 use Rattle.mrp_report.specs.Report.{pair_text}

@@ -1,6 +1,6 @@
 use Rattle.std.proofs.Common.{◌≡◌, ◌++◌, ◌≤◌, length, vec_capacity}
 use Rattle.std.specs.Vec.Iter.{into_iter_items}
-use Rattle.mrp_planning_data.specs.Table.{Table}
+use Rattle.mrp_master_data.specs.Table.{Table}
 use Rattle.mrp_run.specs.Ends.{HavePlans}
 use Rattle.mrp_run.proofs.GatheredPlans.{AreOwn}
 use Rattle.mrp_run.proofs.gathering.plans_by_plant.Given as goal

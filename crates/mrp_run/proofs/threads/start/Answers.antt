@@ -3,7 +3,7 @@ use denote.Param.{param}
 use denote.Param.Send.{IsSend, sendable, arg_send, param_send, shr_send}
 use denote.Struct.Field.{u64-field}
 use Rattle.std.specs.contracts.alloc.Global as Global
-use Rattle.mrp_planning_data.specs.contracts.numbers.PlantNo as PlantNo
+use Rattle.mrp_master_data.specs.contracts.numbers.PlantNo as PlantNo
 use Rattle.mrp_run.proofs.Crossing.{back_send, closure_send, plant_send}
 use Rattle.mrp_run.proofs.stop.Stop.TheSendSync as stop
 use Rattle.mrp_run.proofs.threads.start.Goals as goal

@@ -1,6 +1,6 @@
 use Rattle.std.proofs.Common.{◌++◌, List, ap, subst, sym, ◌∙◌}
 use Rattle.std.specs.Prelude.{Contains}
-use Rattle.mrp_planning_data.specs.Table.{Table}
+use Rattle.mrp_master_data.specs.Table.{Table}
 use Rattle.mrp_net.specs.Lanes.{lane_at, lane_items}
 use Rattle.mrp_schedules.specs.declared.line.ScheduleLine.{ScheduleLine}
 use Rattle.mrp_schedules.specs.Schedule.{schedule_of}

@@ -1,4 +1,4 @@
-use Rattle.mrp_planning_data.proofs.Apart.{no_sources}
+use Rattle.mrp_master_data.proofs.Apart.{no_sources}
 use Rattle.mrp_tables.proofs.pairs.named_sources.Goals as goal
 
 pub returns-in-Make-clause-sources : goal.returns-in-Make-clause-sources

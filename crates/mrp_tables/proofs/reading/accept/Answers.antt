@@ -1,10 +1,10 @@
 use Rattle.std.proofs.Common.{◌≡◌, ◌∙◌, ◌<◌, ◌+◌, ap, get_or, length, List, ℕ, Ok, refl, sym, arith}
 use Rattle.std.proofs.lemmas.List.Quantifiers.{position-Some}
-use Rattle.mrp_planning_data.specs.Growing.{lacks_pair}
-use Rattle.mrp_planning_data.specs.declared.rows.SourceRow.{SourceRow}
-use Rattle.mrp_planning_data.specs.Table.{Table}
-use Rattle.mrp_grammar.specs.Reading.{pair_row_number}
-use Rattle.mrp_grammar.proofs.Accept.{table_is}
+use Rattle.mrp_master_data.specs.Growing.{lacks_pair}
+use Rattle.mrp_master_data.specs.declared.rows.SourceRow.{SourceRow}
+use Rattle.mrp_master_data.specs.Table.{Table}
+use Rattle.mrp_validation.specs.Reading.{pair_row_number}
+use Rattle.mrp_validation.proofs.Accept.{table_is}
 use Rattle.mrp_tables.proofs.Waiting.{above_count, none_waits, waits_at}
 use Rattle.mrp_tables.proofs.reading.accept.Goals as goal
 use Rattle.mrp_tables.proofs.reading.accept.Goals.{After-sources}

@@ -1,8 +1,8 @@
 use Rattle.std.proofs.Common.{sym, subst}
 use Rattle.csv.specs.Records.{fields_of}
-use Rattle.mrp_grammar.specs.declared.kind.Kind.{Kind}
-use Rattle.mrp_grammar.specs.Reading.{IsReadSoFar}
-use Rattle.mrp_grammar.proofs.Whole.{first_keeps}
+use Rattle.mrp_validation.specs.declared.kind.Kind.{Kind}
+use Rattle.mrp_validation.specs.Reading.{IsReadSoFar}
+use Rattle.mrp_validation.proofs.Whole.{first_keeps}
 use Rattle.mrp_tables.proofs.reading.first_draft.Goals as goal
 
 pub returns-in-Ok-clause-kept : goal.returns-in-Ok-clause-kept

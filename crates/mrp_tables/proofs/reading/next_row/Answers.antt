@@ -1,8 +1,8 @@
 use Rattle.std.proofs.Common.{Bool, true, false, Ok, List, ℕ}
 use Rattle.csv.specs.Reading.{ReadRecord}
 use Rattle.csv.specs.declared.reader.Reader.{Reader}
-use Rattle.mrp_grammar.specs.declared.fault.TableFaultKind.TheVariants as fault
-use Rattle.mrp_grammar.specs.Left.{fault_of, GivesAll, rows_left, TellsTaken}
+use Rattle.mrp_validation.specs.declared.fault.TableFaultKind.TheVariants as fault
+use Rattle.mrp_validation.specs.Left.{fault_of, GivesAll, rows_left, TellsTaken}
 use Rattle.mrp_tables.proofs.Taken.{came, ends_rows, explains_as, has_stopped, takes_row}
 use Rattle.mrp_tables.proofs.reading.next_row.Goals as goal
 

@@ -1,14 +1,14 @@
 use Rattle.std.proofs.Common.{◌≡◌, ℕ, Result, Ok, Err, MatchResult, OnOk, refl, true≢false}
 use Rattle.std.proofs.lemmas.Bool.{false≢true}
-use Rattle.mrp_grammar.specs.declared.fault.TableFault.{TableFault}
-use Rattle.mrp_grammar.specs.declared.fault.TableFaultKind.{TableFaultKind}
+use Rattle.mrp_validation.specs.declared.fault.TableFault.{TableFault}
+use Rattle.mrp_validation.specs.declared.fault.TableFaultKind.{TableFaultKind}
 use Rattle.csv.specs.Records.{fields_of}
-use Rattle.mrp_grammar.specs.Left.{rows_left}
+use Rattle.mrp_validation.specs.Left.{rows_left}
 use Rattle.mrp_tables.specs.Drafts.{draft_state}
-use Rattle.mrp_grammar.proofs.Keeping.{row_after_keeps}
-use Rattle.mrp_grammar.proofs.Loop.{bad_there, ends_there, goes_row, none_there, some_there}
+use Rattle.mrp_validation.proofs.Keeping.{row_after_keeps}
+use Rattle.mrp_validation.proofs.Loop.{bad_there, ends_there, goes_row, none_there, some_there}
 use Rattle.mrp_tables.proofs.Adding.{added, refused, refused_at, refused_own}
-use Rattle.mrp_grammar.proofs.KeepingSteps.{handed_on}
+use Rattle.mrp_validation.proofs.KeepingSteps.{handed_on}
 use Rattle.mrp_tables.proofs.reading.read_next.Goals as goal
 
 -- what holds where the row was added holds here

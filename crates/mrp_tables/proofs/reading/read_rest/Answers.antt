@@ -1,10 +1,10 @@
 use Rattle.std.proofs.Common.{◌≡◌, ℕ, ◌+◌, ◌≤◌, refl, ap, ◌∙◌, arith}
 use Rattle.mrp_tables.specs.declared.draft.Draft.{Draft}
 use Rattle.mrp_tables.specs.Lists.{IsDraft}
-use Rattle.mrp_grammar.specs.Left.{rows_left}
+use Rattle.mrp_validation.specs.Left.{rows_left}
 use Rattle.mrp_tables.specs.Drafts.{draft_state}
-use Rattle.mrp_grammar.proofs.Loop.{goes_nowhere, goes_to_fault, next_false, next_true, read_all}
-use Rattle.mrp_grammar.proofs.KeepingSteps.{handed_on}
+use Rattle.mrp_validation.proofs.Loop.{goes_nowhere, goes_to_fault, next_false, next_true, read_all}
+use Rattle.mrp_validation.proofs.KeepingSteps.{handed_on}
 use Rattle.mrp_tables.proofs.TurnCount.{draft_rows-le}
 use Rattle.mrp_tables.proofs.reading.read_rest.Goals as goal
 

@@ -1,5 +1,5 @@
 use Rattle.std.proofs.Common.{◌≡◌, ◌+◌}
-use Rattle.mrp_grammar.specs.Left.{GivesAll, ReadsOn, rows_left}
+use Rattle.mrp_validation.specs.Left.{GivesAll, ReadsOn, rows_left}
 use Rattle.mrp_tables.specs.Drafts.{IsDraftKept, draft_state}
 use Rattle.mrp_tables.specs.Lists.{IsDraft}
 use Rattle.mrp_tables.proofs.reading.read_rest.Given as goal

@@ -1,17 +1,17 @@
 use Rattle.std.proofs.Common.{◌≡◌, ◌+◌, ◌≤◌, max, ℕ, Result, Ok, Err, IfOk, IfErr, ap, arith}
 use Rattle.csv.specs.Records.{fields_of}
-use Rattle.mrp_grammar.specs.Left.{rows_left, OfLeft}
-use Rattle.mrp_grammar.specs.declared.fault.TableFaultKind.TheVariants as fault
+use Rattle.mrp_validation.specs.Left.{rows_left, OfLeft}
+use Rattle.mrp_validation.specs.declared.fault.TableFaultKind.TheVariants as fault
 use Rattle.mrp_tables.specs.Steps.{StepsTo}
-use Rattle.mrp_planning_data.specs.Table.{Table}
-use Rattle.mrp_grammar.specs.declared.fault.TableFault.{TableFault}
-use Rattle.mrp_planning_data.specs.Turns.{row_count}
+use Rattle.mrp_master_data.specs.Table.{Table}
+use Rattle.mrp_validation.specs.declared.fault.TableFault.{TableFault}
+use Rattle.mrp_master_data.specs.Turns.{row_count}
 use Rattle.mrp_qty.specs.declared.limits.TheConstants.{MAX_TURNS}
-use Rattle.mrp_grammar.proofs.Listed.{first_no_read_fault}
-use Rattle.mrp_grammar.proofs.Loop.{none_there, some_there}
+use Rattle.mrp_validation.proofs.Listed.{first_no_read_fault}
+use Rattle.mrp_validation.proofs.Loop.{none_there, some_there}
 use Rattle.mrp_tables.proofs.StepCount.{first_step, later_step, of_each, of_missing, steps_all, steps_named, when_missing}
-use Rattle.mrp_grammar.proofs.Whole.{bad_first, first_fault, no_first, rest_fault, whole, whole_own}
-use Rattle.mrp_grammar.proofs.KeepingSteps.{handed_on}
+use Rattle.mrp_validation.proofs.Whole.{bad_first, first_fault, no_first, rest_fault, whole, whole_own}
+use Rattle.mrp_validation.proofs.KeepingSteps.{handed_on}
 use Rattle.mrp_tables.proofs.reading.read_rows.Goals as goal
 
 pub returns-in_err-next_row-clause-table : goal.returns-in_err-next_row-clause-table

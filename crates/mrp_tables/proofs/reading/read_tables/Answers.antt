@@ -1,12 +1,12 @@
 use Rattle.std.proofs.Common.{rules, ◌≡◌, ℕ, List, Option, option_map, Result, Ok, Err, IfErr}
 use Rattle.csv.specs.declared.parser.State.{State}
 use Rattle.csv.specs.declared.parser.State.TheVariants as state
-use Rattle.mrp_grammar.specs.declared.fault.TableFault.{TableFault}
-use Rattle.mrp_grammar.specs.Left.{OfLeft, records_in}
-use Rattle.mrp_grammar.specs.Reading.{TellsRows}
-use Rattle.mrp_grammar.specs.Written.{OfRecords}
+use Rattle.mrp_validation.specs.declared.fault.TableFault.{TableFault}
+use Rattle.mrp_validation.specs.Left.{OfLeft, records_in}
+use Rattle.mrp_validation.specs.Reading.{TellsRows}
+use Rattle.mrp_validation.specs.Written.{OfRecords}
 use Rattle.mrp_tables.specs.Steps.{StepsTo}
-use Rattle.mrp_grammar.proofs.Whole.{of_text}
+use Rattle.mrp_validation.proofs.Whole.{of_text}
 use Rattle.mrp_tables.proofs.reading.read_tables.Goals as goal
 
 -- what is said of the rows that a reader has left before it has read any, is said of the records of its text

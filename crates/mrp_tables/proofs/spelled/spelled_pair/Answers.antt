@@ -1,6 +1,6 @@
 use Rattle.std.proofs.Common.{◌≡◌, Option, Some, None, Result, Ok, ok_or, IfSome, subst, sym}
 use Rattle.mrp_lot.specs.Lot.{IsRule}
-use Rattle.mrp_grammar.proofs.KeepingSteps.{handed_on, same_Ok}
+use Rattle.mrp_validation.proofs.KeepingSteps.{handed_on, same_Ok}
 use Rattle.mrp_tables.proofs.spelled.spelled_pair.Goals as goal
 
 of_ok : {A E : Type 0} (o : Option A) (e : E) (x : A) (P : A → Type 0) → ◌≡◌ {A = Result A E} (Ok x) (ok_or o e) → IfSome o P → P x

@@ -1,7 +1,7 @@
 use Rattle.std.proofs.Common.{◌≡◌, ℕ, length, ap, subst, sym, ◌∙◌, arith}
 use Rattle.std.specs.List.{flat_map, range_with_len}
 use Rattle.std.specs.Prelude.{All}
-use Rattle.mrp_planning_data.specs.Table.{IsTable, Table}
+use Rattle.mrp_master_data.specs.Table.{IsTable, Table}
 use Rattle.mrp_net.specs.Lanes.{lanes}
 use Rattle.mrp_net.specs.PlanLaws.{Fits}
 use Rattle.mrp_loops.specs.Loop.{IsLoopFree}

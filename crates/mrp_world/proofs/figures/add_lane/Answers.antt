@@ -1,6 +1,6 @@
 use Rattle.std.proofs.Common.{◌++◌, List, map, ap, ◌∙◌}
 use Rattle.std.proofs.lemmas.List.{take_all}
-use Rattle.mrp_planning_data.specs.declared.numbers.ItemNo.{ItemNo}
+use Rattle.mrp_master_data.specs.declared.numbers.ItemNo.{ItemNo}
 use Rattle.mrp_world.specs.Figures.{lane_figure_at}
 use Rattle.mrp_world.proofs.Pieces as piece
 use Rattle.mrp_world.proofs.figures.add_lane.Goals as goal

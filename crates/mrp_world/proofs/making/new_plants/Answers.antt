@@ -1,6 +1,6 @@
 use Rattle.std.proofs.Common.{◌≡◌, ◌+◌, ◌++◌, ◌∷◌, [], length, ap, subst, sym, ◌∙◌, arith, length-append}
 use Rattle.mrp_loops.specs.Sized.{IsSized}
-use Rattle.mrp_planning_data.specs.Table.{Table}
+use Rattle.mrp_master_data.specs.Table.{Table}
 use Rattle.mrp_protocol.specs.State.{opening_state}
 use Rattle.mrp_world.specs.World.{PlantsShow}
 use Rattle.mrp_world.proofs.Makes as make

@@ -1,6 +1,6 @@
 use Rattle.std.proofs.Common.{◌≢◌, ◌↔◌, ℕ, Bool, List, sym, subst}
 use Rattle.std.specs.List.{All, AllPairs, Contains}
-use Rattle.mrp_planning_data.specs.declared.numbers.PairNo.{PairNo}
+use Rattle.mrp_master_data.specs.declared.numbers.PairNo.{PairNo}
 use Rattle.mrp_plant_view.specs.declared.view.PlantPair.{PlantPair}
 use Rattle.mrp_plant_view.specs.Seen.{IsOwnPair}
 use Rattle.mrp_record.specs.declared.record.Record.{Record}

@@ -1,7 +1,7 @@
 use Rattle.std.proofs.Common.{ℕ, List, length, subst, sym, ◌∙◌, ap, arith, map}
 use Rattle.std.specs.List.{All}
 use Rattle.std.proofs.lemmas.List.{length-map}
-use Rattle.mrp_planning_data.specs.declared.numbers.ItemNo.{ItemNo}
+use Rattle.mrp_master_data.specs.declared.numbers.ItemNo.{ItemNo}
 use Rattle.mrp_grouping.specs.Starts.{IsGrouped}
 use Rattle.mrp_plant_view.specs.declared.view.OutgoingLane.{OutgoingLane}
 use Rattle.mrp_plant_view.specs.declared.view.PlantPair.{PlantPair}

@@ -1,5 +1,5 @@
 use Rattle.std.proofs.Common.{◌≡◌, List}
-use Rattle.mrp_planning_data.specs.declared.numbers.PairNo.{PairNo}
+use Rattle.mrp_master_data.specs.declared.numbers.PairNo.{PairNo}
 use Rattle.mrp_readiness.specs.Progress.{left_of}
 use Rattle.mrp_crew.specs.Planning.{IsPlannable, PlansAll}
 use Rattle.mrp_crew.proofs.crew.Crew.plan_ready.Given as goal

@@ -1,5 +1,5 @@
 use Rattle.std.proofs.Common.{List, map, sym, ap, ◌∙◌, subst}
-use Rattle.mrp_planning_data.specs.declared.numbers.PairNo.{PairNo}
+use Rattle.mrp_master_data.specs.declared.numbers.PairNo.{PairNo}
 use Rattle.mrp_loops.specs.Order.{code_order, IsInCodeOrder}
 use Rattle.mrp_loops.specs.Planning.{Sized, IsPlanningOrder}
 use Rattle.mrp_loops.proofs.Planning.{in_code_order, code_order_plans}

@@ -1,7 +1,7 @@
 use Rattle.std.proofs.Common.{ℕ, ap, ◌∙◌, subst, position}
 use Rattle.std.specs.Option.{IfSome, IfNone}
 use Rattle.std.specs.Str.{bytes_eq}
-use Rattle.mrp_planning_data.specs.Table.{Table}
+use Rattle.mrp_master_data.specs.Table.{Table}
 use Rattle.mrp_net.specs.Names.{IsNamed}
 use Rattle.mrp_net.proofs.Naming.{found_named, found_pair, name_at_place, missing_pair, no_plant, no_item}
 use Rattle.mrp_net.proofs.network.Network.find.Goals as goal

@@ -3,7 +3,7 @@ use Rattle.std.specs.Option.{IfSome, IfNone}
 use Rattle.std.specs.List.{Contains, slice_get}
 use Rattle.std.specs.Str.{bytes_eq}
 use Rattle.std.proofs.Common.{Some}
-use Rattle.mrp_planning_data.specs.Table.{Table}
+use Rattle.mrp_master_data.specs.Table.{Table}
 use Rattle.mrp_net.proofs.Naming.{found_name, missing_name}
 use Rattle.mrp_net.proofs.network.Network.find_item.Goals as goal
 

@@ -1,6 +1,6 @@
 use Rattle.std.proofs.Common.{length, arith, ap}
 use Rattle.std.proofs.lemmas.List.FromFn.{length-map-range_with_len}
-use Rattle.mrp_planning_data.specs.Table.{horizon}
+use Rattle.mrp_master_data.specs.Table.{horizon}
 use Rattle.mrp_net.specs.Sums.{incoming}
 use Rattle.mrp_net.proofs.Periods.{row_reads}
 use Rattle.mrp_net.proofs.network.Network.incoming.Goals as goal

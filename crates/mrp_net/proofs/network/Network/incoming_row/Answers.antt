@@ -1,5 +1,5 @@
 use Rattle.std.proofs.Common.{ℕ, ◌<◌, length, arith, ap, ◌∙◌}
-use Rattle.mrp_planning_data.specs.Table.{horizon}
+use Rattle.mrp_master_data.specs.Table.{horizon}
 use Rattle.mrp_net.proofs.Awaiting.{incoming_is_received, place_starts, row_comes, row_room}
 use Rattle.mrp_net.proofs.network.Network.incoming_row.Goals as goal
 

@@ -1,7 +1,7 @@
 use Rattle.std.proofs.Common.{◌≡◌, ℕ, ◌+◌, ◌*◌, ◌<◌, List, length, arith, sym, ◌∙◌, subst}
 use Rattle.std.specs.List.{All}
-use Rattle.mrp_planning_data.specs.declared.numbers.ItemNo.{ItemNo}
-use Rattle.mrp_planning_data.specs.Table.{Table}
+use Rattle.mrp_master_data.specs.declared.numbers.ItemNo.{ItemNo}
+use Rattle.mrp_master_data.specs.Table.{Table}
 use Rattle.mrp_net.specs.Lanes.{customer_of, supplier_of}
 use Rattle.mrp_net.proofs.Routing.{items_of_lane, route_within}
 use Rattle.mrp_net.proofs.network.Network.lane_items.Goals as goal

@@ -1,5 +1,5 @@
 use Rattle.std.proofs.Common.{ℕ, ◌+◌, arith, sym, ap, ◌∙◌, subst}
-use Rattle.mrp_planning_data.specs.Table.{IsTable}
+use Rattle.mrp_master_data.specs.Table.{IsTable}
 use Rattle.mrp_net.specs.declared.lane.Lane.{Lane}
 use Rattle.mrp_net.specs.Lanes.{opening, figure, shipped_from, pair_on, supplier_of}
 use Rattle.mrp_net.proofs.Summing.{figure_within, shipped_from_within}

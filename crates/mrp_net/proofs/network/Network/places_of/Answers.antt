@@ -1,5 +1,5 @@
 use Rattle.std.proofs.Common.{arith, ap, ◌∙◌, subst}
-use Rattle.mrp_planning_data.specs.Table.{horizon, IsTable}
+use Rattle.mrp_master_data.specs.Table.{horizon, IsTable}
 use Rattle.mrp_net.proofs.Summing.{place_fits}
 use Rattle.mrp_net.proofs.network.Network.places_of.Goals as goal
 

@@ -1,5 +1,5 @@
 use Rattle.std.proofs.Common.{ℕ, ◌+◌, ◌*◌, length, arith, ap, ◌∙◌, subst}
-use Rattle.mrp_planning_data.specs.Table.{IsTable}
+use Rattle.mrp_master_data.specs.Table.{IsTable}
 use Rattle.mrp_net.specs.Lanes.{customer_of, supplier_of}
 use Rattle.mrp_net.proofs.Growing.{route_fits}
 use Rattle.mrp_net.proofs.network.Network.route.Goals as goal

@@ -1,7 +1,7 @@
 use Rattle.std.proofs.Common.{◌≡◌, ℕ, Option, sym, ap, ◌∙◌, subst}
 use Rattle.std.specs.Option.{IfSome}
-use Rattle.mrp_planning_data.specs.declared.numbers.PairNo.{PairNo}
-use Rattle.mrp_planning_data.specs.Table.{Table, IsTable, IsPair, is_taken_from, pair_no}
+use Rattle.mrp_master_data.specs.declared.numbers.PairNo.{PairNo}
+use Rattle.mrp_master_data.specs.Table.{Table, IsTable, IsPair, is_taken_from, pair_no}
 use Rattle.mrp_net.specs.Lanes.{pair_on, supplier_of}
 use Rattle.mrp_net.specs.Sources.{source_no}
 use Rattle.mrp_net.proofs.Sourcing.{item_is_taken, taker_within}

@@ -1,5 +1,5 @@
 use Rattle.std.proofs.Common.{List, slice_range, map, ap, ◌∙◌, subst}
-use Rattle.mrp_planning_data.specs.declared.numbers.PairNo.{PairNo}
+use Rattle.mrp_master_data.specs.declared.numbers.PairNo.{PairNo}
 use Rattle.mrp_readiness.specs.Chosen.{AreApart, Chosen, number_at}
 use Rattle.mrp_readiness.proofs.ReadyPlacing.{apart_chosen, numbers_chosen}
 use Rattle.mrp_readiness.proofs.pair_set.PairSet.pairs.Goals as goal

@@ -1,7 +1,7 @@
 use Rattle.std.proofs.Common.{sym, ◌∙◌}
 use Rattle.csv.specs.Records.{fields_of}
 use Rattle.mrp_tables.proofs.Starting.{after-bad_kind, after-bad_order, after-fault, after-made, told}
-use Rattle.mrp_grammar.proofs.KeepingSteps.{handed_on}
+use Rattle.mrp_validation.proofs.KeepingSteps.{handed_on}
 use Rattle.mrp_tables.proofs.draft.Draft.add.Goals as goal
 
 pub returns-in_err-kind-clause-exact : goal.returns-in_err-kind-clause-exact

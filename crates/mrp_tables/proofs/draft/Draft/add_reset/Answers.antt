@@ -3,11 +3,11 @@ use Rattle.std.specs.List.{IsDistinct}
 use Rattle.std.proofs.lemmas.List.{length-map, length_push, map-append}
 use Rattle.mrp_tables.specs.Keys.{Knows}
 use Rattle.mrp_tables.specs.declared.draft.LaneKey.{LaneKey}
-use Rattle.mrp_planning_data.specs.declared.rows.SourceRow.{SourceRow}
+use Rattle.mrp_master_data.specs.declared.rows.SourceRow.{SourceRow}
 use Rattle.mrp_tables.specs.Lists.{AreLanes, FitsRows, is_same_lane, reset_key_of}
-use Rattle.mrp_planning_data.specs.Turns.{row_count}
-use Rattle.mrp_planning_data.specs.Growing.{with_reset}
-use Rattle.mrp_planning_data.specs.Table.{Table}
+use Rattle.mrp_master_data.specs.Turns.{row_count}
+use Rattle.mrp_master_data.specs.Growing.{with_reset}
+use Rattle.mrp_master_data.specs.Table.{Table}
 use Rattle.mrp_tables.proofs.Arrivals.{found_lane, lanes_push, resets_room}
 use Rattle.mrp_tables.proofs.Keys.{any_reset}
 use Rattle.mrp_tables.proofs.draft.Draft.add_reset.Goals as goal

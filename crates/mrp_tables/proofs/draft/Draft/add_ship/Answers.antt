@@ -2,13 +2,13 @@ use Rattle.std.proofs.Common.{◌≡◌, ◌+◌, set, sym, ◌∙◌, subst, re
 use Rattle.std.proofs.lemmas.List.{length-set, length_push}
 use Rattle.mrp_tables.specs.Keys.{Knows}
 use Rattle.mrp_tables.specs.declared.draft.Arrivals.{Arrivals}
-use Rattle.mrp_planning_data.specs.declared.rows.SourceRow.{SourceRow}
+use Rattle.mrp_master_data.specs.declared.rows.SourceRow.{SourceRow}
 use Rattle.mrp_tables.specs.Lists.{after_ship, FitsRows}
-use Rattle.mrp_planning_data.specs.Turns.{row_count}
-use Rattle.mrp_planning_data.specs.Growing.{with_ship}
-use Rattle.mrp_planning_data.specs.Table.{Table}
+use Rattle.mrp_master_data.specs.Turns.{row_count}
+use Rattle.mrp_master_data.specs.Growing.{with_ship}
+use Rattle.mrp_master_data.specs.Table.{Table}
 use Rattle.mrp_tables.proofs.Arrivals.{states_ship}
-use Rattle.mrp_grammar.proofs.KeepingSteps.{handed_on}
+use Rattle.mrp_validation.proofs.KeepingSteps.{handed_on}
 use Rattle.mrp_tables.proofs.Starting.{told}
 use Rattle.mrp_tables.proofs.draft.Draft.add_ship.Goals as goal
 

@@ -2,11 +2,11 @@ use Rattle.std.proofs.Common.{◌≡◌, ◌∷◌, ◌++◌, [], List, ℕ, Opt
 use Rattle.std.proofs.lemmas.List.{length_push}
 use Rattle.mrp_tables.specs.Keys.{Knows}
 use Rattle.mrp_tables.specs.declared.draft.LaneKey.{LaneKey}
-use Rattle.mrp_planning_data.specs.declared.numbers.PlantNo.{PlantNo}
-use Rattle.mrp_planning_data.specs.declared.rows.SourceRow.{SourceRow}
+use Rattle.mrp_master_data.specs.declared.numbers.PlantNo.{PlantNo}
+use Rattle.mrp_master_data.specs.declared.rows.SourceRow.{SourceRow}
 use Rattle.mrp_tables.specs.Lists.{AreLanes, lane_of}
-use Rattle.mrp_planning_data.specs.Turns.{row_count}
-use Rattle.mrp_planning_data.specs.Table.{is_taken_from, Table}
+use Rattle.mrp_master_data.specs.Turns.{row_count}
+use Rattle.mrp_master_data.specs.Table.{is_taken_from, Table}
 use Rattle.mrp_tables.proofs.Arrivals.{lanes_more, source_fit}
 use Rattle.mrp_tables.proofs.Keys.{any_source}
 use Rattle.mrp_tables.proofs.NewPair.{place_known}

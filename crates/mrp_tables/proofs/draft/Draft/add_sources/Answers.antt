@@ -4,14 +4,14 @@ use Rattle.std.specs.Str.{bytes_eq}
 use Rattle.std.proofs.lemmas.List.{length-map}
 use Rattle.std.proofs.lemmas.Map.Keys.{apart_from_distinct}
 use Rattle.std.proofs.Math.ListN.{get_or-map}
-use Rattle.mrp_planning_data.specs.declared.spelled_supplies.SpelledSource.{SpelledSource}
-use Rattle.mrp_planning_data.specs.Names.{has_plant}
+use Rattle.mrp_master_data.specs.declared.spelled_supplies.SpelledSource.{SpelledSource}
+use Rattle.mrp_master_data.specs.Names.{has_plant}
 use Rattle.mrp_tables.specs.Drafts.{IsNewPair, with_sources}
-use Rattle.mrp_grammar.specs.Grammar.{knows_sources, source_row}
-use Rattle.mrp_planning_data.specs.Growing.{with_source}
-use Rattle.mrp_planning_data.specs.Spelled.{is_same_spelled_plant, source_view}
-use Rattle.mrp_planning_data.specs.Supplies.{SourceTerms}
-use Rattle.mrp_planning_data.specs.Table.{Table, is_taken_from}
+use Rattle.mrp_validation.specs.Grammar.{knows_sources, source_row}
+use Rattle.mrp_master_data.specs.Growing.{with_source}
+use Rattle.mrp_master_data.specs.Spelled.{is_same_spelled_plant, source_view}
+use Rattle.mrp_master_data.specs.Supplies.{SourceTerms}
+use Rattle.mrp_master_data.specs.Table.{Table, is_taken_from}
 use Rattle.mrp_tables.proofs.NewPair.{sources_fresh, sources_known, sources_more}
 use Rattle.mrp_tables.proofs.draft.Draft.add_sources.Goals as goal
 

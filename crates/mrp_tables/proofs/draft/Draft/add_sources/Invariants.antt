@@ -1,7 +1,7 @@
 use Rattle.std.proofs.Common.{◌≡◌, map, take}
 use Rattle.mrp_tables.specs.Drafts.{with_sources}
 use Rattle.mrp_tables.specs.Lists.{AddsSources}
-use Rattle.mrp_planning_data.specs.Spelled.{source_view}
+use Rattle.mrp_master_data.specs.Spelled.{source_view}
 use Rattle.mrp_tables.proofs.draft.Draft.add_sources.Given as goal
 
 -- so many sources were added, in their order

@@ -1,5 +1,5 @@
 use Rattle.std.proofs.Common.{rules}
-use Rattle.mrp_grammar.specs.Grammar.{bill_fits}
+use Rattle.mrp_validation.specs.Grammar.{bill_fits}
 use Rattle.mrp_tables.proofs.draft.Draft.bill_fits.Goals as goal
 
 pub returns-then-has_bill-clause-exact : goal.returns-then-has_bill-clause-exact

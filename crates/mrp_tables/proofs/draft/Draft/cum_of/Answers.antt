@@ -1,13 +1,13 @@
 use Rattle.std.proofs.Common.{◌<◌, ◌≤◌, List, length, ap, subst, arith}
 use Rattle.csv.specs.Records.{fields_of}
-use Rattle.mrp_planning_data.specs.Table.{IsPair}
-use Rattle.mrp_planning_data.specs.declared.numbers.PairNo.{PairNo}
-use Rattle.mrp_planning_data.specs.declared.numbers.PlantNo.{PlantNo}
-use Rattle.mrp_planning_data.specs.declared.rows.CumRow.{CumRow}
+use Rattle.mrp_master_data.specs.Table.{IsPair}
+use Rattle.mrp_master_data.specs.declared.numbers.PairNo.{PairNo}
+use Rattle.mrp_master_data.specs.declared.numbers.PlantNo.{PlantNo}
+use Rattle.mrp_master_data.specs.declared.rows.CumRow.{CumRow}
 use Rattle.mrp_tables.specs.Spelled.{terms_of_lane}
 use Rattle.mrp_qty.specs.declared.limits.TheConstants.{MOST_OF_A_KIND}
 use Rattle.mrp_tables.proofs.Finding.{cum_full, cum_known, cum_repeated, cum_unknown, of_found}
-use Rattle.mrp_grammar.proofs.KeepingSteps.{handed_on}
+use Rattle.mrp_validation.proofs.KeepingSteps.{handed_on}
 use Rattle.mrp_tables.proofs.draft.Draft.cum_of.Goals as goal
 
 pub returns-in_err-lane-clause-exact : goal.returns-in_err-lane-clause-exact

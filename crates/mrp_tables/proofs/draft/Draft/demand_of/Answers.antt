@@ -1,10 +1,10 @@
 use Rattle.std.proofs.Common.{◌<◌, ◌≤◌, List, length, nat_lt, subst}
 use Rattle.csv.specs.Records.{fields_of}
 use Rattle.mrp_qty.specs.declared.limits.TheConstants.{MOST_OF_A_KIND}
-use Rattle.mrp_planning_data.specs.declared.rows.DemandRow.{DemandRow}
-use Rattle.mrp_grammar.specs.Grammar.{demand_made, demand_of}
+use Rattle.mrp_master_data.specs.declared.rows.DemandRow.{DemandRow}
+use Rattle.mrp_validation.specs.Grammar.{demand_made, demand_of}
 use Rattle.mrp_tables.proofs.AmountFacts.{has_none, has_some, row_made, row_refused, row_too_many}
-use Rattle.mrp_grammar.proofs.KeepingSteps.{handed_on}
+use Rattle.mrp_validation.proofs.KeepingSteps.{handed_on}
 use Rattle.mrp_tables.proofs.draft.Draft.demand_of.Goals as goal
 
 pub returns-in_err-amount-clause-exact : goal.returns-in_err-amount-clause-exact

@@ -1,6 +1,6 @@
 use Rattle.std.proofs.Common.{ap}
 use Rattle.mrp_tables.specs.declared.draft.Arrivals.{Arrivals}
-use Rattle.mrp_planning_data.specs.declared.rows.SourceRow.{SourceRow}
+use Rattle.mrp_master_data.specs.declared.rows.SourceRow.{SourceRow}
 use Rattle.mrp_tables.proofs.Arrivals.{state_there}
 use Rattle.mrp_tables.proofs.draft.Draft.falls.Goals as goal
 

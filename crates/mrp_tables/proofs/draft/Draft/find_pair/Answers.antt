@@ -1,6 +1,6 @@
 use Rattle.std.proofs.Common.{◌≡◌, ◌∙◌, ap, sym, option_map, position}
-use Rattle.mrp_planning_data.specs.Names.{pair_named, plant_no}
-use Rattle.mrp_planning_data.specs.declared.numbers.PairNo.{PairNo}
+use Rattle.mrp_master_data.specs.Names.{pair_named, plant_no}
+use Rattle.mrp_master_data.specs.declared.numbers.PairNo.{PairNo}
 use Rattle.mrp_tables.specs.contracts.name_key.PairKeyPartialEq.TheImpl.{eq-value as same_pair}
 use Rattle.mrp_tables.specs.Keys.{key_of}
 use Rattle.mrp_tables.specs.declared.name_key.NameKey.{NameKey}

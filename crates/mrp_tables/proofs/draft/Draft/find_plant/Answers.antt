@@ -1,7 +1,7 @@
 use Rattle.std.proofs.Common.{◌≡◌, ℕ, List, Option, None, Some, OnSome, option_map, rules, sym}
-use Rattle.mrp_planning_data.specs.Names.{plant_no}
-use Rattle.mrp_planning_data.specs.Table.{IsName, Table}
-use Rattle.mrp_planning_data.specs.declared.numbers.PlantNo.{PlantNo}
+use Rattle.mrp_master_data.specs.Names.{plant_no}
+use Rattle.mrp_master_data.specs.Table.{IsName, Table}
+use Rattle.mrp_master_data.specs.declared.numbers.PlantNo.{PlantNo}
 use Rattle.mrp_tables.specs.Keys.{Knows}
 use Rattle.mrp_tables.specs.declared.names.KnownNames.{KnownNames}
 use Rattle.mrp_tables.proofs.AmountFacts.{name_at}

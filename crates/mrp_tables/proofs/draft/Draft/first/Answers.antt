@@ -1,11 +1,11 @@
 use Rattle.std.proofs.Common.{Ok, refl, sym, ◌∙◌, subst, rules}
 use Rattle.csv.specs.Records.{fields_of}
-use Rattle.mrp_planning_data.specs.Table.{Table}
-use Rattle.mrp_grammar.specs.Reading.{Starts}
+use Rattle.mrp_master_data.specs.Table.{Table}
+use Rattle.mrp_validation.specs.Reading.{Starts}
 use Rattle.mrp_tables.specs.Keys.{Knows}
 use Rattle.mrp_tables.proofs.Arrivals.{no_lanes}
 use Rattle.mrp_tables.proofs.Starting.{first-bad_kind, first-bad_order, first-calendar, other_kind, run_kind, unless_memory}
-use Rattle.mrp_grammar.proofs.KeepingSteps.{handed_on}
+use Rattle.mrp_validation.proofs.KeepingSteps.{handed_on}
 use Rattle.mrp_tables.proofs.draft.Draft.first.Goals as goal
 
 pub returns-in_err-row_kind-clause-exact : goal.returns-in_err-row_kind-clause-exact

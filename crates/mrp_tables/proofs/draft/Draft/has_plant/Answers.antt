@@ -1,7 +1,7 @@
 use Rattle.std.proofs.Common.{◌≡◌, ◌∙◌, ap, is_some, option_map, refl, Option, None, Some, ℕ}
 use Rattle.std.specs.Str.{bytes_eq}
-use Rattle.mrp_planning_data.specs.declared.numbers.PlantNo.{PlantNo}
-use Rattle.mrp_planning_data.proofs.Keys.{is_some-position}
+use Rattle.mrp_master_data.specs.declared.numbers.PlantNo.{PlantNo}
+use Rattle.mrp_master_data.proofs.Keys.{is_some-position}
 use Rattle.mrp_tables.proofs.draft.Draft.has_plant.Goals as goal
 
 is_some_of : (o : Option PlantNo) → is_some o ≡ is_some (option_map (λ (p : PlantNo). p.0) o)

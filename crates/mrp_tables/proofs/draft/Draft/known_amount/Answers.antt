@@ -1,14 +1,14 @@
 use Rattle.std.proofs.Common.{◌≡◌, ℕ, List, Result, Ok, true, false, is_some, option_map, ◌∙◌, ap, sym}
 use Rattle.csv.specs.Records.{fields_of}
 use Rattle.mrp_cal.specs.Calendar.{CalendarTerms}
-use Rattle.mrp_planning_data.specs.Names.{pair_named, plant_no}
-use Rattle.mrp_planning_data.specs.Table.{horizon}
-use Rattle.mrp_planning_data.specs.declared.numbers.PairNo.{PairNo}
-use Rattle.mrp_grammar.specs.Grammar.{AmountTerms, amount_terms, field}
+use Rattle.mrp_master_data.specs.Names.{pair_named, plant_no}
+use Rattle.mrp_master_data.specs.Table.{horizon}
+use Rattle.mrp_master_data.specs.declared.numbers.PairNo.{PairNo}
+use Rattle.mrp_validation.specs.Grammar.{AmountTerms, amount_terms, field}
 use Rattle.mrp_tables.specs.Spelled.{terms_of_amount}
-use Rattle.mrp_grammar.specs.declared.fault.TableFaultKind.{TableFaultKind}
+use Rattle.mrp_validation.specs.declared.fault.TableFaultKind.{TableFaultKind}
 use Rattle.mrp_tables.proofs.AmountFacts.{having, known_there, lacking, misspelled, unknown_pair, unknown_plant}
-use Rattle.mrp_grammar.proofs.KeepingSteps.{handed_on}
+use Rattle.mrp_validation.proofs.KeepingSteps.{handed_on}
 use Rattle.mrp_tables.proofs.draft.Draft.known_amount.Goals as goal
 use Rattle.mrp_tables.proofs.draft.Draft.known_amount.Goals.{After-find_pair-found, After-has_plant_of, In_ok-period}
 

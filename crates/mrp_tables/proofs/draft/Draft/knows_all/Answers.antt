@@ -1,10 +1,10 @@
 use Rattle.std.proofs.Common.{◌∙◌, sym, refl, rules}
 use Rattle.std.proofs.lemmas.Iterator.{YieldsList-from_slice}
 use Rattle.std.proofs.lemmas.Iterator.Search.{all_from_yields_List}
-use Rattle.mrp_planning_data.specs.Names.{has_plant}
-use Rattle.mrp_planning_data.specs.Spelled.{source_view}
-use Rattle.mrp_planning_data.specs.declared.spelled_supplies.SpelledSource.{SpelledSource}
-use Rattle.mrp_planning_data.proofs.Mapped.{list_all_keys}
+use Rattle.mrp_master_data.specs.Names.{has_plant}
+use Rattle.mrp_master_data.specs.Spelled.{source_view}
+use Rattle.mrp_master_data.specs.declared.spelled_supplies.SpelledSource.{SpelledSource}
+use Rattle.mrp_master_data.proofs.Mapped.{list_all_keys}
 use Rattle.mrp_tables.proofs.draft.Draft.knows_all.Goals as goal
 
 pub returns : goal.returns

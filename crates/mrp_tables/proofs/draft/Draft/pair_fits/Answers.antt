@@ -1,5 +1,5 @@
 use Rattle.std.proofs.Common.{rules}
-use Rattle.mrp_grammar.specs.Grammar.{pair_fits}
+use Rattle.mrp_validation.specs.Grammar.{pair_fits}
 use Rattle.mrp_tables.proofs.draft.Draft.pair_fits.Goals as goal
 
 pub returns-then-has_pair-clause-exact : goal.returns-then-has_pair-clause-exact

@@ -1,12 +1,12 @@
 use Rattle.std.proofs.Common.{ℕ, ◌<◌, true, false, length, refl, ap, subst, ◌∙◌, arith}
 use Rattle.csv.specs.Records.{fields_of}
 use Rattle.mrp_cal.specs.Calendar.{CalendarTerms}
-use Rattle.mrp_planning_data.specs.Table.{arrivals, IsPair, rises_from}
-use Rattle.mrp_planning_data.specs.declared.numbers.PairNo.{PairNo}
-use Rattle.mrp_planning_data.specs.declared.numbers.PlantNo.{PlantNo}
+use Rattle.mrp_master_data.specs.Table.{arrivals, IsPair, rises_from}
+use Rattle.mrp_master_data.specs.declared.numbers.PairNo.{PairNo}
+use Rattle.mrp_master_data.specs.declared.numbers.PlantNo.{PlantNo}
 use Rattle.mrp_tables.specs.Spelled.{terms_of_lane}
 use Rattle.mrp_tables.proofs.Finding.{from_not, of_found, placed, reset_falls, reset_known, reset_refused, reset_repeated, reset_unknown}
-use Rattle.mrp_grammar.proofs.KeepingSteps.{handed_on}
+use Rattle.mrp_validation.proofs.KeepingSteps.{handed_on}
 use Rattle.mrp_tables.proofs.draft.Draft.reset_of.Goals as goal
 
 pub returns-in_err-lane-clause-exact : goal.returns-in_err-lane-clause-exact

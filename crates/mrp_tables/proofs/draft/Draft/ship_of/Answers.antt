@@ -1,14 +1,14 @@
 use Rattle.std.proofs.Common.{ℕ, ◌<◌, ◌≤◌, List, length, ap, subst, ◌∙◌}
 use Rattle.csv.specs.Records.{fields_of}
 use Rattle.mrp_cal.specs.Calendar.{CalendarTerms}
-use Rattle.mrp_planning_data.specs.Table.{IsPair}
-use Rattle.mrp_planning_data.specs.declared.numbers.PairNo.{PairNo}
-use Rattle.mrp_planning_data.specs.declared.numbers.PlantNo.{PlantNo}
-use Rattle.mrp_planning_data.specs.declared.rows.ShipRow.{ShipRow}
+use Rattle.mrp_master_data.specs.Table.{IsPair}
+use Rattle.mrp_master_data.specs.declared.numbers.PairNo.{PairNo}
+use Rattle.mrp_master_data.specs.declared.numbers.PlantNo.{PlantNo}
+use Rattle.mrp_master_data.specs.declared.rows.ShipRow.{ShipRow}
 use Rattle.mrp_qty.specs.declared.limits.TheConstants.{MOST_OF_A_KIND}
 use Rattle.mrp_tables.specs.Spelled.{terms_of_lane}
 use Rattle.mrp_tables.proofs.Finding.{of_found, placed, ship_full, ship_known, ship_unknown}
-use Rattle.mrp_grammar.proofs.KeepingSteps.{handed_on}
+use Rattle.mrp_validation.proofs.KeepingSteps.{handed_on}
 use Rattle.mrp_tables.proofs.draft.Draft.ship_of.Goals as goal
 
 pub returns-in_err-lane-clause-exact : goal.returns-in_err-lane-clause-exact

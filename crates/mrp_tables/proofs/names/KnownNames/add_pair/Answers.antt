@@ -1,6 +1,6 @@
 use Rattle.std.proofs.Common.{◌≡◌, ◌∷◌, ◌++◌, [], if◌then◌else◌, false, true≢false, not, ◌∙◌, ap, refl, sym}
 use Rattle.std.specs.List.{list_any}
-use Rattle.mrp_planning_data.specs.Table.{IsName}
+use Rattle.mrp_master_data.specs.Table.{IsName}
 use Rattle.mrp_tables.specs.contracts.name_key.PairKeyPartialEq.TheImpl.{eq-value as same_pair}
 use Rattle.mrp_tables.specs.declared.name_key.PairKey.{PairKey}
 use Rattle.mrp_tables.proofs.Found.{any_of_pair, named_at, named_key, placed_at}

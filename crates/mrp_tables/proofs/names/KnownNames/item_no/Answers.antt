@@ -1,7 +1,7 @@
 use Rattle.std.proofs.Common.{◌≡◌, ◌∷◌, ◌++◌, [], if◌then◌else◌, true, false, not, position, unwrap_or, ◌∙◌, ap, refl, sym}
 use Rattle.std.specs.List.{list_any}
 use Rattle.std.specs.Str.{bytes_eq}
-use Rattle.mrp_planning_data.specs.Table.{Table}
+use Rattle.mrp_master_data.specs.Table.{Table}
 use Rattle.mrp_tables.specs.declared.name_key.NameKey.{NameKey}
 use Rattle.mrp_tables.proofs.Known.{any_by_key, item_more, place_by_key, place_of_last, table_same, turned, within_names}
 use Rattle.mrp_tables.proofs.Words.{key_is}

@@ -1,5 +1,5 @@
 use Rattle.std.proofs.Common.{length, ap, sym, ◌∙◌}
-use Rattle.mrp_planning_data.specs.Table.{Table}
+use Rattle.mrp_master_data.specs.Table.{Table}
 use Rattle.mrp_net.specs.Plan.{plan_of}
 use Rattle.mrp_loops.proofs.OnePlan.{one_plan}
 use Rattle.mrp_world.proofs.Worlds as world

@@ -1,5 +1,5 @@
 use Rattle.std.proofs.Common.{◌≡◌, Bor, true, false, ap, sym}
-use Rattle.mrp_planning_data.specs.declared.rows.PairRow.{PairRow}
+use Rattle.mrp_master_data.specs.declared.rows.PairRow.{PairRow}
 use Rattle.mrp_netting.specs.declared.plan.PairPlan.{PairPlan}
 use Rattle.mrp_net.specs.Plan.{plan_of, rows_at}
 use Rattle.mrp_world.proofs.Worlds as world

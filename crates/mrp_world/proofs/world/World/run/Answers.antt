@@ -1,6 +1,6 @@
 use Rattle.std.proofs.Common.{◌≡◌, ◌-◌, ◌≤◌, ℕ, List, subst, sym, arith}
 use Rattle.std.proofs.lemmas.List.{take_all}
-use Rattle.mrp_planning_data.specs.Table.{Table}
+use Rattle.mrp_master_data.specs.Table.{Table}
 use Rattle.mrp_protocol.specs.declared.event.Event.{Event}
 use Rattle.mrp_protocol.specs.Progress.{steps_left}
 use Rattle.mrp_world.specs.Enabled.{CountsEnabled}

@@ -1,0 +1,207 @@
+-- The plan of a network that can be planned is one, and so is each report of a text; one that has a report is not refused.
+use Rattle.std.proofs.Common.{◌≡◌, ℕ, true, false, List, ◌++◌, Option, Some, None, Ok, Err, refl, sym, ap, ap₂, ◌∙◌, subst, ⊎_elim, arith}
+use Rattle.std.proofs.lemmas.Option.{get_or_from_slice_get, slice_get_within}
+use Rattle.csv.specs.Reading.{strip_bom, records, default_config}
+use Rattle.mrp_netting.specs.One.{PlanRows}
+use Rattle.mrp_master_data.specs.declared.numbers.PlantNo.{PlantNo}
+use Rattle.mrp_master_data.specs.Table.{Table, IsTable, pair_no}
+use Rattle.mrp_net.specs.Sums.{pair_at}
+use Rattle.mrp_validation.specs.declared.fault.TableFault.{TableFault}
+use Rattle.mrp_validation.specs.declared.fault.TableFaultKind.{TableFaultKind}
+use Rattle.mrp_validation.specs.declared.fault.TableFaultKind.TheVariants as kind
+use Rattle.mrp_validation.specs.Reading.{OfRows, Reads}
+use Rattle.mrp_validation.proofs.OneWay.{reads_one_way}
+use Rattle.mrp_net.specs.Names.{IsNamed}
+use Rattle.mrp_net.specs.Plan.{plan_of}
+use Rattle.mrp_net.specs.PlanLaws.{Fits}
+use Rattle.mrp_net.proofs.Naming.{same_place}
+use Rattle.mrp_net.proofs.Sharing.{pairs_are_found}
+use Rattle.mrp_loops.specs.Sized.{IsSized}
+use Rattle.mrp_loops.proofs.OnePlan.{one_plan}
+use Rattle.mrp_loops.proofs.Upstream.{codes_are_one}
+use Rattle.mrp_loops.proofs.Within.{needs_within}
+use Rattle.mrp_plan.specs.Peg.{peg_terms}
+use Rattle.mrp_commands.specs.declared.choice.Heading.{Heading}
+use Rattle.mrp_csv_out.specs.Headings.{header_row}
+use Rattle.mrp_report.specs.Report.{plan_text, late_text}
+use Rattle.mrp_report.specs.Codes.{code_text}
+use Rattle.mrp_report.specs.Terms.{peg_text}
+use Rattle.mrp_schedules.specs.ScheduleRows.{schedule_text}
+use Rattle.mrp_commands.specs.declared.choice.Choice.{Choice}
+use Rattle.mrp_commands.specs.declared.choice.Choice.TheVariants.{Plan, Check, Peg, Cums, Orders, Schedule, Pegs, Advice}
+use Rattle.mrp_api.specs.declared.fault.TextFault.{TextFault}
+use Rattle.mrp_api.specs.declared.fault.TextFault.TheVariants as fault
+use Rattle.mrp_api.specs.Answer.{IsAnswer, question_of}
+use Rattle.mrp_api.specs.Fault.{status_of, table_status_of}
+use Rattle.mrp_api.specs.Laws.{BytesMakeOneTable, ReportsAreOne, ReportsExcludeRefusals}
+use Rattle.mrp_api.specs.Text.{IsPlanReport}
+use Rattle.mrp_api.specs.Refusals.{LacksPair, LacksPeriod, LacksPlant, IsNoPlant, RefusesTable}
+use Rattle.mrp_api.specs.Reports.{IsHeaded, IsCodeReport, IsCumReport, IsPegReport, IsPlanRows}
+use Rattle.mrp_api.proofs.TableFacts.{tables_are_read}
+use Rattle.mrp_api.specs.Reports.{IsChosenPlant, IsPegsReport, IsScheduleReport, name_of}
+
+-- ---- the plan
+
+-- a table of plans that fits is the plan of the network
+the_plan : (N : Table) (plans : List PlanRows) → IsSized N → Fits N plans → plans ≡ plan_of N
+the_plan N plans sized fits = (one_plan N sized.table sized.loop_free).only plans fits
+
+-- so its rows are the plan report
+pub is_plan_report : (N : Table) (plans : List PlanRows) → IsSized N → Fits N plans → IsPlanReport N (plan_text N plans ++ late_text N plans)
+is_plan_report N plans sized fits = (sized, ap (λ (p : List PlanRows). plan_text N p ++ late_text N p) (the_plan N plans sized fits))
+
+-- and its plan rows those of the network
+pub are_plan_rows : (N : Table) (plans : List PlanRows) → IsSized N → Fits N plans → IsPlanRows N (plan_text N plans)
+are_plan_rows N plans sized fits = (sized, ap (plan_text N) (the_plan N plans sized fits))
+
+-- ---- one report
+
+-- bytes make one table
+pub one_table : BytesMakeOneTable
+one_table bytes N M a b =
+    let same = reads_one_way (records default_config (strip_bom bytes)) (Ok N) (Ok M) ((tables_are_read bytes N).0 a) ((tables_are_read bytes M).0 b) in
+    cc
+
+-- names are those of one pair
+one_named : (N : Table) (x y : ℕ) (plant item : List ℕ) → IsTable N → IsNamed N x plant item → IsNamed N y plant item → x ≡ y
+one_named N x y plant item table a b =
+    sym (pairs_are_found N table x a.pair)
+    ∙ ap (λ (p : ℕ). pair_no N p (pair_at N x).item.0) (same_place N.plants (pair_at N x).plant.0
+    (pair_at N y).plant.0 plant table.once.plants a.at_plant b.at_plant)
+    ∙ ap (λ (i : ℕ). pair_no N (pair_at N y).plant.0 i) (same_place N.items (pair_at N x).item.0 (pair_at N y).item.0 item table.once.items a.of_item b.of_item)
+    ∙ pairs_are_found N table y b.pair
+
+one_peg_report : (plant item : List ℕ) (period : ℕ) (N : Table) (a b : List ℕ) → IsTable N → IsPegReport plant item period N a
+    → IsPegReport plant item period N b → a ≡ b
+one_peg_report plant item period N a b table x y =
+    x.2.2 ∙ ap (λ (p : ℕ). peg_text N (peg_terms N (plan_of N) p period)) (one_named N x.0 y.0 plant item table x.1 y.1) ∙ sym y.2.2
+
+one_code_report : (N : Table) (a b : List ℕ) → IsCodeReport N a → IsCodeReport N b → a ≡ b
+one_code_report N a b x y = x.1.2 ∙ ap (code_text N) (codes_are_one N x.1.0 y.1.0 x.1.1 y.1.1) ∙ sym y.1.2
+
+-- names above rows that are one don't make two
+one_headed : (heading : Heading) (names : List (List ℕ)) (P : List ℕ → Type 0) (a b : List ℕ) → ((c d : List ℕ) → P c → P d → c ≡ d)
+    → IsHeaded heading names P a → IsHeaded heading names P b → a ≡ b
+one_headed heading names P a b one x y = x.2 ∙ ap (λ (rows : List ℕ). header_row heading names ++ rows) (one x.0 y.0 x.1 y.1) ∙ sym y.2
+
+-- a name is that of one plant
+one_plant : (N : Table) (name : Option (List ℕ)) (f g : Option PlantNo) → IsTable N → IsChosenPlant N name f → IsChosenPlant N name g → f ≡ g
+one_plant N None None None table a b = refl
+one_plant N (Some name) (Some p) (Some q) table a b =
+    let place : ℕ → Option PlantNo = λ k. Some (record { 0 = k }) in
+    ap place (same_place N.plants p.0 q.0 name table.once.plants a b)
+one_plant N None (Some p) g table a b = absurd a
+one_plant N None None (Some q) table a b = absurd b
+one_plant N (Some name) None g table a b = absurd a
+one_plant N (Some name) (Some p) None table a b = absurd b
+
+one_schedule : (from to : Option (List ℕ)) (heading : Heading) (N : Table) (a b : List ℕ) → IsTable N → IsScheduleReport from to heading N a
+    → IsScheduleReport from to heading N b → a ≡ b
+one_schedule from to heading N a b table x y =
+    x.4.1 ∙ ap₂ (λ (f g : Option PlantNo). schedule_text heading f g N) (one_plant N from x.0 y.0 table x.2 y.2) (one_plant N to x.1 y.1 table x.3 y.3)
+    ∙ sym y.4.1
+
+one_answer : (choice : Choice) (N : Table) (a b : List ℕ) → IsTable N → IsAnswer choice N a → IsAnswer choice N b → a ≡ b
+one_answer (Plan workers capacity single) N a b table x y = x.1 ∙ sym y.1
+one_answer (Check heading) N a b table x y = one_headed heading _ (IsCodeReport N) a b (one_code_report N) x y
+one_answer (Peg plant item period heading) N a b table x y =
+    one_headed heading _ (IsPegReport plant.now item.now period N) a b (λ c d p q. one_peg_report plant.now item.now period N c d table p q) x y
+one_answer (Cums heading) N a b table x y = one_headed heading _ (IsCumReport N) a b (λ c d p q. p.1 ∙ sym q.1) x y
+one_answer (Orders until heading) N a b table x y = x.1 ∙ sym y.1
+one_answer (Schedule from to heading) N a b table x y = one_schedule (name_of from) (name_of to) heading N a b table x y
+one_answer (Pegs heading) N a b table x y = one_headed heading _ (IsPegsReport N) a b (λ c d p q. p.1 ∙ sym q.1) x y
+one_answer (Advice heading) N a b table x y = x.1 ∙ sym y.1
+
+pub one_report : ReportsAreOne
+one_report choice bytes a b x y =
+    one_answer choice y.0 a b y.1.table (subst (λ (N : Table). IsAnswer choice N a) (one_table bytes x.0 y.0 x.1 y.1) x.2) y.2
+
+-- ---- no refusal beside it
+
+-- a report is of a table that can be planned
+answer_sized : (choice : Choice) (N : Table) (text : List ℕ) → IsAnswer choice N text → IsSized N
+answer_sized (Plan workers capacity single) N text is = is.0
+answer_sized (Check heading) N text is = is.1.0
+answer_sized (Peg plant item period heading) N text is = is.1.2.0
+answer_sized (Cums heading) N text is = is.1.0
+answer_sized (Orders until heading) N text is = is.0
+answer_sized (Schedule from to heading) N text is = is.4.0
+answer_sized (Pegs heading) N text is = is.1.0
+answer_sized (Advice heading) N text is = is.0
+
+-- a report about a pair and a period is of a pair and a period that are there
+pair_known : (choice : Choice) (N : Table) (text : List ℕ) → IsAnswer choice N text → LacksPair (question_of choice) N → ⊥
+pair_known (Plan workers capacity true) N text is unknown = unknown
+pair_known (Plan workers capacity false) N text is unknown = unknown
+pair_known (Check heading) N text is unknown = unknown
+pair_known (Peg plant item period heading) N text is unknown = unknown is.1.0 is.1.1
+pair_known (Cums heading) N text is unknown = unknown
+pair_known (Orders until heading) N text is unknown = unknown
+pair_known (Schedule from to heading) N text is unknown = unknown
+pair_known (Pegs heading) N text is unknown = unknown
+pair_known (Advice heading) N text is unknown = unknown
+
+period_known : (choice : Choice) (N : Table) (text : List ℕ) → IsAnswer choice N text → LacksPeriod (question_of choice) N → ⊥
+period_known (Plan workers capacity true) N text is unknown = unknown
+period_known (Plan workers capacity false) N text is unknown = unknown
+period_known (Check heading) N text is unknown = unknown
+period_known (Peg plant item period heading) N text is unknown = absurd (omega (arith, unknown.2, is.1.2.1))
+period_known (Cums heading) N text is unknown = unknown
+period_known (Orders until heading) N text is unknown = unknown
+period_known (Schedule from to heading) N text is unknown = unknown
+period_known (Pegs heading) N text is unknown = unknown
+period_known (Advice heading) N text is unknown = unknown
+
+-- one about plants is of plants that are there
+name_known : (N : Table) (name : Option (List ℕ)) (f : Option PlantNo) → IsChosenPlant N name f → IsNoPlant N name → ⊥
+name_known N None f is unknown = unknown
+name_known N (Some name) None is unknown = is
+name_known N (Some name) (Some p) is unknown =
+    unknown (p.0, slice_get_within N.plants p.0 name is, get_or_from_slice_get N.plants p.0 name name is)
+
+plant_known : (choice : Choice) (N : Table) (text : List ℕ) → IsAnswer choice N text → LacksPlant (question_of choice) N → ⊥
+plant_known (Plan workers capacity true) N text is unknown = unknown
+plant_known (Plan workers capacity false) N text is unknown = unknown
+plant_known (Check heading) N text is unknown = unknown
+plant_known (Peg plant item period heading) N text is unknown = unknown
+plant_known (Cums heading) N text is unknown = unknown
+plant_known (Orders until heading) N text is unknown = unknown
+plant_known (Schedule from to heading) N text is unknown = ⊎_elim (name_known N (name_of from) is.0 is.2) (name_known N (name_of to) is.1 is.3) unknown
+plant_known (Pegs heading) N text is unknown = unknown
+plant_known (Advice heading) N text is unknown = unknown
+
+-- so a table of which there is a report isn't refused
+answer_passes : (choice : Choice) (N : Table) (text : List ℕ) (f : TextFault) → IsAnswer choice N text → RefusesTable (question_of choice) N f → status_of f ≡ 3
+answer_passes choice N text (fault.Table e) is said = absurd said
+answer_passes choice N text (fault.Loop names) is said = absurd ((answer_sized choice N text is).loop_free said.0 said.1.found.loop)
+answer_passes choice N text (fault.SupplyTooLarge name) is said =
+    let sized = answer_sized choice N text is in
+    let x = said.1.0 in
+    absurd (omega (arith, said.1.1.above, sized.within x said.1.1.pair))
+answer_passes choice N text (fault.NeedTooLarge name) is said =
+    let sized = answer_sized choice N text is in
+    let x = said.1.2.0 in
+    let large = said.1.2.1 in
+    absurd (omega (arith, large.above, needs_within N sized large.needs large.are_needs x large.pair))
+answer_passes choice N text fault.NoPair is said = absurd (pair_known choice N text is said.1)
+answer_passes choice N text fault.NoPeriod is said = absurd (period_known choice N text is said.1)
+answer_passes choice N text fault.NoPlant is said = absurd (plant_known choice N text is said.1)
+answer_passes choice N text fault.ThreadRefused is said = refl
+answer_passes choice N text (fault.GateShut name) is said = refl
+answer_passes choice N text fault.Stopped is said = refl
+answer_passes choice N text fault.WriteFault is said = refl
+answer_passes choice N text fault.Memory is said = refl
+
+-- nor are rows that make a table
+rows_pass : (rows : List (List (List ℕ))) (N : Table) (e : TableFault) (k : TableFaultKind) (above : Type 0) → Reads rows (Ok N)
+    → OfRows k above (Reads rows (Err e)) → table_status_of k ≡ 3
+rows_pass rows N e kind.ReadFault above read said = refl
+rows_pass rows N e kind.Memory above read said = refl
+rows_pass rows N e _ above read said = let same = reads_one_way rows (Ok N) (Err e) read said in absurd (cc)
+
+pub accepted_passes : ReportsExcludeRefusals
+accepted_passes choice bytes text (fault.Table e) is said = rows_pass (records default_config (strip_bom bytes)) is.0 e e.kind _
+    ((tables_are_read bytes is.0).0 is.1) said
+accepted_passes choice bytes text fault.Memory is said = refl
+accepted_passes choice bytes text f is said =
+    answer_passes choice is.0 text f is.2 (subst (λ (N : Table). RefusesTable (question_of choice) N f) (one_table bytes said.0 is.0 said.1 is.1) said.2)

@@ -1,0 +1,9 @@
+use Rattle.std.proofs.Common.{subst, sym}
+use Rattle.mrp_api.specs.Reports.{IsPegReport}
+use Rattle.mrp_api.proofs.TextFacts.{writes-of}
+use Rattle.mrp_api.proofs.text.peg_text.Goals as goal
+
+pub returns-clause-text : goal.returns-clause-text
+returns-clause-text g c =
+    writes-of _ _ c.report_text.result _ _
+    (λ text is. (is.0, is.1, subst (IsPegReport c.args.plant.now c.args.item.now c.args.period is.0) (sym is.2.2) is.2.1)) c.report_text.ensures.text

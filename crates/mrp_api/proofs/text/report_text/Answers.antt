@@ -1,0 +1,20 @@
+use Rattle.mrp_api.specs.Answer.{IsAnswer, question_of}
+use Rattle.mrp_api.specs.Reports.{IsPlanRows}
+use Rattle.mrp_api.proofs.RowFacts.{rows-of}
+use Rattle.mrp_api.proofs.TextFacts.{refuses-of, writes-of}
+use Rattle.mrp_api.proofs.text.report_text.Goals as goal
+
+pub returns-clause-text : goal.returns-clause-text
+returns-clause-text g c =
+    writes-of _ _ c.write_report-written.result (IsAnswer c.args.choice c.in_ok-network.network) _
+    (λ text is. (c.in_ok-network.network, c.in_ok-network.ensures.rows, is)) c.write_report-written.ensures.text
+
+pub returns-clause-refusal : goal.returns-clause-refusal
+returns-clause-refusal g c =
+    refuses-of _ (question_of c.args.choice) c.in_ok-network.network c.write_report-written.result c.in_ok-network.ensures.rows
+    c.write_report-written.ensures.refusal
+
+pub returns-clause-rows : goal.returns-clause-rows
+returns-clause-rows g c =
+    rows-of g.W.Write.contents _ _ c.write_report-written.result (IsPlanRows c.in_ok-network.network) _
+    (λ rows is. (c.in_ok-network.network, c.in_ok-network.ensures.rows, is)) c.write_report-written.ensures.rows

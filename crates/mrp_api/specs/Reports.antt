@@ -1,0 +1,89 @@
+-- The other reports: which text each function writes of the table.
+use Rattle.std.specs.Prelude.{◌≡◌, ℕ, ◌<◌, ◌⊎◌, List, ◌++◌, Option, Some, None, option_map, slice_get, Result, Err}
+use Rattle.std.specs.Borrow.{Bor}
+use Rattle.std.specs.Io.KnownBytes.{Appends}
+use Rattle.mrp_master_data.specs.declared.numbers.PlantNo.{PlantNo}
+use Rattle.mrp_master_data.specs.Table.{Table, horizon}
+use Rattle.mrp_net.specs.Names.{IsNamed}
+use Rattle.mrp_net.specs.Plan.{plan_of}
+use Rattle.mrp_loops.specs.Codes.{AreCodes}
+use Rattle.mrp_loops.specs.Sized.{IsSized}
+use Rattle.mrp_commands.specs.declared.choice.Heading.{Heading}
+use Rattle.mrp_plan.specs.Peg.{peg_terms}
+use Rattle.mrp_csv_out.specs.Headings.{header_row}
+use Rattle.mrp_report.specs.Lanes.{lane_text}
+use Rattle.mrp_report.specs.Orders.{order_text}
+use Rattle.mrp_report.specs.Report.{plan_text}
+use Rattle.mrp_report.specs.Codes.{code_text}
+use Rattle.mrp_report.specs.Terms.{peg_text}
+use Rattle.mrp_report.specs.Pegs.{pegs_text}
+use Rattle.mrp_schedules.specs.ScheduleRows.{schedule_text}
+use Rattle.mrp_advice.specs.AdviceRows.{advice_text}
+use Rattle.mrp_world.specs.Figures.{last_figures}
+use Rattle.mrp_api.specs.declared.fault.TextFault.{TextFault}
+use Rattle.mrp_api.specs.declared.fault.TextFault.TheVariants as fault
+
+-- the plan rows of the network
+abbrev pub IsPlanRows : Table → List ℕ → Type 0
+IsPlanRows N rows = IsSized N × (rows ≡ plan_text N (plan_of N))
+
+-- the code rows of the network
+abbrev pub IsCodeReport : Table → List ℕ → Type 0
+IsCodeReport N text = IsSized N × ((codes : List ℕ) × AreCodes N codes × (text ≡ code_text N codes))
+
+-- the peg rows of a pair in a period of the plan
+abbrev pub IsPegs : Table → ℕ → ℕ → List ℕ → Type 0
+IsPegs N x period text =
+    IsSized N × (period < horizon N) × (text ≡ peg_text N (peg_terms N (plan_of N) x period))
+
+-- those of the pair of these names
+abbrev pub IsPegReport : List ℕ → List ℕ → ℕ → Table → List ℕ → Type 0
+IsPegReport plant item period N text = (x : ℕ) × IsNamed N x plant item × IsPegs N x period text
+
+-- the lane rows of the cumulative figures with which every run between the plants ends
+abbrev pub IsCumReport : Table → List ℕ → Type 0
+IsCumReport N text = IsSized N × (text ≡ lane_text N (last_figures N))
+
+-- the order rows of the plan of the network: those of the orders that are released by then, with the names of their
+-- columns above them where they are asked for
+abbrev pub IsOrderReport : Option ℕ → Heading → Table → List ℕ → Type 0
+IsOrderReport until heading N text = IsSized N × (text ≡ order_text heading until N (plan_of N))
+
+-- the schedule rows of the network, of the lanes from one supplier and to one customer where these are chosen
+abbrev pub AreSchedules : Option PlantNo → Option PlantNo → Heading → Table → List ℕ → Type 0
+AreSchedules from to heading N text = IsSized N × (text ≡ schedule_text heading from to N)
+
+-- the name that is given, if one is
+abbrev pub name_of : Option (Bor (List ℕ)) → Option (List ℕ)
+name_of = option_map (λ name. name.now)
+
+-- the plant of this name, where one is given
+abbrev pub IsChosenPlant : Table → Option (List ℕ) → Option PlantNo → Type 0
+IsChosenPlant N None None = Unit {0}
+IsChosenPlant N (Some name) (Some plant) = slice_get N.plants plant.0 ≡ Some name
+IsChosenPlant N _ _ = ⊥
+
+-- so, where the plants are chosen by these names
+abbrev pub IsScheduleReport : Option (List ℕ) → Option (List ℕ) → Heading → Table → List ℕ → Type 0
+IsScheduleReport from to heading N text =
+    (supplier : Option PlantNo) × (customer : Option PlantNo) × IsChosenPlant N from supplier
+    × IsChosenPlant N to customer
+    × AreSchedules supplier customer heading N text
+
+-- the pegs rows of the plan of the network
+abbrev pub IsPegsReport : Table → List ℕ → Type 0
+IsPegsReport N text = IsSized N × (text ≡ pegs_text N (plan_of N))
+
+-- the advice rows of the plan of the network, with the names of their columns above them where they are asked for
+abbrev pub IsAdviceReport : Heading → Table → List ℕ → Type 0
+IsAdviceReport heading N text = IsSized N × (text ≡ advice_text heading N (plan_of N))
+
+-- rows of a report, with the names of its columns above them where they are asked for
+abbrev pub IsHeaded : Heading → List (List ℕ) → (List ℕ → Type 0) → List ℕ → Type 0
+IsHeaded heading names AreRows text = (rows : List ℕ) × AreRows rows × (text ≡ header_row heading names ++ rows)
+
+-- where memory was refused: nothing was written; or all plan rows were, and no late order
+abbrev pub WritesRows : {W U : Type 0} → (W → Option (List ℕ)) → W → W → Result U TextFault → (List ℕ → Type 0) → Type 0
+WritesRows contents old new (Err fault.Memory) IsRows =
+    (new ≡ old) ⊎ ((rows : List ℕ) × IsRows rows × Appends (contents old) (contents new) rows)
+WritesRows contents old new _ IsRows = Unit {0}

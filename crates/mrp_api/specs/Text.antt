@@ -1,0 +1,42 @@
+-- The table of some bytes, the plan report of it, and what becomes of a text that is written.
+use Rattle.std.specs.Prelude.{◌≡◌, ℕ, ◌⊎◌, List, ◌++◌, Option, option_map, length, Result, Ok, Err}
+use Rattle.std.specs.Io.KnownBytes.{Appends, Keeps}
+use Rattle.csv.specs.Reading.{strip_bom}
+use Rattle.mrp_master_data.specs.Table.{Table, IsTable}
+use Rattle.mrp_validation.specs.Written.{OfRecords}
+use Rattle.mrp_validation.specs.Written.{AreNumbered, rows_of}
+use Rattle.mrp_net.specs.Plan.{plan_of}
+use Rattle.mrp_loops.specs.Sized.{IsSized}
+use Rattle.mrp_csv_out.specs.Sending.{AppendsPrefix, AppendsSome}
+use Rattle.mrp_report.specs.Report.{plan_text, late_text}
+use Rattle.mrp_api.specs.declared.fault.TextFault.{TextFault}
+use Rattle.mrp_api.specs.declared.fault.TextFault.TheVariants as fault
+
+-- ---- the table of a text
+
+-- the bytes are the table, written out: it says what a table says, the records of the bytes, without a byte order mark,
+-- are its rows, and its items are numbered in the order in which its pairs name them. Of bytes that aren't known
+-- nothing is said but that it is a table
+pub record IsTableOf (known : Option (List ℕ)) (N : Table) : Type 0 where
+  pub table : IsTable N
+  pub rows : OfRecords (option_map strip_bom known)
+      (λ rows. (rows ≡ rows_of N) × AreNumbered 0 N.pairs (length N.items))
+
+-- so it is of some table of these bytes, of which there is one at most; where they aren't known, of some table
+abbrev pub OfTable : Option (List ℕ) → (Table → Type 0) → Type 0
+OfTable known says = (N : Table) × IsTableOf known N × says N
+
+-- ---- reports
+
+-- the network has no loop and is within the bound, and these are the plan rows and then the late rows of its plan
+abbrev pub IsPlanReport : Table → List ℕ → Type 0
+IsPlanReport N text = IsSized N × (text ≡ plan_text N (plan_of N) ++ late_text N (plan_of N))
+
+-- what became of a text: all of it was written; a prefix that lacks something, at a failed write; nothing or some
+-- prefix, out of memory; nothing, at every other fault
+abbrev pub Writes : {U : Type 0} → Option (List ℕ) → Option (List ℕ) → Result U TextFault → (List ℕ → Type 0) → Type 0
+Writes old new (Ok _) IsReport = (text : List ℕ) × IsReport text × Appends old new text
+Writes old new (Err fault.WriteFault) IsReport = (text : List ℕ) × IsReport text × AppendsPrefix old new text
+Writes old new (Err fault.Memory) IsReport = Keeps old new
+    ⊎ ((text : List ℕ) × IsReport text × AppendsSome old new text)
+Writes old new (Err _) IsReport = Keeps old new

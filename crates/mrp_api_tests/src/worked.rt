@@ -1,0 +1,59 @@
+//! Tables that were worked by hand, computed by the definitions alone. Each law is the contract of a function that
+//! does nothing.
+
+ghost use Rattle.mrp_api_tests.specs.Pumps.{PumpsArePlanned, PumpsAreWritten};
+ghost use Rattle.mrp_api_tests.specs.PumpsReports.{PumpsAreAdvised, PumpsAreCounted, PumpsAreOrdered, PumpsAreScheduled};
+ghost use Rattle.mrp_api_tests.specs.Worked.{BicycleIsPlanned, BicycleIsWritten, FirmOfTwoIsPlanned, FirmOfTwoIsWritten};
+
+/// The rows that are written of the bicycle, field by field.
+pub fn bicycle_is_written()
+    ensures { BicycleIsWritten }
+{}
+
+/// The plan report of the bicycle, to the byte: ten bicycles in period 3, started in period 2, and their twenty
+/// wheels ordered in period 1.
+pub fn bicycle_is_planned()
+    ensures { BicycleIsPlanned }
+{}
+
+/// The rows that are written of two plants, one of which takes an item from the other, field by field.
+pub fn firm_of_two_is_written()
+    ensures { FirmOfTwoIsWritten }
+{}
+
+/// Their plan report, to the byte: of 30 pieces 8 are on their way, and the other 22 are asked of the supplier
+/// where the customer releases its order.
+pub fn firm_of_two_is_planned()
+    ensures { FirmOfTwoIsPlanned }
+{}
+
+/// The rows that are written of a firm with each lot rule, safety stocks, receipts, shipments, shares of two sources,
+/// cumulative figures and resets, field by field.
+pub fn pumps_are_written()
+    ensures { PumpsAreWritten }
+{}
+
+/// Its plan report, to the byte, with its late orders: worked by hand pair by pair (`examples/pumps.md`).
+pub fn pumps_are_planned()
+    ensures { PumpsArePlanned }
+{}
+
+/// Their planned orders, to the byte, with where each comes from and what is late.
+pub fn pumps_are_ordered()
+    ensures { PumpsAreOrdered }
+{}
+
+/// Their delivery schedules, to the byte: what is in transit, each call with its cumulative figure, and the resets.
+pub fn pumps_are_scheduled()
+    ensures { PumpsAreScheduled }
+{}
+
+/// Which of their open orders to expedite, to defer and to cancel, to the byte.
+pub fn pumps_are_advised()
+    ensures { PumpsAreAdvised }
+{}
+
+/// Their cumulative figures, to the byte, with which every run between the plants ends.
+pub fn pumps_are_counted()
+    ensures { PumpsAreCounted }
+{}

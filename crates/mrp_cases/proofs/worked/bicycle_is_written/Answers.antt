@@ -1,5 +1,0 @@
-use Rattle.mrp_cases.proofs.WorkedFacts as proved
-use Rattle.mrp_cases.proofs.worked.bicycle_is_written.Goals as goal
-
-pub returns : goal.returns
-returns c = proved.bicycle_is_written

@@ -1,5 +1,0 @@
-use Rattle.mrp_cases.proofs.WorkedFacts as proved
-use Rattle.mrp_cases.proofs.worked.pumps_are_planned.Goals as goal
-
-pub returns : goal.returns
-returns c = proved.pumps_are_planned

@@ -1,5 +1,0 @@
-use Rattle.mrp_cases.proofs.PumpsFacts as proved
-use Rattle.mrp_cases.proofs.worked.pumps_are_scheduled.Goals as goal
-
-pub returns : goal.returns
-returns c = proved.pumps_are_scheduled

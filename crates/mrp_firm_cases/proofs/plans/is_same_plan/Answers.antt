@@ -1,5 +1,0 @@
-use Rattle.std.proofs.Common.{rules}
-use Rattle.mrp_firm_cases.proofs.plans.is_same_plan.Goals as goal
-
-pub returns-then-is_same_row-5 : goal.returns-then-is_same_row-5
-returns-then-is_same_row-5 c = search rules

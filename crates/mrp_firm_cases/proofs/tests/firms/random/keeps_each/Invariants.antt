@@ -1,5 +1,0 @@
-use Rattle.std.proofs.Common.{◌≡◌}
-use Rattle.mrp_firm_cases.proofs.tests.firms.random.keeps_each.Given as goal
-
-abbrev pub invariant-loop : goal.invariant-loop
-invariant-loop l = l.firm.network ≡ l.initial.firm.network

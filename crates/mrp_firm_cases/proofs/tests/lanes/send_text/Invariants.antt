@@ -1,9 +1,0 @@
-use Rattle.std.specs.Prelude.{◌≡◌}
-use Rattle.mrp_firm_cases.specs.Feeding.{Feeds}
-use Rattle.mrp_firm_cases.proofs.tests.lanes.send_text.Given as goal
-
-abbrev pub invariant-loop : goal.invariant-loop
-invariant-loop g l = record {
-  feeds : Feeds l.network l.cursor l.send;
-  name : l.send.name ≡ l.fn.send.name;
-}

@@ -1,5 +1,0 @@
-use Rattle.mrp_grammar.proofs.BackTable.{read_from_its_rows}
-use Rattle.mrp_grammar.proofs.laws.a_table_is_read_from_its_own_rows_alone.Goals as goal
-
-pub returns : goal.returns
-returns c = read_from_its_rows

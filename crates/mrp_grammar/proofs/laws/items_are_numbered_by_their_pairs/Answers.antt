@@ -1,5 +1,0 @@
-use Rattle.mrp_grammar.proofs.WrittenTable.{items_numbered}
-use Rattle.mrp_grammar.proofs.laws.items_are_numbered_by_their_pairs.Goals as goal
-
-pub returns : goal.returns
-returns c = items_numbered

@@ -1,5 +1,0 @@
-use Rattle.mrp_grammar.proofs.OneWay.{reads_one_way}
-use Rattle.mrp_grammar.proofs.laws.reads_are_one.Goals as goal
-
-pub returns : goal.returns
-returns c = reads_one_way

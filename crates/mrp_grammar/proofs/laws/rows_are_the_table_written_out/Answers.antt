@@ -1,5 +1,0 @@
-use Rattle.mrp_grammar.proofs.WrittenTable.{written_out}
-use Rattle.mrp_grammar.proofs.laws.rows_are_the_table_written_out.Goals as goal
-
-pub returns : goal.returns
-returns c = written_out

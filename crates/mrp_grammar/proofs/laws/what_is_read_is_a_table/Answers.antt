@@ -1,5 +1,0 @@
-use Rattle.mrp_grammar.proofs.Accept.{what_is_read}
-use Rattle.mrp_grammar.proofs.laws.what_is_read_is_a_table.Goals as goal
-
-pub returns : goal.returns
-returns c = what_is_read

@@ -1,0 +1,235 @@
+-- Rows that are in range stay so while a table grows.
+use Rattle.std.proofs.Common.{◌≡◌, true, false, if◌then◌else◌, ℕ, ◌+◌, ◌≤◌, ◌<◌, List, [], ◌∷◌, ◌++◌, length, arith, refl, ap, sym, subst, Result, Ok, Err}
+use Rattle.std.proofs.Common.{OnOk, OnErr}
+use Rattle.std.specs.List.{All, list_any}
+use Rattle.std.specs.Str.{bytes_eq}
+use Rattle.std.proofs.lemmas.List.Elements.{All-push, All-weaker}
+use Rattle.std.proofs.lemmas.List.{length_push}
+use Rattle.mrp_cal.specs.Calendar.{CalendarTerms, IsCalendar}
+use Rattle.mrp_qty.specs.declared.limits.TheConstants.{MOST_BILLS, MOST_OF_A_KIND, MOST_PAIRS, MOST_PLANTS, MOST_SOURCES}
+use Rattle.mrp_master_data.specs.Table.{Table, IsName, IsRead, horizon, IsPairRow, IsSourceRow}
+use Rattle.mrp_master_data.specs.Table.{IsBillRow, IsDemandRow, IsReceiptRow, IsShipRow, IsCumRow, IsResetRow}
+use Rattle.mrp_master_data.specs.Growing.{add_item, with_plant, with_item, with_pair, with_source, with_bill, with_demand, with_receipt, with_ship, with_cum}
+use Rattle.mrp_master_data.specs.Growing.{with_reset}
+use Rattle.mrp_master_data.proofs.Naming.{item_added}
+use Rattle.mrp_master_data.specs.declared.rows.PairRow.{PairRow}
+use Rattle.mrp_master_data.specs.declared.rows.SourceRow.{SourceRow}
+use Rattle.mrp_master_data.specs.declared.rows.BillRow.{BillRow}
+use Rattle.mrp_master_data.specs.declared.rows.DemandRow.{DemandRow}
+use Rattle.mrp_master_data.specs.declared.rows.ReceiptRow.{ReceiptRow}
+use Rattle.mrp_master_data.specs.declared.rows.ShipRow.{ShipRow}
+use Rattle.mrp_master_data.specs.declared.rows.CumRow.{CumRow}
+use Rattle.mrp_master_data.specs.declared.rows.ResetRow.{ResetRow}
+
+-- the same calendar, and at least as many names and pairs
+pub record Grows (N M : Table) : Type 0 where
+  pub calendar : M.calendar ≡ N.calendar
+  pub plants : length N.plants ≤ length M.plants
+  pub items : length N.items ≤ length M.items
+  pub pairs : length N.pairs ≤ length M.pairs
+
+pub same_names : (N M : Table) → M.calendar ≡ N.calendar → M.plants ≡ N.plants → M.items ≡ N.items → M.pairs ≡ N.pairs → Grows N M
+same_names N M calendar plants items pairs = record {
+  calendar = calendar;
+  plants = omega (arith, ap length plants);
+  items =
+      omega (arith, ap length items);
+  pairs = omega (arith, ap length pairs);
+}
+
+-- ---- a row that is in range stays so
+
+module _ {N M : Table} (g : Grows N M) where
+  same_periods : horizon M ≡ horizon N
+  same_periods = ap (λ (c : CalendarTerms). c.periods) g.calendar
+
+  pair_grows : (x : PairRow) → IsPairRow N x → IsPairRow M x
+  pair_grows x h = record {
+    plant = omega (arith, g.plants, h.plant);
+    item = omega (arith, g.items, h.item);
+    rule = h.rule;
+    lead = h.lead;
+    on_hand =
+        h.on_hand;
+    safety = h.safety;
+  }
+
+  source_grows : (x : SourceRow) → IsSourceRow N x → IsSourceRow M x
+  source_grows x h = record { pair = omega (arith, g.pairs, h.pair); plant = omega (arith, g.plants, h.plant); rises = h.rises; ends = h.ends }
+
+  pub bill_grows : (x : BillRow) → IsBillRow N x → IsBillRow M x
+  bill_grows x h = record { parent = omega (arith, g.pairs, h.parent); component = omega (arith, g.pairs, h.component); some = h.some; few = h.few }
+
+  pub demand_grows : (x : DemandRow) → IsDemandRow N x → IsDemandRow M x
+  demand_grows x h = record { pair = omega (arith, g.pairs, h.pair); period = omega (arith, same_periods, h.period); some = h.some; quantity = h.quantity }
+
+  pub receipt_grows : (x : ReceiptRow) → IsReceiptRow N x → IsReceiptRow M x
+  receipt_grows x h = record { pair = omega (arith, g.pairs, h.pair); period = omega (arith, same_periods, h.period); some = h.some; quantity = h.quantity }
+
+  pub ship_grows : (x : ShipRow) → IsShipRow N x → IsShipRow M x
+  ship_grows x h = record {
+    from = omega (arith, g.plants, h.from);
+    pair = omega (arith, g.pairs, h.pair);
+    period =
+        omega (arith, same_periods, h.period);
+    some = h.some;
+    quantity = h.quantity;
+  }
+
+  pub cum_grows : (x : CumRow) → IsCumRow N x → IsCumRow M x
+  cum_grows x h = record { from = omega (arith, g.plants, h.from); pair = omega (arith, g.pairs, h.pair); figure = h.figure }
+
+  pub reset_grows : (x : ResetRow) → IsResetRow N x → IsResetRow M x
+  reset_grows x h = record { from = omega (arith, g.plants, h.from); pair = omega (arith, g.pairs, h.pair); period = omega (arith, same_periods, h.period) }
+
+-- ---- all rows
+
+-- a list that changes: what holds of all its rows still does, and it has no more rows than it may have
+pub record Changes {X : Type 0} (P : X → Type 0) (most : ℕ) (xs ys : List X) : Type 0 where
+  pub each : All P xs → All P ys
+  pub few : length xs ≤ most → length ys ≤ most
+
+pub same_rows : {X : Type 0} {P : X → Type 0} {most : ℕ} {xs : List X} → Changes P most xs xs
+same_rows = record { each = λ all. all; few = λ few. few }
+
+pub one_more : {X : Type 0} {P : X → Type 0} {most : ℕ} {xs : List X} (x : X) → P x → length xs < most → Changes P most xs (xs ++ x ∷ [])
+one_more {P = P} {xs = xs} x row room = record { each = λ all. All-push P xs x all row; few = λ _. omega (arith, length_push xs x, room) }
+
+-- each list stays or changes, in the order of the table
+pub read_grows : (N M : Table) → IsRead N → Grows N M
+    → Changes IsName MOST_PLANTS N.plants M.plants → Changes IsName MOST_PAIRS N.items M.items
+    → Changes (IsPairRow M) MOST_PAIRS N.pairs M.pairs → Changes (IsSourceRow M) MOST_SOURCES N.sources M.sources
+    → Changes (IsBillRow M) MOST_BILLS N.bills M.bills
+    → Changes (IsDemandRow M) MOST_OF_A_KIND N.demands M.demands → Changes (IsReceiptRow M) MOST_OF_A_KIND N.receipts M.receipts
+    → Changes (IsShipRow M) MOST_OF_A_KIND N.ships M.ships → Changes (IsCumRow M) MOST_OF_A_KIND N.cums M.cums
+    → Changes (IsResetRow M) MOST_SOURCES N.resets M.resets
+    → IsRead M
+read_grows N M read g plants items pairs sources bills demands receipts ships cums resets =
+    let most = read.limits in
+    record {
+      calendar = subst IsCalendar (sym g.calendar) read.calendar;
+      limits = record {
+        some_periods = omega (arith, same_periods g, most.some_periods);
+        periods = omega (arith, same_periods g, most.periods);
+        plants = plants.few most.plants;
+        items = items.few most.items;
+        pairs = pairs.few most.pairs;
+        sources = sources.few most.sources;
+        bills = bills.few most.bills;
+        demands = demands.few most.demands;
+        receipts = receipts.few most.receipts;
+        ships = ships.few most.ships;
+        cums = cums.few most.cums;
+        resets = resets.few most.resets;
+      };
+      plants = plants.each read.plants;
+      items = items.each read.items;
+      pairs = pairs.each (All-weaker (IsPairRow N) (IsPairRow M) (pair_grows g) N.pairs read.pairs);
+      sources = sources.each (All-weaker (IsSourceRow N) (IsSourceRow M) (source_grows g) N.sources read.sources);
+      bills = bills.each (All-weaker (IsBillRow N) (IsBillRow M) (bill_grows g) N.bills read.bills);
+      demands = demands.each (All-weaker (IsDemandRow N) (IsDemandRow M) (demand_grows g) N.demands read.demands);
+      receipts = receipts.each (All-weaker (IsReceiptRow N) (IsReceiptRow M) (receipt_grows g) N.receipts read.receipts);
+      ships = ships.each (All-weaker (IsShipRow N) (IsShipRow M) (ship_grows g) N.ships read.ships);
+      cums = cums.each (All-weaker (IsCumRow N) (IsCumRow M) (cum_grows g) N.cums read.cums);
+      resets = resets.each (All-weaker (IsResetRow N) (IsResetRow M) (reset_grows g) N.resets read.resets);
+    }
+
+-- ---- one row more
+
+pub read-with_plant : (N : Table) (x : List ℕ) → IsRead N → IsName x → length N.plants < MOST_PLANTS → IsRead (with_plant N x)
+read-with_plant N x read named room =
+    let g : Grows N (with_plant N x) = record { calendar = refl; plants = omega (arith, length_push N.plants x); items = omega arith; pairs = omega arith } in
+    read_grows N (with_plant N x) read g (one_more x named room) same_rows same_rows same_rows same_rows same_rows same_rows same_rows same_rows same_rows
+
+-- the plants after one more was pushed, whether it found room or not
+pub read-pushed_plant : {E : Type 0} (N : Table) (x : List ℕ) (plants : List (List ℕ)) (pushed : Result (Unit {0}) E) → IsRead N → IsName x
+    → length N.plants < MOST_PLANTS
+    → OnOk pushed (plants ≡ N.plants ++ x ∷ []) → OnErr pushed (plants ≡ N.plants) → (let M : Table = record N { plants = plants } in IsRead M)
+read-pushed_plant N x plants (Ok _) read named room more same =
+    subst (λ (ps : List (List ℕ)). let M : Table = record N { plants = ps } in IsRead M) (sym more) (read-with_plant N x read named room)
+read-pushed_plant N x plants (Err _) read named room more same =
+    subst (λ (ps : List (List ℕ)). let M : Table = record N { plants = ps } in IsRead M) (sym same) read
+
+pub read-with_pair : (N : Table) (x : PairRow) → IsRead N → IsPairRow N x → length N.pairs < MOST_PAIRS → IsRead (with_pair N x)
+read-with_pair N x read row room =
+    let g : Grows N (with_pair N x) = record { calendar = refl; plants = omega arith; items = omega arith; pairs = omega (arith, length_push N.pairs x) } in
+    read_grows N (with_pair N x) read g same_rows same_rows (one_more x (pair_grows g x row) room) same_rows same_rows same_rows same_rows same_rows same_rows
+    same_rows
+
+pub read-with_source : (N : Table) (x : SourceRow) → IsRead N → IsSourceRow N x → length N.sources < MOST_SOURCES → IsRead (with_source N x)
+read-with_source N x read row room =
+    let g = same_names N (with_source N x) refl refl refl refl in
+    read_grows N (with_source N x) read g same_rows same_rows same_rows
+    (one_more x (source_grows g x row) room) same_rows same_rows same_rows same_rows same_rows same_rows
+
+pub read-with_bill : (N : Table) (x : BillRow) → IsRead N → IsBillRow N x → length N.bills < MOST_BILLS → IsRead (with_bill N x)
+read-with_bill N x read row room =
+    let g = same_names N (with_bill N x) refl refl refl refl in
+    read_grows N (with_bill N x) read g same_rows same_rows same_rows same_rows
+    (one_more x (bill_grows g x row) room) same_rows same_rows same_rows same_rows same_rows
+
+pub read-with_demand : (N : Table) (x : DemandRow) → IsRead N → IsDemandRow N x → length N.demands < MOST_OF_A_KIND → IsRead (with_demand N x)
+read-with_demand N x read row room =
+    let g = same_names N (with_demand N x) refl refl refl refl in
+    read_grows N (with_demand N x) read g same_rows same_rows same_rows same_rows same_rows
+    (one_more x (demand_grows g x row) room) same_rows same_rows same_rows same_rows
+
+pub read-with_receipt : (N : Table) (x : ReceiptRow) → IsRead N → IsReceiptRow N x → length N.receipts < MOST_OF_A_KIND → IsRead (with_receipt N x)
+read-with_receipt N x read row room =
+    let g = same_names N (with_receipt N x) refl refl refl refl in
+    read_grows N (with_receipt N x) read g same_rows same_rows same_rows same_rows same_rows same_rows
+    (one_more x (receipt_grows g x row) room) same_rows same_rows same_rows
+
+pub read-with_ship : (N : Table) (x : ShipRow) → IsRead N → IsShipRow N x → length N.ships < MOST_OF_A_KIND → IsRead (with_ship N x)
+read-with_ship N x read row room =
+    let g = same_names N (with_ship N x) refl refl refl refl in
+    read_grows N (with_ship N x) read g same_rows same_rows same_rows same_rows same_rows same_rows same_rows
+    (one_more x (ship_grows g x row) room) same_rows same_rows
+
+pub read-with_cum : (N : Table) (x : CumRow) → IsRead N → IsCumRow N x → length N.cums < MOST_OF_A_KIND → IsRead (with_cum N x)
+read-with_cum N x read row room =
+    let g = same_names N (with_cum N x) refl refl refl refl in
+    read_grows N (with_cum N x) read g same_rows same_rows same_rows same_rows same_rows same_rows same_rows same_rows
+    (one_more x (cum_grows g x row) room) same_rows
+
+pub read-with_reset : (N : Table) (x : ResetRow) → IsRead N → IsResetRow N x → length N.resets < MOST_SOURCES → IsRead (with_reset N x)
+read-with_reset N x read row room =
+    let g = same_names N (with_reset N x) refl refl refl refl in
+    read_grows N (with_reset N x) read g same_rows same_rows same_rows same_rows same_rows same_rows same_rows same_rows same_rows
+    (one_more x (reset_grows g x row) room)
+
+-- one item more, or none
+pub length-add_item-le : (items : List (List ℕ)) (name : List ℕ)
+    → (length items ≤ length (add_item items name)) × (length (add_item items name) ≤ length items + 1)
+length-add_item-le items name =
+    elim (list_any (bytes_eq name) items) as (λ b. (length items ≤ length (if b then items else items ++ name ∷ []))
+    × (length (if b then items else items ++ name ∷ []) ≤ length items + 1)) [
+      | true ↦ (omega arith, omega arith)
+      | false ↦ (omega (arith, length_push items name), omega (arith, length_push items name))
+    ]
+
+pub names-add_item : (items : List (List ℕ)) (name : List ℕ) → All IsName items → IsName name → All IsName (add_item items name)
+names-add_item items name names named =
+    elim (list_any (bytes_eq name) items) as (λ b. All IsName (if b then items else items ++ name ∷ [])) [
+      | true ↦ names
+      | false ↦ All-push IsName items name names named
+    ]
+
+pub name_added : (items : List (List ℕ)) (name : List ℕ) → IsName name → length items < MOST_PAIRS → Changes IsName MOST_PAIRS items (add_item items name)
+name_added items name named room =
+    record { each = λ all. names-add_item items name all named; few = λ _. omega (arith, (length-add_item-le items name).1, room) }
+
+pub read-with_item : (N : Table) (name : List ℕ) → IsRead N → IsName name → length N.items < MOST_PAIRS → IsRead (with_item N name)
+read-with_item N name read named room =
+    let g : Grows N (with_item N name) = record { calendar = refl; plants = omega arith; items = (length-add_item-le N.items name).0; pairs = omega arith } in
+    read_grows N (with_item N name) read g same_rows (name_added N.items name named room) same_rows same_rows same_rows same_rows same_rows same_rows same_rows
+    same_rows
+
+-- the items after one more was pushed, whether it found room or not
+pub read-pushed_item : {E : Type 0} (N : Table) (x : List ℕ) (items : List (List ℕ)) (pushed : Result (Unit {0}) E) → IsRead N → IsName x
+    → length N.items < MOST_PAIRS
+    → list_any (bytes_eq x) N.items ≡ false → OnOk pushed (items ≡ N.items ++ x ∷ []) → OnErr pushed (items ≡ N.items)
+    → (let M : Table = record N { items = items } in IsRead M)
+read-pushed_item N x items (Ok _) read named room fresh more same = subst IsRead (sym (item_added N x items fresh more)) (read-with_item N x read named room)
+read-pushed_item N x items (Err _) read named room fresh more same =
+    subst (λ (is : List (List ℕ)). let M : Table = record N { items = is } in IsRead M) (sym same) read

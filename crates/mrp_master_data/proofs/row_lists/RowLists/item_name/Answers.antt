@@ -1,0 +1,5 @@
+use Rattle.std.proofs.Common.{rules}
+use Rattle.mrp_master_data.proofs.row_lists.RowLists.item_name.Goals as goal
+
+pub returns : goal.returns
+returns c = search rules

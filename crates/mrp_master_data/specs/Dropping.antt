@@ -1,0 +1,6 @@
+-- The table without rows that nobody reads once its edges and sums are made.
+use Rattle.std.specs.Prelude.{[]}
+use Rattle.mrp_master_data.specs.Table.{Table}
+
+abbrev pub without_bills_and_demands : Table → Table
+without_bills_and_demands N = record N { bills = []; demands = [] }

@@ -1,0 +1,77 @@
+//! How a lot rule is spelled.
+
+ghost use Rattle.std.specs.Prelude.{◌≡◌, ◌≢◌, IfSome, MatchOption};
+ghost use Rattle.mrp_lot.specs.declared.rule.Rule.{Rule};
+ghost use Rattle.mrp_lot.specs.Lot.{IsRule};
+ghost use Rattle.mrp_master_data.specs.Spelled.{cut_view};
+ghost use Rattle.mrp_master_data.specs.Spelling.{rule_text};
+ghost use Rattle.mrp_master_data.specs.Parsing.{cut, min_rule_of, numbered_rule, rule_of};
+
+use crate::spelled_numbers::number_within;
+use mrp_lot::{MOST_IN_RULE, Rule};
+use mrp_qty::LONGEST;
+
+/// A text cut at its first colon.
+#[tactic(auto, unfolding(crate::specs::Parsing::cut))]
+pub(crate) fn cut(text: &str) -> Option<(&str, &str)>
+    ensures { cut_view result ≡ cut text.now }
+{
+    text.split_once(':')
+}
+
+/// The lot rule that a text spells: `lot`, `fixed:Q`, `periods:K` or `min:M:K`. Each rule has just one
+/// such text.
+pub fn rule(text: &str) -> Option<Rule>
+    ensures exact { result ≡ rule_of text.now }
+    ensures written { MatchOption result ((rule : Rule) → IsRule rule → text.now ≢ rule_text rule)
+        (λ rule. (text.now ≡ rule_text rule) × IsRule rule) }
+    ensures rule { IfSome result IsRule }
+{
+    read(text)
+}
+
+/// The lot rule that a text spells.
+#[tactic(auto, unfolding(crate::specs::Parsing::rule_of))]
+fn read(text: &str) -> Option<Rule>
+    ensures exact { result ≡ rule_of text.now }
+    ensures rule { IfSome result IsRule }
+{
+    match cut(text) {
+        None => {
+            if text == "lot" {
+                Some(Rule::LotForLot)
+            } else {
+                None
+            }
+        }
+        Some((word, numbers)) => numbered_rule(word, numbers),
+    }
+}
+
+/// The lot rule of a word and the numbers after it.
+#[tactic(auto, unfolding(crate::specs::Parsing::numbered_rule))]
+fn numbered_rule(word: &str, numbers: &str) -> Option<Rule>
+    ensures exact { result ≡ numbered_rule word.now numbers.now }
+    ensures rule { IfSome result IsRule }
+{
+    if word == "fixed" {
+        Some(Rule::Fixed(number_within(numbers, 1, MOST_IN_RULE)?))
+    } else if word == "periods" {
+        Some(Rule::Periods(number_within(numbers, 1, LONGEST)?))
+    } else if word == "min" {
+        min_rule(numbers)
+    } else {
+        None
+    }
+}
+
+/// The lot rule of a minimum and a multiple.
+fn min_rule(numbers: &str) -> Option<Rule>
+    ensures exact { result ≡ min_rule_of (cut numbers.now) }
+    ensures rule { IfSome result IsRule }
+{
+    let (least, multiple) = cut(numbers)?;
+    let least = number_within(least, 1, MOST_IN_RULE)?;
+    let multiple = number_within(multiple, 1, MOST_IN_RULE)?;
+    Some(Rule::MinMultiple(least, multiple))
+}

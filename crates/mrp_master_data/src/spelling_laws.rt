@@ -1,0 +1,35 @@
+//! Laws of spelling, each the contract of a function that does nothing.
+ghost use Rattle.std.specs.Prelude.{◌≡◌, ℕ, List, Some, decimal};
+ghost use Rattle.mrp_lot.specs.declared.rule.Rule.{Rule};
+ghost use Rattle.mrp_lot.specs.Lot.{IsRule};
+ghost use Rattle.mrp_master_data.specs.Spelling.{rule_text};
+ghost use Rattle.mrp_master_data.specs.Parsing.{IsShort, spelled_number, rule_of};
+ghost use Rattle.mrp_master_data.specs.Supplies.{supply_text, SupplyTerms};
+ghost use Rattle.mrp_master_data.specs.SupplyParsing.{IsWholeSupply, supply_of};
+
+/// What is spelled after `from:` is at most four plants, all different, each with a share, and their
+/// shares are together the whole.
+pub fn supplies_are_whole()
+    ensures { (text : List ℕ) (supply : SupplyTerms) → supply_of text ≡ Some supply → IsWholeSupply supply }
+{}
+
+/// A supply has one text, and that text is read as it: what stands after `from:` is a plant, or plants
+/// with their shares, as they are written.
+pub fn supplies_have_one_text()
+    ensures read { (supply : SupplyTerms) → IsWholeSupply supply → supply_of (supply_text supply) ≡ Some supply }
+    ensures text { (text : List ℕ) (supply : SupplyTerms) → supply_of text ≡ Some supply
+        → (text ≡ supply_text supply) × IsWholeSupply supply }
+{}
+
+/// A lot rule has one text, `lot`, `fixed:Q`, `periods:K` or `min:M:K` with its own numbers, and that
+/// text is read as it: the minimum stands before the multiple.
+pub fn rules_have_one_text()
+    ensures read { (rule : Rule) → IsRule rule → rule_of (rule_text rule) ≡ Some rule }
+    ensures text { (text : List ℕ) (rule : Rule) → rule_of text ≡ Some rule → (text ≡ rule_text rule) × IsRule rule }
+{}
+
+/// A number has one text, and that text is read as it.
+pub fn numbers_have_one_text()
+    ensures read { (n : ℕ) → IsShort n → spelled_number (decimal n) ≡ Some n }
+    ensures text { (text : List ℕ) (n : ℕ) → spelled_number text ≡ Some n → (text ≡ decimal n) × IsShort n }
+{}

@@ -1,5 +1,0 @@
-use Rattle.mrp_planner.proofs.OneReport.{one_table}
-use Rattle.mrp_planner.proofs.laws.bytes_make_one_table.Goals as goal
-
-pub returns : goal.returns
-returns c = one_table

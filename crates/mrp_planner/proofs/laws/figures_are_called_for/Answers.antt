@@ -1,5 +1,0 @@
-use Rattle.mrp_planner.proofs.FigureFacts as proved
-use Rattle.mrp_planner.proofs.laws.figures_are_called_for.Goals as goal
-
-pub returns : goal.returns
-returns c = proved.figures_are_called_for

@@ -1,5 +1,0 @@
-use Rattle.mrp_planner.proofs.OneReport.{one_report}
-use Rattle.mrp_planner.proofs.laws.reports_are_one.Goals as goal
-
-pub returns : goal.returns
-returns c = one_report

@@ -1,6 +1,0 @@
-use Rattle.mrp_planner.specs.Lines.{row_line}
-use Rattle.mrp_planner.proofs.lines.send_row_line.Goals as goal
-
-pub returns : goal.returns
-unfolding row_line
-returns g c = rw (← c.kind_word.ensures, ← c.format.ensures.text, ← c.as_bytes.ensures.value) c.send_all.ensures

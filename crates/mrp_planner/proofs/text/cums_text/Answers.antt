@@ -1,9 +1,0 @@
-use Rattle.std.proofs.Common.{subst, sym}
-use Rattle.mrp_planner.specs.Reports.{IsCumReport}
-use Rattle.mrp_planner.proofs.TextFacts.{writes-of}
-use Rattle.mrp_planner.proofs.text.cums_text.Goals as goal
-
-pub returns-clause-text : goal.returns-clause-text
-returns-clause-text g c =
-    writes-of _ _ c.report_text.result _ _
-    (λ text is. (is.0, is.1, subst (IsCumReport is.0) (sym is.2.2) is.2.1)) c.report_text.ensures.text

@@ -1,4 +1,0 @@
-use Rattle.mrp_planner.proofs.text.orders_text.Goals as goal
-
-pub returns-clause-text : goal.returns-clause-text
-returns-clause-text g c = c.report_text.ensures.text

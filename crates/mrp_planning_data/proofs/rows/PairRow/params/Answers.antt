@@ -1,5 +1,0 @@
-use Rattle.std.proofs.Common.{rules}
-use Rattle.mrp_planning_data.proofs.rows.PairRow.params.Goals as goal
-
-pub returns : goal.returns
-returns c = search rules

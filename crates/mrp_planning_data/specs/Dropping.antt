@@ -1,6 +1,0 @@
--- The table without rows that nobody reads once its edges and sums are made.
-use Rattle.std.specs.Prelude.{[]}
-use Rattle.mrp_planning_data.specs.Table.{Table}
-
-abbrev pub without_bills_and_demands : Table → Table
-without_bills_and_demands N = record N { bills = []; demands = [] }

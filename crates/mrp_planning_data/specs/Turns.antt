@@ -1,9 +1,0 @@
--- How many rows a table was read from.
-use Rattle.std.specs.Prelude.{ℕ, ◌+◌, length}
-use Rattle.mrp_planning_data.specs.Table.{Table}
-
--- the run row, and the rows of each of the other kinds
-abbrev pub row_count : Table → ℕ
-row_count N =
-    1 + length N.plants + length N.pairs + length N.bills + length N.demands + length N.receipts + length N.ships
-    + length N.cums + length N.resets

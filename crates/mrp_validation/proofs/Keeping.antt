@@ -1,0 +1,217 @@
+-- What each row kept keeps.
+use Rattle.std.proofs.Common.{◌≡◌, ◌≤◌, ℕ, ltb, leb, true, List, Result, Ok, refl, subst, arith}
+use Rattle.std.proofs.lemmas.Bool.{and_parts}
+use Rattle.std.proofs.lemmas.Bool.Decides.{nat_tests}
+use Rattle.std.proofs.lemmas.List.Elements.{All-nil}
+use Rattle.mrp_master_data.specs.declared.rows.BillRow.{BillRow}
+use Rattle.mrp_master_data.specs.declared.rows.CumRow.{CumRow}
+use Rattle.mrp_master_data.specs.declared.rows.DemandRow.{DemandRow}
+use Rattle.mrp_master_data.specs.declared.rows.ReceiptRow.{ReceiptRow}
+use Rattle.mrp_master_data.specs.declared.rows.ResetRow.{ResetRow}
+use Rattle.mrp_master_data.specs.declared.rows.ShipRow.{ShipRow}
+use Rattle.std.specs.Str.{bytes_eq}
+use Rattle.mrp_cal.specs.Calendar.{CalendarTerms, IsCalendar}
+use Rattle.mrp_validation.specs.declared.fault.TableFaultKind.{TableFaultKind}
+use Rattle.mrp_validation.specs.declared.kind.Kind.{Kind}
+use Rattle.mrp_validation.specs.declared.kind.Kind.TheVariants as kind
+use Rattle.mrp_validation.specs.Grammar.{◌>>=◌, bill_of, cum_of, demand_of, may_follow, kind_place, plant_in_row, receipt_of, reset_in_row, ship_of}
+use Rattle.mrp_master_data.specs.Growing.{with_plant, with_bill, with_demand, with_receipt, with_ship, with_cum, with_reset}
+use Rattle.mrp_validation.specs.Reading.{IsReadSoFar, kind_of_row, row_after, row_of_kind}
+use Rattle.mrp_master_data.specs.Table.{Table, IsBillRow, IsCumRow, IsDemandRow, IsName, IsPairRow}
+use Rattle.mrp_master_data.specs.Table.{IsReceiptRow, IsResetRow, IsShipRow, IsSourceRow, is_same_pair}
+use Rattle.mrp_master_data.specs.Table.{is_same_source, is_same_bill, is_same_cum, is_same_reset}
+use Rattle.mrp_master_data.specs.Growing.{empty_table}
+use Rattle.mrp_validation.proofs.KeepingBill.{bill_keeps}
+use Rattle.mrp_master_data.proofs.SpelledLists.{IsDistinct-nil}
+use Rattle.mrp_validation.proofs.KeepingPair.{pair_keeps}
+use Rattle.mrp_validation.proofs.KeepingRead.{bill_read, cum_read, demand_read, plant_read, receipt_read, reset_read, ship_read}
+use Rattle.mrp_validation.proofs.KeepingRows.{plant_keeps, demand_keeps, receipt_keeps, ship_keeps, cum_keeps, reset_keeps}
+use Rattle.mrp_validation.proofs.KeepingSteps.{after, after_check, same_Ok}
+
+-- a kind stands with the kinds before it
+pub follows : (k last : Kind) → may_follow k last ≡ true → kind_place last ≤ kind_place k
+follows k last e = let parts = and_parts (ltb 0 (kind_place k)) (leb (kind_place last) (kind_place k)) e in grind (arith, nat_tests)
+
+module _ (N : Table) (last : Kind) (row : List (List ℕ)) (so_far : IsReadSoFar N last) where
+  plant_more : (x : List ℕ) → kind_place last ≤ 1 → plant_in_row N row ≡ Ok x → IsReadSoFar (with_plant N x) kind.Plant
+  plant_more x before is =
+      let kept = plant_keeps N row x so_far.once so_far.sourced is in
+      record {
+        read = plant_read N row x so_far.read is;
+        once = kept.0;
+        sourced = kept.1;
+        items = so_far.items;
+        sources = so_far.sources;
+        resets =
+            λ lt. so_far.resets (omega (arith, before));
+      }
+
+  bill_more : (x : BillRow) → kind_place last ≤ 3 → bill_of N row ≡ Ok x → IsReadSoFar (with_bill N x) kind.Bill
+  bill_more x before is =
+      let kept = bill_keeps N row x so_far.once so_far.sourced is in
+      record {
+        read = bill_read N row x so_far.read is;
+        once = kept.0;
+        sourced = kept.1;
+        items = so_far.items;
+        sources = so_far.sources;
+        resets =
+            λ lt. so_far.resets (omega (arith, before));
+      }
+
+  demand_more : (x : DemandRow) → kind_place last ≤ 4 → demand_of N row ≡ Ok x → IsReadSoFar (with_demand N x) kind.Demand
+  demand_more x before is =
+      let kept = demand_keeps N x so_far.once so_far.sourced in
+      record {
+        read = demand_read N row x so_far.read is;
+        once = kept.0;
+        sourced = kept.1;
+        items = so_far.items;
+        sources = so_far.sources;
+        resets =
+            λ lt. so_far.resets (omega (arith, before));
+      }
+
+  receipt_more : (x : ReceiptRow) → kind_place last ≤ 5 → receipt_of N row ≡ Ok x → IsReadSoFar (with_receipt N x) kind.Receipt
+  receipt_more x before is =
+      let kept = receipt_keeps N x so_far.once so_far.sourced in
+      record {
+        read = receipt_read N row x so_far.read is;
+        once = kept.0;
+        sourced = kept.1;
+        items = so_far.items;
+        sources = so_far.sources;
+        resets =
+            λ lt. so_far.resets (omega (arith, before));
+      }
+
+  ship_more : (x : ShipRow) → kind_place last ≤ 6 → ship_of N row ≡ Ok x → IsReadSoFar (with_ship N x) kind.Ship
+  ship_more x before is =
+      let kept = ship_keeps N row x so_far.once so_far.sourced (so_far.resets (omega (arith, before))) is in
+      record {
+        read = ship_read N row x so_far.read is;
+        once = kept.0;
+        sourced = kept.1;
+        items = so_far.items;
+        sources = so_far.sources;
+        resets =
+            λ lt. so_far.resets (omega (arith, before));
+      }
+
+  cum_more : (x : CumRow) → kind_place last ≤ 7 → cum_of N row ≡ Ok x → IsReadSoFar (with_cum N x) kind.Cum
+  cum_more x before is =
+      let kept = cum_keeps N row x so_far.once so_far.sourced is in
+      record {
+        read = cum_read N row x so_far.read is;
+        once = kept.0;
+        sourced = kept.1;
+        items = so_far.items;
+        sources = so_far.sources;
+        resets =
+            λ lt. so_far.resets (omega (arith, before));
+      }
+
+  reset_more : (x : ResetRow) → reset_in_row N row ≡ Ok x → IsReadSoFar (with_reset N x) kind.Reset
+  reset_more x is =
+      let kept = reset_keeps N row x so_far.once so_far.sourced is in
+      record {
+        read = reset_read N row x so_far.read kept.0 kept.1 is;
+        once = kept.0;
+        sourced = kept.1;
+        items = so_far.items;
+        sources = so_far.sources;
+        resets =
+            λ lt. absurd (omega arith);
+      }
+
+-- what was read of a row makes the table with it
+made_keeps : {X : Type 0} (k : Kind) (read : Result X TableFaultKind) (made : X → Table) (M : Table) → ((x : X) → read ≡ Ok x → IsReadSoFar (made x) k)
+    → (read >>= λ x. Ok (made x)) ≡ Ok M → IsReadSoFar M k
+made_keeps k read made M more is =
+    let a = after read (λ x. Ok (made x)) M is in
+    subst (λ (m : Table). IsReadSoFar m k) (same_Ok (made a.0) M a.2) (more a.0 a.1)
+
+-- one row more of each kind
+row_keeps : (k last : Kind) (N M : Table) (row : List (List ℕ)) → IsReadSoFar N last → kind_place last ≤ kind_place k → row_of_kind k N row ≡ Ok M
+    → IsReadSoFar M k
+unfolding row_of_kind
+row_keeps kind.Run last N M row so_far before is = absurd (cc)
+row_keeps kind.Plant last N M row so_far before is = made_keeps kind.Plant (plant_in_row N row) (with_plant N) M (λ x. plant_more N last row so_far x before) is
+row_keeps kind.Pair last N M row so_far before is = pair_keeps N M last row so_far before is
+row_keeps kind.Bill last N M row so_far before is = made_keeps kind.Bill (bill_of N row) (with_bill N) M (λ x. bill_more N last row so_far x before) is
+row_keeps kind.Demand last N M row so_far before is = made_keeps kind.Demand (demand_of N row) (with_demand N) M
+    (λ x. demand_more N last row so_far x before) is
+row_keeps kind.Receipt last N M row so_far before is = made_keeps kind.Receipt (receipt_of N row) (with_receipt N) M
+    (λ x. receipt_more N last row so_far x before) is
+row_keeps kind.Ship last N M row so_far before is = made_keeps kind.Ship (ship_of N row) (with_ship N) M (λ x. ship_more N last row so_far x before) is
+row_keeps kind.Cum last N M row so_far before is = made_keeps kind.Cum (cum_of N row) (with_cum N) M (λ x. cum_more N last row so_far x before) is
+row_keeps kind.Reset last N M row so_far before is = made_keeps kind.Reset (reset_in_row N row) (with_reset N) M (λ x. reset_more N last row so_far x) is
+
+-- a table and the kind of its last row
+abbrev Kept : Table × Kind → Type 0
+Kept s = IsReadSoFar s.0 s.1
+
+pub row_after_keeps : (s t : Table × Kind) (row : List (List ℕ)) → IsReadSoFar s.0 s.1 → row_after s row ≡ Ok t → IsReadSoFar t.0 t.1
+unfolding row_after
+row_after_keeps s t row so_far is =
+    let a = after (kind_of_row row) _ t is in
+    let b = after_check (may_follow a.0 s.1) _ _ t a.2 in
+    let c = after (row_of_kind a.0 s.0 row) _ t b.1 in
+    subst Kept (same_Ok (c.0, a.0) t c.2) (row_keeps a.0 s.1 s.0 c.0 row so_far (follows a.0 s.1 b.0) c.1)
+
+-- the run alone
+pub empty_keeps : (c : CalendarTerms) → IsCalendar c → IsReadSoFar (empty_table c) kind.Run
+empty_keeps c calendar = record {
+  read = record {
+    calendar = calendar;
+    limits = record {
+      some_periods = calendar.periods.0;
+      periods = calendar.periods.1;
+      plants = omega arith;
+      items = omega arith;
+      pairs = omega arith;
+      sources = omega arith;
+      bills = omega arith;
+      demands = omega arith;
+      receipts = omega arith;
+      ships = omega arith;
+      cums = omega arith;
+      resets = omega arith;
+    };
+    plants = All-nil IsName;
+    items = All-nil IsName;
+    pairs = All-nil (IsPairRow (empty_table c));
+    sources = All-nil (IsSourceRow (empty_table c));
+    bills = All-nil (IsBillRow (empty_table c));
+    demands = All-nil (IsDemandRow (empty_table c));
+    receipts = All-nil (IsReceiptRow (empty_table c));
+    ships = All-nil (IsShipRow (empty_table c));
+    cums = All-nil (IsCumRow (empty_table c));
+    resets = All-nil (IsResetRow (empty_table c));
+  };
+  once = record {
+    plants = IsDistinct-nil bytes_eq;
+    items = IsDistinct-nil bytes_eq;
+    pairs = IsDistinct-nil is_same_pair;
+    sources = IsDistinct-nil is_same_source;
+    bills = IsDistinct-nil is_same_bill;
+    cums = IsDistinct-nil is_same_cum;
+    resets = IsDistinct-nil is_same_reset;
+  };
+  sourced = record {
+    items = λ i lt. absurd (omega arith);
+    few = λ x lt. absurd (omega arith);
+    arrive = λ k d lt. absurd (omega arith);
+    order = λ i j d le lt. absurd (omega arith);
+    supplies = λ x lt. absurd (omega arith);
+    others = λ k d lt. absurd (omega arith);
+    parents = λ k d lt. absurd (omega arith);
+    plants = λ k d lt. absurd (omega arith);
+    ships = λ k d lt. absurd (omega arith);
+    cums = λ k d lt. absurd (omega arith);
+    resets = λ k d lt. absurd (omega arith);
+  };
+  items = omega arith;
+  sources = omega arith;
+  resets = λ lt. refl;
+}

@@ -1,0 +1,429 @@
+-- Rows that are read are the table written out.
+use Rattle.std.proofs.Common.{◌≡◌, ◌≤◌, ◌<◌, ℕ, ◌+◌, List, [], ◌∷◌, ◌++◌, length, map, Result, Ok, Err, refl, ap, sym, ◌∙◌, subst, append_assoc, append-nil}
+use Rattle.std.proofs.Common.{arith}
+use Rattle.mrp_cal.specs.Calendar.{CalendarTerms}
+use Rattle.mrp_cal.specs.declared.fault.CalFault.{CalFault}
+use Rattle.mrp_master_data.specs.declared.numbers.PlantNo.{PlantNo}
+use Rattle.mrp_master_data.specs.declared.rows.BillRow.{BillRow}
+use Rattle.mrp_master_data.specs.declared.rows.CumRow.{CumRow}
+use Rattle.mrp_master_data.specs.declared.rows.DemandRow.{DemandRow}
+use Rattle.mrp_master_data.specs.declared.rows.ReceiptRow.{ReceiptRow}
+use Rattle.mrp_master_data.specs.declared.rows.ResetRow.{ResetRow}
+use Rattle.mrp_master_data.specs.declared.rows.ShipRow.{ShipRow}
+use Rattle.mrp_master_data.specs.Growing.{with_bill, with_cum, with_demand, with_plant, with_receipt, with_reset, with_ship}
+use Rattle.mrp_master_data.specs.Table.{Table}
+use Rattle.mrp_master_data.specs.Growing.{empty_table}
+use Rattle.mrp_validation.specs.declared.fault.TableFaultKind.{TableFaultKind}
+use Rattle.mrp_validation.specs.declared.kind.Kind.{Kind}
+use Rattle.mrp_validation.specs.declared.kind.Kind.TheVariants as kind
+use Rattle.mrp_validation.specs.Grammar.{◌>>=◌, bill_of, cum_of, demand_of, may_follow, pair_fits, pair_row, pair_terms, PairTerms, kind_place, plant_in_row}
+use Rattle.mrp_validation.specs.Grammar.{receipt_of, reset_in_row, RunTerms, ship_of, with_pair_terms}
+use Rattle.mrp_validation.specs.Reading.{at_row, first_lacking, first_terms, IsCalendarOf, IsReadSoFar, kind_of_row, read_from, Reads, row_after, row_of_kind}
+use Rattle.mrp_validation.specs.Reading.{rows_after, started, Starts, StartsWith, waiting}
+use Rattle.mrp_validation.specs.Written.{AreNumbered, bill_fields, cum_fields, demand_fields, later_rows, pair_rows, plant_fields, receipt_fields, reset_fields}
+use Rattle.mrp_validation.specs.Written.{rows_of, run_fields, ship_fields}
+use Rattle.mrp_validation.proofs.Accept.{waited, was_read, went_on}
+use Rattle.mrp_validation.proofs.Keeping.{follows, row_after_keeps}
+use Rattle.mrp_validation.proofs.KeepingPair.{fits}
+use Rattle.mrp_validation.proofs.KeepingShares.{pair_terms_are}
+use Rattle.mrp_validation.proofs.KeepingSteps.{after, after_check, same_Ok}
+use Rattle.mrp_validation.proofs.Whole.{first_keeps}
+use Rattle.mrp_validation.proofs.WrittenFields.{IsOfKind, of_kind}
+use Rattle.mrp_validation.proofs.WrittenPair.{pair_numbered, pair_terms_said, pairs_written}
+use Rattle.mrp_validation.proofs.WrittenRows.{bill_said, cum_said, demand_said, plant_said, receipt_said, reset_said, run_said, ship_said}
+
+abbrev Row : Type 0
+Row = List (List ℕ)
+
+-- ---- lists with a row more
+
+none : (xs ys : List Row) → xs ≡ [] → ys ≡ [] → xs ++ ys ≡ []
+none xs ys ex ey = ap (λ l. l ++ ys) ex ∙ ey
+
+none_of : {X : Type 0} (f : X → Row) (xs : List X) → xs ≡ [] → map f xs ≡ []
+none_of f xs e = ap (map f) e
+
+-- a row more in front of nothing
+at_end : (now old later : List Row) (row : Row) → now ≡ old ++ row ∷ [] → later ≡ [] → now ++ later ≡ (old ++ later) ++ row ∷ []
+at_end now old later row e nothing =
+    ap (λ l. now ++ l) nothing ∙ append-nil now ∙ e ∙ ap (λ l. l ++ row ∷ []) (sym (append-nil old) ∙ ap (λ l. old ++ l) (sym nothing))
+
+at_ends : (now old after before : List Row) (row : Row) → now ≡ old ++ row ∷ [] → after ≡ [] → before ≡ [] → now ++ after ≡ (old ++ before) ++ row ∷ []
+at_ends now old after before row e ea eb = at_end now old after row e ea ∙ ap (λ l. (old ++ l) ++ row ∷ []) (ea ∙ sym eb)
+
+-- a row more behind other rows
+behind : (front now old : List Row) (row : Row) → now ≡ old ++ row ∷ [] → front ++ now ≡ (front ++ old) ++ row ∷ []
+behind front now old row e = ap (λ l. front ++ l) e ∙ sym (append_assoc front old (row ∷ []))
+
+map_push : {X : Type 0} (f : X → Row) (xs : List X) (x : X) (row : Row) → row ≡ f x → map f (xs ++ x ∷ []) ≡ map f xs ++ row ∷ []
+map_push f [] x row e = ap (λ r. r ∷ []) (sym e)
+map_push f (y ∷ ys) x row e = ap (λ l. f y ∷ l) (map_push f ys x row e)
+
+-- ---- the kinds that have not come yet have no rows
+
+record IsFresh (N : Table) (place : ℕ) : Type 0 where
+  pairs : place < 2 → N.pairs ≡ []
+  bills : place < 3 → N.bills ≡ []
+  demands : place < 4 → N.demands ≡ []
+  receipts : place < 5 → N.receipts ≡ []
+  ships : place < 6 → N.ships ≡ []
+  cums : place < 7 → N.cums ≡ []
+  resets : place < 8 → N.resets ≡ []
+
+stays_fresh : (N : Table) (m n : ℕ) → IsFresh N m → m ≤ n → IsFresh N n
+stays_fresh N m n fresh le = record {
+  pairs = λ lt. fresh.pairs (omega arith);
+  bills = λ lt. fresh.bills (omega arith);
+  demands = λ lt. fresh.demands (omega arith);
+  receipts = λ lt. fresh.receipts (omega arith);
+  ships = λ lt. fresh.ships (omega arith);
+  cums = λ lt. fresh.cums (omega arith);
+  resets = λ lt. fresh.resets (omega arith);
+}
+
+-- the rows from a kind on
+abbrev from_cums : Table → List Row
+from_cums N = map (cum_fields N) N.cums ++ map (reset_fields N) N.resets
+
+abbrev from_ships : Table → List Row
+from_ships N = map (ship_fields N) N.ships ++ from_cums N
+
+abbrev from_receipts : Table → List Row
+from_receipts N = map (receipt_fields N) N.receipts ++ from_ships N
+
+abbrev from_demands : Table → List Row
+from_demands N = map (demand_fields N) N.demands ++ from_receipts N
+
+abbrev from_bills : Table → List Row
+from_bills N = map (bill_fields N) N.bills ++ from_demands N
+
+abbrev from_pairs : Table → List Row
+from_pairs N = pair_rows N 0 N.pairs ++ from_bills N
+
+module _ (N : Table) (place : ℕ) (fresh : IsFresh N place) where
+  no_resets : place < 8 → map (reset_fields N) N.resets ≡ []
+  no_resets lt = none_of (reset_fields N) N.resets (fresh.resets lt)
+
+  no_cums : place < 7 → from_cums N ≡ []
+  no_cums lt = none _ _ (none_of (cum_fields N) N.cums (fresh.cums lt)) (no_resets (omega arith))
+
+  no_ships : place < 6 → from_ships N ≡ []
+  no_ships lt = none _ _ (none_of (ship_fields N) N.ships (fresh.ships lt)) (no_cums (omega arith))
+
+  no_receipts : place < 5 → from_receipts N ≡ []
+  no_receipts lt = none _ _ (none_of (receipt_fields N) N.receipts (fresh.receipts lt)) (no_ships (omega arith))
+
+  no_demands : place < 4 → from_demands N ≡ []
+  no_demands lt = none _ _ (none_of (demand_fields N) N.demands (fresh.demands lt)) (no_receipts (omega arith))
+
+  no_bills : place < 3 → from_bills N ≡ []
+  no_bills lt = none _ _ (none_of (bill_fields N) N.bills (fresh.bills lt)) (no_demands (omega arith))
+
+  no_pairs : place < 2 → from_pairs N ≡ []
+  no_pairs lt = none _ _ (ap (pair_rows N 0) (fresh.pairs lt)) (no_bills (omega arith))
+
+-- ---- what a row adds is what it says
+
+abbrev IsNumbered : Table → Type 0
+IsNumbered N = AreNumbered 0 N.pairs (length N.items)
+
+-- the table with a row more, written out, has that row more
+record Adds (N M : Table) (k : Kind) (row : Row) : Type 0 where
+  calendar : M.calendar ≡ N.calendar
+  numbered : IsNumbered N → IsNumbered M
+  rows : later_rows M ≡ later_rows N ++ row ∷ []
+  fresh : IsFresh M (kind_place k)
+
+module _ (N : Table) (row : Row) where
+  plant_adds : (x : List ℕ) → IsFresh N 1 → IsOfKind row kind.Plant → plant_in_row N row ≡ Ok x → Adds N (with_plant N x) kind.Plant row
+  plant_adds x fresh k is =
+      let more : IsFresh (with_plant N x) 1 = record {
+        pairs = fresh.pairs;
+        bills = fresh.bills;
+        demands = fresh.demands;
+        receipts = fresh.receipts;
+        ships =
+            fresh.ships;
+        cums = fresh.cums;
+        resets = fresh.resets;
+      } in
+      record {
+        calendar = refl;
+        numbered = λ h. h;
+        rows = at_ends _ (map plant_fields N.plants) _ (from_pairs N) row (map_push plant_fields N.plants x row (plant_said N row x k is))
+            (no_pairs (with_plant N x) 1 more (omega arith)) (no_pairs N 1 fresh (omega arith));
+        fresh = more;
+      }
+
+  bill_adds : (x : BillRow) → IsFresh N 3 → IsOfKind row kind.Bill → bill_of N row ≡ Ok x → Adds N (with_bill N x) kind.Bill row
+  bill_adds x fresh k is = record {
+    calendar = refl;
+    numbered = λ h. h;
+    rows = behind (map plant_fields N.plants) _ _ row (behind (pair_rows N 0 N.pairs) _ _ row
+        (at_end _ (map (bill_fields N) N.bills) (from_demands N) row (map_push (bill_fields N) N.bills x row (bill_said N row x k is))
+        (no_demands N 3 fresh (omega arith))));
+    fresh = record {
+      pairs = fresh.pairs;
+      bills = λ lt. absurd (omega arith);
+      demands = fresh.demands;
+      receipts = fresh.receipts;
+      ships = fresh.ships;
+      cums =
+          fresh.cums;
+      resets = fresh.resets;
+    };
+  }
+
+  demand_adds : (x : DemandRow) → IsFresh N 4 → IsOfKind row kind.Demand → demand_of N row ≡ Ok x → Adds N (with_demand N x) kind.Demand row
+  demand_adds x fresh k is = record {
+    calendar = refl;
+    numbered = λ h. h;
+    rows = behind (map plant_fields N.plants) _ _ row (behind (pair_rows N 0 N.pairs) _ _ row (behind (map (bill_fields N) N.bills) _ _ row
+        (at_end _ (map (demand_fields N) N.demands) (from_receipts N) row (map_push (demand_fields N) N.demands x row (demand_said N row x k is))
+        (no_receipts N 4 fresh (omega arith)))));
+    fresh = record {
+      pairs = fresh.pairs;
+      bills = fresh.bills;
+      demands = λ lt. absurd (omega arith);
+      receipts = fresh.receipts;
+      ships = fresh.ships;
+      cums =
+          fresh.cums;
+      resets = fresh.resets;
+    };
+  }
+
+  receipt_adds : (x : ReceiptRow) → IsFresh N 5 → IsOfKind row kind.Receipt → receipt_of N row ≡ Ok x → Adds N (with_receipt N x) kind.Receipt row
+  receipt_adds x fresh k is = record {
+    calendar = refl;
+    numbered = λ h. h;
+    rows = behind (map plant_fields N.plants) _ _ row (behind (pair_rows N 0 N.pairs) _ _ row
+        (behind (map (bill_fields N) N.bills) _ _ row (behind (map (demand_fields N) N.demands) _ _ row
+        (at_end _ (map (receipt_fields N) N.receipts) (from_ships N) row (map_push (receipt_fields N) N.receipts x row (receipt_said N row x k is))
+        (no_ships N 5 fresh (omega arith))))));
+    fresh = record {
+      pairs = fresh.pairs;
+      bills = fresh.bills;
+      demands = fresh.demands;
+      receipts = λ lt. absurd (omega arith);
+      ships = fresh.ships;
+      cums =
+          fresh.cums;
+      resets = fresh.resets;
+    };
+  }
+
+  ship_adds : (x : ShipRow) → IsFresh N 6 → IsOfKind row kind.Ship → ship_of N row ≡ Ok x → Adds N (with_ship N x) kind.Ship row
+  ship_adds x fresh k is = record {
+    calendar = refl;
+    numbered = λ h. h;
+    rows = behind (map plant_fields N.plants) _ _ row (behind (pair_rows N 0 N.pairs) _ _ row
+        (behind (map (bill_fields N) N.bills) _ _ row (behind (map (demand_fields N) N.demands) _ _ row
+        (behind (map (receipt_fields N) N.receipts) _ _ row
+        (at_end _ (map (ship_fields N) N.ships) (from_cums N) row (map_push (ship_fields N) N.ships x row (ship_said N row x k is))
+        (no_cums N 6 fresh (omega arith)))))));
+    fresh = record {
+      pairs = fresh.pairs;
+      bills = fresh.bills;
+      demands = fresh.demands;
+      receipts = fresh.receipts;
+      ships = λ lt. absurd (omega arith);
+      cums =
+          fresh.cums;
+      resets = fresh.resets;
+    };
+  }
+
+  cum_adds : (x : CumRow) → IsFresh N 7 → IsOfKind row kind.Cum → cum_of N row ≡ Ok x → Adds N (with_cum N x) kind.Cum row
+  cum_adds x fresh k is = record {
+    calendar = refl;
+    numbered = λ h. h;
+    rows = behind (map plant_fields N.plants) _ _ row (behind (pair_rows N 0 N.pairs) _ _ row
+        (behind (map (bill_fields N) N.bills) _ _ row (behind (map (demand_fields N) N.demands) _ _ row
+        (behind (map (receipt_fields N) N.receipts) _ _ row (behind (map (ship_fields N) N.ships) _ _ row
+        (at_end _ (map (cum_fields N) N.cums) (map (reset_fields N) N.resets) row (map_push (cum_fields N) N.cums x row (cum_said N row x k is))
+        (no_resets N 7 fresh (omega arith))))))));
+    fresh = record {
+      pairs = fresh.pairs;
+      bills = fresh.bills;
+      demands = fresh.demands;
+      receipts = fresh.receipts;
+      ships = fresh.ships;
+      cums =
+          λ lt. absurd (omega arith);
+      resets = fresh.resets;
+    };
+  }
+
+  reset_adds : (x : ResetRow) → IsFresh N 8 → IsOfKind row kind.Reset → reset_in_row N row ≡ Ok x → Adds N (with_reset N x) kind.Reset row
+  reset_adds x fresh k is = record {
+    calendar = refl;
+    numbered = λ h. h;
+    rows = behind (map plant_fields N.plants) _ _ row (behind (pair_rows N 0 N.pairs) _ _ row
+        (behind (map (bill_fields N) N.bills) _ _ row (behind (map (demand_fields N) N.demands) _ _ row
+        (behind (map (receipt_fields N) N.receipts) _ _ row (behind (map (ship_fields N) N.ships) _ _ row (behind (map (cum_fields N) N.cums) _ _ row
+        (map_push (reset_fields N) N.resets x row (reset_said N row x k is))))))));
+    fresh = record {
+      pairs = fresh.pairs;
+      bills = fresh.bills;
+      demands = fresh.demands;
+      receipts = fresh.receipts;
+      ships = fresh.ships;
+      cums =
+          fresh.cums;
+      resets = λ lt. absurd (omega arith);
+    };
+  }
+
+-- a pair, with its item and its sources
+pair_adds : (N M : Table) (last : Kind) (row : Row) → IsReadSoFar N last → IsFresh N 2 → IsOfKind row kind.Pair → pair_row N row ≡ Ok M → Adds N M kind.Pair row
+pair_adds N M last row so_far fresh k is =
+    let a = after (pair_terms row) _ M is in
+    let b = after (pair_fits N a.0) _ M a.2 in
+    let same : with_pair_terms N b.0 a.0 ≡ M = same_Ok _ M b.2 in
+    let fit = fits N a.0 b.0 b.1 in
+    let pairs = pairs_written N b.0 a.0 so_far.read so_far.once so_far.sourced fit (pair_terms_are row a.0 a.1) row k (pair_terms_said row a.0 a.1) in
+    subst (λ (m : Table). Adds N m kind.Pair row) same (record {
+      calendar = refl;
+      numbered = pair_numbered N b.0 a.0;
+      rows = behind (map plant_fields N.plants) _ _ row
+          (at_ends _ (pair_rows N 0 N.pairs) _ (from_bills N) row pairs (no_bills (with_pair_terms N b.0 a.0) 2 (more b.0 a.0) (omega arith))
+          (no_bills N 2 fresh (omega arith)));
+      fresh = more b.0 a.0;
+    })
+  where
+    more : (plant : PlantNo) (t : PairTerms) → IsFresh (with_pair_terms N plant t) 2
+    more plant t = record {
+      pairs = λ lt. absurd (omega arith);
+      bills = fresh.bills;
+      demands = fresh.demands;
+      receipts = fresh.receipts;
+      ships =
+          fresh.ships;
+      cums = fresh.cums;
+      resets = fresh.resets;
+    }
+
+-- what was read of a row makes the table with it
+made_adds : {X : Type 0} (N : Table) (k : Kind) (row : Row) (read : Result X TableFaultKind) (made : X → Table) (M : Table)
+    → ((x : X) → read ≡ Ok x → Adds N (made x) k row)
+    → (read >>= λ x. Ok (made x)) ≡ Ok M → Adds N M k row
+made_adds N k row read made M more is =
+    let a = after read (λ x. Ok (made x)) M is in
+    subst (λ (m : Table). Adds N m k row) (same_Ok (made a.0) M a.2) (more a.0 a.1)
+
+row_adds : (k last : Kind) (N M : Table) (row : Row) → IsReadSoFar N last → IsFresh N (kind_place k) → IsOfKind row k → row_of_kind k N row ≡ Ok M
+    → Adds N M k row
+unfolding row_of_kind
+row_adds kind.Run last N M row so_far fresh k is = absurd (cc)
+row_adds kind.Plant last N M row so_far fresh k is = made_adds N kind.Plant row (plant_in_row N row) (with_plant N) M (λ x. plant_adds N row x fresh k) is
+row_adds kind.Pair last N M row so_far fresh k is = pair_adds N M last row so_far fresh k is
+row_adds kind.Bill last N M row so_far fresh k is = made_adds N kind.Bill row (bill_of N row) (with_bill N) M (λ x. bill_adds N row x fresh k) is
+row_adds kind.Demand last N M row so_far fresh k is = made_adds N kind.Demand row (demand_of N row) (with_demand N) M (λ x. demand_adds N row x fresh k) is
+row_adds kind.Receipt last N M row so_far fresh k is = made_adds N kind.Receipt row (receipt_of N row) (with_receipt N) M (λ x. receipt_adds N row x fresh k) is
+row_adds kind.Ship last N M row so_far fresh k is = made_adds N kind.Ship row (ship_of N row) (with_ship N) M (λ x. ship_adds N row x fresh k) is
+row_adds kind.Cum last N M row so_far fresh k is = made_adds N kind.Cum row (cum_of N row) (with_cum N) M (λ x. cum_adds N row x fresh k) is
+row_adds kind.Reset last N M row so_far fresh k is = made_adds N kind.Reset row (reset_in_row N row) (with_reset N) M (λ x. reset_adds N row x fresh k) is
+
+abbrev AddsTo : Table → Row → Table × Kind → Type 0
+AddsTo N row t = Adds N t.0 t.1 row
+
+row_after_adds : (s t : Table × Kind) (row : Row) → IsReadSoFar s.0 s.1 → IsFresh s.0 (kind_place s.1) → row_after s row ≡ Ok t → Adds s.0 t.0 t.1 row
+unfolding row_after
+row_after_adds s t row so_far fresh is =
+    let a = after (kind_of_row row) _ t is in
+    let b = after_check (may_follow a.0 s.1) _ _ t a.2 in
+    let c = after (row_of_kind a.0 s.0 row) _ t b.1 in
+    subst (AddsTo s.0 row) (same_Ok (c.0, a.0) t c.2)
+    (row_adds a.0 s.1 s.0 c.0 row so_far (stays_fresh s.0 (kind_place s.1) (kind_place a.0) fresh (follows a.0 s.1 b.0)) (of_kind row a.0 a.1) c.1)
+
+-- ---- the rows one after the other
+
+record AddsAll (N M : Table) (rows : List Row) : Type 0 where
+  calendar : M.calendar ≡ N.calendar
+  numbered : IsNumbered N → IsNumbered M
+  written : later_rows M ≡ later_rows N ++ rows
+
+rows_add : (rows : List Row) (number : ℕ) (s : Table × Kind) (M : Table) → IsReadSoFar s.0 s.1 → IsFresh s.0 (kind_place s.1) → rows_after number s rows ≡ Ok M
+    → AddsAll s.0 M rows
+unfolding rows_after
+rows_add [] number s M so_far fresh e =
+    let same : s.0 ≡ M = cc in
+    subst (λ (m : Table). AddsAll s.0 m []) same (record { calendar = refl; numbered = λ h. h; written = sym (append-nil (later_rows s.0)) })
+rows_add (row ∷ rows) number s M so_far fresh e =
+    let a = went_on (at_row number (row_after s row)) (λ t. rows_after (number + 1) t rows) M e in
+    let one = was_read number (row_after s row) a.0 a.1 in
+    let adds = row_after_adds s a.0 row so_far fresh one in
+    let rest = rows_add rows (number + 1) a.0 M (row_after_keeps s a.0 row so_far one) adds.fresh a.2 in
+    record {
+      calendar = rest.calendar ∙ adds.calendar;
+      numbered = λ h. rest.numbered (adds.numbered h);
+      written = rest.written ∙ ap (λ l. l ++ rows) adds.rows ∙ append_assoc (later_rows s.0) (row ∷ []) rows;
+    }
+
+-- ---- the first row
+
+record HasRun (N : Table) (row : Row) : Type 0 where
+  run : row ≡ run_fields N.calendar
+  empty : later_rows N ≡ []
+  numbered : IsNumbered N
+  fresh : IsFresh N 0
+
+run_has : (N : Table) (row : Row) (t : RunTerms) (c : Result CalendarTerms CalFault) → first_terms row ≡ Ok t → IsCalendarOf t c → Ok N ≡ started c
+    → HasRun N row
+run_has N row t (Ok c) is says e =
+    let same : empty_table c ≡ N = cc in
+    subst (λ (m : Table). HasRun m row) same (record {
+      run = run_said row t c is says.0 says.1;
+      empty = refl;
+      numbered = refl;
+      fresh = record {
+        pairs = λ lt. refl;
+        bills = λ lt. refl;
+        demands = λ lt. refl;
+        receipts = λ lt. refl;
+        ships = λ lt. refl;
+        cums = λ lt. refl;
+        resets =
+            λ lt. refl;
+      };
+    })
+run_has N row t (Err f) is says e = absurd (cc)
+
+start_has : (N : Table) (row : Row) (terms : Result RunTerms TableFaultKind) → first_terms row ≡ terms → StartsWith terms (Ok N) → HasRun N row
+start_has N row (Ok t) is s = run_has N row t s.0 is s.1 s.2
+start_has N row (Err e) is s = absurd (cc s)
+
+-- ---- the whole table
+
+record IsWritten (rows : List Row) (N : Table) : Type 0 where
+  rows_are : rows ≡ rows_of N
+  numbered : IsNumbered N
+
+whole_written : (start : Result Table TableFaultKind) (row : Row) (rows : List Row) (N : Table) → Starts row start → Ok N ≡ read_from start rows
+    → IsWritten (row ∷ rows) N
+whole_written (Ok first) row rows N starts e =
+    let a = went_on (rows_after 2 (first, kind.Run) rows) waiting N (sym e) in
+    let w = waited a.0 N (first_lacking a.0 a.0.sources) a.2 in
+    let has = start_has first row (first_terms row) refl starts in
+    let all = rows_add rows 2 (first, kind.Run) a.0 (first_keeps first row starts) has.fresh a.1 in
+    let head : row ≡ run_fields a.0.calendar = has.run ∙ ap run_fields (sym all.calendar) in
+    let rest : rows ≡ later_rows a.0 = sym (all.written ∙ ap (λ l. l ++ rows) has.empty) in
+    subst (IsWritten (row ∷ rows)) w.1 (record {
+      rows_are = ap (λ r. r ∷ rows) head ∙ ap (λ l. run_fields a.0.calendar ∷ l) rest;
+      numbered = all.numbered has.numbered;
+    })
+whole_written (Err k) row rows N starts e = absurd (cc)
+
+is_written : (rows : List Row) (N : Table) → Reads rows (Ok N) → IsWritten rows N
+is_written [] N e = absurd (cc)
+is_written (row ∷ rows) N reads = whole_written reads.0 row rows N reads.1 reads.2
+
+pub written_out : (rows : List Row) (N : Table) → Reads rows (Ok N) → rows ≡ rows_of N
+written_out rows N reads = (is_written rows N reads).rows_are
+
+pub one_list : (a b : List Row) (N : Table) → Reads a (Ok N) → Reads b (Ok N) → a ≡ b
+one_list a b N ra rb = written_out a N ra ∙ sym (written_out b N rb)
+
+pub items_numbered : (rows : List Row) (N : Table) → Reads rows (Ok N) → AreNumbered 0 N.pairs (length N.items)
+items_numbered rows N reads = (is_written rows N reads).numbered

@@ -1,0 +1,174 @@
+-- The grammar of a whole table: its rows one after the other, and the test that waits for the last.
+use Rattle.std.specs.Prelude.{◌≡◌, ℕ, ◌+◌, ◌*◌, ◌≤◌, ◌<◌, Bool, true, false, if◌then◌else◌, List, [], ◌∷◌, ◌++◌, length}
+use Rattle.std.specs.Prelude.{Option, Some, None, Result}
+use Rattle.std.specs.Prelude.{Ok, Err}
+use Rattle.std.specs.List.{list_all}
+use Rattle.std.specs.Str.{is_utf8}
+use Rattle.mrp_cal.specs.Calendar.{CalendarTerms, IsCalendar}
+use Rattle.mrp_cal.specs.Made.{IsCalendarFrom, IsRefused}
+use Rattle.mrp_cal.specs.declared.fault.CalFault.{CalFault}
+use Rattle.mrp_validation.specs.declared.fault.TableFault.{TableFault}
+use Rattle.mrp_validation.specs.declared.fault.TableFaultKind.{TableFaultKind}
+use Rattle.mrp_validation.specs.declared.fault.TableFaultKind.TheVariants as fault
+use Rattle.mrp_validation.specs.declared.kind.Kind.{Kind}
+use Rattle.mrp_validation.specs.declared.kind.Kind.TheVariants as kind
+use Rattle.mrp_master_data.specs.declared.rows.SourceRow.{SourceRow}
+use Rattle.mrp_master_data.specs.Table.{IsOnce, IsRead, IsSourced, Table}
+use Rattle.mrp_master_data.specs.Growing.{empty_table}
+use Rattle.mrp_qty.specs.declared.limits.TheConstants.{MOST_SOURCES_OF_PAIR}
+use Rattle.mrp_master_data.specs.Growing.{lacks_pair}
+use Rattle.mrp_validation.specs.Grammar.{◌>>=◌, bill_row, check, cum_row, demand_row, may_follow, pair_row, kind_place}
+use Rattle.mrp_validation.specs.Grammar.{plant_row, receipt_row, reset_row}
+use Rattle.mrp_validation.specs.Grammar.{row_kind, run_terms, RunTerms, ship_row}
+
+-- the kind of a row whose fields are text
+unfoldable pub kind_of_row : List (List ℕ) → Result Kind TableFaultKind
+kind_of_row row = do
+  _ ← check (list_all is_utf8 row) fault.NotUtf8
+  row_kind row
+
+-- the table with one row more of that kind
+unfoldable pub row_of_kind : Kind → Table → List (List ℕ) → Result Table TableFaultKind
+row_of_kind kind.Run N row = Err fault.KindOrder
+row_of_kind kind.Plant N row = plant_row N row
+row_of_kind kind.Pair N row = pair_row N row
+row_of_kind kind.Bill N row = bill_row N row
+row_of_kind kind.Demand N row = demand_row N row
+row_of_kind kind.Receipt N row = receipt_row N row
+row_of_kind kind.Ship N row = ship_row N row
+row_of_kind kind.Cum N row = cum_row N row
+row_of_kind kind.Reset N row = reset_row N row
+
+-- ---- the first row
+
+abbrev pub is_run : Kind → Bool
+is_run kind.Run = true
+is_run kind.Plant = false
+is_run kind.Pair = false
+is_run kind.Bill = false
+is_run kind.Demand = false
+is_run kind.Receipt = false
+is_run kind.Ship = false
+is_run kind.Cum = false
+is_run kind.Reset = false
+
+-- what the first row spells
+unfoldable pub first_terms : List (List ℕ) → Result RunTerms TableFaultKind
+first_terms row = do
+  k ← kind_of_row row
+  _ ← check (is_run k) fault.KindOrder
+  run_terms row
+
+-- the calendar of a run, or why there is none
+abbrev pub IsCalendarOf : RunTerms → Result CalendarTerms CalFault → Type 0
+IsCalendarOf t (Ok c) = IsCalendarFrom t.first t.days t.periods c × IsCalendar c
+IsCalendarOf t (Err e) = IsRefused t.first t.days t.periods e
+
+abbrev pub started : Result CalendarTerms CalFault → Result Table TableFaultKind
+started (Ok c) = Ok (empty_table c)
+started (Err e) = Err (fault.CalendarFault e)
+
+-- what a run's terms make
+abbrev pub StartsWith : Result RunTerms TableFaultKind → Result Table TableFaultKind → Type 0
+StartsWith (Err e) start = start ≡ Err e
+StartsWith (Ok t) start = (c : Result CalendarTerms CalFault) × IsCalendarOf t c × (start ≡ started c)
+
+-- what the first row makes
+abbrev pub Starts : List (List ℕ) → Result Table TableFaultKind → Type 0
+Starts row start = StartsWith (first_terms row) start
+
+-- ---- the rows after it
+
+-- the table and the kind of its last row, after one row more
+unfoldable pub row_after : Table × Kind → List (List ℕ) → Result (Table × Kind) TableFaultKind
+row_after s row = do
+  k ← kind_of_row row
+  _ ← check (may_follow k s.1) fault.KindOrder
+  N ← row_of_kind k s.0 row
+  Ok (N, k)
+
+-- what the rows read so far say: no row stands twice, pairs come from where the table says, and each
+-- pair row names one item and at most four sources; no count starts anew before the reset rows
+pub record IsReadSoFar (N : Table) (last : Kind) : Type 0 where
+  pub read : IsRead N
+  pub once : IsOnce N
+  pub sourced : IsSourced N
+  pub items : length N.items ≤ length N.pairs
+  pub sources : length N.sources ≤ MOST_SOURCES_OF_PAIR * length N.pairs
+  pub resets : kind_place last < kind_place kind.Reset → N.resets ≡ []
+
+-- a row's fault with its number
+abbrev pub at_row : {A : Type 0} → ℕ → Result A TableFaultKind → Result A TableFault
+at_row number (Ok x) = Ok x
+at_row number (Err e) = Err (record { row = number; kind = e })
+
+-- go on with what was read
+abbrev pub go_on : {A B : Type 0} → Result A TableFault → (A → Result B TableFault) → Result B TableFault
+go_on (Ok x) more = more x
+go_on (Err e) more = Err e
+
+-- the table after these rows, the first of which has that number
+unfoldable pub rows_after : ℕ → Table × Kind → List (List (List ℕ)) → Result Table TableFault
+rows_after number s [] = Ok s.0
+rows_after number s (row ∷ rows) = go_on (at_row number (row_after s row)) (λ t. rows_after (number + 1) t rows)
+
+-- ---- the test that waits for the last row
+
+-- the number of a pair's row: the run and the plants stand before the pairs
+abbrev pub pair_row_number : Table → ℕ → ℕ
+pair_row_number N x = 1 + length N.plants + x + 1
+
+-- the pair of the first source that has no pair behind it
+unfoldable pub first_lacking : Table → List SourceRow → Option ℕ
+first_lacking N [] = None
+first_lacking N (s ∷ ss) = if lacks_pair N s then Some s.pair.0 else first_lacking N ss
+
+abbrev pub unless_lacking : Table → Option ℕ → Result Table TableFault
+unless_lacking N None = Ok N
+unless_lacking N (Some x) = Err (record { row = pair_row_number N x; kind = fault.UnknownPair })
+
+-- each pair that a pair is taken from has a row
+abbrev pub waiting : Table → Result Table TableFault
+waiting N = unless_lacking N (first_lacking N N.sources)
+
+-- ---- the whole table
+
+-- what the rows after the run make
+abbrev pub read_from : Result Table TableFaultKind → List (List (List ℕ)) → Result Table TableFault
+read_from start rows = go_on (at_row 1 start) (λ N. go_on (rows_after 2 (N, kind.Run) rows) waiting)
+
+-- the rows make that table, or have that first fault
+abbrev pub Reads : List (List (List ℕ)) → Result Table TableFault → Type 0
+Reads [] read = read ≡ Err (record { row = 0; kind = fault.Empty })
+Reads (row ∷ rows) read = (start : Result Table TableFaultKind) × Starts row start × (read ≡ read_from start rows)
+
+-- rows from the first one on that hold no fault; what waits for the last row is not tested
+abbrev pub HoldNoFault : List (List (List ℕ)) → Type 0
+HoldNoFault [] = Unit {0}
+HoldNoFault (row ∷ rows) = (N : Table) × (M : Table) × Starts row (Ok N) × (rows_after 2 (N, kind.Run) rows ≡ Ok M)
+
+-- the rows above the row of that number are all there, and hold no fault
+pub record IsSoundAbove (number : ℕ) (rows : List (List (List ℕ))) : Type 0 where
+  pub above : List (List (List ℕ))
+  pub rest : List (List (List ℕ))
+  pub rows_are : rows ≡ above ++ rest
+  pub number_is : number ≡ length above + 1
+  pub no_fault : HoldNoFault above
+
+-- that the reader failed, or that memory was wanting, says something of the rows above alone; each other fault is a
+-- row's
+abbrev pub OfRows : TableFaultKind → Type 0 → Type 0 → Type 0
+OfRows fault.ReadFault above says = above
+OfRows fault.Memory above says = above
+OfRows e above says = says
+
+-- what a test of a row answers is of the row, but that memory was wanting
+abbrev pub UnlessMemory : TableFaultKind → Type 0 → Type 0
+UnlessMemory fault.Memory says = Unit {0}
+UnlessMemory e says = says
+
+-- the answer is what the rows make, or their first fault; where the reader failed, or memory was wanting, the rows
+-- above the named one hold no fault
+abbrev pub TellsRows : Result Table TableFault → List (List (List ℕ)) → Type 0
+TellsRows (Ok N) rows = Reads rows (Ok N)
+TellsRows (Err e) rows = OfRows e.kind (IsSoundAbove e.row rows) (Reads rows (Err e))

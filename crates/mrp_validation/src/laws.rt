@@ -1,0 +1,87 @@
+//! Laws of the grammar of tables, each the contract of a function that does nothing.
+ghost use Rattle.std.specs.Prelude.{◌≡◌, ◌↔◌, ◌+◌, ◌*◌, ℕ, length, List, Ok, Result};
+ghost use Rattle.csv.specs.Reading.{AreRecords, default_config, records};
+ghost use Rattle.csv.specs.declared.parser.State.TheVariants.{StartRecord};
+ghost use Rattle.mrp_cal.specs.Calendar.{CalendarTerms};
+ghost use Rattle.mrp_cal.specs.declared.fault.CalFault.{CalFault};
+ghost use Rattle.mrp_validation.specs.declared.fault.TableFault.{TableFault};
+ghost use Rattle.mrp_validation.specs.declared.kind.Kind.{Kind};
+ghost use Rattle.mrp_validation.specs.Faults.{faults_of, HasListedFaults, Rise};
+ghost use Rattle.mrp_validation.specs.Grammar.{RunTerms};
+ghost use Rattle.mrp_validation.specs.Missing.{TellsMissing};
+ghost use Rattle.mrp_validation.specs.Reading.{IsCalendarOf, Reads};
+ghost use Rattle.mrp_validation.specs.Tests.{HasFirstFault};
+ghost use Rattle.mrp_validation.specs.Written.{AreNumbered, rows_of};
+ghost use Rattle.mrp_master_data.specs.Table.{IsTable, Table};
+
+/// What is read is a table: rows that the grammar reads say all that an accepted table says.
+pub fn what_is_read_is_a_table()
+    ensures { (rows : List (List (List ℕ))) (N : Table) → Reads rows (Ok N) → IsTable N }
+{}
+
+/// Rows that are read are the table written out: the run row, then each plant, pair, bill, demand, receipt, ship,
+/// cum and reset row of the table in its order, with the names of what it names, its period, its quantity and its
+/// other values each in the field where it is written, and nothing in the fields that it doesn't use.
+pub fn rows_are_the_table_written_out()
+    ensures { (rows : List (List (List ℕ))) (N : Table) → Reads rows (Ok N) → rows ≡ rows_of N }
+{}
+
+/// A table is read from one list of rows alone: reading loses nothing that a row says.
+pub fn tables_have_one_list_of_rows()
+    ensures { (a b : List (List (List ℕ))) (N : Table) → Reads a (Ok N) → Reads b (Ok N) → a ≡ b }
+{}
+
+/// Items are numbered in the order of their first pairs: each pair of a table that is read has an item of a pair
+/// above it, or the next one, and there is no other item.
+pub fn items_are_numbered_by_their_pairs()
+    ensures { (rows : List (List (List ℕ))) (N : Table) → Reads rows (Ok N) → AreNumbered 0 N.pairs (length N.items) }
+{}
+
+/// Every table whose items are numbered by their pairs is read from what is written of it.
+pub fn tables_written_out_are_read()
+    ensures { (N : Table) → IsTable N → AreNumbered 0 N.pairs (length N.items) → Reads (rows_of N) (Ok N) }
+{}
+
+/// A table is read from its own rows alone: what is read is a table with its items numbered by its pairs, from the
+/// rows that are written of it, and each such table is read from them.
+pub fn a_table_is_read_from_its_own_rows_alone()
+    ensures { (rows : List (List (List ℕ))) (N : Table)
+        → Reads rows (Ok N) ↔ ((rows ≡ rows_of N) × IsTable N × AreNumbered 0 N.pairs (length N.items)) }
+{}
+
+/// The records that the grammar speaks of are all the records of a text.
+pub fn records_are_all_records()
+    ensures { (text : List ℕ) → AreRecords default_config StartRecord text (records default_config text) }
+{}
+
+/// A run row has one calendar at most, or one fault of its calendar.
+pub fn a_run_has_one_calendar()
+    ensures { (t : RunTerms) (a b : Result CalendarTerms CalFault) → IsCalendarOf t a → IsCalendarOf t b → a ≡ b }
+{}
+
+/// Rows are read one way at most: they make one table, or have one first fault.
+pub fn reads_are_one()
+    ensures { (rows : List (List (List ℕ))) (a b : Result Table TableFault) → Reads rows a → Reads rows b → a ≡ b }
+{}
+
+/// The faults of each kind of row are listed in the order of their numbers.
+pub fn faults_rise()
+    ensures { (k : Kind) → Rise (faults_of (Ok k)) }
+{}
+
+/// A row is refused for a fault of its list alone: a first row, and a later one whatever the rows above it.
+pub fn rows_have_listed_faults()
+    ensures { (row : List (List ℕ)) → HasListedFaults row }
+{}
+
+/// A row is refused for the first test of its list that it fails, and taken where it passes all of them; a
+/// first row that passes them may still make no calendar.
+pub fn rows_have_their_first_fault()
+    ensures { (row : List (List ℕ)) → HasFirstFault row }
+{}
+
+/// The test that waits for the last row refuses a table exactly where a source takes from a pair that has no
+/// row, at the row of the pair of the first such source.
+pub fn missing_pairs_are_told()
+    ensures { (N : Table) → TellsMissing N }
+{}
