@@ -4,7 +4,7 @@ use Rattle.std.proofs.lemmas.List.{length-set}
 use Rattle.std.proofs.lemmas.List.Elements.{All-set}
 use Rattle.std.proofs.lemmas.List.FromFn.{length-map-range_with_len}
 use Rattle.mrp_netting.specs.One.{PlanRows}
-use Rattle.mrp_netting.proofs.OneLaws.{release_at, one-gross, one-release}
+use Rattle.mrp_netting.proofs.PlainRows.{one-gross, length-one-release}
 use Rattle.mrp_netting.specs.declared.params.PairParams.{PairParams}
 use Rattle.mrp_master_data.specs.declared.numbers.PairNo.{PairNo}
 use Rattle.mrp_protocol.specs.LocalPlans.{amount_at, asked_within}
@@ -22,7 +22,7 @@ drafted_periods A x =
     length-map-range_with_len (λ (t : ℕ). amount_at A.view A.outside_demand x t + asked_within A.view (plans_of A) x t) 0 A.view.horizon in
     record {
       gross = ap length (one-gross params incoming gross) ∙ size;
-      release = ap length (one-release params incoming gross) ∙ length-map-range_with_len (release_at params incoming gross) 0 (length gross) ∙ size;
+      release = length-one-release params incoming gross ∙ size;
     }
 
 -- the plan at a place has as many periods as a draft

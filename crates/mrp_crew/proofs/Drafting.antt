@@ -4,7 +4,7 @@ use Rattle.std.proofs.Math.Seq.{take-suc}
 use Rattle.std.specs.List.{AllPairs}
 use Rattle.std.proofs.lemmas.List.FromFn.{length-map-range_with_len}
 use Rattle.std.proofs.lemmas.List.Elements.{All-push, All-take, All-weaker}
-use Rattle.mrp_netting.proofs.OneLaws.{one-gross}
+use Rattle.mrp_netting.proofs.PlainRows.{one-gross}
 use Rattle.mrp_master_data.specs.declared.numbers.PairNo.{PairNo}
 use Rattle.mrp_protocol.specs.LocalPlans.{amount_at, asked_within}
 use Rattle.mrp_agent.specs.Drafts.{CanDraft, drafted, drafted_gross, drafted_incoming}

@@ -10,7 +10,7 @@ use Rattle.mrp_qty.specs.declared.quantity.TheConstants.{MOST}
 use Rattle.mrp_lot.specs.Lot.{rule_quantities}
 use Rattle.mrp_netting.specs.One.{PlanRows}
 use Rattle.mrp_netting.specs.Bound.{IsWithin}
-use Rattle.mrp_netting.proofs.OneLaws.{one-gross, one-incoming, one-release_sum-le, one-within}
+use Rattle.mrp_netting.proofs.PlainRows.{one-gross, one-incoming, one-release_sum-le, one-within}
 use Rattle.mrp_master_data.specs.declared.rows.CumRow.{CumRow}
 use Rattle.mrp_master_data.specs.declared.rows.ShipRow.{ShipRow}
 use Rattle.mrp_master_data.specs.Table.{Table, IsPair, horizon}
@@ -106,6 +106,7 @@ module _ (N : Table) (sized : IsSized N) (needs : List ℕ) (are : AreNeeds N ne
   own_incoming : (x : ℕ) → IsPair N x → (rows_at table x).incoming ≡ row_of N (incoming N x)
   own_incoming x pair = ap (λ (rows : PlanRows). rows.incoming) (fits.rows x pair)
       ∙ one-incoming (params_at N x) (row_of N (incoming N x)) (row_of N (gross N table x))
+      (length-row_of N (incoming N x) ∙ sym (length-row_of N (gross N table x)))
 
 -- the needs of a sized network are within the bound, whichever list of them is given
 pub needs_within : (N : Table) → IsSized N → (needs : List ℕ) → AreNeeds N needs → AreWithin N needs

@@ -1,7 +1,8 @@
 //! The plan of one pair, its five rows and its late orders.
 
 ghost use Rattle.std.specs.Prelude.{◌≡◌, ◌<◌, ◌≤◌, ◌↔◌, length, IsTrue, IfOk, Some, slice_get, vec_capacity};
-ghost use Rattle.mrp_netting.specs.One.{PlanRows, one};
+ghost use Rattle.mrp_netting.specs.One.{PlanRows};
+ghost use Rattle.mrp_netting.specs.PlanningData.{plain, one};
 ghost use Rattle.mrp_netting.specs.Bound.{IsWithin};
 ghost use Rattle.mrp_netting.specs.Plan.{AreRows, nothing_planned, late_orders_in, AreLate};
 
@@ -189,7 +190,7 @@ impl PairPlan {
 pub fn plan_pair(params: &PairParams, incoming: &Row, gross: &Row, into: &mut PairPlan)
     requires within { IsWithin params.now incoming.now gross.now }
     requires room { length into.old.gross ≡ length gross.now }
-    ensures { into.new ≡ one params.now incoming.now gross.now }
+    ensures { into.new ≡ one (plain params.now incoming.now gross.now) }
 {
     into.gross.copy_from(gross);
     into.incoming.copy_from(incoming);
@@ -214,7 +215,7 @@ pub fn plan_pair(params: &PairParams, incoming: &Row, gross: &Row, into: &mut Pa
 /// (by construction; no clause says so).
 pub fn is_plan(params: &PairParams, plan: &PairPlan) -> bool
     requires { IsWithin params.now plan.now.incoming plan.now.gross }
-    ensures { IsTrue result ↔ (plan.now ≡ one params.now plan.now.incoming plan.now.gross) }
+    ensures { IsTrue result ↔ (plan.now ≡ one (plain params.now plan.now.incoming plan.now.gross)) }
 {
     let _len = plan.len();
     let incoming = plan.incoming().as_slice();

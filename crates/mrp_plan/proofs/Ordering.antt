@@ -9,7 +9,7 @@ use Rattle.mrp_netting.specs.One.{PlanRows, is_late, late_order, late_orders, re
 use Rattle.mrp_netting.specs.PlanningData.{plain, one}
 use Rattle.mrp_netting.specs.declared.params.Late.{Late}
 use Rattle.mrp_netting.specs.declared.params.PairParams.{PairParams}
-use Rattle.mrp_netting.proofs.OneLaws.{length-one-order}
+use Rattle.mrp_netting.proofs.PlainRows.{length-one-order, one-late, one-release}
 use Rattle.mrp_master_data.specs.Table.{horizon}
 use Rattle.mrp_net.specs.Plan.{gross, pair_plan, rows_at}
 use Rattle.mrp_net.specs.Sums.{incoming, params_at, row_of}
@@ -65,18 +65,21 @@ released_in lead r rows (t ∷ ts) =
     let is : part t ≡ 0 = cond_both ((t - lead) == r) (slice_index rows.order t) 0 (λ n. n ≡ 0) (λ here. none) (λ other. refl) in
     omega (arith, rest, whole, is))
 
--- the release row of the plan of one pair
-row_is : (pair : PairParams) (incoming gross : List ℕ) (r : ℕ) → slice_index (one (plain pair incoming gross)).release r
-    ≡ slice_index (release_row pair.lead (one (plain pair incoming gross)).order) r
-unfolding one
-row_is pair incoming gross r = refl
+-- both given rows of a pair have the periods of the calendar
+same_periods : (N : Table) (table : List PlanRows) (x : ℕ) → length (row_of N (incoming N x)) ≡ length (row_of N (gross N table x))
+same_periods N table x = length-map-range_with_len (incoming N x) 0 (horizon N) ∙ sym (length-map-range_with_len (gross N table x) 0 (horizon N))
 
-one_release : (pair : PairParams) (incoming gross : List ℕ) (n r : ℕ) → length gross ≡ n → r < n
+-- the release row of the plan of one pair
+row_is : (pair : PairParams) (incoming gross : List ℕ) (r : ℕ) → length incoming ≡ length gross
+    → slice_index (one (plain pair incoming gross)).release r ≡ slice_index (release_row pair.lead (one (plain pair incoming gross)).order) r
+row_is pair incoming gross r len = ap (λ (row : List ℕ). slice_index row r) (one-release pair incoming gross len)
+
+one_release : (pair : PairParams) (incoming gross : List ℕ) (n r : ℕ) → length incoming ≡ length gross → length gross ≡ n → r < n
     → slice_index (one (plain pair incoming gross)).release r ≡ sum_by (part_in pair.lead (one (plain pair incoming gross)).order r) (range_with_len 0 n)
-one_release pair incoming gross n r same lt =
+one_release pair incoming gross n r len same lt =
     let order = (one (plain pair incoming gross)).order in
     let size : length order ≡ n = length-one-order pair incoming gross ∙ same in
-    row_is pair incoming gross r
+    row_is pair incoming gross r len
     ∙ get_or-map-range_with_len (released pair.lead order (length order)) 0 (length order) r r 0 (omega (arith, size, lt)) (omega arith)
     ∙ ap (λ m. sum_by (part_in pair.lead order r) (range_with_len 0 m)) size
 
@@ -85,7 +88,7 @@ orders_make_releases N table fits x r in_table within =
     let lead = (params_at N x).lead in
     let is : PlanRows → Type 0 = λ rows. slice_index rows.release r ≡ sum_by (part_in lead rows.order r) (range_with_len 0 (horizon N)) in
     let plan : is (pair_plan N table x) =
-    one_release (params_at N x) (row_of N (incoming N x)) (row_of N (gross N table x)) (horizon N) r
+    one_release (params_at N x) (row_of N (incoming N x)) (row_of N (gross N table x)) (horizon N) r (same_periods N table x)
     (length-map-range_with_len (gross N table x) 0 (horizon N)) within in
     released_in lead r (rows_at table x) (range_with_len 0 (horizon N)) ∙ sym (subst is (sym (fits.rows x in_table)) plan)
 
@@ -122,16 +125,12 @@ late_in lead rows (t ∷ ts) =
     (λ free. rest ∙ sym (ap kept (late_free lead (slice_index rows.order t) t (nothing (slice_index rows.order t) free))))
 
 -- the late orders of the plan of one pair
-one_late : (pair : PairParams) (incoming gross : List ℕ) → (one (plain pair incoming gross)).late ≡ late_orders pair.lead (one (plain pair incoming gross)).order
-unfolding one
-one_late pair incoming gross = refl
-
-one_late_in : (pair : PairParams) (incoming gross : List ℕ) (n : ℕ) → length gross ≡ n
+one_late_in : (pair : PairParams) (incoming gross : List ℕ) (n : ℕ) → length incoming ≡ length gross → length gross ≡ n
     → (one (plain pair incoming gross)).late ≡ map (late_order pair.lead (one (plain pair incoming gross)).order)
     (filter (is_late pair.lead (one (plain pair incoming gross)).order) (range_with_len 0 n))
-one_late_in pair incoming gross n same =
+one_late_in pair incoming gross n len same =
     let order = (one (plain pair incoming gross)).order in
-    one_late pair incoming gross
+    one-late pair incoming gross len
     ∙ ap (λ m. map (late_order pair.lead order) (filter (is_late pair.lead order) (range_with_len 0 m))) (length-one-order pair incoming gross ∙ same)
 
 pub late_orders_are_orders : LateOrdersAreOrders
@@ -139,6 +138,6 @@ late_orders_are_orders N table fits x in_table =
     let lead = (params_at N x).lead in
     let is : PlanRows → Type 0 = λ rows. rows.late ≡ map (late_order lead rows.order) (filter (is_late lead rows.order) (range_with_len 0 (horizon N))) in
     let plan : is (pair_plan N table x) =
-    one_late_in (params_at N x) (row_of N (incoming N x)) (row_of N (gross N table x)) (horizon N) (length-map-range_with_len (gross N table x) 0 (horizon N))
+    one_late_in (params_at N x) (row_of N (incoming N x)) (row_of N (gross N table x)) (horizon N) (same_periods N table x) (length-map-range_with_len (gross N table x) 0 (horizon N))
     in
     late_in lead (rows_at table x) (range_with_len 0 (horizon N)) ∙ sym (subst is (sym (fits.rows x in_table)) plan)

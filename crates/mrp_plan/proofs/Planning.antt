@@ -11,7 +11,7 @@ use Rattle.mrp_lot.specs.Lot.{rule_quantities}
 use Rattle.mrp_netting.specs.One.{PlanRows}
 use Rattle.mrp_netting.specs.PlanningData.{plain, one}
 use Rattle.mrp_netting.specs.Bound.{IsWithin}
-use Rattle.mrp_netting.proofs.OneLaws.{release_at, releases-le, one-release, length-one-release}
+use Rattle.mrp_netting.proofs.PlainRows.{one-release_sum-le, length-one-release, one-gross as plain-gross, one-incoming as plain-incoming}
 use Rattle.mrp_qty.proofs.RangeLaws.{map-range-same}
 use Rattle.mrp_master_data.specs.Table.{Table, IsTable, horizon}
 use Rattle.mrp_net.specs.Edges.{demanders, edge_need}
@@ -64,23 +64,18 @@ pair_plan-release N table x =
     ∙ length-map-range_with_len (gross N table x) 0 (horizon N)
 
 pub one-gross : (N : Table) (table : List PlanRows) (x : ℕ) → (pair_plan N table x).gross ≡ row_of N (gross N table x)
-unfolding one
-one-gross N table x = refl
+one-gross N table x = plain-gross (params_at N x) (row_of N (incoming N x)) (row_of N (gross N table x))
 
 pub one-incoming : (N : Table) (table : List PlanRows) (x : ℕ) → (pair_plan N table x).incoming ≡ row_of N (incoming N x)
-unfolding one
-one-incoming N table x = refl
+one-incoming N table x =
+    plain-incoming (params_at N x) (row_of N (incoming N x)) (row_of N (gross N table x))
+    (length-map-range_with_len (incoming N x) 0 (horizon N) ∙ sym (length-map-range_with_len (gross N table x) 0 (horizon N)))
 
 -- its releases together are within what safety, the rule and the gross requirements ask
 pub pair_plan-releases : (N : Table) (table : List PlanRows) (x : ℕ) → IsWithin (params_at N x) (row_of N (incoming N x)) (row_of N (gross N table x))
     → sum (pair_plan N table x).release ≤ (pair_at N x).safety + rule_quantities (pair_at N x).rule + sum (row_of N (gross N table x))
 pair_plan-releases N table x is =
-    omega (
-      arith,
-      ap (λ (row : List ℕ). sum row) (one-release (params_at N x) (row_of N (incoming N x)) (row_of N (gross N table x))),
-      releases-le (params_at N x) (row_of N (incoming N x)) (row_of N (gross N table x)) is,
-      sum-map (release_at (params_at N x) (row_of N (incoming N x)) (row_of N (gross N table x))) (range_with_len 0 (length (row_of N (gross N table x)))),
-    )
+    one-release_sum-le (params_at N x) (row_of N (incoming N x)) (row_of N (gross N table x)) is
 
 -- what the demanders ask is within what they need
 pub asked_total-le : (N : Table) (needs order : List ℕ) (k : ℕ) (table : List PlanRows) → IsPlanningOrder N order → k < length order

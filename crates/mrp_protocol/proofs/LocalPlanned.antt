@@ -2,7 +2,7 @@
 use Rattle.std.proofs.Common.{◌≡◌, ℕ, suc, zero, ◌<◌, Bool, true, List, get_or, sym, ap, ◌∙◌, subst, arith, slice_index}
 use Rattle.mrp_netting.specs.One.{PlanRows}
 use Rattle.mrp_netting.specs.Bound.{IsWithin}
-use Rattle.mrp_netting.proofs.OneLaws.{one-gross, one-incoming}
+use Rattle.mrp_netting.proofs.PlainRows.{one-gross, one-incoming}
 use Rattle.mrp_master_data.specs.Table.{Table, IsTable}
 use Rattle.mrp_net.specs.Plan.{plan_of}
 use Rattle.mrp_net.specs.Sums.{pair_at, params_at}

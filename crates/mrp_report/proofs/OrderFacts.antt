@@ -8,7 +8,7 @@ use Rattle.mrp_netting.specs.One.{PlanRows}
 use Rattle.mrp_plan.specs.Orders.{has_order, is_released_by, planned_order}
 use Rattle.mrp_plan.specs.declared.orders.PlannedOrder.{PlannedOrder}
 use Rattle.mrp_report.specs.declared.orders.OrderLine.{OrderLine}
-use Rattle.mrp_netting.proofs.OneLaws.{length-one-order}
+use Rattle.mrp_netting.proofs.PlainRows.{length-one-order}
 use Rattle.mrp_master_data.specs.Table.{horizon, IsPair, Table}
 use Rattle.mrp_net.specs.Plan.{gross, rows_at}
 use Rattle.mrp_net.specs.PlanLaws.{Fits}

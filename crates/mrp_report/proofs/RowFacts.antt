@@ -3,7 +3,7 @@ use Rattle.std.proofs.Common.{◌≡◌, ℕ, List, length, subst, sym, ap, arit
 use Rattle.std.proofs.lemmas.List.FromFn.{length-map-range_with_len}
 use Rattle.mrp_netting.specs.One.{PlanRows}
 use Rattle.mrp_netting.specs.PlanningData.{plain, one}
-use Rattle.mrp_netting.proofs.OneLaws.{one-gross, one-incoming, length-one-order, length-one-release, length-one-available}
+use Rattle.mrp_netting.proofs.PlainRows.{one-gross, one-incoming, length-one-order, length-one-release, length-one-available}
 use Rattle.mrp_netting.specs.declared.params.PairParams.{PairParams}
 use Rattle.mrp_master_data.specs.Table.{Table, IsPair, horizon}
 use Rattle.mrp_net.specs.Sums.{params_at, row_of, incoming}
@@ -15,7 +15,7 @@ use Rattle.mrp_report.specs.Parts.{HasPeriods}
 one_has : (pair : PairParams) (incoming gross : List ℕ) (n : ℕ) → length incoming ≡ n → length gross ≡ n → HasPeriods (one (plain pair incoming gross)) n
 one_has pair incoming gross n same_incoming same_gross t lt = record {
   gross = omega (arith, ap (λ (row : List ℕ). length row) (one-gross pair incoming gross));
-  incoming = omega (arith, ap (λ (row : List ℕ). length row) (one-incoming pair incoming gross));
+  incoming = omega (arith, ap (λ (row : List ℕ). length row) (one-incoming pair incoming gross (same_incoming ∙ sym same_gross)));
   order = omega (arith, length-one-order pair incoming gross);
   release = omega (arith, length-one-release pair incoming gross);
   available = omega (arith, length-one-available pair incoming gross);

@@ -4,6 +4,7 @@ use Rattle.mrp_netting.specs.One.{PlanRows, order_row, available_row, release_ro
 use Rattle.mrp_netting.specs.Plan.{AreLate}
 use Rattle.mrp_netting.proofs.Lates.{are_late, late_few}
 use Rattle.mrp_netting.proofs.Plans.{from_rows, length-order_row, order_row-le, plan_is}
+use Rattle.mrp_netting.proofs.PlainLaws.{plain_is_today}
 use Rattle.mrp_netting.proofs.plan.plan_pair.Goals as goal
 use Rattle.mrp_netting.proofs.plan.plan_pair.Goals.{After-plan_orders}
 
@@ -72,3 +73,4 @@ returns c =
     c.copy_from.ensures c.copy_from-2.ensures (ordered planned) (balanced planned)
     (c.plan_releases.ensures ∙ ap (release_row params.lead) same)
     (c.note_late.ensures.periods ∙ ap (λ (xs : List ℕ). late_periods params.lead xs (length xs)) again)
+    ∙ sym (plain_is_today params incoming gross c.requires.within.periods)
