@@ -2,4 +2,3 @@ pub mod Bound
 pub mod One
 pub mod Rules
 pub mod Plan
-pub mod PlanningData

@@ -17,7 +17,6 @@ mod laws;
 mod netting;
 mod params;
 mod plan;
-mod planning_data;
 mod release;
 
 pub use blank::blank_plans;
@@ -28,4 +27,3 @@ pub use laws::{
 };
 pub use params::{Late, PairParams};
 pub use plan::{PairPlan, is_plan, plan_pair};
-pub use planning_data::{PlanningData, Policy};
