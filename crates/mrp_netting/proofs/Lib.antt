@@ -1,4 +1,7 @@
 pub mod OneLaws
+pub mod Greatest
+pub mod PlannedReleases
+pub mod PlainLaws
 pub mod RulesLaws
 pub mod Balances
 pub mod Compared

@@ -17,6 +17,8 @@ mod laws;
 mod netting;
 mod params;
 mod plan;
+mod planning_data;
+mod planning_laws;
 mod release;
 
 pub use blank::blank_plans;
@@ -27,3 +29,5 @@ pub use laws::{
 };
 pub use params::{Late, PairParams};
 pub use plan::{PairPlan, is_plan, plan_pair};
+pub use planning_data::{PlanningData, Policy};
+pub use planning_laws::plain_pairs_are_planned_from_two_rows;

@@ -1,0 +1,230 @@
+-- The plan of a pair without policy and firm planned orders is the one from two rows.
+use Rattle.std.specs.Prelude.{◌≡◌, ℕ, ◌+◌, ◌-◌, ◌≤◌, ◌<◌, ◌==◌, if◌then◌else◌, min, max}
+use Rattle.std.specs.Prelude.{List, length, map, sum, take, drop, slice_index, zero, suc}
+use Rattle.std.specs.List.{range_with_len}
+use Rattle.std.proofs.Common.{arith, sym, refl, ◌∙◌, ap, subst, add-zero, ⊎_elim, length-drop}
+use Rattle.std.proofs.lemmas.Bool.{cases_eq, cases_lt}
+use Rattle.std.proofs.lemmas.List.{get_or_past, take_all}
+use Rattle.std.proofs.lemmas.List.FromFn.{fill_by_all, length-map-range_with_len}
+use Rattle.mrp_lot.specs.declared.rule.Rule.{Rule}
+use Rattle.mrp_lot.specs.declared.rule.Rule.TheVariants.{LotForLot, Fixed, Periods, MinMultiple}
+use Rattle.mrp_lot.specs.Lot.{least_multiple_of, lot_of, periods_covered}
+use Rattle.mrp_lot.proofs.LotLaws.{least_multiple-le, least_multiple-lt}
+use Rattle.mrp_qty.proofs.RangeLaws.{sum_take-suc, sum_drop_take-one, map-range-same}
+use Rattle.mrp_netting.specs.declared.params.PairParams.{PairParams}
+use Rattle.mrp_netting.specs.One as today
+use Rattle.mrp_netting.specs.One.{PlanRows, released}
+use Rattle.mrp_netting.specs.Rules.{FollowsRules}
+use Rattle.mrp_netting.specs.PlanningData.{plain, incoming_at, incoming_row, need, greatest, lot_for, no_policy, made_up}
+use Rattle.mrp_netting.specs.PlanningData.{order_after, balance_before, order_at, order_row, available_row, planned_release, release_at, release_row, one}
+use Rattle.mrp_netting.specs.PlanningLaws.{PlainIsToday, PlainFollowsRules}
+use Rattle.mrp_netting.proofs.OneLaws.{greatest_need-zero, greatest_need-suc}
+use Rattle.mrp_netting.proofs.RulesLaws.{plan-follows_rules, rules-have_one_plan}
+use Rattle.mrp_netting.proofs.Compared.{IsFirst, first_in_zero, first_later, released_before, released_more, released_all}
+use Rattle.mrp_netting.proofs.PlannedReleases.{planned_release-first, planned_release-later}
+use Rattle.mrp_netting.proofs.Greatest.{greatest-zero, greatest-suc, greatest-past}
+
+-- what comes in is what arrives
+incoming_at-plain : (pair : PairParams) (incoming gross : List ℕ) (t : ℕ) → incoming_at (plain pair incoming gross) t ≡ slice_index incoming t
+unfolding incoming_at
+incoming_at-plain pair incoming gross zero = omega arith
+incoming_at-plain pair incoming gross (suc t) = omega arith
+
+incoming_row-plain : (pair : PairParams) (incoming gross : List ℕ) → length incoming ≡ length gross → incoming_row (plain pair incoming gross) ≡ incoming
+incoming_row-plain pair incoming gross len =
+    sym (fill_by_all (incoming_at (plain pair incoming gross)) incoming (length gross) 0 len (λ t h. sym (incoming_at-plain pair incoming gross t)))
+
+-- the needs are the same
+need-plain : (pair : PairParams) (incoming gross : List ℕ) (before t n : ℕ) → length incoming ≡ length gross
+    → need (plain pair incoming gross) before t n ≡ today.need_over pair incoming gross before t n
+need-plain pair incoming gross before t n len =
+    let cover = ap (λ (m : ℕ). sum (take m (drop t gross))) (add-zero n) in
+    let come = ap (λ (row : List ℕ). sum (take n (drop t row))) (incoming_row-plain pair incoming gross len) in
+    omega (arith, cover, come)
+
+net-plain : (pair : PairParams) (incoming gross : List ℕ) (before t : ℕ) → length incoming ≡ length gross
+    → need (plain pair incoming gross) before t 1 ≡ today.net_after pair incoming gross before t
+net-plain pair incoming gross before t len =
+    omega (arith, need-plain pair incoming gross before t 1 len, sum_drop_take-one gross t, sum_drop_take-one incoming t)
+
+greatest-plain : (pair : PairParams) (incoming gross : List ℕ) (before t n : ℕ) → length incoming ≡ length gross
+    → greatest (need (plain pair incoming gross) before t) n ≡ today.greatest_need pair incoming gross before t n
+greatest-plain pair incoming gross before t zero len =
+    omega (arith, greatest-zero (need (plain pair incoming gross) before t), greatest_need-zero pair incoming gross before t)
+greatest-plain pair incoming gross before t (suc n) len =
+    omega (
+      arith,
+      greatest-suc (need (plain pair incoming gross) before t) n,
+      greatest_need-suc pair incoming gross before t n,
+      greatest-plain pair incoming gross before t n len,
+      need-plain pair incoming gross before t (suc n) len,
+    )
+
+-- over the horizon no need grows
+sum_past : (row : List ℕ) (t m n : ℕ) → length row ≤ t + m → m ≤ n → sum (take n (drop t row)) ≡ sum (take m (drop t row))
+sum_past row t m n past more =
+    let long = length-drop t row in
+    ap sum (take_all n (drop t row) (omega (arith, long))) ∙ sym (ap sum (take_all m (drop t row) (omega (arith, long))))
+
+need_past : (pair : PairParams) (incoming gross : List ℕ) (before t m n : ℕ) → length incoming ≡ length gross → length gross ≤ t + m → m ≤ n
+    → need (plain pair incoming gross) before t n ≤ need (plain pair incoming gross) before t m
+need_past pair incoming gross before t m n len past more =
+    omega (
+      arith,
+      need-plain pair incoming gross before t n len,
+      need-plain pair incoming gross before t m len,
+      sum_past gross t m n past more,
+      sum_past incoming t m n (omega arith) more,
+    )
+
+span-plain : (pair : PairParams) (incoming gross : List ℕ) (before t k : ℕ) → length incoming ≡ length gross → t < length gross
+    → greatest (need (plain pair incoming gross) before t) k ≡ today.greatest_need pair incoming gross before t (min k (length gross - t))
+span-plain pair incoming gross before t k len within =
+    let m = min k (length gross - t) in
+    let needs = need (plain pair incoming gross) before t in
+    let split : k ≡ m + (k - m) = omega arith in
+    ⊎_elim
+    (λ (all : m ≡ k). ap (greatest needs) (sym all) ∙ greatest-plain pair incoming gross before t m len)
+    (λ (cut : m ≡ k → ⊥).
+    ap (greatest needs) split
+    ∙ greatest-past needs m (k - m) (omega arith) (λ n more. need_past pair incoming gross before t m n len (omega arith) more)
+    ∙ greatest-plain pair incoming gross before t m len)
+    (cases_eq m k)
+
+-- the lot is the same
+lot-plain : (rule : Rule) (needs : ℕ → ℕ) (net : ℕ) (span : ℕ → ℕ) → needs 1 ≡ net → ((k : ℕ) → greatest needs k ≡ span k)
+    → lot_for rule needs ≡ lot_of rule net (span (periods_covered rule))
+lot-plain LotForLot needs net span one_period periods = one_period
+lot-plain (Fixed q) needs net span one_period periods = ap (least_multiple_of q) one_period
+lot-plain (Periods k) needs net span one_period periods = periods k
+lot-plain (MinMultiple m k) needs net span one_period periods = ap (λ (n : ℕ). least_multiple_of k (max n m)) one_period
+
+made_up-none : (lot : ℕ) → made_up no_policy lot ≡ lot
+made_up-none lot =
+    let same : max lot 0 ≡ lot = omega arith in
+    let once : least_multiple_of 1 lot ≡ lot = omega (arith, least_multiple-le lot 1 (omega arith), least_multiple-lt lot 1 (omega arith)) in
+    ap (least_multiple_of 1) same ∙ once
+
+order_after-plain : (pair : PairParams) (incoming gross : List ℕ) (before t : ℕ) → length incoming ≡ length gross → t < length gross
+    → order_after (plain pair incoming gross) before t ≡ today.order_after pair incoming gross before t
+order_after-plain pair incoming gross before t len within =
+    let needs = need (plain pair incoming gross) before t in
+    let net = today.net_after pair incoming gross before t in
+    let span : ℕ → ℕ = λ k. today.greatest_need pair incoming gross before t (min k (length gross - t)) in
+    let lot = lot_for pair.rule needs in
+    let sized : lot ≡ lot_of pair.rule net (span (periods_covered pair.rule)) =
+    lot-plain pair.rule needs net span (net-plain pair incoming gross before t len) (λ k. span-plain pair incoming gross before t k len within) in
+    ap (λ (n : ℕ). if n == 0 then 0 else made_up no_policy lot) (net-plain pair incoming gross before t len)
+    ∙ ap (λ (q : ℕ). if net == 0 then 0 else q) (made_up-none lot ∙ sized)
+
+balance_before-plain : (pair : PairParams) (incoming gross : List ℕ) (t : ℕ) → length incoming ≡ length gross → t ≤ length gross
+    → balance_before (plain pair incoming gross) t ≡ today.balance_before pair incoming gross t
+unfolding balance_before today.balance_before
+balance_before-plain pair incoming gross zero len within = refl
+balance_before-plain pair incoming gross (suc t) len within =
+    let d = plain pair incoming gross in
+    let before = balance_before-plain pair incoming gross t len (omega arith) in
+    let ordered = order_after-plain pair incoming gross (balance_before d t) t len (omega arith) in
+    ap (λ (q : ℕ). (balance_before d t + q + order_after d (balance_before d t) t) - slice_index gross t) (incoming_at-plain pair incoming gross t)
+    ∙ ap (λ (q : ℕ). (balance_before d t + slice_index incoming t + q) - slice_index gross t) ordered
+    ∙ ap (λ (b : ℕ). today.available_after pair incoming gross b t) before
+
+order_at-plain : (pair : PairParams) (incoming gross : List ℕ) (t : ℕ) → length incoming ≡ length gross → t < length gross
+    → order_at (plain pair incoming gross) t ≡ today.order_at pair incoming gross t
+unfolding order_at today.order_at
+order_at-plain pair incoming gross t len within =
+    let d = plain pair incoming gross in
+    order_after-plain pair incoming gross (balance_before d t) t len within
+    ∙ ap (λ (b : ℕ). today.order_after pair incoming gross b t) (balance_before-plain pair incoming gross t len (omega arith))
+
+order_row-plain : (pair : PairParams) (incoming gross : List ℕ) → length incoming ≡ length gross
+    → order_row (plain pair incoming gross) ≡ today.order_row pair incoming gross
+order_row-plain pair incoming gross len = map-range-same _ _ (length gross) (λ t h. order_at-plain pair incoming gross t len h)
+
+available_row-plain : (pair : PairParams) (incoming gross : List ℕ) → length incoming ≡ length gross
+    → available_row (plain pair incoming gross) ≡ today.available_row pair incoming gross
+available_row-plain pair incoming gross len =
+    map-range-same (λ t. balance_before (plain pair incoming gross) (suc t)) (λ t. today.balance_before pair incoming gross (suc t)) (length gross)
+    (λ t h. balance_before-plain pair incoming gross (suc t) len (omega arith))
+
+-- the releases are the same: in period 0 all orders that are due within the lead time, then those a lead time later
+early : (lead : ℕ) (order : List ℕ) (n : ℕ) → n ≤ suc lead → released lead order n 0 ≡ sum (take n order)
+early lead order zero within = refl
+early lead order (suc n) within =
+    let next : n + 1 ≡ suc n = omega arith in
+    let more = released_more lead order 0 n (omega arith) in
+    let same : released lead order (suc n) 0 ≡ released lead order (n + 1) 0 = ap (λ (m : ℕ). released lead order m 0) (sym next) in
+    omega (arith, same, more, early lead order n (omega arith), sum_take-suc order n)
+
+released-zero : (lead : ℕ) (order : List ℕ) → released lead order (length order) 0 ≡ sum (take (suc lead) order)
+released-zero lead order =
+    let n = length order in
+    let end = min n (suc lead) in
+    let first : IsFirst lead 0 0 = first_in_zero lead 0 0 refl refl in
+    let all = released_all lead order 0 0 n end end first (omega arith) (omega arith) (omega arith) (omega arith) in
+    ⊎_elim
+    (λ (short : n < suc lead).
+    let here : end ≡ n = omega arith in
+    sym all ∙ early lead order end (omega arith) ∙ ap (λ (m : ℕ). sum (take m order)) here
+    ∙ ap sum (take_all n order (omega arith)) ∙ sym (ap sum (take_all (suc lead) order (omega arith))))
+    (λ (long : suc lead ≤ n).
+    let here : end ≡ suc lead = omega arith in
+    sym all ∙ early lead order end (omega arith) ∙ ap (λ (m : ℕ). sum (take m order)) here)
+    (cases_lt n (suc lead))
+
+released-later : (lead : ℕ) (order : List ℕ) (u : ℕ) → 0 < u → released lead order (length order) u ≡ slice_index order (u + lead)
+released-later lead order u later =
+    let n = length order in
+    let from = u + lead in
+    let first : IsFirst lead u from = first_later lead u from (λ e. absurd (omega arith)) refl in
+    let none = released_before lead order u from first in
+    ⊎_elim
+    (λ (inside : from < n).
+    let all = released_all lead order u from n (min n (u + lead + 1)) (from + 1) first refl (omega arith) (omega arith) (omega arith) in
+    omega (arith, all, none, released_more lead order u from (omega arith)))
+    (λ (outside : n ≤ from).
+    let all = released_all lead order u from n (min n (u + lead + 1)) from first refl (omega arith) (omega arith) (omega arith) in
+    omega (arith, all, none, get_or_past order from 0 outside))
+    (cases_lt from n)
+
+release-plain : (pair : PairParams) (incoming gross order : List ℕ) (u : ℕ)
+    → planned_release (plain pair incoming gross) order u ≡ released pair.lead order (length order) u
+release-plain pair incoming gross order zero =
+    let earliest_is : max pair.lead 0 ≡ pair.lead = omega arith in
+    let here : 0 + pair.lead ≡ pair.lead = omega arith in
+    planned_release-first (plain pair incoming gross) order 0 (here ∙ sym earliest_is)
+    ∙ ap (λ (m : ℕ). sum (take (suc m) order)) here ∙ sym (released-zero pair.lead order)
+release-plain pair incoming gross order (suc u) =
+    planned_release-later (plain pair incoming gross) order (suc u) (omega arith) ∙ sym (released-later pair.lead order (suc u) (omega arith))
+
+release_row-plain : (pair : PairParams) (incoming gross order : List ℕ) → length order ≡ length gross
+    → release_row (plain pair incoming gross) order ≡ today.release_row pair.lead order
+release_row-plain pair incoming gross order len =
+    map-range-same (release_at (plain pair incoming gross) order) (released pair.lead order (length order)) (length gross)
+    (λ u h. omega (arith, release-plain pair incoming gross order u))
+    ∙ ap (λ (n : ℕ). map (released pair.lead order (length order)) (range_with_len 0 n)) (sym len)
+
+late-plain : (pair : PairParams) (order : List ℕ) → today.late_orders (max pair.lead 0) order ≡ today.late_orders pair.lead order
+late-plain pair order = let same : max pair.lead 0 ≡ pair.lead = omega arith in ap (λ (lead : ℕ). today.late_orders lead order) same
+
+pub plain_is_today : PlainIsToday
+unfolding one today.one
+plain_is_today pair incoming gross len =
+    let d = plain pair incoming gross in
+    let ordered = order_row-plain pair incoming gross len in
+    let count : length (today.order_row pair incoming gross) ≡ length gross =
+    length-map-range_with_len (today.order_at pair incoming gross) 0 (length gross) in
+    let come = incoming_row-plain pair incoming gross len in
+    let release : release_row d (order_row d) ≡ today.release_row pair.lead (today.order_row pair incoming gross) =
+    ap (release_row d) ordered ∙ release_row-plain pair incoming gross (today.order_row pair incoming gross) count in
+    let late : today.late_orders (max pair.lead 0) (order_row d) ≡ today.late_orders pair.lead (today.order_row pair incoming gross) =
+    ap (today.late_orders (max pair.lead 0)) ordered ∙ late-plain pair (today.order_row pair incoming gross) in
+    let stock = available_row-plain pair incoming gross len in
+    cc
+
+pub plain_follows_rules : PlainFollowsRules
+plain_follows_rules pair rows is =
+    let same = plain_is_today pair rows.incoming rows.gross is.periods in (
+      λ follows. rules-have_one_plan pair rows is follows ∙ sym same,
+      λ e. subst (FollowsRules pair) (sym (e ∙ same)) (plan-follows_rules pair rows.incoming rows.gross is),
+    )
