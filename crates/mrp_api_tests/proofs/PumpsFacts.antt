@@ -2,7 +2,7 @@
 use Rattle.std.proofs.Common.{refl}
 use Rattle.std.specs.Fmt.{digits}
 use Rattle.mrp_cal.specs.Days.{date_at}
-use Rattle.mrp_netting.specs.One.{balance_before, greatest_need, one, order_at}
+use Rattle.mrp_netting.specs.PlanningData.{balance_before, greatest, incoming_at, one, order_at, short}
 use Rattle.mrp_csv_out.specs.Dates.{period_date}
 use Rattle.mrp_csv_out.specs.Rows.{row}
 use Rattle.mrp_report.specs.Lanes as lanes
@@ -13,17 +13,17 @@ use Rattle.mrp_world.specs.Figures.{last_figures}
 use Rattle.mrp_api_tests.specs.PumpsReports.{PumpsAreAdvised, PumpsAreCounted, PumpsAreOrdered, PumpsAreScheduled}
 
 pub pumps_are_ordered : PumpsAreOrdered
-unfolding digits date_at greatest_need balance_before order_at one period_date row planned_order_row pair_orders_text orders_text order_text
+unfolding digits date_at short incoming_at greatest balance_before order_at one period_date row planned_order_row pair_orders_text orders_text order_text
 pumps_are_ordered = refl
 
 pub pumps_are_scheduled : PumpsAreScheduled
-unfolding digits date_at greatest_need balance_before order_at one period_date row schedule_line_row item_text lane_schedule_text lanes_text schedule_text
+unfolding digits date_at short incoming_at greatest balance_before order_at one period_date row schedule_line_row item_text lane_schedule_text lanes_text schedule_text
 pumps_are_scheduled = refl
 
 pub pumps_are_advised : PumpsAreAdvised
-unfolding digits date_at greatest_need balance_before order_at one period_date row advice_row pair_advice_text messages_text advice_text
+unfolding digits date_at short incoming_at greatest balance_before order_at one period_date row advice_row pair_advice_text messages_text advice_text
 pumps_are_advised = refl
 
 pub pumps_are_counted : PumpsAreCounted
-unfolding digits greatest_need balance_before order_at one row lanes.figure_row lanes.lane_text last_figures
+unfolding digits short incoming_at greatest balance_before order_at one row lanes.figure_row lanes.lane_text last_figures
 pumps_are_counted = refl

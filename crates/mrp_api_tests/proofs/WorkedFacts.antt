@@ -2,7 +2,7 @@
 use Rattle.std.proofs.Common.{refl}
 use Rattle.std.specs.Fmt.{digits}
 use Rattle.mrp_cal.specs.Days.{date_at}
-use Rattle.mrp_netting.specs.One.{balance_before, greatest_need, one, order_at}
+use Rattle.mrp_netting.specs.PlanningData.{balance_before, greatest, incoming_at, one, order_at, short}
 use Rattle.mrp_csv_out.specs.Dates.{period_date}
 use Rattle.mrp_csv_out.specs.Rows.{row}
 use Rattle.mrp_report.specs.Report.{late_text, pair_text, plan_text}
@@ -14,7 +14,7 @@ unfolding digits date_at
 bicycle_is_written = refl
 
 pub bicycle_is_planned : BicycleIsPlanned
-unfolding digits date_at greatest_need balance_before order_at one period_date row pair_text plan_text late_text
+unfolding digits date_at short incoming_at greatest balance_before order_at one period_date row pair_text plan_text late_text
 bicycle_is_planned = refl
 
 pub firm_of_two_is_written : FirmOfTwoIsWritten
@@ -22,7 +22,7 @@ unfolding digits date_at
 firm_of_two_is_written = refl
 
 pub firm_of_two_is_planned : FirmOfTwoIsPlanned
-unfolding digits date_at greatest_need balance_before order_at one period_date row pair_text plan_text late_text
+unfolding digits date_at short incoming_at greatest balance_before order_at one period_date row pair_text plan_text late_text
 firm_of_two_is_planned = refl
 
 pub pumps_are_written : PumpsAreWritten
@@ -30,5 +30,5 @@ unfolding digits date_at
 pumps_are_written = refl
 
 pub pumps_are_planned : PumpsArePlanned
-unfolding digits date_at greatest_need balance_before order_at one period_date row pair_text plan_text late_text
+unfolding digits date_at short incoming_at greatest balance_before order_at one period_date row pair_text plan_text late_text
 pumps_are_planned = refl

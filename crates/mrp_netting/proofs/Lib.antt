@@ -2,6 +2,7 @@ pub mod OneLaws
 pub mod Greatest
 pub mod PlannedReleases
 pub mod PlainLaws
+pub mod PlainRows
 pub mod RulesLaws
 pub mod Balances
 pub mod Compared
