@@ -2,7 +2,7 @@
 use Rattle.std.proofs.Common.{◌≡◌, ℕ, List, All, refl, arith}
 use Rattle.std.specs.List.{flat_map}
 use Rattle.csv.specs.Reading.{strip_bom}
-use Rattle.mrp_netting.specs.One.{PlanRows}
+use Rattle.mrp_netting.specs.PlanRows.{PlanRows}
 use Rattle.mrp_master_data.specs.Table.{IsTable, Table}
 use Rattle.mrp_net.specs.Sums.{pair_at}
 use Rattle.mrp_csv_out.specs.Dates.{dates_of}

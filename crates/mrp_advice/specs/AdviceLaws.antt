@@ -1,7 +1,7 @@
 -- Laws of open orders, of when they are needed, and of the report of their messages.
 use Rattle.std.specs.Prelude.{◌≡◌, ℕ, ◌+◌, ◌<◌, ◌≤◌, true, false, if◌then◌else◌, List, length, sum_by, IsPermutation}
 use Rattle.std.specs.List.{flat_map, range_with_len}
-use Rattle.mrp_netting.specs.One.{PlanRows}
+use Rattle.mrp_netting.specs.PlanRows.{PlanRows}
 use Rattle.mrp_master_data.specs.declared.rows.PairRow.{PairRow}
 use Rattle.mrp_master_data.specs.Table.{Table, IsTable}
 use Rattle.mrp_commands.specs.declared.choice.Heading.{Heading}

@@ -1,7 +1,7 @@
 -- What the releases of a pair's parents ask of it, by places.
 use Rattle.std.specs.Prelude.{◌≡◌, ℕ, ◌*◌, ◌<◌, ◌+◌, List, length, map, sum_by, slice_index, slice_index_or, All}
 use Rattle.std.specs.List.{range_with_len}
-use Rattle.mrp_netting.specs.One.{PlanRows}
+use Rattle.mrp_netting.specs.PlanRows.{PlanRows}
 use Rattle.mrp_netting.specs.Bound.{IsWithin}
 use Rattle.mrp_netting.specs.declared.params.PairParams.{PairParams}
 use Rattle.mrp_agent.specs.declared.edges.ParentEdge.{ParentEdge}

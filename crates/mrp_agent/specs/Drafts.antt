@@ -1,6 +1,6 @@
 -- What an agent drafts for a pair: the plan by the rows that it has.
 use Rattle.std.specs.Prelude.{ℕ, ◌+◌, List, map, Contains}
-use Rattle.mrp_netting.specs.One.{PlanRows}
+use Rattle.mrp_netting.specs.PlanRows.{PlanRows}
 use Rattle.mrp_netting.specs.PlanningData.{plain, one}
 use Rattle.mrp_netting.specs.Bound.{IsWithin}
 use Rattle.mrp_master_data.specs.declared.numbers.PairNo.{PairNo}

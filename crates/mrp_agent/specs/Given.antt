@@ -2,7 +2,7 @@
 use Rattle.std.specs.Prelude.{◌≡◌, ℕ, ◌<◌, List, Vec, length, map, filter, slice_index_or}
 use Rattle.std.specs.Global.{Global}
 use Rattle.std.specs.List.{range_with_len}
-use Rattle.mrp_netting.specs.One.{PlanRows}
+use Rattle.mrp_netting.specs.PlanRows.{PlanRows}
 use Rattle.mrp_netting.specs.declared.plan.PairPlan.{PairPlan}
 use Rattle.mrp_master_data.specs.Table.{Table}
 use Rattle.mrp_plant_view.specs.View.{is_of_plant}

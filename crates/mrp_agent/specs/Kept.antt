@@ -1,7 +1,7 @@
 -- What stays true of an agent, and its indexes.
 use Rattle.std.specs.Prelude.{◌≡◌, ℕ, ◌*◌, ◌<◌, ◌≤◌, List, length, map, slice_index_or, All}
 use Rattle.std.specs.List.{range_with_len}
-use Rattle.mrp_netting.specs.One.{PlanRows}
+use Rattle.mrp_netting.specs.PlanRows.{PlanRows}
 use Rattle.mrp_master_data.specs.declared.numbers.ItemNo.{ItemNo}
 use Rattle.mrp_grouping.specs.Starts.{IsGrouped}
 use Rattle.mrp_plant_view.specs.declared.view.IncomingLane.{IncomingLane}

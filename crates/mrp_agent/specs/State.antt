@@ -2,7 +2,7 @@
 -- that go out, and a pair one among the plant's pairs.
 use Rattle.std.specs.Prelude.{ℕ, ◌==◌, false, List, [], slice_index_or, None}
 use Rattle.std.specs.List.{position_or_len}
-use Rattle.mrp_netting.specs.One.{PlanRows}
+use Rattle.mrp_netting.specs.PlanRows.{PlanRows}
 use Rattle.mrp_lot.specs.declared.rule.Rule.TheVariants.{LotForLot}
 use Rattle.mrp_master_data.specs.declared.numbers.ItemNo.{ItemNo}
 use Rattle.mrp_master_data.specs.declared.numbers.PairNo.{PairNo}

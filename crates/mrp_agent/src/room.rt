@@ -25,7 +25,7 @@ pub struct Room {
 
 impl Model for Room {
     ghost use Rattle.std.specs.Prelude.{◌≡◌, length};
-    ghost use Rattle.mrp_netting.specs.One.{PlanRows};
+    ghost use Rattle.mrp_netting.specs.PlanRows.{PlanRows};
 
     ghost Value = { PlanRows };
 

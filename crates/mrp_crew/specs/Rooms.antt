@@ -1,7 +1,7 @@
 -- What workers draft in, and what they bring back.
 use Rattle.std.specs.Prelude.{◌≡◌, ℕ, ◌<◌, ◌≤◌, ◌++◌, true, List, [], Vec, length, map, reverse, All, vec_capacity}
 use Rattle.std.specs.Global.{Global}
-use Rattle.mrp_netting.specs.One.{PlanRows}
+use Rattle.mrp_netting.specs.PlanRows.{PlanRows}
 use Rattle.mrp_master_data.specs.declared.numbers.PairNo.{PairNo}
 use Rattle.mrp_agent.specs.Drafts.{CanDraft, drafted}
 use Rattle.mrp_agent.specs.State.{AgentState}

@@ -4,7 +4,7 @@ use Rattle.std.specs.List.{range_with_len}
 use Rattle.std.proofs.lemmas.List.{ext_get_or}
 use Rattle.std.proofs.lemmas.List.FromFn.{get_or-map-range_with_len, length-map-range_with_len, length-range_with_len}
 use Rattle.std.proofs.lemmas.List.Sorted.{length_permutation}
-use Rattle.mrp_netting.specs.One.{PlanRows}
+use Rattle.mrp_netting.specs.PlanRows.{PlanRows}
 use Rattle.mrp_master_data.specs.Table.{Table, IsPair}
 use Rattle.mrp_net.specs.Plan.{rows_at, no_rows, pair_plan, rounds, plan_of}
 use Rattle.mrp_net.specs.PlanLaws.{Fits, HasOnePlan}

@@ -3,7 +3,7 @@ use Rattle.std.specs.Prelude.{ℕ, ◌+◌, ◌≤◌, List, sum, sum_by, slice_
 use Rattle.std.specs.List.{range_with_len}
 use Rattle.mrp_qty.specs.declared.quantity.TheConstants.{MOST}
 use Rattle.mrp_lot.specs.Lot.{rule_quantities}
-use Rattle.mrp_netting.specs.One.{PlanRows}
+use Rattle.mrp_netting.specs.PlanRows.{PlanRows}
 use Rattle.mrp_netting.specs.Bound.{IsWithin}
 use Rattle.mrp_master_data.specs.declared.rows.SourceRow.{SourceRow}
 use Rattle.mrp_master_data.specs.Table.{Table, IsPair, horizon}

@@ -2,7 +2,7 @@
 -- releases of its demanders.
 use Rattle.std.specs.Prelude.{ℕ, ◌+◌, zero, suc, List, [], length, map, sum_by, slice_index, slice_index_or}
 use Rattle.std.specs.List.{range_with_len}
-use Rattle.mrp_netting.specs.One.{PlanRows}
+use Rattle.mrp_netting.specs.PlanRows.{PlanRows}
 use Rattle.mrp_netting.specs.PlanningData.{plain, one}
 use Rattle.mrp_master_data.specs.Table.{Table}
 use Rattle.mrp_net.specs.declared.edge.Edge.{Edge}

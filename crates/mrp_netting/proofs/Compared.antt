@@ -7,7 +7,8 @@ use Rattle.std.proofs.lemmas.Bool.{cases_lt, cond-false, cond-true}
 use Rattle.std.proofs.lemmas.List.{append-nil, append_assoc, map-append, length-take-le, take_more}
 use Rattle.std.proofs.lemmas.List.FromFn.{get_or-map-range_with_len}
 use Rattle.std.proofs.lemmas.Option.{slice_get_read, slice_get_within, get_or_from_slice_get}
-use Rattle.mrp_netting.specs.One.{PlanRows, one, order_row, available_row, released, release_row, is_late, late_periods, late_orders}
+use Rattle.mrp_netting.specs.PlanRows.{PlanRows, is_late, late_periods, late_orders}
+use Rattle.mrp_netting.specs.One.{one, order_row, available_row, released, release_row}
 use Rattle.mrp_qty.proofs.RangeLaws.{sum_by-range-suc, sum_by-range-more}
 use Rattle.mrp_netting.specs.declared.params.PairParams.{PairParams}
 use Rattle.mrp_netting.specs.declared.params.Late.{Late}

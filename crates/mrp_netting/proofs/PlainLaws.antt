@@ -13,7 +13,8 @@ use Rattle.mrp_lot.proofs.LotLaws.{least_multiple-le, least_multiple-lt}
 use Rattle.mrp_qty.proofs.RangeLaws.{sum_take-suc, sum_drop_take-one, map-range-same}
 use Rattle.mrp_netting.specs.declared.params.PairParams.{PairParams}
 use Rattle.mrp_netting.specs.One as today
-use Rattle.mrp_netting.specs.One.{PlanRows, released}
+use Rattle.mrp_netting.specs.PlanRows.{PlanRows, late_orders}
+use Rattle.mrp_netting.specs.One.{released}
 use Rattle.mrp_netting.specs.Rules.{FollowsRules}
 use Rattle.mrp_netting.specs.PlanningData.{plain, incoming_at, incoming_row, need, greatest, lot_for, no_policy, made_up}
 use Rattle.mrp_netting.specs.PlanningData.{order_after, balance_before, order_at, order_row, available_row, planned_release, release_at, release_row, one}
@@ -204,8 +205,8 @@ release_row-plain pair incoming gross order len =
     (λ u h. omega (arith, release-plain pair incoming gross order u))
     ∙ ap (λ (n : ℕ). map (released pair.lead order (length order)) (range_with_len 0 n)) (sym len)
 
-late-plain : (pair : PairParams) (order : List ℕ) → today.late_orders (max pair.lead 0) order ≡ today.late_orders pair.lead order
-late-plain pair order = let same : max pair.lead 0 ≡ pair.lead = omega arith in ap (λ (lead : ℕ). today.late_orders lead order) same
+late-plain : (pair : PairParams) (order : List ℕ) → late_orders (max pair.lead 0) order ≡ late_orders pair.lead order
+late-plain pair order = let same : max pair.lead 0 ≡ pair.lead = omega arith in ap (λ (lead : ℕ). late_orders lead order) same
 
 pub plain_is_today : PlainIsToday
 unfolding one today.one
@@ -217,8 +218,8 @@ plain_is_today pair incoming gross len =
     let come = incoming_row-plain pair incoming gross len in
     let release : release_row d (order_row d) ≡ today.release_row pair.lead (today.order_row pair incoming gross) =
     ap (release_row d) ordered ∙ release_row-plain pair incoming gross (today.order_row pair incoming gross) count in
-    let late : today.late_orders (max pair.lead 0) (order_row d) ≡ today.late_orders pair.lead (today.order_row pair incoming gross) =
-    ap (today.late_orders (max pair.lead 0)) ordered ∙ late-plain pair (today.order_row pair incoming gross) in
+    let late : late_orders (max pair.lead 0) (order_row d) ≡ late_orders pair.lead (today.order_row pair incoming gross) =
+    ap (late_orders (max pair.lead 0)) ordered ∙ late-plain pair (today.order_row pair incoming gross) in
     let stock = available_row-plain pair incoming gross len in
     cc
 

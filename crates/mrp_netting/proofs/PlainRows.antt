@@ -5,7 +5,8 @@ use Rattle.std.proofs.lemmas.List.FromFn.{length-map-range_with_len}
 use Rattle.mrp_qty.specs.declared.quantity.TheConstants.{MOST}
 use Rattle.mrp_lot.specs.Lot.{rule_quantities}
 use Rattle.mrp_netting.specs.declared.params.PairParams.{PairParams}
-use Rattle.mrp_netting.specs.One.{PlanRows, late_orders, release_row as released_row}
+use Rattle.mrp_netting.specs.PlanRows.{PlanRows, late_orders}
+use Rattle.mrp_netting.specs.One.{release_row as released_row}
 use Rattle.mrp_netting.specs.One as today
 use Rattle.mrp_netting.specs.Bound.{IsWithin}
 use Rattle.mrp_netting.specs.PlanningData.{plain, one, order_at, balance_before, order_row, release_at}

@@ -6,7 +6,8 @@ use Rattle.std.proofs.lemmas.List.FromFn.{length-map-range_with_len}
 use Rattle.std.proofs.lemmas.List.Sums.{sum-map}
 use Rattle.mrp_qty.specs.declared.quantity.TheConstants.{MOST}
 use Rattle.mrp_netting.specs.declared.params.PairParams.{PairParams}
-use Rattle.mrp_netting.specs.One.{PlanRows, one, order_at, order_row, available_row, release_row, late_periods, late_orders}
+use Rattle.mrp_netting.specs.PlanRows.{PlanRows, late_periods, late_orders}
+use Rattle.mrp_netting.specs.One.{one, order_at, order_row, available_row, release_row}
 use Rattle.mrp_netting.specs.Bound.{IsWithin}
 use Rattle.mrp_netting.proofs.OneLaws.{orders-le}
 use Rattle.mrp_netting.specs.Plan.{late_orders_in}

@@ -8,7 +8,8 @@ use Rattle.mrp_netting.specs.declared.params.Late.{Late}
 use Rattle.mrp_lot.specs.declared.rule.Rule.{Rule}
 use Rattle.mrp_lot.specs.declared.rule.Rule.TheVariants.{Periods}
 use Rattle.mrp_lot.specs.Lot.{periods_covered, lot_of}
-use Rattle.mrp_netting.specs.One.{PlanRows, one, need_over, greatest_need, net_after, order_after, order_at, balance_before, release_row, late_orders}
+use Rattle.mrp_netting.specs.PlanRows.{PlanRows, late_orders}
+use Rattle.mrp_netting.specs.One.{one, need_over, greatest_need, net_after, order_after, order_at, balance_before, release_row}
 use Rattle.mrp_netting.specs.Bound.{IsWithin}
 use Rattle.mrp_netting.proofs.OneLaws.{balance_before-zero, balance_before-next, order_at-is, one-order, one-available}
 use Rattle.mrp_netting.proofs.OneLaws.{greatest_need-zero, greatest_need-suc, greatest_need-ge}

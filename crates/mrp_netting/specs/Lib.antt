@@ -1,3 +1,4 @@
+pub mod PlanRows
 pub mod Bound
 pub mod One
 pub mod Rules

@@ -8,31 +8,13 @@
 -- nothing, and what says something is the balance without subtraction: what was there, comes in and is
 -- ordered is what is required or stays (`FollowsRules.available`, which each plan within the bound meets by
 -- the law `PlanFollowsRules`). By it no requirement is left open, whatever the safety stock.
-use Rattle.std.specs.Prelude.{ℕ, ◌+◌, ◌-◌, ◌&&◌, ◌==◌, Bool, nat_lt, if◌then◌else◌, min, max, List, length, map, filter}
-use Rattle.std.specs.Prelude.{sum, sum_by, take, drop}
+use Rattle.std.specs.Prelude.{ℕ, ◌+◌, ◌-◌, ◌==◌, if◌then◌else◌, min, max, List, length, map}
+use Rattle.std.specs.Prelude.{sum_by}
 use Rattle.std.specs.Prelude.{slice_index, zero, suc}
 use Rattle.std.specs.List.{range_with_len}
 use Rattle.mrp_netting.specs.declared.params.PairParams.{PairParams}
-use Rattle.mrp_netting.specs.declared.params.Late.{Late}
 use Rattle.mrp_lot.specs.Lot.{periods_covered, lot_of}
-
--- the rows of one pair's plan, and its late orders by rising period
-pub record PlanRows : Type 0 where
-  -- gross requirements
-  pub gross : List ℕ
-  -- scheduled receipts
-  pub incoming : List ℕ
-  -- planned order receipts
-  pub order : List ℕ
-  -- planned order releases
-  pub release : List ℕ
-  -- projected available balance
-  pub available : List ℕ
-  pub late : List Late
-
--- the sum of n periods from t on
-abbrev pub sum_from : List ℕ → ℕ → ℕ → ℕ
-sum_from row t n = sum (take n (drop t row))
+use Rattle.mrp_netting.specs.PlanRows.{PlanRows, sum_from, late_orders}
 
 -- the net requirement of the n periods from t on together: safety stock and their gross requirements, less `before`,
 -- the balance before t, and their scheduled receipts
@@ -89,22 +71,6 @@ released lead order n u = sum_by (λ t. if (t - lead) == u then slice_index orde
 -- planned order releases of the given orders
 abbrev pub release_row : ℕ → List ℕ → List ℕ
 release_row lead order = map (released lead order (length order)) (range_with_len 0 (length order))
-
--- the period has an order, and lies less than a lead time after period 0
-abbrev pub is_late : ℕ → List ℕ → ℕ → Bool
-is_late lead order t = nat_lt t lead && nat_lt 0 (slice_index order t)
-
--- the periods of late orders among the first n
-abbrev pub late_periods : ℕ → List ℕ → ℕ → List ℕ
-late_periods lead order n = filter (is_late lead order) (range_with_len 0 n)
-
--- the late order of such a period, with how many periods are missing
-abbrev pub late_order : ℕ → List ℕ → ℕ → Late
-late_order lead order t = record { period = t; quantity = slice_index order t; by = lead - t }
-
--- late orders of the given orders
-abbrev pub late_orders : ℕ → List ℕ → List Late
-late_orders lead order = map (late_order lead order) (late_periods lead order (length order))
 
 -- the plan of one pair
 unfoldable pub one : PairParams → List ℕ → List ℕ → PlanRows

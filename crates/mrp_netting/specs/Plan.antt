@@ -3,7 +3,8 @@ use Rattle.std.specs.Prelude.{◌≡◌, ℕ, ◌<◌, List, [], length, map, re
 use Rattle.mrp_qty.specs.Row.{IsRow}
 use Rattle.mrp_netting.specs.declared.params.PairParams.{PairParams}
 use Rattle.mrp_netting.specs.declared.params.Late.{Late}
-use Rattle.mrp_netting.specs.One.{PlanRows, order_row, available_row, late_order}
+use Rattle.mrp_netting.specs.PlanRows.{PlanRows, late_order}
+use Rattle.mrp_netting.specs.One.{order_row, available_row}
 
 -- five rows of one horizon
 pub record AreRows (rows : PlanRows) : Type 0 where

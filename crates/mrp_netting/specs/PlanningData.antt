@@ -12,7 +12,7 @@ use Rattle.mrp_lot.specs.declared.rule.Rule.TheVariants.{LotForLot, Fixed, Perio
 use Rattle.mrp_lot.specs.Lot.{least_multiple_of}
 use Rattle.mrp_netting.specs.declared.params.PairParams.{PairParams}
 use Rattle.mrp_netting.specs.declared.planning_data.Policy.{Policy}
-use Rattle.mrp_netting.specs.One.{PlanRows, sum_from, late_orders}
+use Rattle.mrp_netting.specs.PlanRows.{PlanRows, sum_from, late_orders}
 
 -- what a pair is planned from
 pub record PairData : Type 0 where

@@ -3,7 +3,7 @@ use Rattle.std.specs.Prelude.{◌≡◌, ℕ, ◌+◌, ◌≤◌, ◌<◌, ◌�
 use Rattle.mrp_qty.specs.declared.quantity.TheConstants.{MOST}
 use Rattle.mrp_lot.specs.Rules.{IsLeastMultiple}
 use Rattle.mrp_netting.specs.declared.params.PairParams.{PairParams}
-use Rattle.mrp_netting.specs.One.{PlanRows, sum_from}
+use Rattle.mrp_netting.specs.PlanRows.{PlanRows, sum_from}
 use Rattle.mrp_netting.specs.One as today
 use Rattle.mrp_netting.specs.Bound.{IsWithin}
 use Rattle.mrp_netting.specs.Rules.{FollowsRules}

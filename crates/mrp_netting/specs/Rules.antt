@@ -5,7 +5,8 @@ use Rattle.mrp_qty.specs.declared.quantity.TheConstants.{MOST}
 use Rattle.mrp_lot.specs.declared.rule.Rule.TheVariants.{LotForLot, Periods}
 use Rattle.mrp_netting.specs.declared.params.PairParams.{PairParams}
 use Rattle.mrp_lot.specs.Lot.{IsRule, rule_quantities}
-use Rattle.mrp_netting.specs.One.{PlanRows, one, need_over, net_after, order_after, release_row, late_orders}
+use Rattle.mrp_netting.specs.PlanRows.{PlanRows, late_orders}
+use Rattle.mrp_netting.specs.One.{one, need_over, net_after, order_after, release_row}
 use Rattle.mrp_netting.specs.Bound.{IsWithin}
 
 -- on hand before period 0, then the projected available

@@ -3,7 +3,8 @@
 ghost use Rattle.std.specs.Prelude.{◌≡◌, ◌≤◌, ◌<◌, ◌↔◌, IsTrue, Some, length, slice_get, sum};
 ghost use Rattle.mrp_qty.specs.declared.quantity.TheConstants.{MOST};
 ghost use Rattle.mrp_lot.specs.declared.rule.TheConstants.{LONGEST_LEAD};
-ghost use Rattle.mrp_netting.specs.One.{released, release_row, late_orders};
+ghost use Rattle.mrp_netting.specs.PlanRows.{late_orders};
+ghost use Rattle.mrp_netting.specs.One.{released, release_row};
 ghost use Rattle.mrp_netting.specs.Bound.{IsWithin};
 ghost use Rattle.mrp_netting.specs.Plan.{AreOrders};
 

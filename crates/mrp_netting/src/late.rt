@@ -2,7 +2,7 @@
 
 ghost use Rattle.std.specs.Prelude.{◌≡◌, ◌≤◌, ◌<◌, length, vec_capacity, MatchBool};
 ghost use Rattle.mrp_qty.specs.declared.horizon.TheConstants.{LONGEST};
-ghost use Rattle.mrp_netting.specs.One.{late_periods};
+ghost use Rattle.mrp_netting.specs.PlanRows.{late_periods};
 
 use mrp_qty::Qty;
 

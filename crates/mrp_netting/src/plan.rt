@@ -1,7 +1,7 @@
 //! The plan of one pair, its five rows and its late orders.
 
 ghost use Rattle.std.specs.Prelude.{◌≡◌, ◌<◌, ◌≤◌, ◌↔◌, length, IsTrue, IfOk, Some, slice_get, vec_capacity};
-ghost use Rattle.mrp_netting.specs.One.{PlanRows};
+ghost use Rattle.mrp_netting.specs.PlanRows.{PlanRows};
 ghost use Rattle.mrp_netting.specs.PlanningData.{plain, one};
 ghost use Rattle.mrp_netting.specs.Bound.{IsWithin};
 ghost use Rattle.mrp_netting.specs.Plan.{AreRows, nothing_planned, late_orders_in, AreLate};

@@ -1,7 +1,7 @@
 -- The next pair of an order, as the loops over the pairs read it.
 use Rattle.std.proofs.Common.{◌≡◌, ℕ, ◌+◌, ◌<◌, List, ◌++◌, length, take, drop, map, slice_index, slice_index_or, slice_set, sym, ap, ◌∙◌, subst, arith}
 use Rattle.std.proofs.lemmas.List.{append-nil, drop_all, get_or-map, length-map, take_all}
-use Rattle.mrp_netting.specs.One.{PlanRows}
+use Rattle.mrp_netting.specs.PlanRows.{PlanRows}
 use Rattle.mrp_master_data.specs.Table.{Table}
 use Rattle.mrp_master_data.specs.declared.numbers.PairNo.{PairNo}
 use Rattle.mrp_net.specs.Plan.{pair_plan, rows_at}

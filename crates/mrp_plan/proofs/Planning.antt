@@ -8,7 +8,7 @@ use Rattle.std.proofs.lemmas.List.FromFn.{fill_by_all, get_or-map-range_with_len
 use Rattle.std.proofs.lemmas.List.Sums.{sum_by-cons, sum-map}
 use Rattle.std.proofs.Math.Nat.{mul-le-mul_left}
 use Rattle.mrp_lot.specs.Lot.{rule_quantities}
-use Rattle.mrp_netting.specs.One.{PlanRows}
+use Rattle.mrp_netting.specs.PlanRows.{PlanRows}
 use Rattle.mrp_netting.specs.PlanningData.{plain, one}
 use Rattle.mrp_netting.specs.Bound.{IsWithin}
 use Rattle.mrp_netting.proofs.PlainRows.{one-release_sum-le, length-one-release, one-gross as plain-gross, one-incoming as plain-incoming}

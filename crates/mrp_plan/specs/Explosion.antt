@@ -1,6 +1,6 @@
 -- What the releases of a pair's demanders ask of it.
 use Rattle.std.specs.Prelude.{◌≡◌, ℕ, ◌*◌, ◌<◌, ◌≤◌, List, length, sum, sum_by}
-use Rattle.mrp_netting.specs.One.{PlanRows}
+use Rattle.mrp_netting.specs.PlanRows.{PlanRows}
 use Rattle.mrp_net.specs.Plan.{rows_at}
 use Rattle.mrp_net.specs.declared.edge.Edge.{Edge}
 

@@ -1,6 +1,6 @@
 -- Laws of planned orders: together they are the planned order releases, and those that are late are the late orders.
 use Rattle.std.specs.Prelude.{◌≡◌, ℕ, ◌<◌, ◌==◌, nat_lt, List, map, filter, sum_by, slice_index}
-use Rattle.mrp_netting.specs.One.{PlanRows}
+use Rattle.mrp_netting.specs.PlanRows.{PlanRows}
 use Rattle.mrp_netting.specs.declared.params.Late.{Late}
 use Rattle.mrp_master_data.specs.Table.{Table, IsPair, horizon}
 use Rattle.mrp_net.specs.Plan.{rows_at}

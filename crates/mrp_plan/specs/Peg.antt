@@ -1,7 +1,7 @@
 -- Pegging: which requirements a gross requirement consists of.
 use Rattle.std.specs.Prelude.{◌<◌, ◌≤◌, length, Bool, ℕ, ◌==◌, if◌then◌else◌, List, ◌∷◌, map, filter, not, slice_index}
 use Rattle.mrp_qty.specs.declared.quantity.TheConstants.{MOST}
-use Rattle.mrp_netting.specs.One.{PlanRows}
+use Rattle.mrp_netting.specs.PlanRows.{PlanRows}
 use Rattle.mrp_master_data.specs.Table.{Table}
 use Rattle.mrp_net.specs.Edges.{demanders, edge_need, part}
 use Rattle.mrp_net.specs.Suppliers.{IsEdge}

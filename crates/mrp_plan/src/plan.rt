@@ -28,7 +28,7 @@ pub struct Plan {
 
 impl Model for Plan {
     ghost use Rattle.std.specs.Prelude.{List};
-    ghost use Rattle.mrp_netting.specs.One.{PlanRows};
+    ghost use Rattle.mrp_netting.specs.PlanRows.{PlanRows};
 
     ghost Value = { List PlanRows };
 

@@ -1,6 +1,6 @@
 -- Local plans are the plan of the network, and a plant sees which of its pairs can be planned.
 use Rattle.std.proofs.Common.{◌≡◌, ℕ, suc, zero, ◌<◌, Bool, true, List, get_or, sym, ap, ◌∙◌, subst, arith, slice_index}
-use Rattle.mrp_netting.specs.One.{PlanRows}
+use Rattle.mrp_netting.specs.PlanRows.{PlanRows}
 use Rattle.mrp_netting.specs.Bound.{IsWithin}
 use Rattle.mrp_netting.proofs.PlainRows.{one-gross, one-incoming}
 use Rattle.mrp_master_data.specs.Table.{Table, IsTable}

@@ -1,6 +1,6 @@
 -- What a plant sends by its own plans is what its lanes carry.
 use Rattle.std.proofs.Common.{◌≡◌, ℕ, ◌+◌, ◌-◌, ◌*◌, ◌/◌, ◌<◌, Bool, true, List, ◌⊎◌, inl, inr, length, map, slice_index, sym, ap, subst, ◌∙◌, arith, Contains}
-use Rattle.mrp_netting.specs.One.{PlanRows}
+use Rattle.mrp_netting.specs.PlanRows.{PlanRows}
 use Rattle.mrp_master_data.specs.declared.numbers.ItemNo.{ItemNo}
 use Rattle.mrp_master_data.specs.declared.numbers.PlantNo.{PlantNo}
 use Rattle.mrp_master_data.specs.Table.{Table, IsTable, horizon, pair_no}

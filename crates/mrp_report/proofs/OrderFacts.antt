@@ -4,7 +4,7 @@ use Rattle.std.specs.List.{filter, flat_map, range_with_len}
 use Rattle.std.proofs.lemmas.Bool.{cases_Bool}
 use Rattle.std.proofs.lemmas.List.FromFn.{length-map-range_with_len}
 use Rattle.mrp_grouping.proofs.Sorting.{filter-no, filter-yes}
-use Rattle.mrp_netting.specs.One.{PlanRows}
+use Rattle.mrp_netting.specs.PlanRows.{PlanRows}
 use Rattle.mrp_plan.specs.Orders.{has_order, is_released_by, planned_order}
 use Rattle.mrp_plan.specs.declared.orders.PlannedOrder.{PlannedOrder}
 use Rattle.mrp_report.specs.declared.orders.OrderLine.{OrderLine}

@@ -1,7 +1,7 @@
 -- Rows of the plan report by their parts.
 use Rattle.std.proofs.Common.{◌≡◌, ℕ, List, length, refl, append_assoc}
 use Rattle.std.specs.List.{flat_map, range_with_len}
-use Rattle.mrp_netting.specs.One.{PlanRows}
+use Rattle.mrp_netting.specs.PlanRows.{PlanRows}
 use Rattle.mrp_csv_out.specs.Rows.{row}
 use Rattle.mrp_report.specs.Parts.{pair_part, parts_row, parts_text, period_at}
 use Rattle.mrp_csv_out.specs.DateLists.{date_in}

@@ -1,7 +1,7 @@
 -- The rows of a pair's plan have all periods.
 use Rattle.std.proofs.Common.{◌≡◌, ℕ, List, length, subst, sym, ap, arith}
 use Rattle.std.proofs.lemmas.List.FromFn.{length-map-range_with_len}
-use Rattle.mrp_netting.specs.One.{PlanRows}
+use Rattle.mrp_netting.specs.PlanRows.{PlanRows}
 use Rattle.mrp_netting.specs.PlanningData.{plain, one}
 use Rattle.mrp_netting.proofs.PlainRows.{one-gross, one-incoming, length-one-order, length-one-release, length-one-available}
 use Rattle.mrp_netting.specs.declared.params.PairParams.{PairParams}

@@ -5,7 +5,7 @@ use Rattle.std.specs.List.{flat_map, range_with_len}
 use Rattle.std.proofs.lemmas.List.Elements.{All-append}
 use Rattle.std.proofs.lemmas.Grind.{flat_map-append}
 use Rattle.csv.specs.Reading.{strip_bom}
-use Rattle.mrp_netting.specs.One.{PlanRows}
+use Rattle.mrp_netting.specs.PlanRows.{PlanRows}
 use Rattle.mrp_netting.specs.declared.params.Late.{Late}
 use Rattle.mrp_master_data.specs.Table.{IsTable, Table, horizon}
 use Rattle.mrp_net.specs.Lanes.{lane_at}

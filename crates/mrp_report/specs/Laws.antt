@@ -1,7 +1,7 @@
 -- The reports of an accepted table are read back: what a spreadsheet shows of them is the fields that
 -- their rows are made of.
 use Rattle.std.specs.Prelude.{ℕ, List, ◌++◌, Option}
-use Rattle.mrp_netting.specs.One.{PlanRows}
+use Rattle.mrp_netting.specs.PlanRows.{PlanRows}
 use Rattle.mrp_master_data.specs.Table.{IsTable, Table}
 use Rattle.mrp_commands.specs.declared.choice.Heading.{Heading}
 use Rattle.mrp_plan.specs.declared.terms.PegTerm.{PegTerm}

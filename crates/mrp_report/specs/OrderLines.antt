@@ -1,7 +1,7 @@
 -- The order rows of one pair, due period by due period.
 use Rattle.std.specs.Prelude.{◌≡◌, ℕ, if◌then◌else◌, List, [], length, Option}
 use Rattle.std.specs.List.{flat_map, range_with_len}
-use Rattle.mrp_netting.specs.One.{PlanRows}
+use Rattle.mrp_netting.specs.PlanRows.{PlanRows}
 use Rattle.mrp_master_data.specs.Table.{Table}
 use Rattle.mrp_net.specs.Sums.{params_at}
 use Rattle.mrp_plan.specs.Orders.{has_order, is_released_by, planned_order}

@@ -3,7 +3,7 @@ use Rattle.std.specs.Prelude.{ℕ, ◌==◌, if◌then◌else◌, List, [], ◌�
 use Rattle.std.specs.List.{flat_map}
 use Rattle.mrp_qty.specs.declared.limits.TheConstants.{MOST_SHARE}
 use Rattle.mrp_master_data.specs.Supplies.{supply_text}
-use Rattle.mrp_netting.specs.One.{PlanRows}
+use Rattle.mrp_netting.specs.PlanRows.{PlanRows}
 use Rattle.mrp_master_data.specs.Table.{Table}
 use Rattle.mrp_master_data.specs.Said.{supply_said}
 use Rattle.mrp_commands.specs.declared.choice.Heading.{Heading}

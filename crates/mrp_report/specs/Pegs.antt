@@ -1,7 +1,7 @@
 -- The report of the pegging of a whole plan.
 use Rattle.std.specs.Prelude.{ℕ, List, [], ◌∷◌, decimal, codes as text_bytes}
 use Rattle.std.specs.List.{flat_map, range_with_len}
-use Rattle.mrp_netting.specs.One.{PlanRows}
+use Rattle.mrp_netting.specs.PlanRows.{PlanRows}
 use Rattle.mrp_master_data.specs.Table.{Table, horizon}
 use Rattle.mrp_plan.specs.Peg.{peg_terms}
 use Rattle.mrp_plan.specs.declared.terms.PegTerm.{PegTerm}

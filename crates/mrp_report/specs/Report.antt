@@ -1,7 +1,7 @@
 -- The plan report: which rows it has, and in which order.
 use Rattle.std.specs.Prelude.{ℕ, List, [], ◌∷◌, length, slice_index, slice_index_or, decimal, codes as text_bytes}
 use Rattle.std.specs.List.{flat_map, range_with_len}
-use Rattle.mrp_netting.specs.One.{PlanRows}
+use Rattle.mrp_netting.specs.PlanRows.{PlanRows}
 use Rattle.mrp_netting.specs.declared.params.Late.{Late}
 use Rattle.mrp_master_data.specs.Table.{Table}
 use Rattle.mrp_net.specs.Plan.{rows_at}

@@ -1,6 +1,6 @@
 -- The plan report by rounds: pieces of it that are written side by side.
 use Rattle.std.specs.Prelude.{◌≡◌, ℕ, ◌+◌, ◌-◌, ◌*◌, ◌≤◌, min, List, length}
-use Rattle.mrp_netting.specs.One.{PlanRows}
+use Rattle.mrp_netting.specs.PlanRows.{PlanRows}
 use Rattle.mrp_master_data.specs.Table.{IsTable, Table}
 use Rattle.mrp_net.specs.PlanLaws.{Fits}
 use Rattle.mrp_csv_out.specs.Dates.{dates_of}

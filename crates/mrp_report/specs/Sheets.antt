@@ -1,7 +1,7 @@
 -- The reports as sheets: what a reader of comma-separated values has to find in them.
 use Rattle.std.specs.Prelude.{ℕ, List, ◌++◌, length, map, slice_index, Option}
 use Rattle.std.specs.List.{flat_map, range_with_len}
-use Rattle.mrp_netting.specs.One.{PlanRows}
+use Rattle.mrp_netting.specs.PlanRows.{PlanRows}
 use Rattle.mrp_master_data.specs.Table.{Table, horizon}
 use Rattle.mrp_commands.specs.declared.choice.Heading.{Heading}
 use Rattle.mrp_net.specs.Lanes.{lane_at}

@@ -6,7 +6,7 @@ use Rattle.std.proofs.lemmas.Bool.{cases_lt, eqb-true, eq-eqb, and_from, falseâ‰
 use Rattle.std.proofs.lemmas.List.{get_or_past}
 use Rattle.std.proofs.lemmas.List.FromFn.{get_or-map-range_with_len}
 use Rattle.std.proofs.lemmas.List.Sums.{sum_by-cons}
-use Rattle.mrp_netting.specs.One.{PlanRows}
+use Rattle.mrp_netting.specs.PlanRows.{PlanRows}
 use Rattle.mrp_master_data.specs.declared.rows.SourceRow.{SourceRow}
 use Rattle.mrp_master_data.specs.Table.{Table, IsTable, IsPair, IsSourceRow, horizon, sources_of_pair, is_same_source}
 use Rattle.mrp_net.specs.declared.edge.Edge.{Edge}

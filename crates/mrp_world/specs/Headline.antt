@@ -1,6 +1,6 @@
 -- What holds in each state that a world shows.
 use Rattle.std.specs.Prelude.{◌≡◌, ℕ, ◌+◌, ◌<◌, true, length, slice_get, Contains, IsSomeAnd}
-use Rattle.mrp_netting.specs.One.{PlanRows}
+use Rattle.mrp_netting.specs.PlanRows.{PlanRows}
 use Rattle.mrp_master_data.specs.declared.numbers.ItemNo.{ItemNo}
 use Rattle.mrp_master_data.specs.Table.{IsPair}
 use Rattle.mrp_net.specs.Lanes.{lanes, lane_at, lane_items}

@@ -16,7 +16,7 @@ use std::alloc::Global;
 pub trait Plant: Drop {
     ghost use Rattle.std.specs.Prelude.{◌≡◌, ◌<◌, ◌++◌, ◌∷◌, [], ℕ, false, true, length, Contains, Some, IfOk, IfErr};
     ghost use Rattle.std.specs.Prelude.{IfSome, IfNone, OnOk, OnErr};
-    ghost use Rattle.mrp_netting.specs.One.{PlanRows};
+    ghost use Rattle.mrp_netting.specs.PlanRows.{PlanRows};
     ghost use Rattle.mrp_master_data.specs.Table.{Table};
     ghost use Rattle.mrp_net.specs.Lanes.{lane_at, lane_items};
     ghost use Rattle.mrp_net.specs.Plan.{plan_of, rows_at};

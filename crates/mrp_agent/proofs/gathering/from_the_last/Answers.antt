@@ -1,5 +1,5 @@
 use Rattle.std.proofs.Common.{◌++◌, ◌-◌, Vec, Global, List, length, take, reverse, ap, subst, ◌∙◌, arith}
-use Rattle.mrp_netting.specs.One.{PlanRows}
+use Rattle.mrp_netting.specs.PlanRows.{PlanRows}
 use Rattle.mrp_net.specs.Plan.{plan_of}
 use Rattle.mrp_netting.specs.declared.plan.PairPlan.{PairPlan}
 use Rattle.mrp_agent.specs.Given.{HaveGiven}

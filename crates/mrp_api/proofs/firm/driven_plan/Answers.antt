@@ -1,5 +1,5 @@
 use Rattle.std.proofs.Common.{List, subst, sym}
-use Rattle.mrp_netting.specs.One.{PlanRows}
+use Rattle.mrp_netting.specs.PlanRows.{PlanRows}
 use Rattle.mrp_net.specs.PlanLaws.{Fits}
 use Rattle.mrp_loops.proofs.OnePlan.{one_plan}
 use Rattle.mrp_api.proofs.firm.driven_plan.Goals as goal

@@ -1,6 +1,6 @@
 use Rattle.std.proofs.Common.{List, Err, ap}
 use Rattle.std.proofs.lemmas.Result.{err_from_is_err_and}
-use Rattle.mrp_netting.specs.One.{PlanRows}
+use Rattle.mrp_netting.specs.PlanRows.{PlanRows}
 use Rattle.mrp_advice.specs.AdviceRows.{advice_text}
 use Rattle.mrp_api.specs.Reports.{IsAdviceReport}
 use Rattle.mrp_api.proofs.TextFacts.{report-fails}

@@ -1,6 +1,6 @@
 use Rattle.std.proofs.Common.{◌++◌, List, Err, ap, refl, ◌∙◌}
 use Rattle.std.proofs.lemmas.Result.{err_from_is_err_and}
-use Rattle.mrp_netting.specs.One.{PlanRows}
+use Rattle.mrp_netting.specs.PlanRows.{PlanRows}
 use Rattle.mrp_plan.specs.Peg.{peg_terms}
 use Rattle.mrp_csv_out.specs.Headings.{header_row}
 use Rattle.mrp_report.specs.Headings.{peg_names}

@@ -1,6 +1,6 @@
 use Rattle.std.proofs.Common.{◌≡◌, Bool, true, false, if◌then◌else◌, List, [], ◌∷◌, ◌++◌, sym, subst, All}
 use Rattle.std.specs.Result.{is_ok}
-use Rattle.mrp_netting.specs.One.{PlanRows}
+use Rattle.mrp_netting.specs.PlanRows.{PlanRows}
 use Rattle.mrp_crew.specs.Rooms.{IsRoom}
 use Rattle.mrp_crew.proofs.Fronts.{All-pushed}
 use Rattle.mrp_crew.proofs.rooms.put_back.Goals as goal

@@ -1,5 +1,5 @@
 use Rattle.std.proofs.Common.{ap, ◌∙◌, length}
-use Rattle.mrp_netting.specs.One.{PlanRows}
+use Rattle.mrp_netting.specs.PlanRows.{PlanRows}
 use Rattle.mrp_crew.proofs.Drafting.{drafted_periods}
 use Rattle.mrp_crew.proofs.work.draft_pair.Goals as goal
 

@@ -1,6 +1,6 @@
 use Rattle.std.proofs.Common.{◌≡◌, ◌∙◌, ◌++◌, ◌∷◌, ℕ, List, [], ap, arith, replicate}
 use Rattle.std.proofs.lemmas.List.{replicate_more}
-use Rattle.mrp_netting.specs.One.{PlanRows}
+use Rattle.mrp_netting.specs.PlanRows.{PlanRows}
 use Rattle.mrp_netting.specs.Plan.{nothing_planned}
 use Rattle.mrp_netting.proofs.blank.blank_plans.Goals as goal
 

@@ -3,7 +3,7 @@ use Rattle.std.proofs.lemmas.Bool.{false≢true}
 use Rattle.std.proofs.lemmas.List.{get_or_read, take_all, length-take-le}
 use Rattle.std.proofs.lemmas.Option.{slice_get_within}
 use Rattle.mrp_netting.specs.declared.params.Late.{Late}
-use Rattle.mrp_netting.specs.One.{late_orders}
+use Rattle.mrp_netting.specs.PlanRows.{late_orders}
 use Rattle.mrp_netting.specs.Plan.{late_orders_in}
 use Rattle.mrp_netting.proofs.Compared.{late_next, late_found}
 use Rattle.mrp_netting.proofs.Lates.{late_same, late_end}

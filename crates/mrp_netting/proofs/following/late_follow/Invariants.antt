@@ -1,5 +1,5 @@
 use Rattle.std.proofs.Common.{◌≡◌, ◌≤◌, length, take}
-use Rattle.mrp_netting.specs.One.{late_periods}
+use Rattle.mrp_netting.specs.PlanRows.{late_periods}
 use Rattle.mrp_netting.specs.Plan.{late_orders_in}
 use Rattle.mrp_netting.proofs.following.late_follow.Given as goal
 

@@ -1,5 +1,5 @@
 use Rattle.std.proofs.Common.{◌≡◌, ◌≤◌, vec_len, vec_capacity}
-use Rattle.mrp_netting.specs.One.{late_periods}
+use Rattle.mrp_netting.specs.PlanRows.{late_periods}
 use Rattle.mrp_netting.proofs.late.note_late.Given as goal
 
 -- the late periods before t, and room for the rest

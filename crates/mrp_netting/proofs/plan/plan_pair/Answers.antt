@@ -1,6 +1,7 @@
 use Rattle.std.proofs.Common.{◌≡◌, ℕ, List, length, refl, sym, ◌∙◌, ap, subst, arith}
 use Rattle.std.proofs.lemmas.List.FromFn.{length-map-range_with_len}
-use Rattle.mrp_netting.specs.One.{PlanRows, order_row, available_row, release_row, late_periods}
+use Rattle.mrp_netting.specs.PlanRows.{PlanRows, late_periods}
+use Rattle.mrp_netting.specs.One.{order_row, available_row, release_row}
 use Rattle.mrp_netting.specs.Plan.{AreLate}
 use Rattle.mrp_netting.proofs.Lates.{are_late, late_few}
 use Rattle.mrp_netting.proofs.Plans.{from_rows, length-order_row, order_row-le, plan_is}

@@ -1,6 +1,6 @@
 use Rattle.std.proofs.Common.{◌≡◌, ◌≤◌, ℕ, List, length, slice_index, arith, ap, ◌∙◌}
 use Rattle.mrp_qty.specs.declared.quantity.TheConstants.{MOST}
-use Rattle.mrp_netting.specs.One.{PlanRows}
+use Rattle.mrp_netting.specs.PlanRows.{PlanRows}
 use Rattle.mrp_net.specs.Plan.{rows_at, gross}
 use Rattle.mrp_net.specs.Sums.{row_of}
 use Rattle.mrp_plan.proofs.Pegs.{fitting_gross, peggable}

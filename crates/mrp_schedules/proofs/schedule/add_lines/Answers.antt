@@ -1,6 +1,6 @@
 use Rattle.std.proofs.Common.{◌≡◌, ◌≤◌, ◌++◌, ◌∷◌, [], ℕ, length, length-append, ap, subst, sym, ◌∙◌, arith}
 use Rattle.std.specs.Prelude.{IfSome, Option, filter_map}
-use Rattle.mrp_netting.specs.One.{PlanRows}
+use Rattle.mrp_netting.specs.PlanRows.{PlanRows}
 use Rattle.mrp_master_data.specs.declared.rows.SourceRow.{SourceRow}
 use Rattle.mrp_master_data.specs.Table.{IsSourceRow, horizon}
 use Rattle.mrp_net.specs.Lanes.{lane_at}

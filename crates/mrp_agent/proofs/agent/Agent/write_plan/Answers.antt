@@ -1,5 +1,5 @@
 use Rattle.std.proofs.Common.{length, sym, ap, ◌∙◌, arith}
-use Rattle.mrp_netting.specs.One.{PlanRows}
+use Rattle.mrp_netting.specs.PlanRows.{PlanRows}
 use Rattle.mrp_agent.specs.Fields.{indexes_of}
 use Rattle.mrp_agent.specs.contracts.agent.Agent.{the_view}
 use Rattle.mrp_agent.proofs.Rooms.{kept_written, old_periods, plans_written, same_periods}

@@ -1,6 +1,6 @@
 use Rattle.std.proofs.Common.{◌∙◌, ℕ, List, length, replicate, ap, subst}
 use Rattle.std.proofs.lemmas.List.{length-replicate}
-use Rattle.mrp_netting.specs.One.{PlanRows}
+use Rattle.mrp_netting.specs.PlanRows.{PlanRows}
 use Rattle.mrp_plant_view.specs.declared.view.PlantPair.{PlantPair}
 use Rattle.mrp_netting.specs.Plan.{nothing_planned}
 use Rattle.mrp_agent.specs.Making.{AreFit}

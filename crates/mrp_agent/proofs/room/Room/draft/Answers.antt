@@ -1,5 +1,5 @@
 use Rattle.std.proofs.Common.{◌≡◌, length, ap, sym, ◌∙◌}
-use Rattle.mrp_netting.specs.One.{PlanRows}
+use Rattle.mrp_netting.specs.PlanRows.{PlanRows}
 use Rattle.mrp_agent.proofs.Rooms.{drafted_periods}
 use Rattle.mrp_agent.proofs.room.Room.draft.Goals as goal
 

@@ -1,5 +1,5 @@
 use Rattle.std.proofs.Common.{◌≡◌, length, ap, sym, ◌∙◌}
-use Rattle.mrp_netting.specs.One.{PlanRows}
+use Rattle.mrp_netting.specs.PlanRows.{PlanRows}
 use Rattle.mrp_agent.proofs.Asked.{receipts_length, drafted_length}
 use Rattle.mrp_agent.proofs.room.Room.draft_rows.Goals as goal
 

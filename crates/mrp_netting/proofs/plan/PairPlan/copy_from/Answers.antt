@@ -1,5 +1,5 @@
 use Rattle.std.proofs.Common.{ℕ, List, length, sym, ◌∙◌, ap, subst, arith}
-use Rattle.mrp_netting.specs.One.{PlanRows}
+use Rattle.mrp_netting.specs.PlanRows.{PlanRows}
 use Rattle.mrp_netting.specs.Plan.{AreLate}
 use Rattle.mrp_netting.proofs.Plans.{copied, refilled}
 use Rattle.mrp_netting.proofs.plan.PairPlan.copy_from.Goals as goal
