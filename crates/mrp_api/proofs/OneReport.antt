@@ -13,7 +13,7 @@ use Rattle.mrp_validation.specs.Reading.{OfRows, Reads}
 use Rattle.mrp_validation.proofs.OneWay.{reads_one_way}
 use Rattle.mrp_net.specs.Names.{IsNamed}
 use Rattle.mrp_net.specs.Plan.{plan_of}
-use Rattle.mrp_net.specs.PlanLaws.{Fits}
+use Rattle.mrp_net.specs.PlanLaws.{Fits, OfPlan}
 use Rattle.mrp_net.proofs.Naming.{same_place}
 use Rattle.mrp_net.proofs.Sharing.{pairs_are_found}
 use Rattle.mrp_loops.specs.Sized.{IsSized}
@@ -26,6 +26,9 @@ use Rattle.mrp_csv_out.specs.Headings.{header_row}
 use Rattle.mrp_report.specs.Report.{plan_text, late_text}
 use Rattle.mrp_report.specs.Codes.{code_text}
 use Rattle.mrp_report.specs.Terms.{peg_text}
+use Rattle.mrp_report.specs.Orders.{order_text}
+use Rattle.mrp_report.specs.Pegs.{pegs_text}
+use Rattle.mrp_advice.specs.AdviceRows.{advice_text}
 use Rattle.mrp_schedules.specs.ScheduleRows.{schedule_text}
 use Rattle.mrp_commands.specs.declared.choice.Choice.{Choice}
 use Rattle.mrp_commands.specs.declared.choice.Choice.TheVariants.{Plan, Check, Peg, Cums, Orders, Schedule, Pegs, Advice}
@@ -46,13 +49,18 @@ use Rattle.mrp_api.specs.Reports.{IsChosenPlant, IsPegsReport, IsScheduleReport,
 the_plan : (N : Table) (plans : List PlanRows) → IsSized N → Fits N plans → plans ≡ plan_of N
 the_plan N plans sized fits = (one_plan N sized.table sized.loop_free).only plans fits
 
+-- a text that is made of it is one
+one_of_plan : (N : Table) (text : List PlanRows → List ℕ) (a b : List ℕ) → IsSized N → OfPlan N (λ plans. a ≡ text plans) → OfPlan N (λ plans. b ≡ text plans)
+    → a ≡ b
+one_of_plan N text a b sized x y = x.2 ∙ ap text (the_plan N x.0 sized x.1 ∙ sym (the_plan N y.0 sized y.1)) ∙ sym y.2
+
 -- so its rows are the plan report
 pub is_plan_report : (N : Table) (plans : List PlanRows) → IsSized N → Fits N plans → IsPlanReport N (plan_text N plans ++ late_text N plans)
-is_plan_report N plans sized fits = (sized, ap (λ (p : List PlanRows). plan_text N p ++ late_text N p) (the_plan N plans sized fits))
+is_plan_report N plans sized fits = (sized, plans, fits, refl)
 
 -- and its plan rows those of the network
 pub are_plan_rows : (N : Table) (plans : List PlanRows) → IsSized N → Fits N plans → IsPlanRows N (plan_text N plans)
-are_plan_rows N plans sized fits = (sized, ap (plan_text N) (the_plan N plans sized fits))
+are_plan_rows N plans sized fits = (sized, plans, fits, refl)
 
 -- ---- one report
 
@@ -74,7 +82,8 @@ one_named N x y plant item table a b =
 one_peg_report : (plant item : List ℕ) (period : ℕ) (N : Table) (a b : List ℕ) → IsTable N → IsPegReport plant item period N a
     → IsPegReport plant item period N b → a ≡ b
 one_peg_report plant item period N a b table x y =
-    x.2.2 ∙ ap (λ (p : ℕ). peg_text N (peg_terms N (plan_of N) p period)) (one_named N x.0 y.0 plant item table x.1 y.1) ∙ sym y.2.2
+    one_of_plan N (λ plans. peg_text N (peg_terms N plans y.0 period)) a b x.2.0
+    (subst (λ (p : ℕ). OfPlan N (λ plans. a ≡ peg_text N (peg_terms N plans p period))) (one_named N x.0 y.0 plant item table x.1 y.1) x.2.2) y.2.2
 
 one_code_report : (N : Table) (a b : List ℕ) → IsCodeReport N a → IsCodeReport N b → a ≡ b
 one_code_report N a b x y = x.1.2 ∙ ap (code_text N) (codes_are_one N x.1.0 y.1.0 x.1.1 y.1.1) ∙ sym y.1.2
@@ -102,15 +111,15 @@ one_schedule from to heading N a b table x y =
     ∙ sym y.4.1
 
 one_answer : (choice : Choice) (N : Table) (a b : List ℕ) → IsTable N → IsAnswer choice N a → IsAnswer choice N b → a ≡ b
-one_answer (Plan workers capacity single) N a b table x y = x.1 ∙ sym y.1
+one_answer (Plan workers capacity single) N a b table x y = one_of_plan N (λ plans. plan_text N plans ++ late_text N plans) a b x.0 x.1 y.1
 one_answer (Check heading) N a b table x y = one_headed heading _ (IsCodeReport N) a b (one_code_report N) x y
 one_answer (Peg plant item period heading) N a b table x y =
     one_headed heading _ (IsPegReport plant.now item.now period N) a b (λ c d p q. one_peg_report plant.now item.now period N c d table p q) x y
 one_answer (Cums heading) N a b table x y = one_headed heading _ (IsCumReport N) a b (λ c d p q. p.1 ∙ sym q.1) x y
-one_answer (Orders until heading) N a b table x y = x.1 ∙ sym y.1
+one_answer (Orders until heading) N a b table x y = one_of_plan N (order_text heading until N) a b x.0 x.1 y.1
 one_answer (Schedule from to heading) N a b table x y = one_schedule (name_of from) (name_of to) heading N a b table x y
-one_answer (Pegs heading) N a b table x y = one_headed heading _ (IsPegsReport N) a b (λ c d p q. p.1 ∙ sym q.1) x y
-one_answer (Advice heading) N a b table x y = x.1 ∙ sym y.1
+one_answer (Pegs heading) N a b table x y = one_headed heading _ (IsPegsReport N) a b (λ c d p q. one_of_plan N (pegs_text N) c d p.0 p.1 q.1) x y
+one_answer (Advice heading) N a b table x y = one_of_plan N (advice_text heading N) a b x.0 x.1 y.1
 
 pub one_report : ReportsAreOne
 one_report choice bytes a b x y =

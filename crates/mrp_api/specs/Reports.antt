@@ -5,7 +5,7 @@ use Rattle.std.specs.Io.KnownBytes.{Appends}
 use Rattle.mrp_master_data.specs.declared.numbers.PlantNo.{PlantNo}
 use Rattle.mrp_master_data.specs.Table.{Table, horizon}
 use Rattle.mrp_net.specs.Names.{IsNamed}
-use Rattle.mrp_net.specs.Plan.{plan_of}
+use Rattle.mrp_net.specs.PlanLaws.{OfPlan}
 use Rattle.mrp_loops.specs.Codes.{AreCodes}
 use Rattle.mrp_loops.specs.Sized.{IsSized}
 use Rattle.mrp_commands.specs.declared.choice.Heading.{Heading}
@@ -25,7 +25,7 @@ use Rattle.mrp_api.specs.declared.fault.TextFault.TheVariants as fault
 
 -- the plan rows of the network
 abbrev pub IsPlanRows : Table → List ℕ → Type 0
-IsPlanRows N rows = IsSized N × (rows ≡ plan_text N (plan_of N))
+IsPlanRows N rows = IsSized N × OfPlan N (λ plans. rows ≡ plan_text N plans)
 
 -- the code rows of the network
 abbrev pub IsCodeReport : Table → List ℕ → Type 0
@@ -34,7 +34,7 @@ IsCodeReport N text = IsSized N × ((codes : List ℕ) × AreCodes N codes × (t
 -- the peg rows of a pair in a period of the plan
 abbrev pub IsPegs : Table → ℕ → ℕ → List ℕ → Type 0
 IsPegs N x period text =
-    IsSized N × (period < horizon N) × (text ≡ peg_text N (peg_terms N (plan_of N) x period))
+    IsSized N × (period < horizon N) × OfPlan N (λ plans. text ≡ peg_text N (peg_terms N plans x period))
 
 -- those of the pair of these names
 abbrev pub IsPegReport : List ℕ → List ℕ → ℕ → Table → List ℕ → Type 0
@@ -47,7 +47,7 @@ IsCumReport N text = IsSized N × (text ≡ lane_text N (last_figures N))
 -- the order rows of the plan of the network: those of the orders that are released by then, with the names of their
 -- columns above them where they are asked for
 abbrev pub IsOrderReport : Option ℕ → Heading → Table → List ℕ → Type 0
-IsOrderReport until heading N text = IsSized N × (text ≡ order_text heading until N (plan_of N))
+IsOrderReport until heading N text = IsSized N × OfPlan N (λ plans. text ≡ order_text heading until N plans)
 
 -- the schedule rows of the network, of the lanes from one supplier and to one customer where these are chosen
 abbrev pub AreSchedules : Option PlantNo → Option PlantNo → Heading → Table → List ℕ → Type 0
@@ -72,11 +72,11 @@ IsScheduleReport from to heading N text =
 
 -- the pegs rows of the plan of the network
 abbrev pub IsPegsReport : Table → List ℕ → Type 0
-IsPegsReport N text = IsSized N × (text ≡ pegs_text N (plan_of N))
+IsPegsReport N text = IsSized N × OfPlan N (λ plans. text ≡ pegs_text N plans)
 
 -- the advice rows of the plan of the network, with the names of their columns above them where they are asked for
 abbrev pub IsAdviceReport : Heading → Table → List ℕ → Type 0
-IsAdviceReport heading N text = IsSized N × (text ≡ advice_text heading N (plan_of N))
+IsAdviceReport heading N text = IsSized N × OfPlan N (λ plans. text ≡ advice_text heading N plans)
 
 -- rows of a report, with the names of its columns above them where they are asked for
 abbrev pub IsHeaded : Heading → List (List ℕ) → (List ℕ → Type 0) → List ℕ → Type 0

@@ -5,7 +5,7 @@ use Rattle.csv.specs.Reading.{strip_bom}
 use Rattle.mrp_master_data.specs.Table.{Table, IsTable}
 use Rattle.mrp_validation.specs.Written.{OfRecords}
 use Rattle.mrp_validation.specs.Written.{AreNumbered, rows_of}
-use Rattle.mrp_net.specs.Plan.{plan_of}
+use Rattle.mrp_net.specs.PlanLaws.{OfPlan}
 use Rattle.mrp_loops.specs.Sized.{IsSized}
 use Rattle.mrp_csv_out.specs.Sending.{AppendsPrefix, AppendsSome}
 use Rattle.mrp_report.specs.Report.{plan_text, late_text}
@@ -30,7 +30,7 @@ OfTable known says = (N : Table) × IsTableOf known N × says N
 
 -- the network has no loop and is within the bound, and these are the plan rows and then the late rows of its plan
 abbrev pub IsPlanReport : Table → List ℕ → Type 0
-IsPlanReport N text = IsSized N × (text ≡ plan_text N (plan_of N) ++ late_text N (plan_of N))
+IsPlanReport N text = IsSized N × OfPlan N (λ plans. text ≡ plan_text N plans ++ late_text N plans)
 
 -- what became of a text: all of it was written; a prefix that lacks something, at a failed write; nothing or some
 -- prefix, out of memory; nothing, at every other fault

@@ -37,6 +37,10 @@ pub record Fits (N : Table) (table : List PlanRows) : Type 0 where
   pub size : length table ≡ length N.pairs
   pub rows : (x : ℕ) → IsPair N x → rows_at table x ≡ pair_plan N table x
 
+-- so it is of a table of plans that obeys them, of which there is one where the network can be planned
+abbrev pub OfPlan : Table → (List PlanRows → Type 0) → Type 0
+OfPlan N says = (plans : List PlanRows) × Fits N plans × says plans
+
 -- the plan obeys the rules at every pair, and no other table of plans does
 pub record HasOnePlan (N : Table) : Type 0 where
   pub fits : Fits N (plan_of N)

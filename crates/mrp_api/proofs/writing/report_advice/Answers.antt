@@ -1,6 +1,5 @@
-use Rattle.std.proofs.Common.{List, Err, ap}
+use Rattle.std.proofs.Common.{Err, ap, refl}
 use Rattle.std.proofs.lemmas.Result.{err_from_is_err_and}
-use Rattle.mrp_netting.specs.PlanRows.{PlanRows}
 use Rattle.mrp_advice.specs.AdviceRows.{advice_text}
 use Rattle.mrp_api.specs.Reports.{IsAdviceReport}
 use Rattle.mrp_api.proofs.TextFacts.{report-fails}
@@ -12,13 +11,13 @@ returns-in_err-advice_rows-clause-text g c =
     let N = c.args.net.now.network in
     rw p.1
     (report-fails _ _ (advice_text c.args.heading N c.in_ok-plan.plan) c.in_err-advice_rows.field-0.0 p.0 (IsAdviceReport c.args.heading N)
-    (c.requires, ap (λ (plans : List PlanRows). advice_text c.args.heading N plans) c.in_ok-plan.ensures.value) c.in_err-advice_rows.ensures.text
+    (c.requires, c.in_ok-plan.plan, c.in_ok-plan.ensures.fits, refl) c.in_err-advice_rows.ensures.text
     (λ same. ap g.W.Write.contents (c.in_err-advice_rows.ensures.untouched (ap Err same))) p.2)
 
 pub returns-clause-text : goal.returns-clause-text
 returns-clause-text g c =
     let N = c.args.net.now.network in (
       _,
-      (c.requires, ap (λ (plans : List PlanRows). advice_text c.args.heading N plans) c.in_ok-plan.ensures.value),
+      (c.requires, c.in_ok-plan.plan, c.in_ok-plan.ensures.fits, refl),
       c.in_ok-advice_rows.ensures.text,
     )

@@ -1,6 +1,5 @@
-use Rattle.std.proofs.Common.{List, Err, ap}
+use Rattle.std.proofs.Common.{Err, ap, refl}
 use Rattle.std.proofs.lemmas.Result.{err_from_is_err_and}
-use Rattle.mrp_netting.specs.PlanRows.{PlanRows}
 use Rattle.mrp_report.specs.Orders.{order_text}
 use Rattle.mrp_api.specs.Reports.{IsOrderReport}
 use Rattle.mrp_api.proofs.TextFacts.{report-fails}
@@ -13,13 +12,13 @@ returns-in_err-order_rows-clause-text g c =
     rw p.1
     (report-fails _ _ (order_text c.args.heading c.args.until N c.in_ok-plan.plan) c.in_err-order_rows.field-0.0 p.0
     (IsOrderReport c.args.until c.args.heading N)
-    (c.requires, ap (λ (plans : List PlanRows). order_text c.args.heading c.args.until N plans) c.in_ok-plan.ensures.value) c.in_err-order_rows.ensures.text
+    (c.requires, c.in_ok-plan.plan, c.in_ok-plan.ensures.fits, refl) c.in_err-order_rows.ensures.text
     (λ same. ap g.W.Write.contents (c.in_err-order_rows.ensures.untouched (ap Err same))) p.2)
 
 pub returns-clause-text : goal.returns-clause-text
 returns-clause-text g c =
     let N = c.args.net.now.network in (
       _,
-      (c.requires, ap (λ (plans : List PlanRows). order_text c.args.heading c.args.until N plans) c.in_ok-plan.ensures.value),
+      (c.requires, c.in_ok-plan.plan, c.in_ok-plan.ensures.fits, refl),
       c.in_ok-order_rows.ensures.text,
     )
