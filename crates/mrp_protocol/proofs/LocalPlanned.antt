@@ -1,5 +1,6 @@
 -- Local plans are the plan of the network, and a plant sees which of its pairs can be planned.
 use Rattle.std.proofs.Common.{◌≡◌, ℕ, suc, zero, ◌<◌, Bool, true, List, get_or, sym, ap, ◌∙◌, subst, arith, slice_index}
+use Rattle.std.proofs.lemmas.List.FromFn.{length-map-range_with_len}
 use Rattle.mrp_netting.specs.PlanRows.{PlanRows}
 use Rattle.mrp_netting.specs.Bound.{IsWithin}
 use Rattle.mrp_netting.proofs.PlainRows.{one-gross, one-incoming}
@@ -84,7 +85,8 @@ drafts_are_within N sized plant taken planned plans works x at ready =
     let comes : List ℕ = local_row V (local_incoming V taken p) in
     let asked : List ℕ = local_row V (local_gross V taken plans p) in
     let draft = (drafts_are_the_plan N sized.table sized.loop_free plant taken planned plans works x at ready).plan in
-    let same_comes : (plan_at N x).incoming ≡ comes = sym (ap (λ (rows : PlanRows). rows.incoming) draft) ∙ one-incoming p.params comes asked in
+    let periods = length-map-range_with_len (local_incoming V taken p) 0 V.horizon ∙ sym (length-map-range_with_len (local_gross V taken plans p) 0 V.horizon) in
+    let same_comes : (plan_at N x).incoming ≡ comes = sym (ap (λ (rows : PlanRows). rows.incoming) draft) ∙ one-incoming p.params comes asked periods in
     let same_asked : (plan_at N x).gross ≡ asked = sym (ap (λ (rows : PlanRows). rows.gross) draft) ∙ one-gross p.params comes asked in
     let within = (plan_is_within N sized sized.needs sized.are_needs x at.pair).together in
     subst (λ (row : List ℕ). IsWithin (params_at N x) comes row) same_asked
