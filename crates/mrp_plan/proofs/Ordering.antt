@@ -11,7 +11,7 @@ use Rattle.mrp_netting.specs.PlanningData.{plain, one}
 use Rattle.mrp_netting.specs.declared.params.Late.{Late}
 use Rattle.mrp_netting.specs.declared.params.PairParams.{PairParams}
 use Rattle.mrp_netting.proofs.PlainRows.{length-one-order, one-late, one-release}
-use Rattle.mrp_master_data.specs.Table.{horizon}
+use Rattle.mrp_master_data.specs.Table.{Table, horizon}
 use Rattle.mrp_net.specs.Plan.{gross, pair_plan, rows_at}
 use Rattle.mrp_net.specs.Sums.{incoming, params_at, row_of}
 use Rattle.mrp_plan.specs.Orders.{has_order, planned_order}
