@@ -166,11 +166,11 @@ pub fn reconcile<R: Wait>(
         tally: sent,
     } = send;
     mailbox.absorb::<Meeting>(&mut pass, take.pass);
-    reconciled(rt, alloc, lane, &mailbox, pass, &sent, &take.tally)
+    settled_lane(rt, alloc, lane, &mailbox, pass, &sent, &take.tally)
 }
 
 /// What went over the lane of a joined pass, by what the two ends counted.
-fn reconciled<R: Wait>(
+fn settled_lane<R: Wait>(
     rt: &R,
     alloc: Global,
     lane: LaneNo,

@@ -6,7 +6,7 @@ use Rattle.mrp_lane.specs.declared.view.LaneView.{LaneView}
 use Rattle.mrp_lane.specs.Reconciled.{figures_of}
 use Rattle.mrp_lane.specs.Tallies.{Counts}
 use Rattle.mrp_lane.proofs.Joined.{figures_agree, front_is_taken, front_stamps, is_counted, sizes_agree, small_figures, stamps_left}
-use Rattle.mrp_lane.proofs.joining.reconciled.Goals as goal
+use Rattle.mrp_lane.proofs.joining.settled_lane.Goals as goal
 
 pub drained-requires-clause-pass : goal.drained-requires-clause-pass
 drained-requires-clause-pass g c = c.requires.sends.1.ours
