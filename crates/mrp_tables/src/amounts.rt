@@ -63,7 +63,7 @@ impl Draft {
     }
 
     /// The bill row of these pairs, if they are there, where it fits the rows before it.
-    #[tactic(auto, unfolding(crate::specs::Grammar::bill_fits))]
+    #[tactic(auto, unfolding(mrp_validation::specs::Grammar::bill_fits))]
     fn bill_fits(
         &self,
         row: &StringRecord,

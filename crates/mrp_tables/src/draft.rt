@@ -117,7 +117,7 @@ impl Draft {
     }
 
     /// Adds a row of that kind, which is not counted yet.
-    #[tactic(auto, unfolding(crate::specs::Reading::row_of_kind))]
+    #[tactic(auto, unfolding(mrp_validation::specs::Reading::row_of_kind))]
     fn add_row(
         &mut self,
         alloc: Global,

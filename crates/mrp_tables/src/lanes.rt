@@ -125,7 +125,7 @@ impl Draft {
     }
 
     /// What a ship row says, with the place of its source.
-    #[tactic(auto, unfolding(crate::specs::Grammar::ship_of))]
+    #[tactic(auto, unfolding(mrp_validation::specs::Grammar::ship_of))]
     fn ship_of(&self, row: &StringRecord) -> Result<(ShipRow, usize), TableFaultKind>
         requires draft { IsDraft self.now }
         ensures exact { seen (λ s. s.0) result ≡ ship_of self.now.lists (fields_of row.now) }
@@ -168,7 +168,7 @@ impl Draft {
     }
 
     /// What a cum row says.
-    #[tactic(auto, unfolding(crate::specs::Grammar::cum_of))]
+    #[tactic(auto, unfolding(mrp_validation::specs::Grammar::cum_of))]
     fn cum_of(&self, row: &StringRecord) -> Result<CumRow, TableFaultKind>
         requires draft { IsDraft self.now }
         ensures exact { result ≡ cum_of self.now.lists (fields_of row.now) }
@@ -223,7 +223,7 @@ impl Draft {
     }
 
     /// What a reset row says.
-    #[tactic(auto, unfolding(crate::specs::Grammar::reset_in_row))]
+    #[tactic(auto, unfolding(mrp_validation::specs::Grammar::reset_in_row))]
     fn reset_of(&self, row: &StringRecord) -> Result<ResetRow, TableFaultKind>
         requires draft { IsDraft self.now }
         ensures exact { result ≡ reset_in_row self.now.lists (fields_of row.now) }

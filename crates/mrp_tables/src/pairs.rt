@@ -49,7 +49,7 @@ impl Draft {
     }
 
     /// The name of the plant that a plant row adds.
-    #[tactic(auto, unfolding(crate::specs::Grammar::plant_in_row))]
+    #[tactic(auto, unfolding(mrp_validation::specs::Grammar::plant_in_row))]
     fn plant_of<'r>(&self, row: &'r StringRecord) -> Result<&'r str, TableFaultKind>
         requires knows { Knows self.now.lists self.now.known }
         ensures exact { seen (λ name. name.now) result ≡ plant_in_row self.now.lists (fields_of row.now) }
@@ -83,7 +83,7 @@ impl Draft {
     }
 
     /// The plant of a pair row that fits the rows before it.
-    #[tactic(auto, unfolding(crate::specs::Grammar::pair_fits))]
+    #[tactic(auto, unfolding(mrp_validation::specs::Grammar::pair_fits))]
     fn pair_fits(&self, spelled: &SpelledPair<'_>) -> Result<PlantNo, TableFaultKind>
         requires rows { IsRead self.now.lists }
         requires knows { Knows self.now.lists self.now.known }

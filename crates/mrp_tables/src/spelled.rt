@@ -65,7 +65,7 @@ fn is_empty_from(row: &StringRecord, used: usize) -> bool
 }
 
 /// The kind of a row that has the fields of its kind.
-#[tactic(auto, unfolding(crate::specs::Grammar::row_kind))]
+#[tactic(auto, unfolding(mrp_validation::specs::Grammar::row_kind))]
 pub(crate) fn row_kind(row: &StringRecord) -> Result<Kind, TableFaultKind>
     ensures { result ≡ row_kind (fields_of row.now) }
 {
@@ -89,7 +89,7 @@ struct SpelledRun<'r> {
 }
 
 /// What a run row spells.
-#[tactic(auto, unfolding(crate::specs::Grammar::run_terms))]
+#[tactic(auto, unfolding(mrp_validation::specs::Grammar::run_terms))]
 fn run_of(row: &StringRecord) -> Result<SpelledRun<'_>, TableFaultKind>
     ensures exact { seen run_view result ≡ run_terms (fields_of row.now) }
     ensures periods { IfOk result (λ run. (1 ≤ run.periods) × (run.periods ≤ LONGEST)) }
@@ -138,7 +138,7 @@ pub(crate) struct SpelledPair<'r> {
 }
 
 /// What a pair row spells.
-#[tactic(auto, unfolding(crate::specs::Grammar::pair_terms))]
+#[tactic(auto, unfolding(mrp_validation::specs::Grammar::pair_terms))]
 pub(crate) fn spelled_pair(
     alloc: Global,
     row: &StringRecord,
@@ -177,7 +177,7 @@ fn test_name(row: &StringRecord, i: usize, is_known: bool) -> Result<(), TableFa
 
 /// The pieces of a component that go into one of its parent, by a bill row. Its names aren't tested where they are
 /// known.
-#[tactic(auto, unfolding(crate::specs::Grammar::bill_terms))]
+#[tactic(auto, unfolding(mrp_validation::specs::Grammar::bill_terms))]
 pub(crate) fn spelled_bill(row: &StringRecord, are_known: bool) -> Result<u64, TableFaultKind>
     requires known { are_known ≡ true → HasThreeNames (fields_of row.now) }
     ensures exact { seen (terms_of_bill (fields_of row.now)) result ≡ bill_terms (fields_of row.now) }
@@ -191,7 +191,7 @@ pub(crate) fn spelled_bill(row: &StringRecord, are_known: bool) -> Result<u64, T
 
 /// The period, counted from 0, and the pieces of a demand or a receipt row. Its names aren't tested where they are
 /// known.
-#[tactic(auto, unfolding(crate::specs::Grammar::amount_terms))]
+#[tactic(auto, unfolding(mrp_validation::specs::Grammar::amount_terms))]
 pub(crate) fn spelled_amount(
     row: &StringRecord,
     horizon: Horizon,
@@ -210,7 +210,7 @@ pub(crate) fn spelled_amount(
 }
 
 /// Tests the names of a ship, cum or reset row, unless they are known.
-#[tactic(auto, unfolding(crate::specs::Grammar::lane_terms))]
+#[tactic(auto, unfolding(mrp_validation::specs::Grammar::lane_terms))]
 fn test_lane_names(row: &StringRecord, are_known: bool) -> Result<(), TableFaultKind>
     requires known { are_known ≡ true → HasThreeNames (fields_of row.now) }
     ensures exact { seen (λ _. terms_of_lane (fields_of row.now)) result ≡ lane_terms (fields_of row.now) }
@@ -221,7 +221,7 @@ fn test_lane_names(row: &StringRecord, are_known: bool) -> Result<(), TableFault
 }
 
 /// The period of arrival and the pieces of a ship row. Its names aren't tested where they are known.
-#[tactic(auto, unfolding(crate::specs::Grammar::ship_terms))]
+#[tactic(auto, unfolding(mrp_validation::specs::Grammar::ship_terms))]
 pub(crate) fn spelled_ship(
     row: &StringRecord,
     horizon: Horizon,
@@ -239,7 +239,7 @@ pub(crate) fn spelled_ship(
 }
 
 /// The number of a cum or a reset row, 0 to `most`: a figure or a period. Its names aren't tested where they are known.
-#[tactic(auto, unfolding(crate::specs::Grammar::lane_number))]
+#[tactic(auto, unfolding(mrp_validation::specs::Grammar::lane_number))]
 pub(crate) fn spelled_lane_number(
     row: &StringRecord,
     most: u64,
