@@ -1,5 +1,5 @@
 //! The sender's end of a lane.
-ghost use Rattle.std.specs.Prelude.{◌≡◌, ◌<◌, true, [], ◌∷◌, ◌++◌, length, IfErr, OnOk};
+ghost use Rattle.std.specs.Prelude.{◌≡◌, ◌<◌, true, false, [], ◌∷◌, ◌++◌, length, IfErr, OnOk, IsTrue};
 ghost use Rattle.crossbeam_queue.specs.Fifo.{Held};
 ghost use Rattle.crossbeam_queue.specs.Passes.{view, IsPassOf, IsSamePass, ruled_capacity};
 ghost use Rattle.mrp_net.specs.Lanes.{lanes};
@@ -11,7 +11,7 @@ use crate::view::{LanePass, Mailbox, Sent, Stamp};
 use mrp_net::LaneNo;
 use mrp_record::Record;
 use std::alloc::Global;
-use std::marker::Model;
+use std::marker::{Brand, Model};
 use std::sync::{Arc, Wait};
 
 /// The sender's end of a lane.
@@ -76,6 +76,30 @@ impl SendEnd {
         self.tally.add(&entry);
         Ok(())
     }
+
+    /// Whether the mailbox has room for a record, so that none is made that would be refused. This end alone fills it,
+    /// so the room that is found stays (by construction; no clause says so). Until as many records were sent as it has
+    /// room for, the mailbox isn't looked at.
+    pub fn has_room(&mut self) -> bool
+        ensures same { self.new ≡ self.old }
+        ensures full { result ≡ false → Held self.old.name.room (IsUntaken self.old.list) }
+    {
+        if self.tally.records() < self.mailbox.capacity() as u64 {
+            return true;
+        }
+        !is_full(&self.mailbox, &mut self.pass)
+    }
+}
+
+/// Whether the mailbox is full.
+fn is_full(mailbox: &Mailbox, pass: &mut LanePass) -> bool
+    requires pass { IsPassOf mailbox.now pass.old }
+    requires sends { (view pass.old).sends ≡ true }
+    ensures same { IsSamePass pass.old pass.new }
+    ensures unchanged { view pass.new ≡ view pass.old }
+    ensures full { IsTrue result → Held (ruled_capacity mailbox.now) (IsUntaken (view pass.old).sent) }
+{
+    mailbox.is_full_as::<Sent<Brand>>(pass)
 }
 
 /// Pushes the record with the stamp.

@@ -2,8 +2,8 @@
 
 use crossbeam_queue::protocol::{Join, Lesson, Outcome, Protocol, Split};
 use crossbeam_queue::{Pass, RuledArrayQueue};
-use mrp_record::Record;
 use mrp_master_data::Tables;
+use mrp_record::Record;
 use std::collections::LinkedList;
 use std::marker::{Brand, PhantomData};
 

@@ -1,15 +1,20 @@
 -- What the plants of a network are before the first turn, after the joins, and when their ends are paired.
-use Rattle.std.proofs.Common.{◌≡◌, ℕ, List, length, get_or, Result, Ok, Err, Vec, Global, sym, subst, ◌∙◌, arith}
+use Rattle.std.proofs.Common.{◌≡◌, ℕ, List, length, map, get_or, Result, Ok, Err, Vec, Global, sym, subst, ◌∙◌, arith}
 use Rattle.std.specs.List.{All}
 use Rattle.std.specs.Result.{IfErr, IfOk, IsErrAnd}
+use Rattle.std.proofs.lemmas.List.{map-id}
 use Rattle.std.proofs.lemmas.Result.{IfErr-weaker}
 use Rattle.mrp_master_data.specs.Table.{Table}
+use Rattle.mrp_net.specs.Plan.{plan_of}
+use Rattle.mrp_lane.specs.Reconciled.{Carried}
 use Rattle.mrp_run.specs.declared.fault.RunFault.{RunFault}
 use Rattle.mrp_run.specs.declared.fault.RunFault.TheVariants.{Memory}
+use Rattle.mrp_run.specs.declared.network.Outcome.{Outcome}
 use Rattle.mrp_run.specs.declared.plant.Plant.{Plant}
 use Rattle.mrp_run.specs.Ends.{AreReady, AreThrough, EachAt, HaveEnded, IsReadyPlant}
 use Rattle.mrp_run.specs.Faults.{AllTurned, WasShut, WasSpent}
 use Rattle.mrp_run.specs.Gates.{GateTells}
+use Rattle.mrp_run.specs.Outcome.{AreOfRun, IsOutcome}
 use Rattle.mrp_run.specs.Steps.{Finishes, PlantIsAtWork}
 use Rattle.mrp_run.specs.Worst.{IsFaultIn}
 use Rattle.mrp_run.proofs.JoinedKept.{on_ok}
@@ -51,6 +56,14 @@ pub through_if : (N : Table) (before : List Plant) (r : Result (Vec Plant Global
     → IfOk r (λ after. AreThrough N after.items)
 through_if N before (Ok after) ready size each = are_through N before after.items ready size each
 through_if N before (Err fault) ready size each = tt
+
+-- what a lane shows is the lane as contracts see it
+pub outcome_if : (N : Table) (r : Result (Outcome Carried) RunFault)
+    → IfOk r (λ o. (o.plans.items ≡ plan_of N) × AreOfRun N (map (λ (lane : Carried). lane) o.lanes.items)) → IfOk r (λ o. IsOutcome N o)
+outcome_if N (Ok o) (plans, of) =
+    let lanes : AreOfRun N o.lanes.items = subst (AreOfRun N) (map-id o.lanes.items) of in
+    record { plans = plans; lanes = lanes.lanes; run = lanes.run }
+outcome_if N (Err fault) is = tt
 
 -- ---- what a gate tells of the calls behind the run
 

@@ -10,7 +10,7 @@ use Rattle.mrp_net.specs.declared.lane.Lane.{Lane}
 use Rattle.mrp_net.specs.Lanes.{lanes, lane_at}
 use Rattle.mrp_lane.specs.Ends.{End, Name}
 use Rattle.mrp_run.specs.declared.plant.Plant.{Plant}
-use Rattle.mrp_run.specs.Ends.{AreNames, is_from, is_to, IsDealt, HasEnded, HasNoEnds, HaveEnded, HaveLeft, HavePlans}
+use Rattle.mrp_run.specs.Ends.{AreNames, is_from, is_to, HasEnded, HaveEnded, HaveLeft, HavePlans}
 use Rattle.mrp_run.specs.Plant.{IsClosed, names}
 use Rattle.mrp_run.proofs.Dealt.{filter_own, filter_other, apart, lane_is}
 use Rattle.mrp_run.proofs.DealtLists.{each_set, popped}
@@ -146,21 +146,6 @@ left_next N plants count done is within left = subst (λ (k : ℕ). HaveLeft N k
 -- the plans are there throughout
 pub have_plans : (N : Table) (plants : List Plant) (count : ℕ) → HaveLeft N count plants → HavePlans N plants
 have_plans N plants count left = record { all_plants = left.ended.all_plants; each = λ k d h. (left.ended.each k d h).plans }
-
--- and once no lane is left there are no ends
-no_names : (ends : List End) → names ends ≡ [] → ends ≡ []
-no_names [] e = refl
-no_names (x ∷ ends) e = absurd (omega (arith, ap length e))
-
-none_named : (N : Table) (ns : List Name) (p : ℕ) (P : Plant) → ns ≡ [] → IsDealt N ns ns p P → HasNoEnds P
-none_named N ns p P none dealt = record {
-  sends = no_names P.sends.items (dealt.sends_are ∙ ap (filter (is_from N p)) none);
-  takes = no_names P.takes.items (dealt.takes_are ∙ ap (filter (is_to N p)) none);
-}
-
-pub no_ends : (N : Table) (plants : List Plant) (count : ℕ) → count ≡ 0 → HaveLeft N count plants → All HasNoEnds plants
-no_ends N plants count done left = λ k d h. none_named N left.names k _ (subst (λ (n : ℕ). AreNames N n left.names) done left.first_lanes)
-    (left.ended.each k d h).dealt
 
 -- both ends of the last lane, taken from its plants one after the other
 pub record HaveBoth (N : Table) (l : ℕ) (send take : End) (rest : List Plant) : Type 0 where

@@ -1,7 +1,6 @@
--- What reconciling the two ends of a closed lane answers.
-use Rattle.std.proofs.Common.{◌≡◌, ℕ, ◌+◌, ◌-◌, true, List, [], ◌∷◌, ◌++◌, length, reverse, refl, sym, ap, subst, ◌∙◌, arith, append_assoc, take, drop, Result}
-use Rattle.std.proofs.Common.{Ok, Err, IfOk}
-use Rattle.std.proofs.lemmas.List.{length-map, length-reverse, length_push, take_at}
+-- What two ends of a closed lane show when they are joined.
+use Rattle.std.proofs.Common.{◌≡◌, ℕ, ◌+◌, ◌-◌, true, List, [], ◌∷◌, ◌++◌, length, map, reverse, refl, sym, ap, subst, ◌∙◌, arith, append_assoc, take, drop}
+use Rattle.std.proofs.lemmas.List.{length-map, length-reverse, length_push, map-append, reverse-append, take_at}
 use Rattle.mrp_master_data.specs.Table.{Table}
 use Rattle.mrp_net.specs.Lanes.{lanes, lane_at}
 use Rattle.mrp_record.specs.declared.record.Record.{Record}
@@ -11,14 +10,12 @@ use Rattle.mrp_record.specs.Lengths.{length_of_text}
 use Rattle.mrp_record.proofs.Beginnings.{closed_is_whole, nothing_follows_closing, texts_have_one_length}
 use Rattle.mrp_protocol.specs.Loads.{loads}
 use Rattle.mrp_protocol.proofs.Ordering.{has_closing}
-use Rattle.mrp_lane.specs.Ends.{End, Name, HasLegalList}
 use Rattle.mrp_lane.specs.Reconciled.{Carried, figures_on}
 use Rattle.mrp_lane.specs.Views.{IsLegal}
 use Rattle.mrp_run.specs.declared.plant.Plant.{Plant}
-use Rattle.mrp_run.specs.Ends.{EachAt, IsOfEnds as OfEnds}
+use Rattle.mrp_run.specs.Ends.{AreOfEnds, EachAt, IsOfEnds}
 use Rattle.mrp_run.specs.Laws.{SettledLanesAreCounted}
 use Rattle.mrp_run.specs.Outcome.{IsSettled, AreSettled}
-use Rattle.mrp_run.specs.Plant.{IsClosed}
 use Rattle.mrp_run.proofs.DealtLists.{each_push, each_turned}
 
 -- ---- one lane
@@ -50,94 +47,66 @@ all_taken all sent taken left legal closed parts =
       whole = whole;
     }
 
--- what reconciling two ends answers is what they showed
-pub record IsOfEnds (send take : End) (r : Carried) : Type 0 where
-  pub network : r.network ≡ send.name.network
-  pub lane : r.lane ≡ send.name.lane
-  pub sent : r.sent ≡ send.list
-  pub taken : r.taken ≡ take.list
-  pub left : send.list ≡ take.list ++ r.left
-  pub figures : r.figures ≡ figures_on send.name.network send.name.lane send.list take.list
+-- what was sent is a legal beginning in the network
+pub legal_there : (N : Table) (plants : List Plant) (l : ℕ) (r : Carried) (of : IsOfEnds N plants l r) → IsLegal N l of.send.list
+legal_there N plants l r of = subst (λ (x : Table × ℕ). IsLegal x.0 x.1 of.send.list) (λ i. (of.ends.network i, of.ends.lane i)) of.shows.legal
 
-pub settled : (N : Table) (l : ℕ) (n : Name) (send take : End) (r : Carried) → n.lane ≡ l → n.network ≡ N → send.name ≡ n → IsClosed take → HasLegalList send
-    → IsOfEnds send take r → IsSettled N l r
-settled N l n send take r lane network name closed legal are =
-    let on : send.name.lane ≡ l = ap (λ (x : Name). x.lane) name ∙ lane in
-    let of : send.name.network ≡ N = ap (λ (x : Name). x.network) name ∙ network in
-    let beginning : IsBeginning (loads N (lane_at N l)) send.list = subst (λ (x : Table × ℕ). IsLegal x.0 x.1 send.list) (λ i. (of i, on i)) legal in
-    let all = all_taken (loads N (lane_at N l)) send.list take.list r.left beginning closed are.left in
+settled : (N : Table) (plants : List Plant) (l : ℕ) (r : Carried) → IsOfEnds N plants l r → IsSettled N l r
+settled N plants l r of =
+    let ends = of.ends in
+    let shows = of.shows in
+    let texts = loads N (lane_at N l) in
+    let all = all_taken texts of.send.list of.take.list r.left (legal_there N plants l r of) ends.closed shows.left in
     record {
-      network = are.network ∙ of;
-      lane = are.lane ∙ on;
-      sent = subst (IsWhole (loads N (lane_at N l))) (sym are.sent) all.whole;
-      taken = are.taken ∙ all.same ∙ sym are.sent;
+      network = shows.network ∙ ends.network;
+      lane = shows.lane ∙ ends.lane;
+      sent = subst (IsWhole texts) (sym shows.sent) all.whole;
+      taken = shows.taken ∙ all.same ∙ sym shows.sent;
       left = all.nothing;
-      figures = are.figures ∙ (λ i. figures_on (of i) (on i) (sym are.sent i) (sym are.taken i));
+      figures = shows.figures ∙ (λ i. figures_on (ends.network i) (ends.lane i) (sym shows.sent i) (sym shows.taken i));
     }
 
-pub settled_ok : {E : Type 0} (N : Table) (l : ℕ) (n : Name) (send take : End) (o : Result Carried E) → n.lane ≡ l → n.network ≡ N → send.name ≡ n
-    → IsClosed take → HasLegalList send
-    → IfOk o (λ r. r.network ≡ send.name.network) → IfOk o (λ r. r.lane ≡ send.name.lane) → IfOk o (λ r. r.sent ≡ send.list) → IfOk o (λ r. r.taken ≡ take.list)
-    → IfOk o (λ r. send.list ≡ take.list ++ r.left) → IfOk o (λ r. r.figures ≡ figures_on send.name.network send.name.lane send.list take.list)
-    → IfOk o (λ r. IsSettled N l r)
-settled_ok N l n send take (Err e) lane network name closed legal r_network r_lane r_sent r_taken r_left r_figures = tt
-settled_ok N l n send take (Ok r) lane network name closed legal r_network r_lane r_sent r_taken r_left r_figures =
-    settled N l n send take r lane network name closed legal record {
-      network = r_network;
-      lane = r_lane;
-      sent = r_sent;
-      taken = r_taken;
-      left = r_left;
-      figures = r_figures;
-    }
-
-pub ok_anyway : {T E : Type 0} (o : Result T E) (P : Type 0) → P → IfOk o (λ _. P)
-ok_anyway (Ok r) P h = h
-ok_anyway (Err e) P h = tt
+pub are_settled : (N : Table) (plants : List Plant) (rs : List Carried) → AreOfEnds N plants rs → AreSettled N rs
+are_settled N plants rs of = record { all = of.all; each = λ k d h. settled N plants k _ (of.each k d h) }
 
 -- ---- all lanes, from the last on
 
--- a lane is settled, and it is one of the plants'
-pub record IsPaired (N : Table) (plants : List Plant) (l : ℕ) (r : Carried) : Type 0 where
-  pub settled : IsSettled N l r
-  pub of : OfEnds N plants l r
-
-pub record ArePairedFrom (N : Table) (plants : List Plant) (count done : ℕ) (rs : List Carried) : Type 0 where
+pub record AreOfEndsFrom (N : Table) (plants : List Plant) (count done : ℕ) (rs : List Carried) : Type 0 where
   pub size : length rs ≡ done
-  pub each : EachAt (λ k. IsPaired N plants (count - 1 - k)) rs
+  pub each : EachAt (λ k. IsOfEnds N plants (count - 1 - k)) rs
 
-pub paired_more : (N : Table) (plants : List Plant) (size count done : ℕ) (rs new : List Carried) (r : Carried) → new ≡ rs ++ r ∷ [] → size ≡ count
-    → IsPaired N plants (size - 1 - done) r → ArePairedFrom N plants count done rs → ArePairedFrom N plants count (done + 1) new
-paired_more N plants size count done rs new r grown same here so_far = subst (ArePairedFrom N plants count (done + 1)) (sym grown) record {
-  size = omega (arith, so_far.size, length_push rs r);
-  each = each_push (λ k. IsPaired N plants (count - 1 - k)) rs r done so_far.size so_far.each (subst (λ (z : ℕ). IsPaired N plants (z - 1 - done) r) same here);
-}
+pub none_joined : (N : Table) (plants : List Plant) (count : ℕ) (rs : List Carried) → rs ≡ [] → AreOfEndsFrom N plants count 0 rs
+none_joined N plants count rs is = subst (AreOfEndsFrom N plants count 0) (sym is) record { size = refl; each = λ k d h. absurd (omega (arith, h)) }
 
-pub paired_none : (N : Table) (plants : List Plant) (count : ℕ) (rs : List Carried) → rs ≡ [] → ArePairedFrom N plants count 0 rs
-paired_none N plants count rs is = subst (ArePairedFrom N plants count 0) (sym is) record { size = refl; each = λ k d h. absurd (omega (arith, h)) }
+module _ {L : Type 0} (carried : L → Carried) (N : Table) (plants : List Plant) where
+  pub one_joined : (size count done : ℕ) (all new : List L) (r : L) → new ≡ all ++ r ∷ [] → size ≡ count → IsOfEnds N plants (size - 1 - done) (carried r)
+      → AreOfEndsFrom N plants count done (map carried all) → AreOfEndsFrom N plants count (done + 1) (map carried new)
+  one_joined size count done all new r grown same here so_far =
+      let Of : ℕ → Carried → Type 0 = λ k. IsOfEnds N plants (count - 1 - k) in
+      let rs = map carried all in
+      subst (AreOfEndsFrom N plants count (done + 1)) (sym (ap (map carried) grown ∙ map-append carried all (r ∷ []))) record {
+        size = omega (arith, so_far.size, length_push rs (carried r));
+        each = each_push Of rs (carried r) done so_far.size so_far.each
+            (subst (λ (z : ℕ). IsOfEnds N plants (z - 1 - done) (carried r)) same here);
+      }
 
--- all lanes, in lane order
-pub record ArePaired (N : Table) (plants : List Plant) (rs : List Carried) : Type 0 where
-  pub all : length rs ≡ length (lanes N)
-  pub each : EachAt (IsPaired N plants) rs
+  turned_through : (all : List L) → map carried (reverse all) ≡ reverse (map carried all)
+  turned_through [] = refl
+  turned_through (r ∷ all) =
+      ap (map carried) (reverse-append (r ∷ []) all) ∙ map-append carried (reverse all) (r ∷ [])
+      ∙ ap (λ (z : List Carried). z ++ carried r ∷ []) (turned_through all) ∙ sym (reverse-append (carried r ∷ []) (map carried all))
 
-pub are_settled : (N : Table) (plants : List Plant) (rs : List Carried) → ArePaired N plants rs → AreSettled N rs
-are_settled N plants rs paired = record { all = paired.all; each = λ k d h. (paired.each k d h).settled }
-
-pub are_of_ends : (N : Table) (plants : List Plant) (rs : List Carried) → ArePaired N plants rs → EachAt (OfEnds N plants) rs
-are_of_ends N plants rs paired k d h = (paired.each k d h).of
-
--- turned round in place they are in lane order
-pub paired_all : (N : Table) (plants : List Plant) (count done : ℕ) (rs now turned : List Carried) (len : ℕ) → count ≡ length (lanes N) → done ≡ count
-    → now ≡ rs → turned ≡ reverse now → len ≡ length rs
-    → ArePairedFrom N plants (length (lanes N)) done rs → ArePaired N plants (take len (turned ++ drop (length turned) rs))
-paired_all N plants count done rs now turned len is all same turns size so_far =
-    let round : turned ≡ reverse rs = turns ∙ ap reverse same in
-    let long : length turned ≡ len = ap length round ∙ length-reverse rs ∙ sym size in
-    subst (ArePaired N plants) (sym (take_at turned (drop (length turned) rs) len long ∙ round)) record {
-      all = length-reverse rs ∙ so_far.size ∙ all ∙ is;
-      each = each_turned (IsPaired N plants) rs (length (lanes N)) (so_far.size ∙ all ∙ is) so_far.each;
-    }
+  -- turned round in place they are in lane order
+  pub all_joined : (count done : ℕ) (all now turned : List L) (len : ℕ) → count ≡ length (lanes N) → done ≡ count → now ≡ all → turned ≡ reverse now
+      → len ≡ length all
+      → AreOfEndsFrom N plants (length (lanes N)) done (map carried all) → AreOfEnds N plants (map carried (take len (turned ++ drop (length turned) all)))
+  all_joined count done all now turned len whole is same turns size so_far =
+      let round : turned ≡ reverse all = turns ∙ ap reverse same in
+      let long : length turned ≡ len = ap length round ∙ length-reverse all ∙ sym size in
+      let rs = map carried all in
+      let each : EachAt (IsOfEnds N plants) (reverse rs) = each_turned (IsOfEnds N plants) rs (length (lanes N)) (so_far.size ∙ is ∙ whole) so_far.each in
+      subst (λ (z : List L). AreOfEnds N plants (map carried z)) (sym (take_at turned (drop (length turned) all) len long ∙ round))
+      (subst (AreOfEnds N plants) (sym (turned_through all)) record { all = length-reverse rs ∙ so_far.size ∙ is ∙ whole; each = each })
 
 -- ---- a law
 

@@ -10,9 +10,8 @@ use Rattle.mrp_loops.specs.Within.{plan_at}
 use Rattle.mrp_protocol.specs.LocalLaws.{IsPairAt}
 use Rattle.mrp_protocol.specs.State.{opening_state}
 use Rattle.mrp_history.specs.History.{IsPrefix}
-use Rattle.mrp_lane.specs.Ends.{End, Name}
-use Rattle.mrp_lane.specs.Reconciled.{Carried}
-use Rattle.mrp_lane.specs.Views.{IsLegal}
+use Rattle.mrp_lane.specs.Ends.{AreOfOneLane, End, HasLegalList, Name}
+use Rattle.mrp_lane.specs.Reconciled.{Carried, figures_on}
 use Rattle.mrp_agent.specs.Shows.{ShowsHistory}
 use Rattle.mrp_agent.specs.State.{AgentState, plans_of}
 use Rattle.mrp_run.specs.declared.plant.Plant.{Plant}
@@ -128,21 +127,25 @@ pub record HaveLeft (N : Table) (count : ℕ) (plants : List Plant) : Type 0 whe
   pub first_lanes : AreNames N count names
   pub ended : HaveEnded N names names plants
 
--- no end is there any more
-pub record HasNoEnds (P : Plant) : Type 0 where
-  pub sends : P.sends.items ≡ []
-  pub takes : P.takes.items ≡ []
-
 pub record HavePlans (N : Table) (plants : List Plant) : Type 0 where
   pub all_plants : length plants ≡ length N.plants
   pub each : EachAt (λ p P. HasPlans N p P.agent) plants
 
 -- the end is one of the sender's ends of the plant, or of its receiver's ends
 abbrev pub IsSendEndOf : List Plant → ℕ → End → Type 0
-IsSendEndOf plants p e = (d : Plant) → Contains (slice_index_or plants p d).sends.items e
+IsSendEndOf plants p e = (p < length plants) × ((d : Plant) → Contains (slice_index_or plants p d).sends.items e)
 
 abbrev pub IsTakeEndOf : List Plant → ℕ → End → Type 0
-IsTakeEndOf plants p e = (d : Plant) → Contains (slice_index_or plants p d).takes.items e
+IsTakeEndOf plants p e = (p < length plants) × ((d : Plant) → Contains (slice_index_or plants p d).takes.items e)
+
+-- two ends of a lane, which its plants have; the closing record went through both
+pub record AreEndsOf (N : Table) (plants : List Plant) (l : ℕ) (send take : End) : Type 0 where
+  pub sends_it : IsSendEndOf plants (lane_at N l).sender.0 send
+  pub takes_it : IsTakeEndOf plants (lane_at N l).receiver.0 take
+  pub network : send.name.network ≡ N
+  pub lane : send.name.lane ≡ l
+  pub same : AreOfOneLane send take
+  pub closed : IsClosed take
 
 -- of the ends of each plant the last ones may have been taken
 pub record HasLeftOf (before now : Plant) : Type 0 where
@@ -153,18 +156,25 @@ pub record HaveLeftOf (before now : List Plant) : Type 0 where
   pub size : length now ≡ length before
   pub each : (k : ℕ) (d : Plant) → k < length before → HasLeftOf (slice_index_or before k d) (slice_index_or now k d)
 
--- what is answered of a lane is what two ends of its plants showed
-pub record IsOfEnds (N : Table) (plants : List Plant) (l : ℕ) (r : Carried) : Type 0 where
-  pub sender : (lane_at N l).sender.0 < length plants
-  pub receiver : (lane_at N l).receiver.0 < length plants
-  pub send : End
-  pub take : End
-  pub sends_it : IsSendEndOf plants (lane_at N l).sender.0 send
-  pub takes_it : IsTakeEndOf plants (lane_at N l).receiver.0 take
-  pub send_lane : send.name.lane ≡ l
-  pub take_lane : take.name.lane ≡ l
+-- what is made of two ends shows what they did; what was sent is a legal beginning
+pub record ShowsEnds (send take : End) (r : Carried) : Type 0 where
+  pub network : r.network ≡ send.name.network
+  pub lane : r.lane ≡ send.name.lane
   pub sent : r.sent ≡ send.list
   pub taken : r.taken ≡ take.list
   pub left : send.list ≡ take.list ++ r.left
   pub stamps : send.stamps ≡ take.stamps ++ r.left_at
-  pub legal : IsLegal N l send.list
+  pub figures : r.figures ≡ figures_on send.name.network send.name.lane send.list take.list
+  pub legal : HasLegalList send
+
+-- what is answered of a lane is made of two ends of its plants
+pub record IsOfEnds (N : Table) (plants : List Plant) (l : ℕ) (r : Carried) : Type 0 where
+  pub send : End
+  pub take : End
+  pub ends : AreEndsOf N plants l send take
+  pub shows : ShowsEnds send take r
+
+-- of all lanes, in lane order
+pub record AreOfEnds (N : Table) (plants : List Plant) (rs : List Carried) : Type 0 where
+  pub all : length rs ≡ length (lanes N)
+  pub each : EachAt (IsOfEnds N plants) rs

@@ -36,6 +36,11 @@ abbrev pub IsRun : Table → List Carried → Type 0
 IsRun N lanes_of =
     (capacity : ℕ) → 1 ≤ capacity → (s : State) × IsReached N capacity s × IsFinished N s × HasLists lanes_of s
 
+-- so it is of all lanes: each carried its whole text, and the lists are those of a run
+pub record AreOfRun (N : Table) (lanes_of : List Carried) : Type 0 where
+  pub lanes : AreSettled N lanes_of
+  pub run : IsRun N lanes_of
+
 -- the plans are the plan of the network, each lane carried its whole text, and the lists are those of a run of the
 -- events
 pub record IsOutcome (N : Table) (o : Outcome Carried) : Type 0 where

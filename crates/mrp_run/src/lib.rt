@@ -24,7 +24,6 @@ pub mod laws;
 mod moving;
 mod network;
 mod offering;
-mod pairing;
 mod plant;
 mod results;
 mod running;

@@ -1,17 +1,17 @@
 //! A whole network, run by a thread for each plant.
-ghost use Rattle.std.specs.Prelude.{◌≡◌, IfErr, IfOk};
+ghost use Rattle.std.specs.Prelude.{◌≡◌, IfErr, IfOk, map};
 ghost use Rattle.mrp_loops.specs.Sized.{IsSized};
 ghost use Rattle.mrp_run.specs.Ends.{AreThrough};
 ghost use Rattle.mrp_run.specs.declared.fault.RunFault.{RunFault};
 ghost use Rattle.mrp_qty.specs.declared.limits.TheConstants.{MOST_TURNS};
 ghost use Rattle.mrp_run.specs.Gates.{GateTells};
-ghost use Rattle.mrp_run.specs.Outcome.{IsOutcome};
+ghost use Rattle.mrp_net.specs.Plan.{plan_of};
+ghost use Rattle.mrp_run.specs.Outcome.{AreOfRun, IsOutcome};
 
 use crate::dealing::ready_plants;
 use crate::fault::RunFault;
 use crate::gathering::plans_of;
-use crate::joining::join_lanes;
-use crate::pairing::reconcile_all;
+use crate::joining::{OfEnds, join_all};
 use crate::plant::Plant;
 use crate::settings::Settings;
 use crate::threads::run_plants;
@@ -81,8 +81,7 @@ pub fn run_network_within<R: Threads + Wait + Sync, G: Gate>(
     ensures outcome { IfOk result (λ o. IsOutcome net.now.network o) }
     ensures gate { GateTells G.turn_open G.turn_shut G.worker_shut settings.workers turns net.now.network result }
 {
-    let through = run_through(rt, alloc, net, settings, gate, turns)?;
-    outcome_of(rt, alloc, net.network(), through)
+    run_to(rt, alloc, net, settings, gate, turns)
 }
 
 /// The outcome of the run that [`run_network`] makes, where nobody asks for records and figures: the two ends of each
@@ -101,24 +100,24 @@ pub fn plan_network<R: Threads + Wait + Sync, G: Gate>(
     ensures outcome { IfOk result (λ o. IsOutcome net.now.network o) }
     ensures gate { GateTells G.turn_open G.turn_shut G.worker_shut settings.workers MOST_TURNS net.now.network result }
 {
-    let through = run_through(rt, alloc, net, settings, gate, MOST_TURNS)?;
-    joined_outcome(alloc, net.network(), through)
+    run_to(rt, alloc, net, settings, gate, MOST_TURNS)
 }
 
-/// The plants of a network once the thread of each has finished, in so many turns at most.
-fn run_through<R: Threads + Wait + Sync, G: Gate>(
+/// Runs a network, and makes of the two ends of each lane what the outcome has of it.
+fn run_to<R: Threads + Wait + Sync, G: Gate, L: OfEnds>(
     rt: &R,
     alloc: Global,
     net: &SizedNet<'_>,
     settings: Settings,
     gate: &G,
     turns: u64,
-) -> Result<Vec<Plant>, RunFault>
-    ensures through { IfOk result (λ plants. AreThrough net.now.network plants.items) }
+) -> Result<Outcome<L>, RunFault>
+    ensures outcome { IfOk result (λ o. (o.plans.items ≡ plan_of net.now.network)
+        × AreOfRun net.now.network (map L.carried o.lanes.items)) }
     ensures gate { GateTells G.turn_open G.turn_shut G.worker_shut settings.workers turns net.now.network result }
 {
     let ready = ready_plants(rt, alloc, net, settings.capacity())?;
-    run_plants::<R, G, Brand>(
+    let through = run_plants::<R, G, Brand>(
         rt,
         alloc,
         ready,
@@ -126,41 +125,24 @@ fn run_through<R: Threads + Wait + Sync, G: Gate>(
         settings.capacity(),
         gate,
         turns,
-    )
+    )?;
+    outcome_of(rt, alloc, net.network(), through)
 }
 
 /// What plants that have finished come to.
-fn outcome_of<R: Wait>(
+fn outcome_of<R: Wait, L: OfEnds>(
     rt: &R,
     alloc: Global,
     network: &Network,
     mut plants: Vec<Plant>,
-) -> Result<Outcome, RunFault>
+) -> Result<Outcome<L>, RunFault>
     requires sized { IsSized network.now }
     requires through { AreThrough network.now plants.items }
-    ensures outcome { IfOk result (λ o. IsOutcome network.now o) }
+    ensures outcome { IfOk result (λ o. (o.plans.items ≡ plan_of network.now)
+        × AreOfRun network.now (map L.carried o.lanes.items)) }
     ensures fault { IfErr result (λ fault. fault ≡ RunFault.Memory) }
 {
-    let lanes = reconcile_all(rt, alloc, network, plants.as_mut_slice())?;
+    let lanes = join_all(rt, alloc, network, plants.as_mut_slice())?;
     let plans = plans_of(alloc, network, plants)?;
     Ok(Outcome { plans, lanes })
-}
-
-/// What plants that have finished come to, for proofs alone but for the plans.
-fn joined_outcome(
-    alloc: Global,
-    network: &Network,
-    mut plants: Vec<Plant>,
-) -> Result<Outcome<JoinedLane>, RunFault>
-    requires sized { IsSized network.now }
-    requires through { AreThrough network.now plants.items }
-    ensures outcome { IfOk result (λ o. IsOutcome network.now o) }
-    ensures fault { IfErr result (λ fault. fault ≡ RunFault.Memory) }
-{
-    let joined = join_lanes(alloc, network, plants.as_mut_slice())?;
-    let plans = plans_of(alloc, network, plants)?;
-    Ok(Outcome {
-        plans,
-        lanes: joined,
-    })
 }

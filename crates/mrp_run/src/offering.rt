@@ -9,14 +9,18 @@ use std::marker::Brand;
 use std::snapshot::Snapshot;
 use std::sync::Wait;
 
-/// Offers the next record of a lane, and answers whether there was one and there was room for it. A record
-/// that is refused stays the next one. The ends and what the agent sees are both in lane order, so the lane has
-/// the place of its end.
+/// Offers the next record of a lane, and answers whether there was one and there was room for it. Whether there is room
+/// is asked first, so that no record is computed to be refused (by construction; no clause says so). A record that is
+/// refused stays the next one. The ends and what the agent sees are both in lane order, so the lane has the place of
+/// its end.
 pub(crate) fn offer_next<R: Wait>(rt: &R, plant: &mut Plant, k: usize) -> bool
     requires work { PlantIsAtWork plant.old }
     requires lane { k < length plant.old.sends.items }
     ensures kept { KeepsPlant plant.old plant.new }
 {
+    if !has_room(plant, k) {
+        return false;
+    }
     let Some(next) = plant.agent.next_at(k) else {
         return false;
     };
@@ -26,6 +30,17 @@ pub(crate) fn offer_next<R: Wait>(rt: &R, plant: &mut Plant, k: usize) -> bool
     }
     plant.agent.sent_at(k, next);
     true
+}
+
+/// Whether there is room on a lane for a record.
+fn has_room(plant: &mut Plant, k: usize) -> bool
+    requires work { PlantIsAtWork plant.old }
+    requires lane { k < length plant.old.sends.items }
+    ensures work { PlantIsAtWork plant.new }
+    ensures lane { k < length plant.new.sends.items }
+    ensures kept { KeepsPlant plant.old plant.new }
+{
+    plant.sends[k].has_room()
 }
 
 /// Offers a record with the clock of its plant as the stamp.

@@ -3,8 +3,8 @@ use Rattle.std.proofs.lemmas.List.{get_or_default}
 use Rattle.mrp_agent.proofs.Gathers.{nothing_left}
 use Rattle.mrp_run.specs.declared.plant.Plant.{Plant}
 use Rattle.mrp_run.proofs.Paired.{takes_popped}
-use Rattle.mrp_run.proofs.Ran.{take_left, take_there}
-use Rattle.mrp_run.proofs.pairing.last_take.Goals as goal
+use Rattle.mrp_run.proofs.Ran.{take_left, was_there}
+use Rattle.mrp_run.proofs.joining.last_take.Goals as goal
 
 pub returns : goal.returns
 returns c =
@@ -14,6 +14,6 @@ returns c =
       last = λ N ns ts n owner ended.
           takes_popped N ns ts n c.args.plants.now c.args.receiver.0 P c.pop.new.self c.pop.result c.requires.there is c.pop.ensures.items
           (nothing_left P.takes c.pop.new.self c.pop.result _ c.pop.ensures.cases) owner ended;
-      there = take_there c.args.plants.now c.args.receiver.0 P c.pop.new.self.items c.pop.result c.requires.there is c.pop.ensures.items;
+      there = was_there (λ (P : Plant). P.takes.items) c.args.plants.now c.args.receiver.0 P c.pop.new.self.items c.pop.result c.requires.there is c.pop.ensures.items;
       left = take_left c.args.plants.now c.args.receiver.0 P c.pop.new.self c.pop.result c.requires.there is c.pop.ensures.items;
     }

@@ -3,8 +3,8 @@ use Rattle.std.proofs.lemmas.List.{get_or_default}
 use Rattle.mrp_agent.proofs.Gathers.{nothing_left}
 use Rattle.mrp_run.specs.declared.plant.Plant.{Plant}
 use Rattle.mrp_run.proofs.Paired.{sends_popped}
-use Rattle.mrp_run.proofs.Ran.{send_left, send_there}
-use Rattle.mrp_run.proofs.pairing.last_send.Goals as goal
+use Rattle.mrp_run.proofs.Ran.{send_left, was_there}
+use Rattle.mrp_run.proofs.joining.last_send.Goals as goal
 
 pub returns : goal.returns
 returns c =
@@ -14,6 +14,6 @@ returns c =
       last = λ N ns ts n owner ended.
           sends_popped N ns ts n c.args.plants.now c.args.sender.0 P c.pop.new.self c.pop.result c.requires.there is c.pop.ensures.items
           (nothing_left P.sends c.pop.new.self c.pop.result _ c.pop.ensures.cases) owner ended;
-      there = send_there c.args.plants.now c.args.sender.0 P c.pop.new.self.items c.pop.result c.requires.there is c.pop.ensures.items;
+      there = was_there (λ (P : Plant). P.sends.items) c.args.plants.now c.args.sender.0 P c.pop.new.self.items c.pop.result c.requires.there is c.pop.ensures.items;
       left = send_left c.args.plants.now c.args.sender.0 P c.pop.new.self c.pop.result c.requires.there is c.pop.ensures.items;
     }

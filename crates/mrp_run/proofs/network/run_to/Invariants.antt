@@ -1,7 +1,7 @@
 use Rattle.std.proofs.Common.{length}
 use Rattle.mrp_run.specs.Faults.{WasShut, WasSpent}
 use Rattle.mrp_run.specs.Worst.{IsOfFirst}
-use Rattle.mrp_run.proofs.network.run_through.Given as goal
+use Rattle.mrp_run.proofs.network.run_to.Given as goal
 
 -- the plants stop for faults that one of them may meet
 abbrev pub ghosts-run_plants : goal.ghosts-run_plants
