@@ -1,12 +1,11 @@
 -- What is found where an event is looked for.
 use Rattle.std.proofs.Common.{◌≡◌, ℕ, ◌+◌, ◌<◌, ◌≤◌, Bool, true, false, List, ◌∷◌, ◌⊎◌, inl, inr, length, get_or, drop, slice_get, Option, None, Some, refl}
 use Rattle.std.proofs.Common.{sym, ap, subst, ◌∙◌, arith}
-use Rattle.std.specs.Prelude.{IfNone}
-use Rattle.mrp_master_data.specs.Table.{Table}
+use Rattle.std.specs.Prelude.{IfNone, MatchBool}
+use Rattle.mrp_master_data.specs.Table.{Table, IsPair}
 use Rattle.mrp_net.specs.Lanes.{lanes, lane_at}
 use Rattle.mrp_net.specs.Sums.{pair_at}
 use Rattle.mrp_record.specs.declared.record.Record.{Record}
-use Rattle.mrp_protocol.specs.declared.event.Event.{Event}
 use Rattle.mrp_protocol.specs.declared.event.Event.TheVariants.{Send, Receive, Plan}
 use Rattle.mrp_protocol.specs.State.{State, CanPlan, after_send, after_take, after_plan}
 use Rattle.mrp_world.specs.Moments.{Moment, IsAt, IsNext, SendsLane}
@@ -14,7 +13,7 @@ use Rattle.mrp_agent.specs.OwnPart.{IsOut, IsOwn}
 use Rattle.mrp_world.specs.Showing.{Showing}
 use Rattle.mrp_world.specs.Mailbox.{Held}
 use Rattle.mrp_world.specs.World.{box_at}
-use Rattle.mrp_world.specs.Moves.{AreAt, AreSomewhere, Lead, LeadNowhere, MayLead, Acts, StandsStill, LaneRests, PlantRests, AllRests}
+use Rattle.mrp_world.specs.Moves.{AreAt, AreSomewhere, MayLead, LaneRests, LanesRest, PlantRests, PlantsRest, AllRests}
 use Rattle.mrp_world.proofs.Steps.{SendsNext, moment, plant_is_at, may_send, first_can, first_of, can_send, owner_within, full_leads_nowhere}
 use Rattle.mrp_world.proofs.Steps.{none_leads_nowhere, empty_leads_nowhere}
 
@@ -71,10 +70,17 @@ pub ready_may : {A : Type 0} (shows : Showing A) (N : Table) (plants : List A) (
 ready_may shows N plants boxes p x plant within is can capacity s at =
     (after_plan s x, (can (moment N capacity s) p (asked_at shows N capacity plants boxes s at p plant is (omega (arith, within, at.shown.all))), refl))
 
+pub ready_pair : {A : Type 0} (shows : Showing A) (N : Table) (plants : List A) (boxes : List Held) (p x : ℕ) (plant : A)
+    → p < length plants → plant ≡ get_or plants p plant → AreSomewhere shows N plants boxes
+    → ((m : Moment) (q : ℕ) → IsAt shows m q plant → IsOwn m.network q x) → IsPair N x
+ready_pair shows N plants boxes p x plant within is some own =
+    let shown = asked_at shows N some.0 plants boxes some.1 some.2 p plant is (omega (arith, within, some.2.shown.all)) in
+    (own (moment N some.0 some.1) p shown).pair
+
 -- ---- what rests
 
 pub full_rests : {A : Type 0} (shows : Showing A) (N : Table) (plants : List A) (boxes : List Held) (l : ℕ) (old : Held)
-    → l < length (lanes N) → old ≡ box_at boxes l → slice_get old.records 0 ≡ None → old.room ≤ length old.records → LaneRests shows N plants boxes l
+    → l < length (lanes N) → old ≡ box_at boxes l → slice_get old.records 0 ≡ None → old.room ≤ length old.records → LaneRests shows N l plants boxes
 full_rests shows N plants boxes l old within same none full = record {
   sends_nothing = full_leads_nowhere shows N plants boxes l old within same full;
   receives_nothing = empty_leads_nowhere shows N plants boxes l old same none;
@@ -83,7 +89,7 @@ full_rests shows N plants boxes l old within same none full = record {
 pub lane_rests : {A : Type 0} (shows : Showing A) (N : Table) (plants : List A) (boxes : List Held) (l p : ℕ) (plant : A) (old : Held)
     → l < length (lanes N) → p < length N.plants → (lane_at N l).sender.0 ≡ p → old ≡ box_at boxes l → slice_get old.records 0 ≡ None
     → plant ≡ get_or plants p plant → ((m : Moment) (q : ℕ) → IsAt shows m q plant → IsOut m.network q l → (r : Record) → ¬ IsNext m l r)
-    → LaneRests shows N plants boxes l
+    → LaneRests shows N l plants boxes
 lane_rests shows N plants boxes l p plant old within known e same none is nothing = record {
   sends_nothing = none_leads_nowhere shows N plants boxes l p plant within known e (λ m q at. nothing m q (subst (λ z. IsAt shows m q z) (sym is) at));
   receives_nothing = empty_leads_nowhere shows N plants boxes l old same none;
@@ -91,70 +97,43 @@ lane_rests shows N plants boxes l p plant old within known e same none is nothin
 
 pub plant_rests : {A : Type 0} (shows : Showing A) (N : Table) (plants : List A) (boxes : List Held) (p : ℕ) (plant : A)
     → p < length plants → plant ≡ get_or plants p plant → ((m : Moment) (q x : ℕ) → IsAt shows m q plant → IsOwn m.network q x → ¬ CanPlan m.network m.state x)
-    → PlantRests shows N plants boxes p
+    → PlantRests shows N p plants boxes
 plant_rests shows N plants boxes p plant within is cannot x own capacity s at enabled =
     cannot (moment N capacity s) p x (asked_at shows N capacity plants boxes s at p plant is (omega (arith, within, at.shown.all))) own enabled.1.0
 
 -- ---- all of them rest
 
-or_less : (l from : ℕ) → (l < from) ⊎ (from ≤ l)
-or_less l from = grind arith
-
-lane_among : {A : Type 0} (shows : Showing A) (N : Table) (plants : List A) (boxes : List Held) (from l : ℕ)
-    → ((k : ℕ) → from ≤ k → k < length (lanes N) → LaneRests shows N plants boxes k) → ((k : ℕ) → 0 ≤ k → k < from → LaneRests shows N plants boxes k)
-    → l < length (lanes N) → LaneRests shows N plants boxes l
-lane_among shows N plants boxes from l high low within = elim (or_less l from) [
-  | inl less ↦ low l (omega arith) less
-  | inr more ↦ high l more within
+-- what holds from a number on and below it holds everywhere
+pub loop_round : (P : ℕ → Type 0) (from to : ℕ) → ((k : ℕ) → from ≤ k → k < to → P k) → ((k : ℕ) → 0 ≤ k → k < from → P k) → (k : ℕ) → 0 ≤ k → k < to → P k
+loop_round P from to high low k least within = elim (or_less k from) [
+  | inl less ↦ low k least less
+  | inr more ↦ high k more within
 ]
+  where
+    or_less : (k from : ℕ) → (k < from) ⊎ (from ≤ k)
+    or_less k from = grind arith
 
-pub all_rests : {A : Type 0} (shows : Showing A) (N : Table) (plants : List A) (boxes : List Held) (from : ℕ)
-    → ((k : ℕ) → from ≤ k → k < length (lanes N) → LaneRests shows N plants boxes k) → ((k : ℕ) → 0 ≤ k → k < from → LaneRests shows N plants boxes k)
-    → ((p : ℕ) → 0 ≤ p → p < length plants → PlantRests shows N plants boxes p) → AllRests shows N plants boxes
-all_rests shows N plants boxes from high low each (Send l) capacity s at enabled =
-    (lane_among shows N plants boxes from l.0 high low enabled.1.1.lane).sends_nothing capacity s at enabled
-all_rests shows N plants boxes from high low each (Receive l) capacity s at enabled =
-    (lane_among shows N plants boxes from l.0 high low enabled.1.1.lane).receives_nothing capacity s at enabled
-all_rests shows N plants boxes from high low each (Plan x) capacity s at enabled =
+pub all_rests : {A : Type 0} (shows : Showing A) (N : Table) (plants : List A) (boxes : List Held)
+    → LanesRest shows N 0 (length (lanes N)) plants boxes → PlantsRest shows N 0 (length plants) plants boxes → AllRests shows N plants boxes
+all_rests shows N plants boxes over each (Send l) capacity s at enabled = (over l.0 (omega arith) enabled.1.1.lane).sends_nothing capacity s at enabled
+all_rests shows N plants boxes over each (Receive l) capacity s at enabled = (over l.0 (omega arith) enabled.1.1.lane).receives_nothing capacity s at enabled
+all_rests shows N plants boxes over each (Plan x) capacity s at enabled =
     let within = owner_within N at.sized x.0 enabled.1.0.pair in
     each (pair_at N x.0).plant.0 (omega arith) (omega (arith, within, at.shown.all)) x.0
     (record { pair = enabled.1.0.pair; at_plant = refl }) capacity s at enabled
 
--- ---- whether an event has happened
+-- ---- what calls answer
 
-pub acts_by : {A : Type 0} (shows : Showing A) (N : Table) (plants : List A) (boxes : List Held) (event kind : Event) (acted : Bool) (new_plants : List A)
-    (new_boxes : List Held)
-    → event ≡ kind → (acted ≡ true → Lead shows N plants boxes kind new_plants new_boxes) → (acted ≡ false → LeadNowhere shows N plants boxes kind)
-    → (acted ≡ false → new_plants ≡ plants) → (acted ≡ false → new_boxes ≡ boxes) → Acts shows N plants boxes event acted new_plants new_boxes
-acts_by shows N plants boxes event kind true new_plants new_boxes is leads nowhere same_plants same_boxes =
-    subst (λ (e : Event). Lead shows N plants boxes e new_plants new_boxes) (sym is) (leads refl)
-acts_by shows N plants boxes event kind false new_plants new_boxes is leads nowhere same_plants same_boxes =
-    record {
-      nowhere = subst (λ (e : Event). LeadNowhere shows N plants boxes e) (sym is) (nowhere refl);
-      same_plants = same_plants refl;
-      same_boxes = same_boxes refl;
-    }
-
-pub leads_if : {A : Type 0} (shows : Showing A) (N : Table) (plants : List A) (boxes : List Held) (event : Event) (acted : Bool) (new_plants : List A)
-    (new_boxes : List Held)
-    → Acts shows N plants boxes event acted new_plants new_boxes → acted ≡ true → Lead shows N plants boxes event new_plants new_boxes
-leads_if shows N plants boxes event true new_plants new_boxes acts e = acts
-leads_if shows N plants boxes event false new_plants new_boxes acts e = absurd (cc)
-
-pub still_if : {A : Type 0} (shows : Showing A) (N : Table) (plants : List A) (boxes : List Held) (event : Event) (acted : Bool) (new_plants : List A)
-    (new_boxes : List Held)
-    → Acts shows N plants boxes event acted new_plants new_boxes → acted ≡ false → StandsStill shows N plants boxes event new_plants new_boxes
-still_if shows N plants boxes event true new_plants new_boxes acts e = absurd (cc)
-still_if shows N plants boxes event false new_plants new_boxes acts e = acts
+pub by_answer : (answer : Bool) (P Q : Type 0) → (answer ≡ true → P) → (answer ≡ false → Q) → MatchBool answer P Q
+by_answer true P Q could cannot = could refl
+by_answer false P Q could cannot = cannot refl
 
 -- the same lists by other names
-pub acts_as : {A : Type 0} (shows : Showing A) (N : Table) (plants plants_too : List A) (boxes boxes_too : List Held) (event : Event) (acted : Bool)
+pub by_names : {A : Type 0} (P : List A → List Held → List A → List Held → Type 0) (plants plants_too : List A) (boxes boxes_too : List Held)
     (new_plants new_plants_too : List A) (new_boxes new_boxes_too : List Held)
     → plants ≡ plants_too → boxes ≡ boxes_too → new_plants_too ≡ new_plants → new_boxes_too ≡ new_boxes
-    → Acts shows N plants boxes event acted new_plants new_boxes → Acts shows N plants_too boxes_too event acted new_plants_too new_boxes_too
-acts_as {A} shows N plants plants_too boxes boxes_too event acted new_plants new_plants_too new_boxes new_boxes_too same_plants same_boxes then_plants
-    then_boxes acts =
-    subst (λ (p : List A). Acts shows N p boxes_too event acted new_plants_too new_boxes_too) same_plants
-    (subst (λ (b : List Held). Acts shows N plants b event acted new_plants_too new_boxes_too) same_boxes
-    (subst (λ (p : List A). Acts shows N plants boxes event acted p new_boxes_too) (sym then_plants)
-    (subst (λ (b : List Held). Acts shows N plants boxes event acted new_plants b) (sym then_boxes) acts)))
+    → P plants boxes new_plants new_boxes → P plants_too boxes_too new_plants_too new_boxes_too
+by_names {A} P plants plants_too boxes boxes_too new_plants new_plants_too new_boxes new_boxes_too same_plants same_boxes then_plants then_boxes holds =
+    subst (λ (p : List A). P p boxes_too new_plants_too new_boxes_too) same_plants
+    (subst (λ (b : List Held). P plants b new_plants_too new_boxes_too) same_boxes
+    (subst (λ (p : List A). P plants boxes p new_boxes_too) (sym then_plants) (subst (λ (b : List Held). P plants boxes new_plants b) (sym then_boxes) holds)))

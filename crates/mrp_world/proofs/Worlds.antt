@@ -2,7 +2,7 @@
 use Rattle.std.proofs.Common.{◌≡◌, Option, None, Some, get_or, take, ℕ, ◌+◌, ◌-◌, ◌<◌, ◌≤◌, ◌==◌, Bool, true, false, List, [], ◌∷◌, ◌++◌, inl, inr, length}
 use Rattle.std.proofs.Common.{refl, sym, ap, subst, ◌∙◌, arith}
 use Rattle.std.specs.Prelude.{slice_get, MatchBool, IfSome, IfNone, IsSome, IsSomeAnd, IfOk, Result, Ok, Err}
-use Rattle.std.proofs.lemmas.Bool.{cases_Bool, eqb-true, eq-eqb, false≢true}
+use Rattle.std.proofs.lemmas.Bool.{cases_Bool, cases_from_iff, eqb-true, eq-eqb, false≢true}
 use Rattle.std.proofs.lemmas.List.{take_more}
 use Rattle.std.proofs.lemmas.Option.{slice_get_read}
 use Rattle.mrp_master_data.specs.Table.{Table, IsPair}
@@ -18,7 +18,7 @@ use Rattle.mrp_world.specs.Showing.{Showing}
 use Rattle.mrp_world.proofs.Steps.{moment, plant_is_at, owner_among, owner_known}
 use Rattle.mrp_world.specs.Mailbox.{Held}
 use Rattle.mrp_world.specs.World.{WorldState}
-use Rattle.mrp_world.specs.Moves.{AreAt, AreSomewhere, Lead, LeadNowhere, AllRests, MayLead, WorldShows, IsWorld, Runs}
+use Rattle.mrp_world.specs.Moves.{AreAt, AreSomewhere, Lead, LeadNowhere, AllRests, WorldShows, IsWorld, Runs}
 
 abbrev pub world : {A : Type 0} → Table → ℕ → List A → List Held → ℕ → WorldState A
 world N capacity plants boxes left = record { network = N; capacity = capacity; plants = plants; boxes = boxes; left = left }
@@ -35,52 +35,62 @@ pub record Leads {A : Type 0} (shows : Showing A) (w : WorldState A) (event : Ev
   pub shown : WorldShows shows new next
   pub some : new.left + 1 ≡ w.left
 
-pub leads_to : {A : Type 0} (shows : Showing A) (N : Table) (capacity : ℕ) (plants : List A) (boxes : List Held) (left : ℕ) (event : Event)
-    (new_plants : List A) (new_boxes : List Held) (s : State)
-    → Lead shows N plants boxes event new_plants new_boxes → WorldShows shows (world N capacity plants boxes left) s
-    → Leads shows (world N capacity plants boxes left) event (world N capacity new_plants new_boxes (left - 1)) s
-leads_to shows N capacity plants boxes left event new_plants new_boxes s leads shown =
-    let next = leads capacity s shown.parts in
-    let counted : left ≡ steps_left N s = shown.left in
-    let falls : steps_left N next.0 + 1 ≡ steps_left N s = events_are_steps N capacity s next.0 event shown.parts.reached next.1 in
-    record {
-      next = next.0;
-      step = next.1;
-      shown = record { parts = next.2; left = omega (arith, counted, falls) };
-      some = omega (arith, counted, falls);
-    }
+module _ {A : Type 0} (shows : Showing A) (N : Table) (capacity : ℕ) (plants : List A) (boxes : List Held) (left : ℕ) (event : Event) (new_plants : List A)
+    (new_boxes : List Held) (leads : Lead shows N plants boxes event new_plants new_boxes) where
+  leads_to : (s : State) → WorldShows shows (world N capacity plants boxes left) s
+      → Leads shows (world N capacity plants boxes left) event (world N capacity new_plants new_boxes (left - 1)) s
+  leads_to s shown =
+      let next = leads capacity s shown.parts in
+      let counted : left ≡ steps_left N s = shown.left in
+      let falls : steps_left N next.0 + 1 ≡ steps_left N s = events_are_steps N capacity s next.0 event shown.parts.reached next.1 in
+      record {
+        next = next.0;
+        step = next.1;
+        shown = record { parts = next.2; left = omega (arith, counted, falls) };
+        some = omega (arith, counted, falls);
+      }
+
+  pub world_leads : (w : WorldState A) → world N capacity plants boxes left ≡ w → (s : State) → WorldShows shows w s
+      → (t : State) × Step w.network w.capacity s event t × WorldShows shows (world N capacity new_plants new_boxes (left - 1)) t
+  world_leads w e =
+      subst (λ v. (s : State) → WorldShows shows v s → (t : State) × Step v.network v.capacity s event t
+      × WorldShows shows (world N capacity new_plants new_boxes (left - 1)) t) e
+      (λ s shown. let x = leads_to s shown in (x.next, x.step, x.shown))
+
+  pub world_after : IsWorld shows (world N capacity plants boxes left) → IsWorld shows (world N capacity new_plants new_boxes (left - 1))
+  world_after is = let x = leads_to is.state is.shown in record { holds = is.holds; state = x.next; shown = x.shown }
+
+  pub some_left : IsWorld shows (world N capacity plants boxes left) → 1 ≤ left
+  some_left is =
+      let e : (left - 1) + 1 ≡ left = (leads_to is.state is.shown).some in
+      omega (arith, e)
+
+pub world_nowhere : {A : Type 0} (shows : Showing A) (N : Table) (capacity : ℕ) (plants : List A) (boxes : List Held) (left : ℕ) (event : Event)
+    (w : WorldState A)
+    → world N capacity plants boxes left ≡ w → LeadNowhere shows N plants boxes event → (s : State) → WorldShows shows w s
+    → ¬ IsEnabled w.network w.capacity s event
+world_nowhere shows N capacity plants boxes left event w e nowhere =
+    subst (λ v. (s : State) → WorldShows shows v s → ¬ IsEnabled v.network v.capacity s event) e (λ s shown. nowhere capacity s shown.parts)
 
 -- ---- the end
 
-pub finished_by : {A : Type 0} (shows : Showing A) (w : WorldState A) (s : State) → WorldShows shows w s
-    → MatchBool (w.left == 0) (IsFinished w.network s) (¬ IsFinished w.network s)
-finished_by shows w s shown =
-    let P : Bool → Type 0 = λ (b : Bool). MatchBool b (IsFinished w.network s) (¬ IsFinished w.network s) in
-    let end = none_is_left_at_the_end w.network w.capacity s shown.parts.reached in
-    elim (cases_Bool (w.left == 0)) [
-      | inl t ↦ subst P (sym t) (end.0 (sym shown.left ∙ eqb-true w.left 0 t))
-      | inr f ↦ subst P (sym f) (λ is. false≢true (sym f ∙ eq-eqb w.left 0 (shown.left ∙ end.1 is)))
-    ]
-
 pub finished_at : {A : Type 0} (shows : Showing A) (w : WorldState A) (left : ℕ) → left ≡ w.left → (s : State) → WorldShows shows w s
     → MatchBool (left == 0) (IsFinished w.network s) (¬ IsFinished w.network s)
-finished_at shows w left e s shown = subst (λ (n : ℕ). MatchBool (n == 0) (IsFinished w.network s) (¬ IsFinished w.network s)) (sym e)
-    (finished_by shows w s shown)
+finished_at shows w left e s shown =
+    let end = none_is_left_at_the_end w.network w.capacity s shown.parts.reached in
+    cases_from_iff (λ t. end.0 (sym shown.left ∙ sym e ∙ eqb-true left 0 t), λ is. eq-eqb left 0 (e ∙ shown.left ∙ end.1 is))
 
 pub none_left_is_finished : {A : Type 0} (shows : Showing A) (w : WorldState A) (s : State) → WorldShows shows w s → w.left ≡ 0 → IsFinished w.network s
 none_left_is_finished shows w s shown none = (none_is_left_at_the_end w.network w.capacity s shown.parts.reached).0 (sym shown.left ∙ none)
 
-pub rests_finished : {A : Type 0} (shows : Showing A) (w : WorldState A) (s : State) → 1 ≤ w.capacity → AllRests shows w.network w.plants w.boxes
-    → WorldShows shows w s → IsFinished w.network s
-rests_finished shows w s holds rests shown =
-    elim (no_schedule_sticks w.network shown.parts.sized.table shown.parts.sized.loop_free w.capacity holds s shown.parts.reached) [
+-- plants and mailboxes that rest have finished
+pub rest_finished : {A : Type 0} (shows : Showing A) (N : Table) (capacity : ℕ) (plants : List A) (boxes : List Held) (s : State)
+    → AllRests shows N plants boxes → AreAt shows N capacity plants boxes s → 1 ≤ capacity → IsFinished N s
+rest_finished shows N capacity plants boxes s rests at holds =
+    elim (no_schedule_sticks N at.sized.table at.sized.loop_free capacity holds s at.reached) [
       | inl finished ↦ finished
-      | inr one ↦ absurd (rests one.0 w.capacity s shown.parts one.1)
+      | inr one ↦ absurd (rests one.0 capacity s at one.1)
     ]
-
-pub rests_left : {A : Type 0} (shows : Showing A) (w : WorldState A) → IsWorld shows w → AllRests shows w.network w.plants w.boxes → w.left ≡ 0
-rests_left shows w is rests =
-    is.shown.left ∙ (none_is_left_at_the_end w.network w.capacity is.state is.shown.parts.reached).1 (rests_finished shows w is.state is.holds rests is.shown)
 
 -- ---- lists of events
 
@@ -115,89 +125,36 @@ runs_one shows w event new applied leads nowhere same network capacity = record 
   ];
 }
 
--- ---- one event, at the world's fields
-
-pub world_leads : {A : Type 0} (shows : Showing A) (N : Table) (capacity : ℕ) (plants : List A) (boxes : List Held) (left : ℕ) (event : Event)
-    (new_plants : List A) (new_boxes : List Held) (w : WorldState A)
-    → world N capacity plants boxes left ≡ w → Lead shows N plants boxes event new_plants new_boxes → (s : State) → WorldShows shows w s
-    → (t : State) × Step w.network w.capacity s event t × WorldShows shows (world N capacity new_plants new_boxes (left - 1)) t
-world_leads shows N capacity plants boxes left event new_plants new_boxes w e leads =
-    subst (λ v. (s : State) → WorldShows shows v s → (t : State) × Step v.network v.capacity s event t
-    × WorldShows shows (world N capacity new_plants new_boxes (left - 1)) t) e
-    (λ s shown. let x = leads_to shows N capacity plants boxes left event new_plants new_boxes s leads shown in (x.next, x.step, x.shown))
-
-pub world_nowhere : {A : Type 0} (shows : Showing A) (N : Table) (capacity : ℕ) (plants : List A) (boxes : List Held) (left : ℕ) (event : Event)
-    (w : WorldState A)
-    → world N capacity plants boxes left ≡ w → LeadNowhere shows N plants boxes event → (s : State) → WorldShows shows w s
-    → ¬ IsEnabled w.network w.capacity s event
-world_nowhere shows N capacity plants boxes left event w e nowhere =
-    subst (λ v. (s : State) → WorldShows shows v s → ¬ IsEnabled v.network v.capacity s event) e (λ s shown. nowhere capacity s shown.parts)
-
-pub world_after : {A : Type 0} (shows : Showing A) (N : Table) (capacity : ℕ) (plants : List A) (boxes : List Held) (left : ℕ) (event : Event)
-    (new_plants : List A) (new_boxes : List Held)
-    → IsWorld shows (world N capacity plants boxes left) → Lead shows N plants boxes event new_plants new_boxes
-    → IsWorld shows (world N capacity new_plants new_boxes (left - 1))
-world_after shows N capacity plants boxes left event new_plants new_boxes is leads =
-    let x = leads_to shows N capacity plants boxes left event new_plants new_boxes is.state leads is.shown in
-    record { holds = is.holds; state = x.next; shown = x.shown }
-
-pub some_left : {A : Type 0} (shows : Showing A) (N : Table) (capacity : ℕ) (plants : List A) (boxes : List Held) (left : ℕ) (event : Event)
-    (new_plants : List A) (new_boxes : List Held)
-    → IsWorld shows (world N capacity plants boxes left) → Lead shows N plants boxes event new_plants new_boxes → 1 ≤ left
-some_left shows N capacity plants boxes left event new_plants new_boxes is leads =
-    let x = leads_to shows N capacity plants boxes left event new_plants new_boxes is.state leads is.shown in
-    let e : (left - 1) + 1 ≡ left = x.some in
-    omega (arith, e)
-
--- ---- what is looked for
+-- ---- what plants and mailboxes say
 
 pub some_more : {X : Type 0} (o : Option X) (P Q : X → Type 0) → ((x : X) → P x → Q x) → IfSome o P → IfSome o Q
 some_more None P Q f h = h
 some_more (Some x) P Q f h = f x h
 
-pub none_more : {X : Type 0} (o : Option X) (P Q : Type 0) → (P → Q) → IfNone o P → IfNone o Q
-none_more None P Q f h = f h
-none_more (Some x) P Q f h = h
+pub ok_more : {X E : Type 0} (r : Result X E) (P Q : X → Type 0) → ((x : X) → P x → Q x) → IfOk r P → IfOk r Q
+ok_more (Ok x) P Q f h = f x h
+ok_more (Err e) P Q f h = h
 
-pub world_may : {A : Type 0} (shows : Showing A) (N : Table) (capacity : ℕ) (plants plants_too : List A) (boxes boxes_too : List Held) (left : ℕ)
-    (w : WorldState A) (found : Option Event)
-    → plants_too ≡ plants → boxes_too ≡ boxes → world N capacity plants boxes left ≡ w → IfSome found (λ event. MayLead shows N plants_too boxes_too event)
-    → IfSome found (λ event. (s : State) → WorldShows shows w s → IsEnabled w.network w.capacity s event)
-world_may {A} shows N capacity plants plants_too boxes boxes_too left w found same_plants same_boxes e may =
-    some_more found (λ event. MayLead shows N plants_too boxes_too event) (λ event. (s : State) → WorldShows shows w s → IsEnabled w.network w.capacity s event)
-    (λ event lead. subst (λ (v : WorldState A). (s : State) → WorldShows shows v s → IsEnabled v.network v.capacity s event) e
-    (λ s shown. subst (λ (p : List A). MayLead shows N p boxes event) same_plants
-    (subst (λ (b : List Held). MayLead shows N plants_too b event) same_boxes lead) capacity s shown.parts)) may
+module _ {A : Type 0} (shows : Showing A) (N : Table) (capacity : ℕ) (plants plants_too : List A) (boxes boxes_too : List Held) (left : ℕ) (w : WorldState A)
+    (same_plants : plants_too ≡ plants) (same_boxes : boxes_too ≡ boxes) (e : world N capacity plants boxes left ≡ w) where
+  -- what holds in each state that they show holds in each that the world shows
+  pub world_says : (Says : Table → ℕ → State → Type 0) → ((c : ℕ) (s : State) → AreAt shows N c plants_too boxes_too s → Says N c s)
+      → (s : State) → WorldShows shows w s → Says w.network w.capacity s
+  world_says Says says =
+      subst (λ (v : WorldState A). (s : State) → WorldShows shows v s → Says v.network v.capacity s) e
+      (λ s shown. says capacity s (subst (λ (p : List A). AreAt shows N capacity p boxes_too s) (sym same_plants)
+      (subst (λ (b : List Held). AreAt shows N capacity plants b s) (sym same_boxes) shown.parts)))
 
-abbrev pub Rests : {A : Type 0} → Showing A → WorldState A → Type 0
-Rests shows w = AllRests shows w.network w.plants w.boxes
+  pub world_finished : IsWorld shows (world N capacity plants boxes left) → AllRests shows N plants_too boxes_too → (s : State) → WorldShows shows w s
+      → IsFinished w.network s
+  world_finished is rests s shown =
+      world_says (λ M c t. 1 ≤ c → IsFinished M t) (λ c t at. rest_finished shows N c plants_too boxes_too t rests at) s shown
+      (subst (λ (v : WorldState A). 1 ≤ v.capacity) e is.holds)
 
-world_rests : {A : Type 0} (shows : Showing A) (N : Table) (capacity : ℕ) (plants plants_too : List A) (boxes boxes_too : List Held) (left : ℕ)
-    (w : WorldState A)
-    → plants_too ≡ plants → boxes_too ≡ boxes → world N capacity plants boxes left ≡ w → AllRests shows N plants_too boxes_too → Rests shows w
-world_rests {A} shows N capacity plants plants_too boxes boxes_too left w same_plants same_boxes e rests =
-    subst (Rests shows) e (subst (λ (p : List A). AllRests shows N p boxes) same_plants
-    (subst (λ (b : List Held). AllRests shows N plants_too b) same_boxes rests))
-
-pub none_finished : {A : Type 0} (shows : Showing A) (N : Table) (capacity : ℕ) (plants plants_too : List A) (boxes boxes_too : List Held) (left : ℕ)
-    (w : WorldState A) (found : Option Event)
-    → plants_too ≡ plants → boxes_too ≡ boxes → world N capacity plants boxes left ≡ w → IsWorld shows (world N capacity plants boxes left)
-    → IfNone found (AllRests shows N plants_too boxes_too)
-    → IfNone found ((s : State) → WorldShows shows w s → IsFinished w.network s)
-none_finished {A} shows N capacity plants plants_too boxes boxes_too left w found same_plants same_boxes e is none =
-    none_more found (AllRests shows N plants_too boxes_too) ((s : State) → WorldShows shows w s → IsFinished w.network s)
-    (λ rests s shown. rests_finished shows w s (subst (λ (v : WorldState A). 1 ≤ v.capacity) e is.holds)
-    (world_rests shows N capacity plants plants_too boxes boxes_too left w same_plants same_boxes e rests) shown) none
-
-pub none_left : {A : Type 0} (shows : Showing A) (N : Table) (capacity : ℕ) (plants plants_too : List A) (boxes boxes_too : List Held) (left : ℕ)
-    (w : WorldState A) (found : Option Event)
-    → plants_too ≡ plants → boxes_too ≡ boxes → world N capacity plants boxes left ≡ w → IsWorld shows (world N capacity plants boxes left)
-    → IfNone found (AllRests shows N plants_too boxes_too)
-    → IfNone found (w.left ≡ 0)
-none_left {A} shows N capacity plants plants_too boxes boxes_too left w found same_plants same_boxes e is none =
-    none_more found (AllRests shows N plants_too boxes_too) (w.left ≡ 0)
-    (λ rests. rests_left shows w (subst (IsWorld shows) e is) (world_rests shows N capacity plants plants_too boxes boxes_too left w same_plants same_boxes e
-    rests)) none
+  pub world_left : IsWorld shows (world N capacity plants boxes left) → AllRests shows N plants_too boxes_too → w.left ≡ 0
+  world_left is rests =
+      let own : IsWorld shows w = subst (IsWorld shows) e is in
+      own.shown.left ∙ (none_is_left_at_the_end w.network w.capacity own.state own.shown.parts.reached).1 (world_finished is rests own.state own.shown)
 
 -- ---- how many steps are left after a call
 
@@ -206,14 +163,6 @@ pub no_more_left : {A : Type 0} (w new : WorldState A) (applied : Bool) → (app
 no_more_left {A} w new applied step same = elim (cases_Bool applied) [
   | inl t ↦ omega (arith, step t)
   | inr f ↦ omega (arith, ap (λ (v : WorldState A). v.left) (same f))
-]
-
-pub one_less : {A : Type 0} (shows : Showing A) (w : WorldState A) (event : Event) (applied : Bool) (new : WorldState A) → IsWorld shows w
-    → ((s : State) → WorldShows shows w s → IsEnabled w.network w.capacity s event) → (applied ≡ true → new.left + 1 ≡ w.left)
-    → (applied ≡ false → (s : State) → WorldShows shows w s → ¬ IsEnabled w.network w.capacity s event) → new.left ≡ w.left - 1
-one_less shows w event applied new is enabled step nowhere = elim (cases_Bool applied) [
-  | inl t ↦ omega (arith, step t)
-  | inr f ↦ absurd (nowhere f is.state is.shown (enabled is.state is.shown))
 ]
 
 pub runs_next : {A : Type 0} (shows : Showing A) (old w new : WorldState A) (events : List Event) (i : ℕ) (d : Event) → i < length events
@@ -240,86 +189,51 @@ pub record Asked {A : Type 0} (shows : Showing A) (N : Table) (capacity : ℕ) (
   pub owner : (pair_at N x).plant.0 ≡ p
   pub at : plant ≡ get_or plants p plant
 
-own_pair : {A : Type 0} (shows : Showing A) (N : Table) (capacity : ℕ) (plants : List A) (boxes : List Held) (left : ℕ) (w : WorldState A) (x p : ℕ) (plant : A)
-    → Asked shows N capacity plants boxes left w x p plant → IsPair N x
-own_pair {A} shows N capacity plants boxes left w x p plant asked = subst (λ (v : WorldState A). IsPair v.network x) (sym asked.same) asked.pair
-
-asked_plant_at : {A : Type 0} (shows : Showing A) (N : Table) (capacity : ℕ) (plants : List A) (boxes : List Held) (left : ℕ) (w : WorldState A) (x p : ℕ)
-    (plant : A)
-    → Asked shows N capacity plants boxes left w x p plant → (s : State) → WorldShows shows (world N capacity plants boxes left) s
-    → IsAt shows (moment N capacity s) p plant
-asked_plant_at shows N capacity plants boxes left w x p plant asked s shown =
-    let pair = own_pair shows N capacity plants boxes left w x p plant asked in
-    let known = owner_known shows N plants boxes x p (capacity, s, shown.parts) pair asked.owner in
-    subst (λ z. IsAt shows (moment N capacity s) p z) (sym asked.at) (plant_is_at shows N capacity plants boxes s shown.parts p plant known)
-
-pub asked_has : {A : Type 0} (shows : Showing A) (N : Table) (capacity : ℕ) (plants : List A) (boxes : List Held) (left : ℕ) (w : WorldState A) (x p : ℕ)
-    (plant : A)
-    → Asked shows N capacity plants boxes left w x p plant → Has shows plant x
-asked_has shows N capacity plants boxes left w x p plant asked = (
-  moment N capacity asked.is.state,
-  p,
-  asked_plant_at shows N capacity plants boxes left w x p plant asked asked.is.state asked.is.shown,
-  record { pair = own_pair shows N capacity plants boxes left w x p plant asked; at_plant = asked.owner },
-)
-
--- what its plant says of the pair in each moment holds in each state that the world shows
+-- what a plant says of the pair in each moment holds in each state that the world shows
 abbrev pub AtMoments : {A : Type 0} → Showing A → A → ℕ → (Table → State → Type 0) → Type 0
 AtMoments shows plant x Says = (m : Moment) (p : ℕ) → IsAt shows m p plant → IsOwn m.network p x → Says m.network m.state
 
-pub asked_says : {A : Type 0} (shows : Showing A) (N : Table) (capacity : ℕ) (plants : List A) (boxes : List Held) (left : ℕ) (w : WorldState A) (x p : ℕ)
-    (plant : A) (Says : Table → State → Type 0)
-    → Asked shows N capacity plants boxes left w x p plant → AtMoments shows plant x Says → (s : State) → WorldShows shows w s → Says w.network s
-asked_says {A} shows N capacity plants boxes left w x p plant Says asked says =
-    subst (λ (v : WorldState A). (s : State) → WorldShows shows v s → Says v.network s) asked.same
-    (λ s shown. says (moment N capacity s) p (asked_plant_at shows N capacity plants boxes left w x p plant asked s shown)
-    (record { pair = own_pair shows N capacity plants boxes left w x p plant asked; at_plant = asked.owner }))
+module _ {A : Type 0} {shows : Showing A} {N : Table} {capacity : ℕ} {plants : List A} {boxes : List Held} {left : ℕ} {w : WorldState A} {x p : ℕ} {plant : A}
+    (asked : Asked shows N capacity plants boxes left w x p plant) where
+  own_pair : IsPair N x
+  own_pair = subst (λ (v : WorldState A). IsPair v.network x) (sym asked.same) asked.pair
 
--- also what doesn't depend on the state
-pub asked_always : {A : Type 0} (shows : Showing A) (N : Table) (capacity : ℕ) (plants : List A) (boxes : List Held) (left : ℕ) (w : WorldState A) (x p : ℕ)
-    (plant : A) (Says : Table → Type 0)
-    → Asked shows N capacity plants boxes left w x p plant → AtMoments shows plant x (λ M s. Says M) → Says w.network
-asked_always {A} shows N capacity plants boxes left w x p plant Says asked says =
-    asked_says shows N capacity plants boxes left w x p plant (λ M s. Says M) asked says asked.is.state
-    (subst (λ (v : WorldState A). WorldShows shows v asked.is.state) asked.same asked.is.shown)
+  plant_at : (s : State) → WorldShows shows (world N capacity plants boxes left) s → IsAt shows (moment N capacity s) p plant
+  plant_at s shown =
+      let known = owner_known shows N plants boxes x p (capacity, s, shown.parts) own_pair asked.owner in
+      subst (λ z. IsAt shows (moment N capacity s) p z) (sym asked.at) (plant_is_at shows N capacity plants boxes s shown.parts p plant known)
 
--- it stands at its number, so what holds of it holds of the plant of the pair
-pub asked_there : {A : Type 0} (shows : Showing A) (N : Table) (capacity : ℕ) (plants : List A) (boxes : List Held) (left : ℕ) (w : WorldState A) (x p : ℕ)
-    (plant : A) (Says : A → Type 0)
-    → Asked shows N capacity plants boxes left w x p plant → Says plant → IsSomeAnd (slice_get w.plants (pair_at w.network x).plant.0) Says
-asked_there {A} shows N capacity plants boxes left w x p plant Says asked says =
-    let pair = own_pair shows N capacity plants boxes left w x p plant asked in
-    let known : p < length plants = owner_among shows N plants boxes x p (somewhere shows (world N capacity plants boxes left) asked.is) pair asked.owner in
-    let there : slice_get plants p ≡ Some plant = slice_get_read plants (length plants) p plant refl known asked.at in
-    subst (λ (v : WorldState A). IsSomeAnd (slice_get v.plants (pair_at v.network x).plant.0) Says) asked.same
-    (subst (λ (q : ℕ). IsSomeAnd (slice_get plants q) Says) (sym asked.owner) (subst (λ (o : Option A). IsSomeAnd o Says) (sym there) says))
+  pub asked_has : Has shows plant x
+  asked_has = (moment N capacity asked.is.state, p, plant_at asked.is.state asked.is.shown, record { pair = own_pair; at_plant = asked.owner })
 
--- where no step is left each pair has a plan
-pub has_plan : {A X : Type 0} (shows : Showing A) (N : Table) (capacity : ℕ) (plants : List A) (boxes : List Held) (left : ℕ) (w : WorldState A) (x p : ℕ)
-    (plant : A) (o : Option X)
-    → Asked shows N capacity plants boxes left w x p plant → IfNone o ((s : State) → WorldShows shows w s → s.planned x ≡ false) → w.left ≡ 0 → IsSome o
-has_plan shows N capacity plants boxes left w x p plant (Some plan) asked none end = refl
-has_plan {A} shows N capacity plants boxes left w x p plant None asked none end =
-    let shown : WorldShows shows w asked.is.state = subst (λ (v : WorldState A). WorldShows shows v asked.is.state) asked.same asked.is.shown in
-    let planned : asked.is.state.planned x ≡ true = (none_left_is_finished shows w asked.is.state shown end).planned x asked.pair in
-    absurd (false≢true (sym (none asked.is.state shown) ∙ planned))
+  pub asked_says : (Says : Table → State → Type 0) → AtMoments shows plant x Says → (s : State) → WorldShows shows w s → Says w.network s
+  asked_says Says says =
+      subst (λ (v : WorldState A). (s : State) → WorldShows shows v s → Says v.network s) asked.same
+      (λ s shown. says (moment N capacity s) p (plant_at s shown) (record { pair = own_pair; at_plant = asked.owner }))
 
--- ---- what plants and mailboxes say
+  own_shown : WorldShows shows w asked.is.state
+  own_shown = subst (λ (v : WorldState A). WorldShows shows v asked.is.state) asked.same asked.is.shown
 
-pub ok_more : {X E : Type 0} (r : Result X E) (P Q : X → Type 0) → ((x : X) → P x → Q x) → IfOk r P → IfOk r Q
-ok_more (Ok x) P Q f h = f x h
-ok_more (Err e) P Q f h = h
+  -- also what doesn't depend on the state
+  pub asked_always : (Says : Table → Type 0) → AtMoments shows plant x (λ M s. Says M) → Says w.network
+  asked_always Says says = asked_says (λ M s. Says M) says asked.is.state own_shown
 
--- what holds in each state that they show holds in each that the world shows
-pub world_says : {A : Type 0} (shows : Showing A) (N : Table) (capacity : ℕ) (plants plants_too : List A) (boxes boxes_too : List Held) (left : ℕ)
-    (w : WorldState A) (Says : Table → State → Type 0)
-    → plants_too ≡ plants → boxes_too ≡ boxes → world N capacity plants boxes left ≡ w
-    → ((capacity : ℕ) (s : State) → AreAt shows N capacity plants_too boxes_too s → Says N s)
-    → (s : State) → WorldShows shows w s → Says w.network s
-world_says {A} shows N capacity plants plants_too boxes boxes_too left w Says same_plants same_boxes e says =
-    subst (λ (v : WorldState A). (s : State) → WorldShows shows v s → Says v.network s) e
-    (λ s shown. says capacity s (subst (λ (p : List A). AreAt shows N capacity p boxes_too s) (sym same_plants)
-    (subst (λ (b : List Held). AreAt shows N capacity plants b s) (sym same_boxes) shown.parts)))
+  -- it stands at its number, so what holds of it holds of the plant of the pair
+  pub asked_there : (Says : A → Type 0) → Says plant → IsSomeAnd (slice_get w.plants (pair_at w.network x).plant.0) Says
+  asked_there Says says =
+      let known : p < length plants = owner_among shows N plants boxes x p (somewhere shows (world N capacity plants boxes left) asked.is) own_pair asked.owner in
+      let there : slice_get plants p ≡ Some plant = slice_get_read plants (length plants) p plant refl known asked.at in
+      subst (λ (v : WorldState A). IsSomeAnd (slice_get v.plants (pair_at v.network x).plant.0) Says) asked.same
+      (subst (λ (q : ℕ). IsSomeAnd (slice_get plants q) Says) (sym asked.owner) (subst (λ (o : Option A). IsSomeAnd o Says) (sym there) says))
+
+  -- where no step is left each pair has a plan
+  pub has_plan : {X : Type 0} (o : Option X) → IfNone o ((s : State) → WorldShows shows w s → s.planned x ≡ false) → w.left ≡ 0 → IsSome o
+  has_plan (Some plan) none end = refl
+  has_plan None none end =
+      let planned : asked.is.state.planned x ≡ true = (none_left_is_finished shows w asked.is.state own_shown end).planned x asked.pair in
+      absurd (false≢true (sym (none asked.is.state own_shown) ∙ planned))
+
+-- ---- each state
 
 pub shows_some : {A : Type 0} (shows : Showing A) (v w : WorldState A) → v ≡ w → IsWorld shows v → (s : State) × WorldShows shows w s
 shows_some {A} shows v w e is = (is.state, subst (λ (z : WorldState A). WorldShows shows z is.state) e is.shown)

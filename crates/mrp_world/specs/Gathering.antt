@@ -1,5 +1,5 @@
 -- The plans that plants give.
-use Rattle.std.specs.Prelude.{◌≡◌, ℕ, ◌-◌, true, List, length}
+use Rattle.std.specs.Prelude.{◌≡◌, ℕ, true, List, length}
 use Rattle.mrp_netting.specs.PlanRows.{PlanRows}
 use Rattle.mrp_master_data.specs.Table.{Table}
 use Rattle.mrp_agent.specs.Given.{plans_below}

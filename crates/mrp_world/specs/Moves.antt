@@ -52,28 +52,36 @@ abbrev pub MayLead : {A : Type 0} → Showing A → Table → List A → List He
 MayLead shows N plants boxes event = (capacity : ℕ) (s : State) → AreAt shows N capacity plants boxes s
     → IsEnabled N capacity s event
 
--- the event is enabled nowhere, and nothing has changed
-pub record StandsStill {A : Type 0} (shows : Showing A) (N : Table) (plants : List A) (boxes : List Held)
-    (event : Event) (new_plants : List A) (new_boxes : List Held) : Type 0 where
-  pub nowhere : LeadNowhere shows N plants boxes event
+-- nothing has changed, and so this holds
+pub record StandsStill {A : Type 0} (plants : List A) (boxes : List Held) (Holds : Type 0) (new_plants : List A)
+    (new_boxes : List Held) : Type 0 where
+  pub holds : Holds
   pub same_plants : new_plants ≡ plants
   pub same_boxes : new_boxes ≡ boxes
 
--- whether the event has happened
+-- whether the event has happened; where it hasn't, it is enabled nowhere, and nothing has changed
 abbrev pub Acts : {A : Type 0} → Showing A → Table → List A → List Held → Event → Bool → List A → List Held → Type 0
 Acts shows N plants boxes event acted new_plants new_boxes =
     MatchBool acted (Lead shows N plants boxes event new_plants new_boxes)
-    (StandsStill shows N plants boxes event new_plants new_boxes)
+    (StandsStill plants boxes (LeadNowhere shows N plants boxes event) new_plants new_boxes)
 
 -- nothing can be sent or received over the lane
-pub record LaneRests {A : Type 0} (shows : Showing A) (N : Table) (plants : List A) (boxes : List Held)
-    (l : ℕ) : Type 0 where
+pub record LaneRests {A : Type 0} (shows : Showing A) (N : Table) (l : ℕ) (plants : List A)
+    (boxes : List Held) : Type 0 where
   pub sends_nothing : LeadNowhere shows N plants boxes (Send (record { 0 = l }))
   pub receives_nothing : LeadNowhere shows N plants boxes (Receive (record { 0 = l }))
 
+-- nor over the lanes from one number up to another
+abbrev pub LanesRest : {A : Type 0} → Showing A → Table → ℕ → ℕ → List A → List Held → Type 0
+LanesRest shows N from to plants boxes = (l : ℕ) → from ≤ l → l < to → LaneRests shows N l plants boxes
+
 -- no pair of the plant can be planned
-abbrev pub PlantRests : {A : Type 0} → Showing A → Table → List A → List Held → ℕ → Type 0
-PlantRests shows N plants boxes p = (x : ℕ) → IsOwn N p x → LeadNowhere shows N plants boxes (Plan (record { 0 = x }))
+abbrev pub PlantRests : {A : Type 0} → Showing A → Table → ℕ → List A → List Held → Type 0
+PlantRests shows N p plants boxes = (x : ℕ) → IsOwn N p x → LeadNowhere shows N plants boxes (Plan (record { 0 = x }))
+
+-- nor one of the plants from one number up to another
+abbrev pub PlantsRest : {A : Type 0} → Showing A → Table → ℕ → ℕ → List A → List Held → Type 0
+PlantsRest shows N from to plants boxes = (p : ℕ) → from ≤ p → p < to → PlantRests shows N p plants boxes
 
 -- no event is enabled
 abbrev pub AllRests : {A : Type 0} → Showing A → Table → List A → List Held → Type 0

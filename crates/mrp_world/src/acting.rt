@@ -1,10 +1,10 @@
 //! One event over plants and mailboxes.
-ghost use Rattle.std.specs.Prelude.{◌≡◌, ◌<◌, List, true, false, length};
+ghost use Rattle.std.specs.Prelude.{◌<◌, List, length};
 ghost use Rattle.mrp_master_data.specs.Table.{IsPair};
 ghost use Rattle.mrp_net.specs.Lanes.{lanes};
 ghost use Rattle.mrp_protocol.specs.declared.event.Event.TheVariants.{Send, Receive, Plan};
 ghost use Rattle.mrp_world.specs.Mailbox.{Held};
-ghost use Rattle.mrp_world.specs.Moves.{Acts, AreSomewhere, Lead, LeadNowhere};
+ghost use Rattle.mrp_world.specs.Moves.{Acts, AreSomewhere};
 
 use crate::{Mailbox, Plant};
 use mrp_net::{LaneNo, Network, PairNo};
@@ -19,10 +19,7 @@ pub(crate) fn send<P: Plant>(
 ) -> bool
     requires lane { lane.0 < length (lanes network.now) }
     requires shown { AreSomewhere P.shows network.now plants.old boxes.old }
-    ensures leads { result ≡ true → Lead P.shows network.now plants.old boxes.old (Send lane) plants.new boxes.new }
-    ensures nowhere { result ≡ false → LeadNowhere P.shows network.now plants.old boxes.old (Send lane) }
-    ensures plants { result ≡ false → plants.new ≡ plants.old }
-    ensures boxes { result ≡ false → boxes.new ≡ boxes.old }
+    ensures { Acts P.shows network.now plants.old boxes.old (Send lane) result plants.new boxes.new }
 {
     let mailbox = &mut boxes[lane.0];
     if !mailbox.has_room() {
@@ -47,10 +44,7 @@ pub(crate) fn receive<P: Plant>(
 ) -> bool
     requires lane { lane.0 < length (lanes network.now) }
     requires shown { AreSomewhere P.shows network.now plants.old boxes.old }
-    ensures leads { result ≡ true → Lead P.shows network.now plants.old boxes.old (Receive lane) plants.new boxes.new }
-    ensures nowhere { result ≡ false → LeadNowhere P.shows network.now plants.old boxes.old (Receive lane) }
-    ensures plants { result ≡ false → plants.new ≡ plants.old }
-    ensures boxes { result ≡ false → boxes.new ≡ boxes.old }
+    ensures { Acts P.shows network.now plants.old boxes.old (Receive lane) result plants.new boxes.new }
 {
     let mailbox = &mut boxes[lane.0];
     let Some(entry) = mailbox.first() else {
@@ -70,22 +64,14 @@ pub(crate) fn receive<P: Plant>(
 pub(crate) fn plan<P: Plant>(network: &Network, plants: &mut [P], x: PairNo) -> bool
     requires pair { IsPair network.now x.0 }
     requires shown { (boxes : List Held) × AreSomewhere P.shows network.now plants.old boxes }
-    ensures leads { result ≡ true → (boxes : List Held)
-        → Lead P.shows network.now plants.old boxes (Plan x) plants.new boxes }
-    ensures nowhere { result ≡ false → (boxes : List Held) → LeadNowhere P.shows network.now plants.old boxes (Plan x) }
-    ensures plants { result ≡ false → plants.new ≡ plants.old }
+    ensures { (boxes : List Held) → Acts P.shows network.now plants.old boxes (Plan x) result plants.new boxes }
 {
     let plant = network.pair(x).plant;
     plants[plant.0].plan(x)
 }
 
 /// Lets one event happen, if it is enabled.
-pub(crate) fn act<P: Plant>(
-    network: &Network,
-    plants: &mut [P],
-    boxes: &mut [Mailbox],
-    event: Event,
-) -> bool
+fn act<P: Plant>(network: &Network, plants: &mut [P], boxes: &mut [Mailbox], event: Event) -> bool
     requires shown { AreSomewhere P.shows network.now plants.old boxes.old }
     ensures { Acts P.shows network.now plants.old boxes.old event result plants.new boxes.new }
 {

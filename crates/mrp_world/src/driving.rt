@@ -1,140 +1,86 @@
 //! Plants and mailboxes, driven until nothing moves.
-ghost use Rattle.std.specs.Prelude.{◌≡◌, ◌<◌, true, false, length, List};
+ghost use Rattle.std.specs.Prelude.{◌<◌, List, length};
 ghost use Rattle.mrp_net.specs.Lanes.{lanes};
-ghost use Rattle.mrp_protocol.specs.declared.event.Event.{Event};
-ghost use Rattle.mrp_world.specs.Moves.{AreSomewhere, Lead, AllRests};
-ghost use Rattle.mrp_world.specs.Driving.{LeadOn, LeadOneAndOn};
+ghost use Rattle.mrp_world.specs.Driving.{LeadOn, Tried};
+ghost use Rattle.mrp_world.specs.Mailbox.{Held};
+ghost use Rattle.mrp_world.specs.Moves.{AreSomewhere, LaneRests, LanesRest, PlantRests, PlantsRest, AllRests};
 
-use crate::acting::{act_on, receive, send};
-use crate::looking::{look, ready_at};
+use crate::acting::{plan, receive, send};
 use crate::{Mailbox, Plant};
 use mrp_net::{LaneNo, Network};
-use mrp_protocol::Event;
 
-/// Where the last event happened: the next one is looked for from there on.
-#[derive(Clone, Copy)]
-pub(crate) struct Place {
-    pub(crate) lane: usize,
-    pub(crate) plant: usize,
-}
-
-/// Where the first event is looked for.
-pub(crate) fn first_place() -> Place {
-    Place { lane: 0, plant: 0 }
-}
-
-/// Where an event happened.
-pub(crate) fn place_after(network: &Network, event: Event, before: Place) -> Place {
-    match event {
-        Event::Send(lane) | Event::Receive(lane) => {
-            if lane.0 >= network.lanes() {
-                return before;
-            }
-            Place {
-                lane: lane.0,
-                plant: network.lane(lane).receiver.0,
-            }
-        }
-        Event::Plan(x) => {
-            if x.0 >= network.pairs() {
-                return before;
-            }
-            Place {
-                lane: before.lane,
-                plant: network.pair(x).plant.0,
-            }
-        }
-    }
-}
-
-/// Lets enabled events happen one by one, looked for from a place on, until none is enabled. The answer is
-/// where the last one happened.
-pub(crate) fn drive_on<P: Plant>(
-    network: &Network,
-    plants: &mut Vec<P>,
-    boxes: &mut Vec<Mailbox>,
-    from: Place,
-) -> Place
+/// Lets enabled events happen one by one until none is enabled.
+pub(crate) fn drive_on<P: Plant>(network: &Network, plants: &mut Vec<P>, boxes: &mut Vec<Mailbox>)
     requires shown { AreSomewhere P.shows network.now plants.old.items boxes.old.items }
-    ensures runs { (events : List Event) × LeadOn P.shows network.now plants.old.items boxes.old.items events
-        plants.new.items boxes.new.items }
+    ensures runs { LeadOn P.shows network.now plants.old.items boxes.old.items 0 plants.new.items boxes.new.items }
     ensures rests { AllRests P.shows network.now plants.new.items boxes.new.items }
 {
-    let mut near = from;
     // No run has as many steps.
     for _ in 0..u64::MAX {
-        if !go_on(network, plants, boxes, &mut near) {
-            return near;
-        }
-    }
-    near
-}
-
-/// Lets an enabled event happen, and those that follow at its place, and answers whether there was one.
-fn go_on<P: Plant>(
-    network: &Network,
-    plants: &mut Vec<P>,
-    boxes: &mut Vec<Mailbox>,
-    near: &mut Place,
-) -> bool
-    requires shown { AreSomewhere P.shows network.now plants.old.items boxes.old.items }
-    ensures leads { result ≡ true → LeadOneAndOn P.shows network.now plants.old.items boxes.old.items plants.new.items
-        boxes.new.items }
-    ensures rests { result ≡ false → AllRests P.shows network.now plants.new.items boxes.new.items }
-    ensures plants { result ≡ false → plants.new.items ≡ plants.old.items }
-    ensures boxes { result ≡ false → boxes.new.items ≡ boxes.old.items }
-{
-    let found = look(
-        network,
-        plants.as_slice(),
-        boxes.as_slice(),
-        near.lane,
-        near.plant,
-    );
-    let Some(event) = found else {
-        return false;
-    };
-    // What is found is enabled.
-    let _acted = act_on(network, plants, boxes, event);
-    *near = place_after(network, event, *near);
-    follow(network, plants, boxes, event, near.plant);
-    true
-}
-
-/// Lets the events happen that follow one at its place: more records over its lane, or more pairs of the
-/// plant.
-fn follow<P: Plant>(
-    network: &Network,
-    plants: &mut Vec<P>,
-    boxes: &mut Vec<Mailbox>,
-    event: Event,
-    plant: usize,
-)
-    requires shown { AreSomewhere P.shows network.now plants.old.items boxes.old.items }
-    ensures runs { (events : List Event) × LeadOn P.shows network.now plants.old.items boxes.old.items events
-        plants.new.items boxes.new.items }
-{
-    match event {
-        Event::Send(lane) | Event::Receive(lane) => {
-            if lane.0 < network.lanes() {
-                move_over_lane(network, plants.as_mut_slice(), boxes.as_mut_slice(), lane);
-            }
-        }
-        Event::Plan(_) => plan_ready(network, plants, boxes, plant),
-    }
-}
-
-/// Lets records move over a lane until its receiver has none to take, and its sender none to send.
-fn move_over_lane<P: Plant>(network: &Network, plants: &mut [P], boxes: &mut [Mailbox], lane: LaneNo)
-    requires lane { lane.0 < length (lanes network.now) }
-    requires shown { AreSomewhere P.shows network.now plants.old boxes.old }
-    ensures runs { (events : List Event) × LeadOn P.shows network.now plants.old boxes.old events plants.new boxes.new }
-{
-    for _record in 0..u64::MAX {
-        if !move_one(network, plants, boxes, lane) {
+        if !go_on(network, plants, boxes) {
             return;
         }
     }
+}
+
+/// Lets events happen on all plants and over all lanes once, and answers whether there was one.
+fn go_on<P: Plant>(network: &Network, plants: &mut Vec<P>, boxes: &mut Vec<Mailbox>) -> bool
+    requires shown { AreSomewhere P.shows network.now plants.old.items boxes.old.items }
+    ensures { Tried P.shows network.now plants.old.items boxes.old.items (AllRests P.shows network.now) result
+        plants.new.items boxes.new.items }
+{
+    go_round(network, plants.as_mut_slice(), boxes.as_mut_slice())
+}
+
+/// Lets pairs be planned where some can be, or else records move over the lanes, and answers whether there was
+/// something.
+fn go_round<P: Plant>(network: &Network, plants: &mut [P], boxes: &mut [Mailbox]) -> bool
+    requires shown { AreSomewhere P.shows network.now plants.old boxes.old }
+    ensures { Tried P.shows network.now plants.old boxes.old (AllRests P.shows network.now) result plants.new
+        boxes.new }
+{
+    if plan_all(network, plants) {
+        return true;
+    }
+    move_all(network, plants, boxes)
+}
+
+/// Lets records move over each lane in turn, and then its receiver plan. Answers whether something happened.
+fn move_all<P: Plant>(network: &Network, plants: &mut [P], boxes: &mut [Mailbox]) -> bool
+    requires shown { AreSomewhere P.shows network.now plants.old boxes.old }
+    ensures { Tried P.shows network.now plants.old boxes.old
+        (LanesRest P.shows network.now 0 (length (lanes network.now))) result plants.new boxes.new }
+{
+    let mut happened = false;
+    for l in 0..network.lanes() {
+        happened |= move_over_lane(network, plants, boxes, LaneNo(l));
+        happened |= plan_ready(network, plants, network.lane(LaneNo(l)).receiver.0);
+    }
+    happened
+}
+
+/// Lets records move over a lane until its receiver has none to take, and its sender none to send. Answers whether
+/// there was one.
+fn move_over_lane<P: Plant>(
+    network: &Network,
+    plants: &mut [P],
+    boxes: &mut [Mailbox],
+    lane: LaneNo,
+) -> bool
+    requires lane { lane.0 < length (lanes network.now) }
+    requires shown { AreSomewhere P.shows network.now plants.old boxes.old }
+    ensures { Tried P.shows network.now plants.old boxes.old (LaneRests P.shows network.now lane.0) result plants.new
+        boxes.new }
+{
+    if !move_one(network, plants, boxes, lane) {
+        return false;
+    }
+    for _record in 0..u64::MAX {
+        if !move_one(network, plants, boxes, lane) {
+            break;
+        }
+    }
+    true
 }
 
 /// Lets the receiver of a lane take what waits first, or else its sender send what comes next, and answers
@@ -147,10 +93,8 @@ fn move_one<P: Plant>(
 ) -> bool
     requires lane { lane.0 < length (lanes network.now) }
     requires shown { AreSomewhere P.shows network.now plants.old boxes.old }
-    ensures leads { result ≡ true → (event : Event)
-        × Lead P.shows network.now plants.old boxes.old event plants.new boxes.new }
-    ensures plants { result ≡ false → plants.new ≡ plants.old }
-    ensures boxes { result ≡ false → boxes.new ≡ boxes.old }
+    ensures { Tried P.shows network.now plants.old boxes.old (LaneRests P.shows network.now lane.0) result plants.new
+        boxes.new }
 {
     if receive(network, plants, boxes, lane) {
         return true;
@@ -158,22 +102,46 @@ fn move_one<P: Plant>(
     send(network, plants, boxes, lane)
 }
 
-/// Plans the pairs of a plant that can be planned, until there is none.
-fn plan_ready<P: Plant>(
-    network: &Network,
-    plants: &mut Vec<P>,
-    boxes: &mut Vec<Mailbox>,
-    plant: usize,
-)
-    requires shown { AreSomewhere P.shows network.now plants.old.items boxes.old.items }
-    ensures runs { (events : List Event) × LeadOn P.shows network.now plants.old.items boxes.old.items events
-        plants.new.items boxes.new.items }
+/// Plans the pairs of each plant that can be planned, and answers whether there was one.
+fn plan_all<P: Plant>(network: &Network, plants: &mut [P]) -> bool
+    requires shown { (boxes : List Held) × AreSomewhere P.shows network.now plants.old boxes }
+    ensures { (boxes : List Held) → Tried P.shows network.now plants.old boxes
+        (PlantsRest P.shows network.now 0 (length plants.old)) result plants.new boxes }
 {
+    let mut planned = false;
+    for p in 0..plants.len() {
+        planned |= plan_ready(network, plants, p);
+    }
+    planned
+}
+
+/// Plans the pairs of a plant that can be planned, until there is none, and answers whether there was one.
+fn plan_ready<P: Plant>(network: &Network, plants: &mut [P], plant: usize) -> bool
+    requires plant { plant < length plants.old }
+    requires shown { (boxes : List Held) × AreSomewhere P.shows network.now plants.old boxes }
+    ensures { (boxes : List Held) → Tried P.shows network.now plants.old boxes (PlantRests P.shows network.now plant)
+        result plants.new boxes }
+{
+    if !plan_one(network, plants, plant) {
+        return false;
+    }
     for _pair in 0..u64::MAX {
-        let ready = ready_at(network, plants.as_slice(), boxes.as_slice(), plant);
-        let Some(event) = ready else {
-            return;
-        };
-        let _acted = act_on(network, plants, boxes, event);
+        if !plan_one(network, plants, plant) {
+            break;
+        }
+    }
+    true
+}
+
+/// Plans a pair of a plant, if one can be planned, and answers whether there was one.
+fn plan_one<P: Plant>(network: &Network, plants: &mut [P], plant: usize) -> bool
+    requires plant { plant < length plants.old }
+    requires shown { (boxes : List Held) × AreSomewhere P.shows network.now plants.old boxes }
+    ensures { (boxes : List Held) → Tried P.shows network.now plants.old boxes (PlantRests P.shows network.now plant)
+        result plants.new boxes }
+{
+    match plants[plant].ready() {
+        Some(x) => plan(network, plants, x),
+        None => false,
     }
 }

@@ -7,10 +7,10 @@ ghost use Rattle.mrp_qty.specs.declared.limits.TheConstants.{MOST_ROOM};
 
 use crate::acting::act_on;
 use crate::counting::steps;
-use crate::driving::{Place, drive_on, first_place, place_after};
+use crate::driving::drive_on;
 use crate::figures::figures;
 use crate::gathering::plans_by_plant;
-use crate::looking::look;
+use crate::looking::{Place, first_place, look, place_after};
 use crate::making::{new_boxes, new_plants};
 use crate::{Agent, Mailbox, Plant};
 use mrp_book::LaneFigure;
@@ -126,14 +126,14 @@ impl<'a, P: Plant> World<'a, P> {
         let network = net.network();
         let mut plants = new_plants(alloc, net)?;
         let mut boxes = new_boxes(alloc, net, capacity)?;
-        let near = drive_on(network, &mut plants, &mut boxes, first_place());
+        drive_on(network, &mut plants, &mut boxes);
         Ok(World {
             network,
             capacity,
             plants,
             boxes,
             left: 0,
-            near,
+            near: first_place(),
         })
     }
 
@@ -148,8 +148,7 @@ impl<'a, P: Plant> World<'a, P> {
         ensures capacity { self.new.capacity ≡ self.old.capacity }
         ensures step { result ≡ true → self.new.left + 1 ≡ self.old.left }
     {
-        let acted = act_on(self.network, &mut self.plants, &mut self.boxes, event);
-        if !acted {
+        if !act_on(self.network, &mut self.plants, &mut self.boxes, event) {
             return false;
         }
         self.left -= 1;
@@ -171,8 +170,7 @@ impl<'a, P: Plant> World<'a, P> {
             self.network,
             self.plants.as_slice(),
             self.boxes.as_slice(),
-            self.near.lane,
-            self.near.plant,
+            self.near,
         )
     }
 
@@ -273,7 +271,7 @@ impl<'a, P: Plant> World<'a, P> {
         ensures finished { (t : State) → WorldShows P.shows self.new t → IsFinished self.new.network t }
         ensures left { self.new.left ≡ 0 }
     {
-        self.near = drive_on(self.network, &mut self.plants, &mut self.boxes, self.near);
+        drive_on(self.network, &mut self.plants, &mut self.boxes);
         self.left = 0;
     }
 }

@@ -1,15 +1,19 @@
-use Rattle.std.proofs.Common.{refl}
-use Rattle.mrp_world.proofs.Looks as look
+use Rattle.std.proofs.Common.{sym, subst}
+use Rattle.mrp_protocol.specs.declared.event.Event.{Event}
+use Rattle.mrp_world.specs.Moves.{Acts}
 use Rattle.mrp_world.proofs.acting.act.Goals as goal
 
 pub returns-else-lane-lanes : goal.returns-else-lane-lanes
 returns-else-lane-lanes g c =
-    look.acts_by _ _ _ _ _ _ _ _ _ c.in-Send.is c.send.ensures.leads c.send.ensures.nowhere c.send.ensures.plants c.send.ensures.boxes
+    subst (λ (event : Event). Acts g.P.Plant.shows c.args.network.now c.args.plants.now c.args.boxes.now event c.send.result c.send.new.plants c.send.new.boxes)
+    (sym c.in-Send.is) c.send.ensures
 
 pub returns-else-lane-lanes-2 : goal.returns-else-lane-lanes-2
 returns-else-lane-lanes-2 g c =
-    look.acts_by _ _ _ _ _ _ _ _ _ c.in-Receive.is c.receive.ensures.leads c.receive.ensures.nowhere c.receive.ensures.plants c.receive.ensures.boxes
+    subst (λ (event : Event). Acts g.P.Plant.shows c.args.network.now c.args.plants.now c.args.boxes.now event c.receive.result c.receive.new.plants
+    c.receive.new.boxes) (sym c.in-Receive.is) c.receive.ensures
 
 pub returns-else-x-pairs : goal.returns-else-x-pairs
 returns-else-x-pairs g c =
-    look.acts_by _ _ _ _ _ _ _ _ _ c.in-Plan.is (λ t. c.plan.ensures.leads t _) (λ f. c.plan.ensures.nowhere f _) c.plan.ensures.plants (λ _. refl)
+    subst (λ (event : Event). Acts g.P.Plant.shows c.args.network.now c.args.plants.now c.args.boxes.now event c.plan.result c.plan.new.plants
+    c.args.boxes.now) (sym c.in-Plan.is) (c.plan.ensures c.args.boxes.now)

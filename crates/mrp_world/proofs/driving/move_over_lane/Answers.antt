@@ -1,21 +1,15 @@
+use Rattle.mrp_world.specs.Driving.{LeadOn}
 use Rattle.mrp_world.proofs.Drives as drive
 use Rattle.mrp_world.proofs.driving.move_over_lane.Goals as goal
 
-pub loop-record-init : goal.loop-record-init
-loop-record-init g c = drive.on_nowhere _ _ _ _
-
-pub move_one-requires-clause-shown : goal.move_one-requires-clause-shown
-move_one-requires-clause-shown g c = drive.on_somewhere _ _ _ _ _ _ c.requires.shown c.loop-record.invariant
+pub move_one-requires-in-loop-record-clause-shown : goal.move_one-requires-in-loop-record-clause-shown
+move_one-requires-in-loop-record-clause-shown g c = drive.on_somewhere c.requires.shown c.loop-record.invariant
 
 pub loop-record-preserved : goal.loop-record-preserved
-loop-record-preserved g c = drive.on_more _ _ _ _ _ _ _ _ c.loop-record.invariant (c.move_one.ensures.leads c.if-not-move_one.false)
+loop-record-preserved g c =
+    drive.on_and_on c.loop-record.invariant (drive.on_at_all c.if-not-move_one-2.ensures)
 
-pub returns-then-not-move_one : goal.returns-then-not-move_one
-returns-then-not-move_one g c =
-    record {
-      runs = drive.on_to _ _ _ _ _ _ _ _ c.loop-record.invariant (c.move_one.ensures.plants c.if-not-move_one.true)
-          (c.move_one.ensures.boxes c.if-not-move_one.true);
-    }
-
-pub returns : goal.returns
-returns g c = record { runs = c.loop-record.invariant }
+pub returns-then-not-move_one-2 : goal.returns-then-not-move_one-2
+returns-then-not-move_one-2 g c =
+    drive.still_has (λ p b. LeadOn g.P.Plant.shows c.args.network.now c.args.plants.now c.args.boxes.now 1 p b) c.if-not-move_one-2.ensures
+    c.loop-record.invariant

@@ -5,7 +5,7 @@ use Rattle.mrp_world.proofs.looking.moving_among.Goals as goal
 
 pub loop-l-preserved : goal.loop-l-preserved
 loop-l-preserved g c =
-    look.loop_more (LaneRests g.P.Plant.shows c.args.network.now c.args.plants.now c.args.boxes.now) _ _ c.loop-l.invariant
+    look.loop_more (λ k. LaneRests g.P.Plant.shows c.args.network.now k c.args.plants.now c.args.boxes.now) _ _ c.loop-l.invariant
     (look.none_gives _ _ c.moving.ensures.none c.in_default.is)
 
 pub returns-clause-none : goal.returns-clause-none

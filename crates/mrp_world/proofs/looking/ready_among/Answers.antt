@@ -9,7 +9,7 @@ returns-in-Some-clause-some g c =
 
 pub loop-p-preserved : goal.loop-p-preserved
 loop-p-preserved g c =
-    look.loop_more (PlantRests g.P.Plant.shows c.args.network.now c.args.plants.now c.args.boxes.now) _ _ c.loop-p.invariant
+    look.loop_more (λ k. PlantRests g.P.Plant.shows c.args.network.now k c.args.plants.now c.args.boxes.now) _ _ c.loop-p.invariant
     (look.plant_rests _ _ _ _ _ _ (omega (arith, c.loop-p-test.true, c.requires.plants)) c.index-plants-p.is
     (look.none_gives _ _ c.ready.ensures.none c.in_default.is))
 
