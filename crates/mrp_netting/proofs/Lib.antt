@@ -1,5 +1,11 @@
 pub mod OneLaws
 pub mod Greatest
+pub mod RowSums
+pub mod ReceiptLaws
+pub mod DataLaws
+pub mod DataRows
+pub mod TogetherLaws
+pub mod WorkedPairs
 pub mod PlannedReleases
 pub mod PlainLaws
 pub mod RulesLaws

@@ -5,3 +5,4 @@ pub mod Plan
 pub mod PlanningData
 pub mod PlanningBound
 pub mod PlanningLaws
+pub mod WorkedPairs

@@ -30,4 +30,9 @@ pub use laws::{
 pub use params::{Late, PairParams};
 pub use plan::{PairPlan, is_plan, plan_pair};
 pub use planning_data::{PlanningData, Policy};
-pub use planning_laws::plain_pairs_are_planned_from_two_rows;
+pub use planning_laws::{
+    all_rows_stay_within, available_covers_ahead, fence_holds_releases, orders_are_least_multiples,
+    orders_come_after_receipts, plain_pairs_are_planned_from_two_rows,
+    planned_and_firm_orders_are_released, receipts_are_counted, stock_is_kept, sum_is_enough,
+    worked_pairs_are_planned,
+};
