@@ -5,18 +5,15 @@ use Rattle.std.specs.List.{range_with_len}
 use Rattle.std.proofs.Common.{arith, refl, ◌∙◌, ⊎_elim, eq-eqb, ne_eqb}
 use Rattle.std.proofs.lemmas.Bool.{cases_lt, cond-true, cond-false}
 use Rattle.std.proofs.lemmas.List.Sums.{sum_by-take-le, sum_by-take-drop}
-use Rattle.mrp_lot.specs.declared.rule.Rule.{Rule}
-use Rattle.mrp_lot.specs.declared.rule.Rule.TheVariants.{LotForLot, Fixed, Periods, MinMultiple}
-use Rattle.mrp_lot.specs.Lot.{IsRule, rule_quantities}
-use Rattle.mrp_lot.proofs.LotLaws.{least_multiple-le, least_multiple-lt, min_multiple-is_least}
+use Rattle.mrp_lot.specs.Lot.{IsRule}
+use Rattle.mrp_lot.proofs.LotLaws.{min_multiple-is_least}
 use Rattle.mrp_qty.proofs.RangeLaws.{sum_take-suc, sum_drop_take-one, sum_by-range-suc}
-use Rattle.mrp_netting.specs.declared.planning_data.Policy.{Policy}
 use Rattle.mrp_netting.specs.One.{sum_from}
 use Rattle.mrp_netting.specs.PlanningData.{PairData, due, had, incoming_at, incoming_row, need, lot_for, made_up}
 use Rattle.mrp_netting.specs.PlanningData.{order_after, available_after, balance_before, order_at}
 use Rattle.mrp_netting.specs.PlanningBound.{IsWithinData, order_quantities}
 use Rattle.mrp_netting.specs.PlanningLaws.{IsOrder}
-use Rattle.mrp_netting.proofs.Greatest.{greatest-covers, greatest-le}
+use Rattle.mrp_netting.proofs.Lots.{lot_for-ge, lot_for-le, made_up-ge, made_up-le}
 use Rattle.mrp_netting.proofs.RowSums.{sum_take-split, sum_from-first}
 use Rattle.mrp_netting.proofs.ReceiptLaws.{incoming_row-at, incoming-sum, incoming-le, lack-le-short, had-le}
 
@@ -31,26 +28,6 @@ balance_before-suc d t = refl
 pub order_at-is : (d : PairData) (t : ℕ) → order_at d t ≡ order_after d (balance_before d t) t
 unfolding order_at
 order_at-is d t = refl
-
--- what a lot rule orders, between the need of one period and the greatest need with the rule's quantities
-pub lot_for-ge : (rule : Rule) (needs : ℕ → ℕ) → IsRule rule → needs 1 ≤ lot_for rule needs
-lot_for-ge LotForLot needs is = omega arith
-lot_for-ge (Fixed q) needs is = least_multiple-le (needs 1) q is.0
-lot_for-ge (Periods k) needs is = greatest-covers needs 1 k (omega arith) is.0
-lot_for-ge (MinMultiple m k) needs is = omega (arith, least_multiple-le (max (needs 1) m) k is.1.0)
-
-pub lot_for-le : (rule : Rule) (needs : ℕ → ℕ) (bound : ℕ) → IsRule rule → ((k : ℕ) → needs k ≤ bound) → lot_for rule needs ≤ bound + rule_quantities rule
-lot_for-le LotForLot needs bound is below = omega (arith, below 1)
-lot_for-le (Fixed q) needs bound is below = omega (arith, below 1, least_multiple-lt (needs 1) q is.0)
-lot_for-le (Periods k) needs bound is below = omega (arith, greatest-le needs k bound below)
-lot_for-le (MinMultiple m k) needs bound is below = omega (arith, below 1, least_multiple-lt (max (needs 1) m) k is.1.0)
-
--- an order that is made up
-pub made_up-ge : (policy : Policy) (lot : ℕ) → lot ≤ made_up policy lot
-made_up-ge policy lot = omega (arith, least_multiple-le (max lot policy.least) (max policy.multiple 1) (omega arith))
-
-pub made_up-le : (policy : Policy) (lot : ℕ) → made_up policy lot ≤ lot + policy.least + policy.multiple
-made_up-le policy lot = omega (arith, least_multiple-lt (max lot policy.least) (max policy.multiple 1) (omega arith))
 
 -- without a need nothing is ordered, and with one the lot, made up
 pub order_after-none : (d : PairData) (before t : ℕ) → need d before t 1 ≡ 0 → order_after d before t ≡ 0

@@ -1,11 +1,13 @@
 -- Receipts that are counted by each period, and what comes in.
-use Rattle.std.specs.Prelude.{◌≡◌, ℕ, ◌+◌, ◌-◌, ◌≤◌, ◌<◌, max, List, sum, take, length, slice_index, zero, suc}
+use Rattle.std.specs.Prelude.{◌≡◌, ℕ, ◌+◌, ◌-◌, ◌≤◌, ◌<◌, max, sum, take, length, slice_index, zero, suc}
 use Rattle.std.proofs.Common.{arith, refl}
+use Rattle.mrp_qty.specs.declared.quantity.TheConstants.{MOST}
 use Rattle.mrp_qty.proofs.RangeLaws.{sum_take-suc}
 use Rattle.mrp_netting.specs.PlanningData.{PairData, due, lack, short, had, had_before, incoming_at, incoming_row}
+use Rattle.mrp_netting.specs.PlanningBound.{IsWithinData}
 use Rattle.mrp_netting.specs.PlanningLaws.{ReceiptsAreCounted}
 use Rattle.mrp_netting.proofs.Compared.{row_reads}
-use Rattle.mrp_netting.proofs.RowSums.{sum_take-le, sum_take-all}
+use Rattle.mrp_netting.proofs.RowSums.{sum_take-le, sum_take-all, sum_take-most}
 
 pub short-zero : (d : PairData) → short d zero ≡ lack d zero
 unfolding short
@@ -82,10 +84,11 @@ had_before-most d (suc t) =
     let more = length d.receipts + s in
     omega (arith, had-le d t, sum_take-le d.receipts s more (omega arith), sum_take-all d.receipts more (omega arith))
 
-sum_take-most : (row : List ℕ) (t : ℕ) → sum (take t row) ≤ sum row
-sum_take-most row t = omega (arith, sum_take-le row t (t + length row) (omega arith), sum_take-all row (t + length row) (omega arith))
-
 pub incoming-le : (d : PairData) (t : ℕ) → t ≤ length d.gross
     → sum (take t (incoming_row d)) ≤ sum d.receipts + sum d.arrivals + sum d.firm_due
 incoming-le d t within =
     omega (arith, incoming-sum d t within, had_before-most d t, sum_take-most d.arrivals t, sum_take-most d.firm_due t)
+
+pub incoming_at-le : (d : PairData) (t : ℕ) → IsWithinData d → t < length d.gross → incoming_at d t ≤ MOST
+incoming_at-le d t is within =
+    omega (arith, incoming-le d (suc t) within, sum_take-suc (incoming_row d) t, incoming_row-at d t within, is.total)

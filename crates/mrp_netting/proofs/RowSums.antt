@@ -1,6 +1,6 @@
 -- Sums over the front of a row, and from a period on.
 use Rattle.std.specs.Prelude.{◌≡◌, ℕ, ◌+◌, ◌-◌, ◌≤◌, List, sum, take, drop, length, slice_index, zero, suc}
-use Rattle.std.proofs.Common.{arith, refl, ap, add-zero}
+use Rattle.std.proofs.Common.{arith, refl, sym, ap, ◌∙◌, add-zero, add-one, length-drop}
 use Rattle.std.proofs.lemmas.List.{take_all}
 use Rattle.mrp_qty.proofs.RangeLaws.{sum_take-suc, sum_drop_take-suc, sum_drop_take-one}
 
@@ -44,3 +44,20 @@ sum_from-first row t (suc n) m is =
     let there : t + suc n ≡ suc t + n = omega arith in
     let at = ap (λ (k : ℕ). slice_index row k) there in
     omega (arith, here, at, sum_drop_take-suc row t (suc n), sum_from-first row t n (suc n) refl, sum_drop_take-suc row (suc t) n)
+
+pub sum_take-most : (row : List ℕ) (t : ℕ) → sum (take t row) ≤ sum row
+sum_take-most row t = omega (arith, sum_take-le row t (t + length row) (omega arith), sum_take-all row (t + length row) (omega arith))
+
+-- one more period, as a loop counts
+pub sum_take-next : (row : List ℕ) (t : ℕ) → sum (take (t + 1) row) ≡ sum (take t row) + slice_index row t
+sum_take-next row t = let next = ap (λ (n : ℕ). sum (take n row)) (add-one t) in omega (arith, next, sum_take-suc row t)
+
+-- behind the end of a row more periods have nothing
+pub sum_from-past : (row : List ℕ) (t m n : ℕ) → length row ≤ t + m → m ≤ n → sum (take n (drop t row)) ≡ sum (take m (drop t row))
+sum_from-past row t m n past more =
+    let long = length-drop t row in
+    ap sum (take_all n (drop t row) (omega (arith, long))) ∙ sym (ap sum (take_all m (drop t row) (omega (arith, long))))
+
+-- no period has more than the whole row
+pub slice_index-le : (row : List ℕ) (t : ℕ) → slice_index row t ≤ sum row
+slice_index-le row t = omega (arith, sum_take-suc row t, sum_take-most row (suc t))
