@@ -47,3 +47,11 @@ pub greatest-same : (needs others : ℕ → ℕ) (n : ℕ) → ((k : ℕ) → ne
 greatest-same needs others zero same = omega (arith, greatest-zero needs, greatest-zero others)
 greatest-same needs others (suc n) same =
     omega (arith, greatest-suc needs n, greatest-suc others n, greatest-same needs others n same, same (suc n))
+
+-- the same at n + 1, as a loop counts
+pub greatest-more : (needs : ℕ → ℕ) (n : ℕ) → greatest needs (n + 1) ≡ max (greatest needs n) (needs (n + 1))
+greatest-more needs n =
+    let next : n + 1 ≡ suc n = omega arith in
+    let here = ap (greatest needs) next in
+    let there = ap needs next in
+    omega (arith, here, there, greatest-suc needs n)

@@ -1,6 +1,17 @@
 pub mod OneLaws
 pub mod Greatest
+pub mod Lots
+pub mod RowSums
+pub mod OrderSteps
+pub mod ReceiptLaws
+pub mod DataLaws
+pub mod DataRows
+pub mod TogetherLaws
+pub mod Counting
+pub mod DataPlans
+pub mod WorkedPairs
 pub mod PlannedReleases
+pub mod ReleaseSteps
 pub mod PlainLaws
 pub mod PlainRows
 pub mod RulesLaws

@@ -247,7 +247,7 @@ one-release_sum-le pair incoming gross is =
     )
 
 -- what holds of each period holds of each element of the row
-all_periods : (P : ℕ → Type 0) (f : ℕ → ℕ) (n : ℕ) (row : List ℕ) → row ≡ map f (range_with_len 0 n) → ((k : ℕ) → k < n → P (f k)) → All P row
+pub all_periods : (P : ℕ → Type 0) (f : ℕ → ℕ) (n : ℕ) (row : List ℕ) → row ≡ map f (range_with_len 0 n) → ((k : ℕ) → k < n → P (f k)) → All P row
 all_periods P f n row e each k d h =
     let len : length row ≡ n = ap length e ∙ length-map-range_with_len f 0 n in
     let below : k < n = omega arith in
@@ -259,7 +259,7 @@ one-available-ge pair incoming gross is =
     all_periods (λ stock. pair.safety ≤ stock) (λ t. balance_before pair incoming gross (suc t)) (length gross) _ (one-available pair incoming gross)
     (λ t h. safety-le-balance_before pair incoming gross t is h)
 
-sum_range-ge : (f : ℕ → ℕ) (n k : ℕ) → k < n → f k ≤ sum_by f (range_with_len 0 n)
+pub sum_range-ge : (f : ℕ → ℕ) (n k : ℕ) → k < n → f k ≤ sum_by f (range_with_len 0 n)
 sum_range-ge f n k h =
     let part = get_or-le-sum_by f (range_with_len 0 n) k 0 (omega (arith, length-range_with_len 0 n)) in
     let at = ap f (get_or-range_with_len 0 n k 0 h) in

@@ -2,14 +2,11 @@
 use Rattle.std.specs.Prelude.{◌≡◌, ℕ, ◌+◌, ◌-◌, ◌≤◌, ◌<◌, ◌==◌, if◌then◌else◌, min, max}
 use Rattle.std.specs.Prelude.{List, length, map, sum, take, drop, slice_index, zero, suc}
 use Rattle.std.specs.List.{range_with_len}
-use Rattle.std.proofs.Common.{arith, sym, refl, ◌∙◌, ap, subst, add-zero, ⊎_elim, length-drop}
-use Rattle.std.proofs.lemmas.Bool.{cases_eq, cases_lt}
+use Rattle.std.proofs.Common.{arith, sym, refl, ◌∙◌, ap, subst, add-zero, ⊎_elim}
+use Rattle.std.proofs.lemmas.Bool.{cases_lt}
 use Rattle.std.proofs.lemmas.List.{get_or_past, take_all}
 use Rattle.std.proofs.lemmas.List.FromFn.{fill_by_all, length-map-range_with_len}
-use Rattle.mrp_lot.specs.declared.rule.Rule.{Rule}
-use Rattle.mrp_lot.specs.declared.rule.Rule.TheVariants.{LotForLot, Fixed, Periods, MinMultiple}
-use Rattle.mrp_lot.specs.Lot.{least_multiple_of, lot_of, periods_covered}
-use Rattle.mrp_lot.proofs.LotLaws.{least_multiple-le, least_multiple-lt}
+use Rattle.mrp_lot.specs.Lot.{lot_of, periods_covered}
 use Rattle.mrp_qty.proofs.RangeLaws.{sum_take-suc, sum_drop_take-one, map-range-same}
 use Rattle.mrp_netting.specs.declared.params.PairParams.{PairParams}
 use Rattle.mrp_netting.specs.One as today
@@ -23,7 +20,9 @@ use Rattle.mrp_netting.proofs.OneLaws.{greatest_need-zero, greatest_need-suc}
 use Rattle.mrp_netting.proofs.RulesLaws.{plan-follows_rules, rules-have_one_plan}
 use Rattle.mrp_netting.proofs.Compared.{IsFirst, first_in_zero, first_later, released_before, released_more, released_all}
 use Rattle.mrp_netting.proofs.PlannedReleases.{planned_release-first, planned_release-later}
-use Rattle.mrp_netting.proofs.Greatest.{greatest-zero, greatest-suc, greatest-past}
+use Rattle.mrp_netting.proofs.Greatest.{greatest-zero, greatest-suc}
+use Rattle.mrp_netting.proofs.Lots.{lot_for-is, made_up-none}
+use Rattle.mrp_netting.proofs.OrderSteps.{greatest-horizon}
 
 -- what comes in is what arrives
 incoming_at-plain : (pair : PairParams) (incoming gross : List ℕ) (t : ℕ) → incoming_at (plain pair incoming gross) t ≡ slice_index incoming t
@@ -61,51 +60,13 @@ greatest-plain pair incoming gross before t (suc n) len =
       need-plain pair incoming gross before t (suc n) len,
     )
 
--- over the horizon no need grows
-sum_past : (row : List ℕ) (t m n : ℕ) → length row ≤ t + m → m ≤ n → sum (take n (drop t row)) ≡ sum (take m (drop t row))
-sum_past row t m n past more =
-    let long = length-drop t row in
-    ap sum (take_all n (drop t row) (omega (arith, long))) ∙ sym (ap sum (take_all m (drop t row) (omega (arith, long))))
-
-need_past : (pair : PairParams) (incoming gross : List ℕ) (before t m n : ℕ) → length incoming ≡ length gross → length gross ≤ t + m → m ≤ n
-    → need (plain pair incoming gross) before t n ≤ need (plain pair incoming gross) before t m
-need_past pair incoming gross before t m n len past more =
-    omega (
-      arith,
-      need-plain pair incoming gross before t n len,
-      need-plain pair incoming gross before t m len,
-      sum_past gross t m n past more,
-      sum_past incoming t m n (omega arith) more,
-    )
-
+-- and the greatest of them, which the horizon ends
 span-plain : (pair : PairParams) (incoming gross : List ℕ) (before t k : ℕ) → length incoming ≡ length gross → t < length gross
     → greatest (need (plain pair incoming gross) before t) k ≡ today.greatest_need pair incoming gross before t (min k (length gross - t))
 span-plain pair incoming gross before t k len within =
-    let m = min k (length gross - t) in
-    let needs = need (plain pair incoming gross) before t in
-    let split : k ≡ m + (k - m) = omega arith in
-    ⊎_elim
-    (λ (all : m ≡ k). ap (greatest needs) (sym all) ∙ greatest-plain pair incoming gross before t m len)
-    (λ (cut : m ≡ k → ⊥).
-    ap (greatest needs) split
-    ∙ greatest-past needs m (k - m) (omega arith) (λ n more. need_past pair incoming gross before t m n len (omega arith) more)
-    ∙ greatest-plain pair incoming gross before t m len)
-    (cases_eq m k)
+    sym (greatest-horizon (plain pair incoming gross) before t k within) ∙ greatest-plain pair incoming gross before t (min k (length gross - t)) len
 
--- the lot is the same
-lot-plain : (rule : Rule) (needs : ℕ → ℕ) (net : ℕ) (span : ℕ → ℕ) → needs 1 ≡ net → ((k : ℕ) → greatest needs k ≡ span k)
-    → lot_for rule needs ≡ lot_of rule net (span (periods_covered rule))
-lot-plain LotForLot needs net span one_period periods = one_period
-lot-plain (Fixed q) needs net span one_period periods = ap (least_multiple_of q) one_period
-lot-plain (Periods k) needs net span one_period periods = periods k
-lot-plain (MinMultiple m k) needs net span one_period periods = ap (λ (n : ℕ). least_multiple_of k (max n m)) one_period
-
-made_up-none : (lot : ℕ) → made_up no_policy lot ≡ lot
-made_up-none lot =
-    let same : max lot 0 ≡ lot = omega arith in
-    let once : least_multiple_of 1 lot ≡ lot = omega (arith, least_multiple-le lot 1 (omega arith), least_multiple-lt lot 1 (omega arith)) in
-    ap (least_multiple_of 1) same ∙ once
-
+-- and so is the order
 order_after-plain : (pair : PairParams) (incoming gross : List ℕ) (before t : ℕ) → length incoming ≡ length gross → t < length gross
     → order_after (plain pair incoming gross) before t ≡ today.order_after pair incoming gross before t
 order_after-plain pair incoming gross before t len within =
@@ -114,7 +75,7 @@ order_after-plain pair incoming gross before t len within =
     let span : ℕ → ℕ = λ k. today.greatest_need pair incoming gross before t (min k (length gross - t)) in
     let lot = lot_for pair.rule needs in
     let sized : lot ≡ lot_of pair.rule net (span (periods_covered pair.rule)) =
-    lot-plain pair.rule needs net span (net-plain pair incoming gross before t len) (λ k. span-plain pair incoming gross before t k len within) in
+    lot_for-is pair.rule needs net span (net-plain pair incoming gross before t len) (λ k. span-plain pair incoming gross before t k len within) in
     ap (λ (n : ℕ). if n == 0 then 0 else made_up no_policy lot) (net-plain pair incoming gross before t len)
     ∙ ap (λ (q : ℕ). if net == 0 then 0 else q) (made_up-none lot ∙ sized)
 

@@ -1,7 +1,9 @@
 -- What of the planned orders is released in each period.
-use Rattle.std.specs.Prelude.{◌≡◌, ℕ, ◌+◌, ◌<◌, ◌==◌, nat_lt, List, sum, take, slice_index, suc}
-use Rattle.std.proofs.Common.{arith, ◌∙◌, eq-eqb, ne_eqb, le-ltb, lt-ltb}
-use Rattle.std.proofs.lemmas.Bool.{cond-true, cond-false}
+use Rattle.std.specs.Prelude.{◌≡◌, ℕ, ◌+◌, ◌≤◌, ◌<◌, ◌==◌, nat_lt, List, sum, sum_by, take, slice_index, zero, suc}
+use Rattle.std.specs.List.{range_with_len}
+use Rattle.std.proofs.Common.{arith, refl, ap, ◌∙◌, ⊎_elim, eq-eqb, ne_eqb, le-ltb, lt-ltb}
+use Rattle.std.proofs.lemmas.Bool.{cases_eq, cond-true, cond-false}
+use Rattle.mrp_qty.proofs.RangeLaws.{sum_take-suc, sum_by-range-suc}
 use Rattle.mrp_netting.specs.PlanningData.{PairData, earliest, planned_release}
 
 -- none before the first period in which any can be
@@ -21,3 +23,30 @@ pub planned_release-later : (d : PairData) (order : List ℕ) (u : ℕ) → earl
 planned_release-later d order u later =
     cond-false (nat_lt (u + d.params.lead) (earliest d)) 0 _ (le-ltb (u + d.params.lead) (earliest d) (omega arith))
     ∙ cond-false (u + d.params.lead == earliest d) _ _ (ne_eqb (u + d.params.lead) (earliest d) (λ e. absurd (omega arith)))
+
+-- together they are all orders
+planned-none : (d : PairData) (order : List ℕ) (n : ℕ) → n + d.params.lead ≤ earliest d → sum_by (planned_release d order) (range_with_len 0 n) ≡ 0
+planned-none d order zero early = refl
+planned-none d order (suc n) early =
+    omega (
+      arith,
+      sum_by-range-suc (planned_release d order) n,
+      planned-none d order n (omega arith),
+      planned_release-none d order n (omega arith),
+    )
+
+pub planned-sum : (d : PairData) (order : List ℕ) (n : ℕ) → earliest d < n + d.params.lead
+    → sum_by (planned_release d order) (range_with_len 0 n) ≡ sum (take (n + d.params.lead) order)
+planned-sum d order zero past = absurd (omega arith)
+planned-sum d order (suc n) past =
+    let due_in = n + d.params.lead in
+    let next : suc n + d.params.lead ≡ suc due_in = omega arith in
+    let up_to = ap (λ (m : ℕ). sum (take m order)) next in
+    let more = sum_by-range-suc (planned_release d order) n in
+    ⊎_elim
+    (λ (first : due_in ≡ earliest d).
+    omega (arith, up_to, more, planned-none d order n (omega arith), planned_release-first d order n first))
+    (λ (later : due_in ≡ earliest d → ⊥).
+    let after : earliest d < due_in = omega arith in
+    omega (arith, up_to, more, planned-sum d order n after, planned_release-later d order n after, sum_take-suc order due_in))
+    (cases_eq due_in (earliest d))

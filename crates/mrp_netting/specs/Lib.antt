@@ -6,3 +6,4 @@ pub mod Plan
 pub mod PlanningData
 pub mod PlanningBound
 pub mod PlanningLaws
+pub mod WorkedPairs

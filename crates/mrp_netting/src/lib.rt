@@ -6,20 +6,28 @@
 //! releases, projected available balance. [`plan_pair`] writes its rows into a [`PairPlan`], which is used again from
 //! pair to pair. Contracts see a [`PairPlan`] as its five rows and the list of its late orders.
 //!
+//! [`plan_from`] plans a pair from one record of its planning data, with firm planned orders, a planning time fence,
+//! receipts that count sooner, periods of cover, and a minimum and a multiple of orders. Without these it is the plan
+//! of [`plan_pair`].
+//!
 //! Used by the plan of a network, by agents and those who drive them, and by reports.
 //! Keeps true: the rows of a `PairPlan` are those of the definition; nothing is ordered without a net requirement.
 #![tactic(auto)]
 
 mod blank;
 mod following;
+mod incoming;
 mod late;
 mod laws;
 mod netting;
+mod orders;
 mod params;
+mod pieces;
 mod plan;
 mod planning_data;
 mod planning_laws;
 mod release;
+mod releasing;
 
 pub use blank::blank_plans;
 pub use laws::{
@@ -28,6 +36,11 @@ pub use laws::{
     rows_stay_within, rules_have_one_plan,
 };
 pub use params::{Late, PairParams};
-pub use plan::{PairPlan, is_plan, plan_pair};
+pub use plan::{PairPlan, is_plan, plan_from, plan_pair};
 pub use planning_data::{PlanningData, Policy};
-pub use planning_laws::plain_pairs_are_planned_from_two_rows;
+pub use planning_laws::{
+    all_rows_stay_within, available_covers_ahead, fence_holds_releases, orders_are_least_multiples,
+    orders_come_after_receipts, plain_pairs_are_planned_from_two_rows,
+    planned_and_firm_orders_are_released, receipts_are_counted, stock_is_kept, sum_is_enough,
+    worked_pairs_are_planned,
+};

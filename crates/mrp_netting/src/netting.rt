@@ -54,7 +54,7 @@ pub(crate) fn order_and_balance(
 
 /// The balance after a period: what was there, what comes in and what is ordered, less the gross
 /// requirement.
-fn balance_after(before: Qty, receipt: Qty, ordered: Qty, gross: Qty) -> Qty
+pub(crate) fn balance_after(before: Qty, receipt: Qty, ordered: Qty, gross: Qty) -> Qty
     requires covered { gross ≤ before + receipt + ordered }
     requires within { before + receipt + ordered - gross ≤ MOST }
     ensures { result ≡ before + receipt + ordered - gross }

@@ -5,15 +5,21 @@ ghost use Rattle.mrp_netting.specs.PlanRows.{PlanRows};
 ghost use Rattle.mrp_netting.specs.PlanningData.{plain, one};
 ghost use Rattle.mrp_netting.specs.Bound.{IsWithin};
 ghost use Rattle.mrp_netting.specs.Plan.{AreRows, nothing_planned, late_orders_in, AreLate};
+ghost use Rattle.mrp_netting.specs.PlanningData as planning;
+ghost use Rattle.mrp_netting.specs.PlanningBound.{IsWithinData, data_of};
 
 use crate::following::{late_follow, orders_follow, releases_follow};
+use crate::incoming::plan_incoming;
 use crate::late::note_late;
 use crate::netting::plan_orders;
+use crate::orders::order_all;
 use crate::release::plan_releases;
-use crate::{Late, PairParams};
+use crate::releasing::{earliest_period, release_all};
+use crate::{Late, PairParams, PlanningData};
 use mrp_qty::{Horizon, Memory, Row};
 use std::alloc::Global;
 use std::marker::Model;
+use std::mem;
 
 /// The plan of one pair: five rows of one horizon, and the late orders.
 ///
@@ -97,7 +103,8 @@ impl PairPlan {
         &self.gross
     }
 
-    /// Scheduled receipts: the pieces that come in from orders that are open already, 0 to 10^15.
+    /// Scheduled receipts: the pieces that come in from orders that are open already, 0 to 10^15. In a plan of
+    /// [`plan_from`] receipts are here in the period in which they are counted.
     pub fn incoming(&self) -> &Row
         ensures { result.now ≡ self.now.incoming }
     {
@@ -112,7 +119,8 @@ impl PairPlan {
     }
 
     /// Planned order releases in pieces, 0 to 10^15: the orders a lead time earlier, the late ones in
-    /// period 0.
+    /// period 0. In a plan of [`plan_from`] firm planned orders are released too, and late orders in the first period
+    /// behind the fence.
     pub fn release(&self) -> &Row
         ensures { result.now ≡ self.now.release }
     {
@@ -120,7 +128,7 @@ impl PairPlan {
     }
 
     /// Projected available balance: the pieces in stock after each period, 0 to 10^15. In the plan of
-    /// [`plan_pair`] they are never below safety stock.
+    /// [`plan_pair`] and of [`plan_from`] they are never below safety stock.
     pub fn available(&self) -> &Row
         ensures { result.now ≡ self.now.available }
     {
@@ -136,7 +144,7 @@ impl PairPlan {
 
     /// The late order number `i`, from 0 and below [`late_count`](PairPlan::late_count), by rising
     /// period. Its period is 0 to 103, its missing periods are 1 to 104, and together they are the
-    /// lead time.
+    /// lead time, or of a plan of [`plan_from`] the first period that planned orders can be released for.
     pub fn late(&self, i: usize) -> Late
         requires { i < length self.now.late }
         ensures { slice_get self.now.late i ≡ Some result }
@@ -204,6 +212,36 @@ pub fn plan_pair(params: &PairParams, incoming: &Row, gross: &Row, into: &mut Pa
     plan_releases(params.lead, into.order.as_slice(), &mut into.release);
     note_late(params.lead, into.order.as_slice(), &mut into.late);
     into.lead = params.lead;
+}
+
+/// Plans one pair from its planning data: writes into `into` the rows and the late orders that follow from it and from
+/// the gross requirements `gross`, whatever `into` held. Those become the plan's own, and `gross` is left with the
+/// row of gross requirements that `into` had: room for the next pair.
+///
+/// The horizons of `gross` and `into` are equal, and no row of the planning data is longer. The fence is a period, lead
+/// time, SOONER and COVER are 0 to 104 periods, the rule's quantities, LEAST and MULTIPLE up to 10^12 pieces each. What
+/// is firmly ordered is released. On hand, safety stock, the rule's quantities, LEAST, MULTIPLE, all receipts, arrivals,
+/// firm planned orders and gross requirements together are at most 10^15 pieces. Nothing is allocated (by construction;
+/// no clause says so).
+pub fn plan_from(given: &PlanningData<'_>, gross: &mut Row, into: &mut PairPlan)
+    requires within { IsWithinData (data_of given.now gross.old) }
+    requires room { length into.old.gross ≡ length gross.old }
+    ensures plan { into.new ≡ planning.one (data_of given.now gross.old) }
+    ensures room { gross.new ≡ into.old.gross }
+{
+    mem::swap(&mut into.gross, gross);
+    let required = into.gross.as_slice();
+    plan_incoming(given, required, &mut into.incoming);
+    order_all(
+        given,
+        into.incoming.as_slice(),
+        required,
+        &mut into.order,
+        &mut into.available,
+    );
+    release_all(given, required, into.order.as_slice(), &mut into.release);
+    into.lead = earliest_period(given);
+    note_late(into.lead, into.order.as_slice(), &mut into.late);
 }
 
 /// Whether the plan is the one that follows from `params`, its scheduled receipts and its gross

@@ -1,0 +1,6 @@
+use Rattle.std.proofs.Common.{◌≡◌, sum, take}
+use Rattle.mrp_netting.proofs.pieces.front_pieces.Given as goal
+
+-- the sum so far
+abbrev pub invariant-loop-t : goal.invariant-loop-t
+invariant-loop-t l = l.total ≡ sum (take l.t l.pieces)
