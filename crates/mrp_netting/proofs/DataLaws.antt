@@ -8,7 +8,7 @@ use Rattle.std.proofs.lemmas.List.Sums.{sum_by-take-le, sum_by-take-drop}
 use Rattle.mrp_lot.specs.Lot.{IsRule}
 use Rattle.mrp_lot.proofs.LotLaws.{min_multiple-is_least}
 use Rattle.mrp_qty.proofs.RangeLaws.{sum_take-suc, sum_drop_take-one, sum_by-range-suc}
-use Rattle.mrp_netting.specs.One.{sum_from}
+use Rattle.mrp_netting.specs.PlanRows.{sum_from}
 use Rattle.mrp_netting.specs.PlanningData.{PairData, due, had, incoming_at, incoming_row, need, lot_for, made_up}
 use Rattle.mrp_netting.specs.PlanningData.{order_after, available_after, balance_before, order_at}
 use Rattle.mrp_netting.specs.PlanningBound.{IsWithinData, order_quantities}

@@ -1,7 +1,7 @@
 -- The rows that were written from planning data are the plan.
 use Rattle.std.proofs.Common.{◌≡◌, ℕ, max, List, length, ◌∙◌, ap}
 use Rattle.mrp_netting.specs.declared.planning_data.PlanningData.{PlanningData}
-use Rattle.mrp_netting.specs.One.{late_periods}
+use Rattle.mrp_netting.specs.PlanRows.{late_periods}
 use Rattle.mrp_netting.specs.Plan.{late_orders_in}
 use Rattle.mrp_netting.specs.PlanningData.{incoming_row, order_row, available_row, release_row, one}
 use Rattle.mrp_netting.specs.PlanningBound.{data_of}

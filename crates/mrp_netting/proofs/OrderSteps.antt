@@ -7,7 +7,7 @@ use Rattle.std.proofs.lemmas.List.Sums.{sum_by-take-drop}
 use Rattle.mrp_qty.specs.declared.quantity.TheConstants.{MOST}
 use Rattle.mrp_qty.proofs.RangeLaws.{sum_drop_take-le, sum_drop_take-one, sum_drop_take-suc}
 use Rattle.mrp_lot.specs.Lot.{rule_quantities}
-use Rattle.mrp_netting.specs.One.{sum_from}
+use Rattle.mrp_netting.specs.PlanRows.{sum_from}
 use Rattle.mrp_netting.specs.PlanningData.{PairData, incoming_at, incoming_row, need, greatest, lot_for, order_after, order_at, balance_before}
 use Rattle.mrp_netting.specs.PlanningBound.{IsWithinData}
 use Rattle.mrp_netting.proofs.Greatest.{greatest-le, greatest-past}

@@ -4,7 +4,7 @@ use Rattle.std.proofs.Common.{arith, sym, ◌∙◌, ap}
 use Rattle.mrp_qty.proofs.RangeLaws.{sum_take-suc, map-range-same}
 use Rattle.mrp_netting.specs.declared.params.PairParams.{PairParams}
 use Rattle.mrp_netting.specs.declared.planning_data.Policy.{Policy}
-use Rattle.mrp_netting.specs.One.{sum_from, late_orders}
+use Rattle.mrp_netting.specs.PlanRows.{sum_from, late_orders}
 use Rattle.mrp_netting.specs.PlanningData.{PairData, due, had, incoming_at, incoming_row, lot_for, made_up}
 use Rattle.mrp_netting.specs.PlanningData.{order_after, available_after, balance_before, order_at, order_row, available_row}
 use Rattle.mrp_netting.specs.PlanningData.{earliest, release_at, release_row, one}

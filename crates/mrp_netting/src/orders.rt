@@ -2,7 +2,7 @@
 
 ghost use Rattle.std.specs.Prelude.{◌≡◌, ◌+◌, ◌<◌, ◌≤◌, length, suc};
 ghost use Rattle.mrp_qty.specs.declared.quantity.TheConstants.{MOST};
-ghost use Rattle.mrp_netting.specs.One.{sum_from};
+ghost use Rattle.mrp_netting.specs.PlanRows.{sum_from};
 ghost use Rattle.mrp_netting.specs.PlanningData.{need, greatest, lot_for, made_up, order_after, order_at};
 ghost use Rattle.mrp_netting.specs.PlanningData.{balance_before, incoming_row, order_row, available_row};
 ghost use Rattle.mrp_netting.specs.PlanningBound.{IsWithinData, data_of};

@@ -1,6 +1,6 @@
 use Rattle.std.proofs.Common.{◌≡◌, ℕ, List, length, sum, sym, ◌∙◌, ap, subst, arith}
 use Rattle.std.proofs.lemmas.List.FromFn.{length-map-range_with_len}
-use Rattle.mrp_netting.specs.One.{PlanRows, late_periods}
+use Rattle.mrp_netting.specs.PlanRows.{PlanRows, late_periods}
 use Rattle.mrp_netting.specs.Plan.{AreLate}
 use Rattle.mrp_netting.specs.PlanningData.{release_row}
 use Rattle.mrp_netting.specs.PlanningBound.{IsWithinData, data_of}
