@@ -1,7 +1,8 @@
 -- The rows of the plan of a pair without policy and firm planned orders.
 use Rattle.std.specs.Prelude.{◌≡◌, ℕ, ◌+◌, ◌≤◌, List, length, sum, suc, All}
-use Rattle.std.proofs.Common.{refl, sym, ◌∙◌, ap, subst}
+use Rattle.std.proofs.Common.{arith, refl, sym, ◌∙◌, ap, subst}
 use Rattle.std.proofs.lemmas.List.FromFn.{length-map-range_with_len}
+use Rattle.mrp_qty.specs.declared.horizon.TheConstants.{LONGEST}
 use Rattle.mrp_qty.specs.declared.quantity.TheConstants.{MOST}
 use Rattle.mrp_lot.specs.Lot.{rule_quantities}
 use Rattle.mrp_netting.specs.declared.params.PairParams.{PairParams}
@@ -9,6 +10,7 @@ use Rattle.mrp_netting.specs.PlanRows.{PlanRows, late_orders}
 use Rattle.mrp_netting.specs.One.{release_row as released_row}
 use Rattle.mrp_netting.specs.One as today
 use Rattle.mrp_netting.specs.Bound.{IsWithin}
+use Rattle.mrp_netting.specs.PlanningBound.{IsWithinData}
 use Rattle.mrp_netting.specs.PlanningData.{plain, one, order_at, balance_before, order_row, release_at}
 use Rattle.mrp_netting.proofs.OneLaws.{one-incoming as today_incoming, one-release_sum-le as today_release_sum-le, one-within as today_within}
 use Rattle.mrp_netting.proofs.PlainLaws.{plain_is_today}
@@ -66,3 +68,23 @@ one-within pair incoming gross is =
     let P : PlanRows → Type 0 = λ rows. All (λ quantity. quantity ≤ MOST) rows.order × All (λ quantity. quantity ≤ MOST) rows.release
     × All (λ quantity. quantity ≤ MOST) rows.available in
     subst P (sym (plain_is_today pair incoming gross is.periods)) (today_within pair incoming gross is)
+
+-- data that is within the bound as two rows is so as a record
+pub plain-within : (pair : PairParams) (incoming gross : List ℕ) → IsWithin pair incoming gross → 1 ≤ length gross → length gross ≤ LONGEST
+    → IsWithinData (plain pair incoming gross)
+plain-within pair incoming gross is some few = record {
+  rule = is.rule;
+  lead = is.lead;
+  fence = omega arith;
+  sooner = omega arith;
+  cover = omega arith;
+  least = omega arith;
+  multiple = omega arith;
+  periods = few;
+  receipts = omega arith;
+  arrivals = omega (arith, is.periods);
+  firm_start = omega arith;
+  firm_due = omega arith;
+  firm = refl;
+  total = omega (arith, is.total);
+}

@@ -47,3 +47,24 @@ pub struct PlanningData<'a> {
     /// The same firm planned orders, by the period in which they are due.
     pub firm_due: &'a [u64],
 }
+
+impl<'a> PlanningData<'a> {
+    ghost use Rattle.std.specs.Prelude.{◌≡◌, ℕ, List};
+    ghost use Rattle.mrp_netting.specs.PlanningData.{plain};
+    ghost use Rattle.mrp_netting.specs.PlanningBound.{data_of};
+
+    /// The data of a pair without a policy and without firm planned orders, all of whose receipts count when they
+    /// come: `incoming` has its scheduled receipts and what comes from other plants, by period.
+    pub fn plain(params: PairParams, incoming: &'a [u64]) -> PlanningData<'a>
+        ensures { (gross : List ℕ) → data_of result gross ≡ plain params incoming.now gross }
+    {
+        PlanningData {
+            params,
+            policy: Policy::NONE,
+            receipts: &[],
+            arrivals: incoming,
+            firm_start: &[],
+            firm_due: &[],
+        }
+    }
+}
