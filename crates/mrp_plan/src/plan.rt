@@ -2,9 +2,8 @@
 
 ghost use Rattle.std.specs.Prelude.{◌≡◌, ◌+◌, ◌<◌, ◌≤◌, length, map, slice_set, IfOk};
 ghost use Rattle.mrp_qty.specs.declared.quantity.TheConstants.{MOST};
-ghost use Rattle.mrp_netting.specs.One.{one};
 ghost use Rattle.mrp_master_data.specs.Table.{IsPair, horizon};
-ghost use Rattle.mrp_net.specs.Sums.{demand, demand_total, incoming, received_total, shipped_total, row_of};
+ghost use Rattle.mrp_net.specs.Sums.{demand, demand_total, row_of};
 ghost use Rattle.mrp_net.specs.Plan.{gross, pair_plan, plan_of, rows_at};
 ghost use Rattle.mrp_net.specs.PlanLaws.{Fits};
 ghost use Rattle.mrp_loops.specs.Need.{AreNeeds};
@@ -15,7 +14,7 @@ ghost use Rattle.mrp_plan.specs.Progress.{CanBeDrafted, IsPlannedTo};
 use crate::explosion::explode_all;
 use mrp_loops::SizedNet;
 use mrp_net::{Network, PairNo};
-use mrp_netting::{PairPlan, blank_plans, plan_pair};
+use mrp_netting::{PairPlan, PlanningData, blank_plans, plan_from};
 use mrp_qty::{Memory, Row};
 use std::alloc::Global;
 use std::marker::Model;
@@ -76,30 +75,20 @@ pub fn plan_all(alloc: Global, net: &SizedNet) -> Result<Plan, Memory>
     let network = net.network();
     let horizon = network.horizon();
     let mut pairs = blank_plans(alloc, horizon, network.pairs())?;
-    let mut incoming = Row::zero(alloc, horizon)?;
     let mut gross = Row::zero(alloc, horizon)?;
     let order = net.in_code_order();
     for k in 0..order.len() {
-        plan_next(
-            net,
-            order,
-            k,
-            pairs.as_mut_slice(),
-            &mut incoming,
-            &mut gross,
-        );
+        plan_next(net, order, k, pairs.as_mut_slice(), &mut gross);
     }
     Ok(Plan { pairs })
 }
 
-/// Plans the pair at place `k` of the order, where those before it are planned. `incoming` and
-/// `gross` are room to work in.
+/// Plans the pair at place `k` of the order, where those before it are planned. `gross` is room to work in.
 fn plan_next(
     net: &SizedNet,
     order: &[PairNo],
     k: usize,
     plans: &mut [PairPlan],
-    incoming: &mut Row,
     gross: &mut Row,
 )
     requires sized { IsSized net.now.network }
@@ -107,46 +96,26 @@ fn plan_next(
     requires order { IsPlanningOrder net.now.network (map (λ x. x.0) order.now) }
     requires place { k < length order.now }
     requires before { IsPlannedTo net.now.network net.now.needs (map (λ x. x.0) order.now) k plans.old }
-    requires incoming_room { length incoming.old ≡ horizon net.now.network }
     requires gross_room { length gross.old ≡ horizon net.now.network }
     ensures after { IsPlannedTo net.now.network net.now.needs (map (λ x. x.0) order.now) (k + 1) plans.new }
-    ensures incoming_room { length incoming.new ≡ horizon net.now.network }
     ensures gross_room { length gross.new ≡ horizon net.now.network }
 {
-    plan_one(net.network(), order[k], plans, incoming, gross);
+    plan_one(net.network(), order[k], plans, gross);
 }
 
-/// Plans one pair beside the plans of its demanders. `incoming_row` and `gross_row` are room to work in.
-fn plan_one(
-    network: &Network,
-    x: PairNo,
-    plans: &mut [PairPlan],
-    incoming_row: &mut Row,
-    gross_row: &mut Row,
-)
+/// Plans one pair beside the plans of its demanders. `gross_row` is room to work in.
+fn plan_one(network: &Network, x: PairNo, plans: &mut [PairPlan], gross_row: &mut Row)
     requires can { CanBeDrafted network.now plans.old x.0 }
-    requires incoming_room { length incoming_row.old ≡ horizon network.now }
     requires gross_room { length gross_row.old ≡ horizon network.now }
     ensures planned { plans.new ≡ slice_set plans.old x.0 (pair_plan network.now plans.old x.0) }
-    ensures incoming_room { length incoming_row.new ≡ horizon network.now }
     ensures gross_room { length gross_row.new ≡ horizon network.now }
 {
-    fill_incoming(network, x, incoming_row);
     fill_demand(network, x, gross_row);
     explode_all(network.demanders(x), plans, gross_row);
     let params = network.pair(x).params();
+    let given = PlanningData::plain(params, network.incoming_row(x));
     let plan = &mut plans[x.0];
-    plan_pair(&params, incoming_row, gross_row, plan);
-}
-
-/// Writes what comes in for the pair.
-fn fill_incoming(network: &Network, x: PairNo, row: &mut Row)
-    requires pair { IsPair network.now x.0 }
-    requires periods { length row.old ≡ horizon network.now }
-    requires within { received_total network.now x.0 + shipped_total network.now x.0 ≤ MOST }
-    ensures { row.new ≡ row_of network.now (incoming network.now x.0) }
-{
-    row.copy_pieces(network.incoming_row(x));
+    plan_from(&given, gross_row, plan);
 }
 
 /// Writes the demand rows of the pair.

@@ -30,7 +30,7 @@ loop-k-preserved c =
     let after = c.plan_next.ensures.after in
     let back = handed_back c.loop-k.pairs.len c.loop-k.pairs.items c.plan_next.new.plans (sym c.loop-k.pairs.ok.0)
     (after.size ∙ sym c.loop-k.invariant.planned.size) in
-    record { planned = rw back after; incoming_room = c.plan_next.ensures.incoming_room; gross_room = c.plan_next.ensures.gross_room }
+    record { planned = rw back after; gross_room = c.plan_next.ensures.gross_room }
 
 pub plan_next-requires-clause-sized : goal.plan_next-requires-clause-sized
 plan_next-requires-clause-sized c = c.network-network.ensures.sized
@@ -46,9 +46,6 @@ plan_next-requires-clause-place c = c.loop-k-test.true
 
 pub plan_next-requires-clause-before : goal.plan_next-requires-clause-before
 plan_next-requires-clause-before c = rw c.as_mut_slice.ensures.value c.loop-k.invariant.planned
-
-pub plan_next-requires-clause-incoming_room : goal.plan_next-requires-clause-incoming_room
-plan_next-requires-clause-incoming_room c = c.loop-k.invariant.incoming_room
 
 pub plan_next-requires-clause-gross_room : goal.plan_next-requires-clause-gross_room
 plan_next-requires-clause-gross_room c = c.loop-k.invariant.gross_room

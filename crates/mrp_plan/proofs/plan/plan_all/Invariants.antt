@@ -7,6 +7,5 @@ use Rattle.mrp_plan.proofs.plan.plan_all.Given as goal
 abbrev pub invariant-loop-k : goal.invariant-loop-k
 invariant-loop-k l = record {
   planned : IsPlannedTo l.net.network l.net.needs (map (λ x. x.0) l.order) l.k l.pairs.items;
-  incoming_room : length l.incoming ≡ horizon l.net.network;
   gross_room : length l.gross ≡ horizon l.net.network;
 }

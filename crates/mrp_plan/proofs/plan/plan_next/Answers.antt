@@ -13,14 +13,8 @@ returns-clause-after c =
 pub bounds-order-k : goal.bounds-order-k
 bounds-order-k c = c.requires.place
 
-pub plan_one-requires-clause-incoming_room : goal.plan_one-requires-clause-incoming_room
-plan_one-requires-clause-incoming_room c = rw c.network.ensures.value c.requires.incoming_room
-
 pub plan_one-requires-clause-gross_room : goal.plan_one-requires-clause-gross_room
 plan_one-requires-clause-gross_room c = rw c.network.ensures.value c.requires.gross_room
-
-pub returns-clause-incoming_room : goal.returns-clause-incoming_room
-returns-clause-incoming_room c = rw (← c.network.ensures.value) c.plan_one.ensures.incoming_room
 
 pub returns-clause-gross_room : goal.returns-clause-gross_room
 returns-clause-gross_room c = rw (← c.network.ensures.value) c.plan_one.ensures.gross_room
