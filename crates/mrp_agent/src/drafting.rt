@@ -12,9 +12,8 @@ ghost use Rattle.mrp_agent.specs.State.{plant_pair_at};
 use crate::Agent;
 use crate::edges::ParentEdge;
 use mrp_grouping::Groups;
-use mrp_netting::PairParams;
 use mrp_net::PairNo;
-use mrp_netting::{PairPlan, plan_pair};
+use mrp_netting::{PairParams, PairPlan, PlanningData, plan_from};
 use mrp_plant_view::PlantFrame;
 use mrp_qty::Row;
 
@@ -35,14 +34,25 @@ impl Agent {
     /// its parents. The agent stays as it is.
     ///
     /// The rows are room to work in. They and `into` have the agent's horizon; what they held doesn't
-    /// matter.
-    pub fn draft(&self, x: PairNo, incoming: &mut Row, gross: &mut Row, into: &mut PairPlan)
+    /// matter. What comes in is read where the agent has it, so `_incoming` stays as it is.
+    pub fn draft(&self, x: PairNo, _incoming: &mut Row, gross: &mut Row, into: &mut PairPlan)
         requires can { CanDraft self.now x }
-        requires incoming { length incoming.old ≡ self.now.view.horizon }
+        requires incoming { length _incoming.old ≡ self.now.view.horizon }
         requires gross { length gross.old ≡ self.now.view.horizon }
         requires into { length into.old.gross ≡ self.now.view.horizon }
         ensures plan { into.new ≡ drafted self.now x }
-        ensures incoming { length incoming.new ≡ length incoming.old }
+        ensures incoming { length _incoming.new ≡ length _incoming.old }
+        ensures gross { length gross.new ≡ length gross.old }
+    {
+        self.draft_into(x, gross, into);
+    }
+
+    /// Writes the plan of a pair that can be planned into `into`; `gross` is room to work in.
+    pub(crate) fn draft_into(&self, x: PairNo, gross: &mut Row, into: &mut PairPlan)
+        requires can { CanDraft self.now x }
+        requires gross { length gross.old ≡ self.now.view.horizon }
+        requires into { length into.old.gross ≡ self.now.view.horizon }
+        ensures plan { into.new ≡ drafted self.now x }
         ensures gross { length gross.new ≡ length gross.old }
     {
         let Some(place) = self.view.place(x) else {
@@ -55,7 +65,7 @@ impl Agent {
             &self.amounts.outside_demand,
             place,
         );
-        draft_from(&rows, &self.amounts.plans, incoming, gross, into);
+        draft_from(&rows, &self.amounts.plans, gross, into);
     }
 }
 
@@ -99,23 +109,21 @@ fn part_of(amounts: &[u64], periods: usize, place: usize) -> &[u64]
 pub(crate) fn draft_from(
     rows: &PairRows<'_>,
     plans: &[PairPlan],
-    incoming: &mut Row,
     gross: &mut Row,
     into: &mut PairPlan,
 )
     requires draft { HasDraft rows.now.params rows.now.receipts.now rows.now.demand.now rows.now.edges.now plans.now }
-    requires incoming { length incoming.old ≡ length rows.now.receipts.now }
     requires gross { length gross.old ≡ length rows.now.demand.now }
     requires into { length into.old.gross ≡ length rows.now.demand.now }
     ensures plan { into.new ≡ one (plain rows.now.params rows.now.receipts.now
         (grossed rows.now.demand.now rows.now.edges.now plans.now)) }
-    ensures incoming { length incoming.new ≡ length incoming.old }
     ensures gross { length gross.new ≡ length gross.old }
 {
-    incoming.copy_pieces(rows.receipts);
+    let _periods = gross.len();
     gross.copy_pieces(rows.demand);
     add_asked(rows.edges, plans, gross);
-    plan_pair(&rows.params, incoming, gross, into);
+    let given = PlanningData::plain(rows.params, rows.receipts);
+    plan_from(&given, gross, into);
 }
 
 /// Adds to `gross` what the releases of a pair's parents ask of it.

@@ -15,10 +15,9 @@ use std::alloc::Global;
 use std::marker::Model;
 use std::mem;
 
-/// Room for the plan of one pair: two rows to work in, and the plan that was drafted last. Contracts see that plan.
+/// Room for the plan of one pair: a row to work in, and the plan that was drafted last. Contracts see that plan.
 #[derive(Drop)]
 pub struct Room {
-    incoming: Row,
     gross: Row,
     plan: PairPlan,
 }
@@ -31,7 +30,7 @@ impl Model for Room {
 
     ghost view = { λ r. r.plan };
 
-    ghost invariant = { λ r. (length r.incoming ≡ length r.plan.gross) × (length r.gross ≡ length r.plan.gross) };
+    ghost invariant = { λ r. length r.gross ≡ length r.plan.gross };
 }
 
 impl Room {
@@ -43,14 +42,9 @@ impl Room {
     pub fn new(alloc: Global, horizon: Horizon) -> Result<Room, Memory>
         ensures { IfOk result (λ room. room ≡ nothing_planned horizon) }
     {
-        let incoming = Row::zero(alloc, horizon)?;
         let gross = Row::zero(alloc, horizon)?;
         let plan = PairPlan::new(alloc, horizon)?;
-        Ok(Room {
-            incoming,
-            gross,
-            plan,
-        })
+        Ok(Room { gross, plan })
     }
 
     /// Drafts the plan of a pair of an agent that can be planned, as [`Agent::draft`] does. The room has the
@@ -60,7 +54,7 @@ impl Room {
         requires periods { length self.old.gross ≡ agent.now.view.horizon }
         ensures { self.new ≡ drafted agent.now x }
     {
-        agent.draft(x, &mut self.incoming, &mut self.gross, &mut self.plan);
+        agent.draft_into(x, &mut self.gross, &mut self.plan);
     }
 
     /// The plan that was drafted last.
@@ -79,13 +73,7 @@ impl Room {
         ensures { self.new ≡ one (plain rows.now.params rows.now.receipts.now
             (grossed rows.now.demand.now rows.now.edges.now plans.now)) }
     {
-        draft_from(
-            rows,
-            plans,
-            &mut self.incoming,
-            &mut self.gross,
-            &mut self.plan,
-        );
+        draft_from(rows, plans, &mut self.gross, &mut self.plan);
     }
 
     /// Gives the plan that was drafted last for another one of as many periods.

@@ -8,4 +8,4 @@ returns c = c.in_ok-plan.ensures
 pub invariant_of-result : goal.invariant_of-result
 invariant_of-result c =
     let size : length c.in_ok-plan.plan.gross ≡ length (replicate c.args.horizon 0) = ap (λ (p : PlanRows). length p.gross) c.in_ok-plan.ensures in
-    (ap (λ (z : List ℕ). length z) c.in_ok-incoming.ensures ∙ sym size, ap (λ (z : List ℕ). length z) c.in_ok-gross.ensures ∙ sym size)
+    ap (λ (z : List ℕ). length z) c.in_ok-gross.ensures ∙ sym size

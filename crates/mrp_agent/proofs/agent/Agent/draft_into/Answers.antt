@@ -3,10 +3,10 @@ use Rattle.mrp_agent.specs.Drafts.{drafted}
 use Rattle.mrp_agent.specs.Fields.{indexes_of}
 use Rattle.mrp_agent.specs.State.{AgentState}
 use Rattle.mrp_agent.specs.contracts.agent.Agent.{the_view}
-use Rattle.mrp_agent.proofs.DraftReads.{HasRead, demand_periods, receipts_periods, draft_asked, draft_made, rows_read}
+use Rattle.mrp_agent.proofs.DraftReads.{HasRead, demand_periods, draft_asked, draft_made, rows_read}
 use Rattle.mrp_agent.proofs.Placing.{IsAtPlace, can_before, own_is_found, place_is_found, place_within}
-use Rattle.mrp_agent.proofs.agent.Agent.draft.Goals as goal
-use Rattle.mrp_agent.proofs.agent.Agent.draft.Goals.{After-deref-3, In-Some}
+use Rattle.mrp_agent.proofs.agent.Agent.draft_into.Goals as goal
+use Rattle.mrp_agent.proofs.agent.Agent.draft_into.Goals.{After-deref-3, In-Some}
 
 pub unreachable-requires : goal.unreachable-requires
 unreachable-requires c = c.in_default.not-Some _ (c.place.ensures ∙ own_is_found c.args.x c.self.view_is c.requires.can.own)
@@ -29,11 +29,6 @@ same_horizon c = ap (λ (a : AgentState). a.view.horizon) c.self.view_is
 
 pub draft_from-requires-clause-draft : goal.draft_from-requires-clause-draft
 draft_from-requires-clause-draft c = let at = goal.at.draft_from-requires-clause-draft c in draft_asked (read at.After-deref-3 (placed at.In-Some))
-
-pub draft_from-requires-clause-incoming : goal.draft_from-requires-clause-incoming
-draft_from-requires-clause-incoming c =
-    let at = goal.at.draft_from-requires-clause-incoming c in
-    c.requires.incoming ∙ sym (receipts_periods (read at.After-deref-3 (placed at.In-Some)) ∙ same_horizon at.In-Some)
 
 pub draft_from-requires-clause-gross : goal.draft_from-requires-clause-gross
 draft_from-requires-clause-gross c =
