@@ -76,7 +76,8 @@ incoming_row d = map (incoming_at d) (range_with_len 0 (length d.gross))
 -- the net requirement of the n periods from t on together: safety stock, their gross requirements and those of the
 -- periods of cover, less `before`, the balance before t, and their scheduled receipts
 abbrev pub need : PairData → ℕ → ℕ → ℕ → ℕ
-need d before t n = (d.params.safety + sum_from d.gross t (n + d.policy.cover)) - (before + sum_from (incoming_row d) t n)
+need d before t n = (d.params.safety + sum_from d.gross t (n + d.policy.cover))
+    - (before + sum_from (incoming_row d) t n)
 
 -- the greatest of the needs of 1 to n periods
 unfoldable pub greatest : (ℕ → ℕ) → ℕ → ℕ

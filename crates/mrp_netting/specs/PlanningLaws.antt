@@ -60,8 +60,8 @@ StockIsKeptInAll = (d : PairData) (t : ℕ) → IsWithinData d → length d.gros
 pub record IsOrder (d : PairData) (t ordered : ℕ) : Type 0 where
   pub none : need d (balance_before d t) t 1 ≡ 0 → ordered ≡ 0
   pub some : 0 < need d (balance_before d t) t 1
-      → IsLeastMultiple (max d.policy.multiple 1) (max (lot_for d.params.rule (need d (balance_before d t) t)) d.policy.least)
-      ordered
+      → IsLeastMultiple (max d.policy.multiple 1)
+      (max (lot_for d.params.rule (need d (balance_before d t) t)) d.policy.least) ordered
 
 abbrev pub OrdersAreLeastMultiples : Type 0
 OrdersAreLeastMultiples = (d : PairData) (t : ℕ) → t < length d.gross → IsOrder d t (slice_index (one d).order t)

@@ -28,7 +28,8 @@ pub(crate) fn plan_incoming(given: &PlanningData<'_>, gross: &[Qty], incoming: &
 fn count_receipts(given: &PlanningData<'_>, gross: &[Qty], incoming: &mut Row)
     requires within { IsWithinData (data_of given.now gross.now) }
     requires room { length incoming.old ≡ length gross.now }
-    requires others { (t : ℕ) → slice_index incoming.old t ≡ slice_index given.now.arrivals.now t + slice_index given.now.firm_due.now t }
+    requires others { (t : ℕ) → slice_index incoming.old t
+        ≡ slice_index given.now.arrivals.now t + slice_index given.now.firm_due.now t }
     ensures { incoming.new ≡ incoming_row (data_of given.now gross.now) }
 {
     let sooner = given.policy.sooner as usize;

@@ -218,11 +218,11 @@ pub fn plan_pair(params: &PairParams, incoming: &Row, gross: &Row, into: &mut Pa
 /// the gross requirements `gross`, whatever `into` held. Those become the plan's own, and `gross` is left with the
 /// row of gross requirements that `into` had: room for the next pair.
 ///
-/// The horizons of `gross` and `into` are equal, and no row of the planning data is longer. The fence is a period, lead
-/// time, SOONER and COVER are 0 to 104 periods, the rule's quantities, LEAST and MULTIPLE up to 10^12 pieces each. What
-/// is firmly ordered is released. On hand, safety stock, the rule's quantities, LEAST, MULTIPLE, all receipts, arrivals,
-/// firm planned orders and gross requirements together are at most 10^15 pieces. Nothing is allocated (by construction;
-/// no clause says so).
+/// The horizons of `gross` and `into` are equal, and no row of the planning data is longer. The fence is below the
+/// horizon; lead time, SOONER and COVER are 0 to 104 periods; the rule's periods of supply are 1 to 104, its quantities
+/// 1 to 10^12 pieces each, LEAST and MULTIPLE 0 to 10^12. Firm planned orders are as many pieces by release as by due
+/// period. On hand, safety stock, the rule's quantities, LEAST, MULTIPLE, all receipts, arrivals, firm planned orders
+/// and gross requirements together are at most 10^15 pieces. Nothing is allocated (by construction; no clause says so).
 pub fn plan_from(given: &PlanningData<'_>, gross: &mut Row, into: &mut PairPlan)
     requires within { IsWithinData (data_of given.now gross.old) }
     requires room { length into.old.gross ≡ length gross.old }
