@@ -1,24 +1,23 @@
 -- What the joined pass of a mailbox holds, and what is left over once all is taken.
-use Rattle.std.proofs.Common.{◌≡◌, ℕ, ◌+◌, ◌<◌, ◌≤◌, true, List, [], ◌∷◌, ◌++◌, drop, length, take, refl, sym, ap, subst, ◌∙◌, append_assoc, append-nil}
+use Rattle.std.proofs.Common.{◌≡◌, ℕ, ◌+◌, ◌<◌, ◌≤◌, List, [], ◌∷◌, ◌++◌, drop, length, take, refl, sym, ap, subst, ◌∙◌, append_assoc, append-nil}
 use Rattle.std.proofs.Common.{length-append, arith, All}
 use Rattle.std.proofs.Math.Seq.{take-append_seam}
-use Rattle.std.proofs.lemmas.List.{drop_at, length-map, nil_from_length, take-append-drop, take_at}
-use Rattle.crossbeam_queue.specs.Passes.{Pass, IsPassOf, IsSamePass, view}
+use Rattle.std.proofs.lemmas.List.{drop_at, length-map, nil_from_length, take_at}
+use Rattle.crossbeam_queue.specs.Passes.{Pass, IsPassOf, view}
 use Rattle.mrp_qty.specs.declared.quantity.TheConstants.{MOST}
 use Rattle.mrp_master_data.specs.Table.{Table}
 use Rattle.mrp_net.specs.declared.lane.LaneNo.{LaneNo}
 use Rattle.mrp_net.specs.Lanes.{lane_at, lane_items, lanes}
-use Rattle.mrp_loops.specs.Sized.{IsSized}
 use Rattle.mrp_record.specs.declared.record.Record.{Record}
 use Rattle.mrp_book.specs.declared.figure.LaneFigure.{LaneFigure}
 use Rattle.mrp_lane.specs.declared.tally.ItemPieces.{ItemPieces}
 use Rattle.mrp_lane.specs.declared.view.LaneView.{LaneView}
-use Rattle.mrp_lane.specs.Ends.{End, Name, Holds, end_of}
-use Rattle.mrp_lane.specs.Reconciled.{IsCounted, carried_over, figures_of, figures_on}
+use Rattle.mrp_lane.specs.Ends.{End, Name, end_of}
+use Rattle.mrp_lane.specs.Reconciled.{HaveMet, IsCounted, ShowsEnds, carried_over, figures_of, figures_on, joined_over}
 use Rattle.mrp_lane.specs.Tallies.{Counts, counts_of, item_pieces_of}
-use Rattle.mrp_lane.specs.Views.{AreStamped, IsLegal, IsWholePass, view_with_taken, joined_pass, taken_all}
+use Rattle.mrp_lane.specs.Views.{IsLegal, IsWholePass, view_with_taken, taken_all}
 use Rattle.mrp_lane.proofs.Counting.{figures_fit, figures_are}
-use Rattle.mrp_lane.proofs.Ending.{Box, still_ours}
+use Rattle.mrp_lane.proofs.Ending.{Box}
 
 -- ---- the two ends of one lane
 
@@ -38,44 +37,6 @@ both_ours box box' there p p' l l' sent taken sent_at taken_at s t is is' same o
       ∙ ap (λ b. b.table.shared.table_id) (sym at),
   ours'.1,
 )
-
--- what an end holds the joined pass holds
-joins : {Q A : Type 0} {box : Box Q A} {p : Pass Record LaneView} {l : ℕ} {list : List Record} {counts : Counts} → Holds box p l list counts
-    → (there : Box Q A) (q : Pass Record LaneView) (l' : ℕ) → IsPassOf there q → (view q).named ≡ true → (view q).lane ≡ l' → l ≡ l'
-    → (view q).network ≡ (view p).network
-    → Holds there q l' list counts
-joins {Q} {A} {box} {p} {l} {list} {counts} h there q l' ours named lane number network = record {
-  ours = ours;
-  named = named;
-  lane = lane;
-  sized = subst IsSized (sym network) h.sized;
-  there = subst (λ (x : ℕ × Table). x.0 < length (lanes x.1)) (λ j. (number j, sym network j)) h.there;
-  legal = subst (λ (x : ℕ × Table). IsLegal x.1 x.0 list) (λ j. (number j, sym network j)) h.legal;
-  counted = h.counted ∙ (λ j. counts_of (sym network j) (number j) list);
-}
-
-pub joins_sending : {Q A : Type 0} (box there : Box Q A) (p q : Pass Record LaneView) (w : LaneView) (l : ℕ) (counts : Counts)
-    → Holds box p l (view p).sent counts
-    → there ≡ box → IsSamePass p q → view q ≡ joined_pass (view p) w → ((view q).sends ≡ true) × Holds there q l (view q).sent counts
-joins_sending box there p q w l counts h at same is = (
-  ap (λ (v : LaneView). v.sends) is,
-  subst (λ (list : List Record). Holds there q l list counts) (sym (ap (λ (v : LaneView). v.sent) is))
-      (joins h there q l (still_ours box there p q at h.ours same) (ap (λ (v : LaneView). v.named) is) (ap (λ (v : LaneView). v.lane) is ∙ h.lane) refl
-      (ap (λ (v : LaneView). v.network) is)),
-)
-
-pub joins_taking : {Q A : Type 0} (box box' there : Box Q A) (p p' q : Pass Record LaneView) (l l' : ℕ) (counts counts' : Counts) (s t : End)
-    → Holds box p l (view p).sent counts → Holds box' p' l' (view p').taken counts' → end_of box p l (view p).sent (view p).sent_at ≡ s
-    → end_of box' p' l' (view p').taken (view p').taken_at ≡ t → s.name ≡ t.name
-    → there ≡ box → IsSamePass p q → view q ≡ joined_pass (view p) (view p') → ((view q).takes ≡ true) × Holds there q l (view q).taken counts'
-joins_taking box box' there p p' q l l' counts counts' s t h h' at_s at_t names at same is =
-    let agree = names_agree box box' p p' l l' (view p).sent (view p').taken (view p).sent_at (view p').taken_at s t at_s at_t names in (
-      ap (λ (v : LaneView). v.takes) is,
-      subst (λ (list : List Record). Holds there q l list counts') (sym (ap (λ (v : LaneView). v.taken) is))
-          (joins h' there q l (still_ours box there p q at h.ours same) (ap (λ (v : LaneView). v.named) is) (ap (λ (v : LaneView). v.lane) is ∙ h.lane)
-          (sym (ap (λ (n : Name). n.lane) agree))
-          (ap (λ (v : LaneView). v.network) is ∙ ap (λ (n : Name). n.network) agree)),
-    )
 
 -- ---- while the mailbox is emptied
 
@@ -105,27 +66,6 @@ none_waits : (now : LaneView) → IsWholePass now [] → now.sent_at ≡ now.tak
 none_waits now whole =
     whole.stamps.whole ∙ ap (λ (z : List ℕ). now.taken_at ++ z) (nil_from_length whole.stamps.waits_at whole.stamps.as_many) ∙ append-nil now.taken_at
 
--- ---- what the joined pass's counts come to
-
-pub small_figures : {Q A : Type 0} {box : Box Q A} {p : Pass Record LaneView} {l : ℕ} {list : List Record} {counts : Counts} → Holds box p l list counts
-    → All (λ i. i.opening + i.pieces ≤ MOST) counts.items
-small_figures {Q} {A} {box} {p} {l} {list} {counts} h =
-    subst (λ (t : Counts). All (λ (i : ItemPieces). i.opening + i.pieces ≤ MOST) t.items) (sym h.counted) (figures_fit (view p).network l list h.sized h.legal)
-
-module _ {Q A : Type 0} {box : Box Q A} {p : Pass Record LaneView} {lane : LaneNo} {sent taken : List Record} {counts counts' : Counts}
-    (h : Holds box p lane.0 sent counts) (h' : Holds box p lane.0 taken counts') where
-  -- both lists' items are the lane's
-  pub sizes_agree : length counts'.items ≡ length counts.items
-  sizes_agree =
-      let N = (view p).network in
-      let items = lane_items N (lane_at N lane.0) in
-      ap (λ (t : Counts). length t.items) h'.counted ∙ length-map items (item_pieces_of N lane.0 taken)
-      ∙ sym (ap (λ (t : Counts). length t.items) h.counted ∙ length-map items (item_pieces_of N lane.0 sent))
-
-  pub figures_agree : figures_of lane counts.items counts'.items ≡ figures_on (view p).network lane.0 sent taken
-  figures_agree = (λ j. figures_of lane (h.counted j).items (h'.counted j).items)
-      ∙ figures_are (view p).network lane.0 sent taken h.sized.table h.legal h'.legal
-
 -- ---- what a joined pass knows
 
 module _ (v : LaneView) (mailbox : List Record) (whole : IsWholePass v mailbox) where
@@ -145,64 +85,118 @@ module _ (v : LaneView) (mailbox : List Record) (whole : IsWholePass v mailbox) 
     ap length rest_at ∙ whole.stamps.as_many ∙ sym (ap length rest_is),
   )
 
--- ---- what is answered
+-- ---- two ends that have met
 
--- of a pass that has taken all: the front of what was sent, as long as what was taken before
-pub front_is_taken : (v w : LaneView) (count : ℕ) (left : List Record) → w ≡ taken_all v → count ≡ length v.taken → v.sent ≡ v.taken ++ left
-    → take count w.sent ≡ v.taken
-front_is_taken v w count left is counted parts =
-    (λ j. take (counted j) ((ap (λ (x : LaneView). x.sent) is ∙ parts) j)) ∙ take-append_seam v.taken left
+module _ {s t : End} {pass : Pass Record LaneView} {lane : LaneNo} {sent taken : Counts} (met : HaveMet s t pass lane.0 sent taken) where
+  abbrev N : Table
+  N = s.name.network
 
--- what was taken has as many stamps as records
-taken_stamps : (v : LaneView) (left : List Record) → v.sent ≡ v.taken ++ left → AreStamped v.sent_at v.taken_at (length left) → length v.sent_at ≡ length v.sent
-    → length v.taken_at ≡ length v.taken
-taken_stamps v left parts are as_many =
-    omega (arith, ap length parts, length-append v.taken left, ap length are.whole, length-append v.taken_at are.waits_at, are.as_many, as_many)
+  abbrev l : ℕ
+  l = s.name.lane
 
-module _ (v w : LaneView) (count : ℕ) (left : List Record) (is : w ≡ taken_all v) (counted : count ≡ length v.taken) (parts : v.sent ≡ v.taken ++ left)
-    (are : AreStamped v.sent_at v.taken_at (length left)) (as_many : length v.sent_at ≡ length v.sent) where
-  there : w.sent_at ≡ v.taken_at ++ are.waits_at
-  there = ap (λ (x : LaneView). x.sent_at) is ∙ are.whole
+  abbrev v : LaneView
+  v = view pass
 
-  of_taken : length v.taken_at ≡ count
-  of_taken = taken_stamps v left parts are as_many ∙ sym counted
+  legal_there : IsLegal N l t.list
+  legal_there = subst (λ (n : Name). IsLegal n.network n.lane t.list) (sym met.same) met.legal_taken
 
-  pub front_stamps : take count w.sent_at ≡ v.taken_at
-  front_stamps = ap (take count) there ∙ take_at v.taken_at are.waits_at count of_taken
+  counted_there : taken ≡ counts_of N l t.list
+  counted_there = met.counted_taken ∙ ap (λ (n : Name). counts_of n.network n.lane t.list) (sym met.same)
 
-  rest_stamps : drop count w.sent_at ≡ are.waits_at
-  rest_stamps = ap (drop count) there ∙ drop_at v.taken_at are.waits_at count of_taken
+  abbrev AreSmall : Counts → Type 0
+  AreSmall counts = All (λ (i : ItemPieces). i.opening + i.pieces ≤ MOST) counts.items
 
-  pub rest_as_many : length (drop count w.sent_at) ≡ length left
-  rest_as_many = ap length rest_stamps ∙ are.as_many
+  pub small_sent : AreSmall sent
+  small_sent = subst AreSmall (sym met.counted_sent) (figures_fit N l s.list met.sized met.legal_sent)
 
-  pub stamps_left : (v.sent_at ≡ v.taken_at ++ drop count w.sent_at) × (length (drop count w.sent_at) ≡ length left)
-  stamps_left = (are.whole ∙ ap (λ (z : List ℕ). v.taken_at ++ z) (sym rest_stamps), rest_as_many)
+  pub small_taken : AreSmall taken
+  small_taken = subst AreSmall (sym counted_there) (figures_fit N l t.list met.sized legal_there)
 
-pub is_counted : {Q A : Type 0} (box : Box Q A) (p q : Pass Record LaneView) (lane : LaneNo) (counts counts' : Counts) (sent taken : ℕ) (left : List Record)
-    (figures : List LaneFigure)
-    → Holds box p lane.0 (view p).sent counts → Holds box p lane.0 (view p).taken counts' → sent ≡ counts.records → taken ≡ counts'.records
-    → view q ≡ taken_all (view p) → (view p).sent ≡ (view p).taken ++ left
-    → AreStamped (view p).sent_at (view p).taken_at (length left) → length (view p).sent_at ≡ length (view p).sent
-    → figures ≡ figures_of lane counts.items counts'.items
-    → IsCounted lane.0 sent taken (carried_over q taken left figures)
-is_counted box p q lane counts counts' sent taken left figures h h' sent_is taken_is is parts are as_many figures_are =
-    let v = view p in
-    let count : sent ≡ length v.sent = sent_is ∙ ap (λ (t : Counts). t.records) h.counted in
-    let count' : taken ≡ length v.taken = taken_is ∙ ap (λ (t : Counts). t.records) h'.counted in
-    let front : take taken (view q).sent ≡ v.taken = front_is_taken v (view q) taken left is count' parts in
-    let number : (view q).lane ≡ lane.0 = ap (λ (w : LaneView). w.lane) is ∙ h.lane in
-    let network : (view q).network ≡ v.network = ap (λ (w : LaneView). w.network) is in
-    let all : (view q).sent ≡ v.sent = ap (λ (w : LaneView). w.sent) is in
-    record {
-      lane = sym number;
-      there = subst (λ (N : Table). lane.0 < length (lanes N)) (sym network) h.there;
-      sent = count ∙ ap length (sym all);
-      taken = count' ∙ ap length (sym front);
-      legal_sent = subst (λ (x : Table × ℕ × List Record). IsLegal x.0 x.1 x.2) (λ j. (sym network j, sym number j, sym all j)) h.legal;
-      legal_taken = subst (λ (x : Table × ℕ × List Record). IsLegal x.0 x.1 x.2) (λ j. (sym network j, sym number j, sym front j)) h'.legal;
-      whole = all ∙ parts ∙ ap (λ (z : List Record). z ++ left) (sym front);
-      stamps = sym (take-append-drop taken (view q).sent_at);
-      as_many = rest_as_many v (view q) taken left is count' parts are as_many;
-      figures = figures_are ∙ figures_agree h h' ∙ (λ j. figures_on (sym network j) (sym number j) (sym all j) (sym front j));
+  -- both lists' items are the lane's
+  pub sizes_agree : length taken.items ≡ length sent.items
+  sizes_agree =
+      let items = lane_items N (lane_at N l) in
+      ap (λ (t : Counts). length t.items) counted_there ∙ length-map items (item_pieces_of N l t.list)
+      ∙ sym (ap (λ (t : Counts). length t.items) met.counted_sent ∙ length-map items (item_pieces_of N l s.list))
+
+  pub figures_agree : figures_of lane sent.items taken.items ≡ figures_on v.network v.lane v.sent v.taken
+  figures_agree =
+      (λ j. figures_of (record { 0 = met.number_is j }) (met.counted_sent j).items (counted_there j).items)
+      ∙ figures_are N l s.list t.list met.sized.table met.legal_sent legal_there
+      ∙ (λ j. figures_on (sym met.network j) (sym met.lane j) (sym met.sent_list j) (sym met.taken_list j))
+
+  -- the joined pass shows what they did
+  pub shows : ShowsEnds s t (joined_over pass)
+  shows =
+      let stamps = stamps_join v met.waiting met.whole in
+      record {
+        network = met.network;
+        lane = met.lane;
+        sent = met.sent_list;
+        taken = met.taken_list;
+        left = sym met.sent_list ∙ parts_join v met.waiting met.whole
+            ∙ ap (λ (z : List Record). z ++ drop (length v.taken) v.sent) met.taken_list;
+        sent_at = met.sent_at;
+        taken_at = met.taken_at;
+        left_at = (
+          sym met.sent_at ∙ stamps.0 ∙ ap (λ (z : List ℕ). z ++ drop (length v.taken_at) v.sent_at) met.taken_at,
+          stamps.1,
+        );
+        figures = λ j. figures_on (met.network j) (met.lane j) (met.sent_list j) (met.taken_list j);
+      }
+
+  -- once all is taken the pass shows it yet: what was taken before are the first so many records
+  module _ (q : Pass Record LaneView) (count : ℕ) (left : List Record) (figures : List LaneFigure) (is : view q ≡ taken_all v) (counted : count ≡ taken.records)
+      (parts : v.sent ≡ v.taken ++ left)
+      (figures_are : figures ≡ figures_of lane sent.items taken.items) where
+    count_is : count ≡ length v.taken
+    count_is = counted ∙ ap (λ (t : Counts). t.records) counted_there ∙ ap length (sym met.taken_list)
+
+    -- what was taken has as many stamps as records
+    stamps_is : length v.taken_at ≡ count
+    stamps_is =
+        let are = met.whole.stamps in
+        omega (
+          arith,
+          count_is,
+          ap length met.whole.records,
+          length-append v.taken met.waiting,
+          ap length are.whole,
+          length-append v.taken_at are.waits_at,
+          are.as_many,
+          met.whole.as_many,
+        )
+
+    pub still_shows : carried_over q count left figures ≡ joined_over pass
+    still_shows =
+        let front : take count (view q).sent ≡ v.taken =
+        (λ j. take (count_is j) ((ap (λ (x : LaneView). x.sent) is ∙ parts) j)) ∙ take-append_seam v.taken left in
+        let rest : left ≡ drop (length v.taken) v.sent = sym (ap (drop (length v.taken)) parts ∙ drop_at v.taken left (length v.taken) refl) in
+        let front_at : take count (view q).sent_at ≡ v.taken_at = ap (take count) (ap (λ (x : LaneView). x.sent_at) is ∙ met.whole.stamps.whole)
+        ∙ take_at v.taken_at met.whole.stamps.waits_at count stamps_is in
+        let same = figures_are ∙ figures_agree in
+        λ j. record {
+          network = (is j).network;
+          lane = (is j).lane;
+          sent = (is j).sent;
+          taken = front j;
+          left = rest j;
+          sent_at = (is j).sent_at;
+          taken_at = front_at j;
+          left_at = drop (sym stamps_is j) (is j).sent_at;
+          figures = same j;
+        }
+
+    pub are_counted : (sends takes : ℕ) → sends ≡ sent.records → takes ≡ taken.records → IsCounted lane.0 sends takes (carried_over q count left figures)
+    are_counted sends takes sends_is takes_is = subst (IsCounted lane.0 sends takes) (sym still_shows) record {
+      lane = met.number_is ∙ sym met.lane;
+      there = subst (λ (x : ℕ × Table). x.0 < length (lanes x.1)) (λ j. (sym met.number_is j, sym met.network j)) met.there;
+      sent = sends_is ∙ ap (λ (t : Counts). t.records) met.counted_sent ∙ ap length (sym met.sent_list);
+      taken = takes_is ∙ sym counted ∙ count_is;
+      legal_sent = subst (λ (x : Table × ℕ × List Record). IsLegal x.0 x.1 x.2) (λ j. (sym met.network j, sym met.lane j, sym met.sent_list j)) met.legal_sent;
+      legal_taken = subst (λ (x : Table × ℕ × List Record). IsLegal x.0 x.1 x.2) (λ j. (sym met.network j, sym met.lane j, sym met.taken_list j)) legal_there;
+      whole = parts_join v met.waiting met.whole;
+      stamps = (stamps_join v met.waiting met.whole).0;
+      as_many = (stamps_join v met.waiting met.whole).1;
+      figures = refl;
     }

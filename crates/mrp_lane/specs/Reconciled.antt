@@ -1,16 +1,19 @@
 -- What reconciling and joining the two ends of a lane answers.
-use Rattle.std.specs.Prelude.{◌≡◌, ℕ, ◌+◌, ◌<◌, List, [], ◌∷◌, ◌++◌, drop, length, map, take}
+use Rattle.std.specs.Prelude.{◌≡◌, ℕ, ◌+◌, ◌<◌, true, List, [], ◌∷◌, ◌++◌, drop, length, map, take}
 use Rattle.crossbeam_queue.specs.Passes.{Pass, view}
 use Rattle.mrp_master_data.specs.declared.numbers.ItemNo.{ItemNo}
 use Rattle.mrp_master_data.specs.Table.{Table}
 use Rattle.mrp_net.specs.declared.lane.LaneNo.{LaneNo}
 use Rattle.mrp_net.specs.Lanes.{lanes, lane_at, lane_items, opening}
+use Rattle.mrp_loops.specs.Sized.{IsSized}
 use Rattle.mrp_record.specs.declared.record.Record.{Record}
 use Rattle.mrp_book.specs.declared.figure.LaneFigure.{LaneFigure}
 use Rattle.mrp_protocol.specs.LaneOrder.{cum_on}
 use Rattle.mrp_lane.specs.declared.tally.ItemPieces.{ItemPieces}
 use Rattle.mrp_lane.specs.declared.view.LaneView.{LaneView}
-use Rattle.mrp_lane.specs.Views.{IsLegal}
+use Rattle.mrp_lane.specs.Ends.{AreOfOneLane, End, HasLegalList}
+use Rattle.mrp_lane.specs.Tallies.{Counts, counts_of}
+use Rattle.mrp_lane.specs.Views.{IsLegal, IsWholePass}
 
 -- the figure of an item of the lane: what was sent and what was taken, closed years added
 abbrev pub figure_on : Table → ℕ → List Record → List Record → ItemNo → LaneFigure
@@ -84,6 +87,39 @@ joined_over pass = record {
   left_at = drop (length (view pass).taken_at) (view pass).sent_at;
   figures = figures_on (view pass).network (view pass).lane (view pass).sent (view pass).taken;
 }
+
+-- two ends of one lane that have met: the joined pass knows what both did and what waits, and what they counted is what
+-- their lists have, which are legal beginnings on a lane of a sized network
+pub record HaveMet (send take : End) (pass : Pass Record LaneView) (number : ℕ) (sent taken : Counts) : Type 0 where
+  pub may : ((view pass).sends ≡ true) × ((view pass).takes ≡ true) × ((view pass).named ≡ true)
+  pub network : (view pass).network ≡ send.name.network
+  pub lane : (view pass).lane ≡ send.name.lane
+  pub sent_list : (view pass).sent ≡ send.list
+  pub taken_list : (view pass).taken ≡ take.list
+  pub sent_at : (view pass).sent_at ≡ send.stamps
+  pub taken_at : (view pass).taken_at ≡ take.stamps
+  pub waiting : List Record
+  pub whole : IsWholePass (view pass) waiting
+  pub same : AreOfOneLane send take
+  pub number_is : number ≡ send.name.lane
+  pub sized : IsSized send.name.network
+  pub there : send.name.lane < length (lanes send.name.network)
+  pub legal_sent : HasLegalList send
+  pub legal_taken : HasLegalList take
+  pub counted_sent : sent ≡ counts_of send.name.network send.name.lane send.list
+  pub counted_taken : taken ≡ counts_of take.name.network take.name.lane take.list
+
+-- what is made of two ends shows what they did
+pub record ShowsEnds (send take : End) (c : Carried) : Type 0 where
+  pub network : c.network ≡ send.name.network
+  pub lane : c.lane ≡ send.name.lane
+  pub sent : c.sent ≡ send.list
+  pub taken : c.taken ≡ take.list
+  pub left : send.list ≡ take.list ++ c.left
+  pub sent_at : c.sent_at ≡ send.stamps
+  pub taken_at : c.taken_at ≡ take.stamps
+  pub left_at : (send.stamps ≡ take.stamps ++ c.left_at) × (length c.left_at ≡ length c.left)
+  pub figures : c.figures ≡ figures_on send.name.network send.name.lane send.list take.list
 
 -- the number of the lane and the counts are those of the lists, which are legal beginnings; what was sent is what
 -- was taken and then what is left, and so are its stamps, as many left as records; the figures are the lists'

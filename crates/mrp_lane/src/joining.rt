@@ -1,11 +1,12 @@
 //! How the two ends of a lane are joined, and reconciled, once both are in one thread again.
 ghost use Rattle.std.specs.Prelude.{◌≡◌, ◌+◌, ◌<◌, ◌≤◌, ◌++◌, true, All, IfOk, length};
+ghost use Rattle.std.specs.Arc.{arc_value};
 ghost use Rattle.crossbeam_queue.specs.Passes.{view, IsPassOf};
 ghost use Rattle.mrp_net.specs.Lanes.{lanes};
 ghost use Rattle.mrp_qty.specs.declared.quantity.TheConstants.{MOST};
-ghost use Rattle.mrp_lane.specs.Ends.{AreOfOneLane, HasLegalList, Holds};
-ghost use Rattle.mrp_lane.specs.Reconciled.{lane_figure, figures_of, figures_on};
-ghost use Rattle.mrp_lane.specs.Views.{AreStamped, IsLegal, taken_all};
+ghost use Rattle.mrp_lane.specs.Ends.{AreOfOneLane, HasLegalList};
+ghost use Rattle.mrp_lane.specs.Reconciled.{HaveMet, lane_figure, figures_of, figures_on};
+ghost use Rattle.mrp_lane.specs.Views.{IsLegal, taken_all};
 
 use crate::send::SendEnd;
 use crate::take::{TakeEnd, pop};
@@ -17,7 +18,7 @@ use mrp_qty::{Memory, Qty};
 use mrp_record::Record;
 use std::alloc::Global;
 use std::marker::Model;
-use std::sync::Wait;
+use std::sync::{Arc, Wait};
 
 /// What went over a lane, as its two ends showed it when they were joined.
 ///
@@ -123,14 +124,8 @@ pub fn join(send: SendEnd, take: TakeEnd) -> JoinedLane
     ensures legal_sent { HasLegalList send }
     ensures legal_taken { HasLegalList take }
 {
-    let SendEnd {
-        mailbox,
-        pass: mut joined,
-        ..
-    } = send;
-    mailbox.absorb::<Meeting>(&mut joined, take.pass);
-    mailbox.learn_as::<Taken>(&mut joined);
-    JoinedLane { pass: joined }
+    let met = meet(send, take);
+    JoinedLane { pass: met.pass }
 }
 
 /// Joins the two ends of one lane and empties the mailbox.
@@ -159,6 +154,36 @@ pub fn reconcile<R: Wait>(
     ensures legal_sent { HasLegalList send }
     ensures legal_taken { HasLegalList take }
 {
+    let met = meet(send, take);
+    let mut pass = met.pass;
+    let left = drained(rt, alloc, &met.mailbox, &mut pass)?;
+    let figures = lane_figures(alloc, met.lane, met.sent.items(), met.taken.items())?;
+    Ok(Reconciled {
+        pass,
+        lane: met.lane,
+        sent: met.sent.records(),
+        taken: met.taken.records(),
+        left,
+        figures,
+    })
+}
+
+/// Two ends of a lane that have met: their mailbox, the joined pass to it, and what each counted.
+#[derive(Drop)]
+struct Met {
+    mailbox: Arc<Mailbox, Global>,
+    pass: LanePass,
+    lane: LaneNo,
+    sent: Tally,
+    taken: Tally,
+}
+
+/// Joins the two ends of one lane, and learns what waits in the mailbox.
+fn meet(send: SendEnd, take: TakeEnd) -> Met
+    requires same { AreOfOneLane send take }
+    ensures ours { IsPassOf (arc_value result.mailbox) result.pass }
+    ensures met { HaveMet send take result.pass result.lane.0 result.sent result.taken }
+{
     let SendEnd {
         mailbox,
         mut pass,
@@ -166,43 +191,14 @@ pub fn reconcile<R: Wait>(
         tally: sent,
     } = send;
     mailbox.absorb::<Meeting>(&mut pass, take.pass);
-    settled_lane(rt, alloc, lane, &mailbox, pass, &sent, &take.tally)
-}
-
-/// What went over the lane of a joined pass, by what the two ends counted.
-fn settled_lane<R: Wait>(
-    rt: &R,
-    alloc: Global,
-    lane: LaneNo,
-    mailbox: &Mailbox,
-    mut pass: LanePass,
-    sent: &Tally,
-    taken: &Tally,
-) -> Result<Reconciled, Memory>
-    requires sends { ((view pass).sends ≡ true) × Holds mailbox.now pass lane.0 (view pass).sent sent.now }
-    requires takes { ((view pass).takes ≡ true) × Holds mailbox.now pass lane.0 (view pass).taken taken.now }
-    ensures network { IfOk result (λ r. r.network ≡ (view pass).network) }
-    ensures lane { IfOk result (λ r. r.lane ≡ lane.0) }
-    ensures sent { IfOk result (λ r. r.sent ≡ (view pass).sent) }
-    ensures taken { IfOk result (λ r. r.taken ≡ (view pass).taken) }
-    ensures left { IfOk result (λ r. (view pass).sent ≡ (view pass).taken ++ r.left) }
-    ensures sent_at { IfOk result (λ r. r.sent_at ≡ (view pass).sent_at) }
-    ensures taken_at { IfOk result (λ r. r.taken_at ≡ (view pass).taken_at) }
-    ensures left_at { IfOk result (λ r. ((view pass).sent_at ≡ (view pass).taken_at ++ r.left_at)
-        × (length r.left_at ≡ length r.left)) }
-    ensures figures { IfOk result (λ r. r.figures
-        ≡ figures_on (view pass).network lane.0 (view pass).sent (view pass).taken) }
-{
-    let left = drained(rt, alloc, mailbox, &mut pass)?;
-    let figures = lane_figures(alloc, lane, sent.items(), taken.items())?;
-    Ok(Reconciled {
+    mailbox.learn_as::<Taken>(&mut pass);
+    Met {
+        mailbox,
         pass,
         lane,
-        sent: sent.records(),
-        taken: taken.records(),
-        left,
-        figures,
-    })
+        sent,
+        taken: take.tally,
+    }
 }
 
 /// Takes all that is left with the joined pass.
@@ -217,9 +213,6 @@ fn drained<R: Wait>(
     requires takes { (view pass.old).takes ≡ true }
     requires named { (view pass.old).named ≡ true }
     ensures left { IfOk result (λ left. (view pass.old).sent ≡ (view pass.old).taken ++ left.items) }
-    ensures stamps { IfOk result (λ left. AreStamped (view pass.old).sent_at (view pass.old).taken_at
-        (length left.items)) }
-    ensures as_many { IfOk result (λ left. length (view pass.old).sent_at ≡ length (view pass.old).sent) }
     ensures took { IfOk result (λ left. view pass.new ≡ taken_all (view pass.old)) }
 {
     let mut left = Vec::new(alloc);

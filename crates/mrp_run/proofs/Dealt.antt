@@ -37,87 +37,75 @@ apart a b other = elim (cases_Bool (a == b)) [ inl t ↦ absurd (other (eqb-true
 
 -- ---- the sender's end
 
-send_dealt : (N : Table) (ns ts : List Name) (p : ℕ) (P : Plant) (e : End) (new : Vec End Global) → (lane_at N e.name.lane).sender.0 ≡ p → IsEmpty e
-    → new.items ≡ P.sends.items ++ e ∷ []
-    → IsIdle N ns ts p P → IsIdle N (ns ++ e.name ∷ []) ts p (record P { sends = new })
-send_dealt N ns ts p P e new owner empty grown idle = record {
-  dealt = record {
-    sends_are = ap names grown ∙ names_more P.sends.items e ∙ ap (λ (z : List Name). z ++ e.name ∷ []) idle.dealt.sends_are
-        ∙ sym (filter_own (is_from N p) ns e.name (eq-eqb (lane_at N e.name.lane).sender.0 p owner));
-    takes_are = idle.dealt.takes_are;
-  };
-  view = idle.view;
-  opens = idle.opens;
-  sent = All-same IsEmpty new.items (P.sends.items ++ e ∷ []) grown (All-push IsEmpty P.sends.items e idle.sent empty);
-  taken = idle.taken;
-}
-
-send_elsewhere : (N : Table) (ns ts : List Name) (p : ℕ) (P : Plant) (n : Name) → (lane_at N n.lane).sender.0 ≢ p → IsIdle N ns ts p P
-    → IsIdle N (ns ++ n ∷ []) ts p P
-send_elsewhere N ns ts p P n other idle = record {
-  dealt = record {
-    sends_are = idle.dealt.sends_are ∙ sym (filter_other (is_from N p) ns n (apart (lane_at N n.lane).sender.0 p other));
-    takes_are = idle.dealt.takes_are;
-  };
-  view = idle.view;
-  opens = idle.opens;
-  sent = idle.sent;
-  taken = idle.taken;
-}
-
 pub sends_dealt : (N : Table) (ns ts : List Name) (plants : List Plant) (at : ℕ) (P : Plant) (e : End) (new : Vec End Global) → at < length plants
     → P ≡ get_or plants at P
     → new.items ≡ P.sends.items ++ e ∷ [] → (lane_at N e.name.lane).sender.0 ≡ at → IsEmpty e → AreIdle N ns ts plants
     → AreIdle N (ns ++ e.name ∷ []) ts (set plants at (record P { sends = new }))
-sends_dealt N ns ts plants at P e new within is grown owner empty idle = record {
-  all_plants = length-set plants at (record P { sends = new }) ∙ idle.all_plants;
-  each = each_set (IsIdle N ns ts) (IsIdle N (ns ++ e.name ∷ []) ts) plants at (record P { sends = new }) within
-      (send_dealt N ns ts at P e new owner empty grown (subst (IsIdle N ns ts at) (sym is) (idle.each at P within)))
-      (λ k Q other. send_elsewhere N ns ts k Q e.name (λ i. other (sym i ∙ owner)))
-      idle.each;
-}
+sends_dealt N ns ts plants at P e new within is grown owner empty idle =
+    let here = subst (IsIdle N ns ts at) (sym is) (idle.each at P within) in
+    record {
+      all_plants = length-set plants at (record P { sends = new }) ∙ idle.all_plants;
+      each = each_set (IsIdle N ns ts) (IsIdle N (ns ++ e.name ∷ []) ts) plants at (record P { sends = new }) within
+          (record {
+            dealt = record {
+              sends_are = ap names grown ∙ names_more P.sends.items e ∙ ap (λ (z : List Name). z ++ e.name ∷ []) here.dealt.sends_are
+                  ∙ sym (filter_own (is_from N at) ns e.name (eq-eqb (lane_at N e.name.lane).sender.0 at owner));
+              takes_are = here.dealt.takes_are;
+            };
+            view = here.view;
+            opens = here.opens;
+            sent = All-same IsEmpty new.items (P.sends.items ++ e ∷ []) grown (All-push IsEmpty P.sends.items e here.sent empty);
+            taken = here.taken;
+          })
+          (λ k Q other idle. record {
+            dealt = record {
+              sends_are = idle.dealt.sends_are
+                  ∙ sym (filter_other (is_from N k) ns e.name (apart (lane_at N e.name.lane).sender.0 k (λ i. other (sym i ∙ owner))));
+              takes_are = idle.dealt.takes_are;
+            };
+            view = idle.view;
+            opens = idle.opens;
+            sent = idle.sent;
+            taken = idle.taken;
+          })
+          idle.each;
+    }
 
 -- ---- the receiver's end
-
-take_dealt : (N : Table) (ns ts : List Name) (p : ℕ) (P : Plant) (e : End) (new : Vec End Global) → (lane_at N e.name.lane).receiver.0 ≡ p → IsEmpty e
-    → new.items ≡ P.takes.items ++ e ∷ []
-    → IsIdle N ns ts p P → IsIdle N ns (ts ++ e.name ∷ []) p (record P { takes = new })
-take_dealt N ns ts p P e new owner empty grown idle = record {
-  dealt = record {
-    sends_are = idle.dealt.sends_are;
-    takes_are = ap names grown ∙ names_more P.takes.items e ∙ ap (λ (z : List Name). z ++ e.name ∷ []) idle.dealt.takes_are
-        ∙ sym (filter_own (is_to N p) ts e.name (eq-eqb (lane_at N e.name.lane).receiver.0 p owner));
-  };
-  view = idle.view;
-  opens = idle.opens;
-  sent = idle.sent;
-  taken = All-same IsEmpty new.items (P.takes.items ++ e ∷ []) grown (All-push IsEmpty P.takes.items e idle.taken empty);
-}
-
-take_elsewhere : (N : Table) (ns ts : List Name) (p : ℕ) (P : Plant) (n : Name) → (lane_at N n.lane).receiver.0 ≢ p → IsIdle N ns ts p P
-    → IsIdle N ns (ts ++ n ∷ []) p P
-take_elsewhere N ns ts p P n other idle = record {
-  dealt = record {
-    sends_are = idle.dealt.sends_are;
-    takes_are = idle.dealt.takes_are ∙ sym (filter_other (is_to N p) ts n (apart (lane_at N n.lane).receiver.0 p other));
-  };
-  view = idle.view;
-  opens = idle.opens;
-  sent = idle.sent;
-  taken = idle.taken;
-}
 
 pub takes_dealt : (N : Table) (ns ts : List Name) (plants : List Plant) (at : ℕ) (P : Plant) (e : End) (new : Vec End Global) → at < length plants
     → P ≡ get_or plants at P
     → new.items ≡ P.takes.items ++ e ∷ [] → (lane_at N e.name.lane).receiver.0 ≡ at → IsEmpty e → AreIdle N ns ts plants
     → AreIdle N ns (ts ++ e.name ∷ []) (set plants at (record P { takes = new }))
-takes_dealt N ns ts plants at P e new within is grown owner empty idle = record {
-  all_plants = length-set plants at (record P { takes = new }) ∙ idle.all_plants;
-  each = each_set (IsIdle N ns ts) (IsIdle N ns (ts ++ e.name ∷ [])) plants at (record P { takes = new }) within
-      (take_dealt N ns ts at P e new owner empty grown (subst (IsIdle N ns ts at) (sym is) (idle.each at P within)))
-      (λ k Q other. take_elsewhere N ns ts k Q e.name (λ i. other (sym i ∙ owner)))
-      idle.each;
-}
+takes_dealt N ns ts plants at P e new within is grown owner empty idle =
+    let here = subst (IsIdle N ns ts at) (sym is) (idle.each at P within) in
+    record {
+      all_plants = length-set plants at (record P { takes = new }) ∙ idle.all_plants;
+      each = each_set (IsIdle N ns ts) (IsIdle N ns (ts ++ e.name ∷ [])) plants at (record P { takes = new }) within
+          (record {
+            dealt = record {
+              takes_are = ap names grown ∙ names_more P.takes.items e ∙ ap (λ (z : List Name). z ++ e.name ∷ []) here.dealt.takes_are
+                  ∙ sym (filter_own (is_to N at) ts e.name (eq-eqb (lane_at N e.name.lane).receiver.0 at owner));
+              sends_are = here.dealt.sends_are;
+            };
+            view = here.view;
+            opens = here.opens;
+            taken = All-same IsEmpty new.items (P.takes.items ++ e ∷ []) grown (All-push IsEmpty P.takes.items e here.taken empty);
+            sent = here.sent;
+          })
+          (λ k Q other idle. record {
+            dealt = record {
+              takes_are = idle.dealt.takes_are
+                  ∙ sym (filter_other (is_to N k) ts e.name (apart (lane_at N e.name.lane).receiver.0 k (λ i. other (sym i ∙ owner))));
+              sends_are = idle.dealt.sends_are;
+            };
+            view = idle.view;
+            opens = idle.opens;
+            taken = idle.taken;
+            sent = idle.sent;
+          })
+          idle.each;
+    }
 
 -- ---- both ends of the next lane
 

@@ -1,5 +1,5 @@
 -- The two ends of the last lane taken from their plants.
-use Rattle.std.proofs.Common.{◌≡◌, ◌≢◌, ℕ, suc, ◌+◌, ◌-◌, ◌<◌, List, [], ◌∷◌, ◌++◌, length, get_or, set, Option, None, Vec, Global, All, refl, sym, ap, subst}
+use Rattle.std.proofs.Common.{◌≡◌, ℕ, suc, ◌+◌, ◌-◌, ◌<◌, List, [], ◌∷◌, ◌++◌, length, get_or, set, Option, None, Vec, Global, refl, sym, ap, subst}
 use Rattle.std.proofs.Common.{◌∙◌, arith, add-one}
 use Rattle.std.specs.List.{filter}
 use Rattle.std.specs.Option.{option_to_list, IsSomeAnd}
@@ -21,75 +21,39 @@ IsTheLast n o = IsSomeAnd o (λ e. (e.name ≡ n) × IsClosed e)
 
 -- ---- the sender's end
 
-send_popped : (N : Table) (ns ts : List Name) (n : Name) (p : ℕ) (P : Plant) (new : Vec End Global) (o : Option End) → (lane_at N n.lane).sender.0 ≡ p
-    → P.sends.items ≡ new.items ++ option_to_list o → (o ≡ None → P.sends.items ≡ []) → HasEnded N (ns ++ n ∷ []) ts p P
-    → IsTheLast n o × HasEnded N ns ts p (record P { sends = new })
-send_popped N ns ts n p P new o owner parts none ended =
-    let named = ended.dealt.sends_are ∙ filter_own (is_from N p) ns n (eq-eqb (lane_at N n.lane).sender.0 p owner) in
-    let last = popped (λ (e : End). e.name) IsClosed P.sends.items new.items o (filter (is_from N p) ns) n named parts none ended.sent in (
-      last.2,
-      record {
-        dealt = record { sends_are = last.0; takes_are = ended.dealt.takes_are };
-        sent = last.1;
-        taken = ended.taken;
-        plans = ended.plans;
-      },
-    )
-
-send_kept : (N : Table) (ns ts : List Name) (n : Name) (p : ℕ) (P : Plant) → (lane_at N n.lane).sender.0 ≢ p → HasEnded N (ns ++ n ∷ []) ts p P
-    → HasEnded N ns ts p P
-send_kept N ns ts n p P other ended = record {
-  dealt = record {
-    sends_are = ended.dealt.sends_are ∙ filter_other (is_from N p) ns n (apart (lane_at N n.lane).sender.0 p other);
-    takes_are = ended.dealt.takes_are;
-  };
-  sent = ended.sent;
-  taken = ended.taken;
-  plans = ended.plans;
-}
-
 pub sends_popped : (N : Table) (ns ts : List Name) (n : Name) (plants : List Plant) (at : ℕ) (P : Plant) (new : Vec End Global) (o : Option End)
     → at < length plants → P ≡ get_or plants at P
-    → P.sends.items ≡ new.items ++ option_to_list o → (o ≡ None → P.sends.items ≡ []) → (lane_at N n.lane).sender.0 ≡ at → HaveEnded N (ns ++ n ∷ []) ts plants
+    → P.sends.items ≡ new.items ++ option_to_list o → (o ≡ None → P.sends.items ≡ []) → (lane_at N n.lane).sender.0 ≡ at
+    → HaveEnded N (ns ++ n ∷ []) ts plants
     → IsTheLast n o × HaveEnded N ns ts (set plants at (record P { sends = new }))
 sends_popped N ns ts n plants at P new o within is parts none owner ended =
-    let here = send_popped N ns ts n at P new o owner parts none (subst (HasEnded N (ns ++ n ∷ []) ts at) (sym is) (ended.each at P within)) in (
-      here.0,
+    let here = subst (HasEnded N (ns ++ n ∷ []) ts at) (sym is) (ended.each at P within) in
+    let last = popped (λ (e : End). e.name) IsClosed P.sends.items new.items o (filter (is_from N at) ns) n
+    (here.dealt.sends_are ∙ filter_own (is_from N at) ns n (eq-eqb (lane_at N n.lane).sender.0 at owner)) parts none here.sent in (
+      last.2,
       record {
         all_plants = length-set plants at (record P { sends = new }) ∙ ended.all_plants;
-        each = each_set (HasEnded N (ns ++ n ∷ []) ts) (HasEnded N ns ts) plants at (record P { sends = new }) within here.1
-            (λ k Q other. send_kept N ns ts n k Q (λ i. other (sym i ∙ owner))) ended.each;
+        each = each_set (HasEnded N (ns ++ n ∷ []) ts) (HasEnded N ns ts) plants at (record P { sends = new }) within
+            (record {
+              dealt = record { sends_are = last.0; takes_are = here.dealt.takes_are };
+              sent = last.1;
+              taken = here.taken;
+              plans = here.plans;
+            })
+            (λ k Q other e. record {
+              dealt = record {
+                sends_are = e.dealt.sends_are ∙ filter_other (is_from N k) ns n (apart (lane_at N n.lane).sender.0 k (λ i. other (sym i ∙ owner)));
+                takes_are = e.dealt.takes_are;
+              };
+              sent = e.sent;
+              taken = e.taken;
+              plans = e.plans;
+            })
+            ended.each;
       },
     )
 
 -- ---- the receiver's end
-
-take_popped : (N : Table) (ns ts : List Name) (n : Name) (p : ℕ) (P : Plant) (new : Vec End Global) (o : Option End) → (lane_at N n.lane).receiver.0 ≡ p
-    → P.takes.items ≡ new.items ++ option_to_list o → (o ≡ None → P.takes.items ≡ []) → HasEnded N ns (ts ++ n ∷ []) p P
-    → IsTheLast n o × HasEnded N ns ts p (record P { takes = new })
-take_popped N ns ts n p P new o owner parts none ended =
-    let named = ended.dealt.takes_are ∙ filter_own (is_to N p) ts n (eq-eqb (lane_at N n.lane).receiver.0 p owner) in
-    let last = popped (λ (e : End). e.name) IsClosed P.takes.items new.items o (filter (is_to N p) ts) n named parts none ended.taken in (
-      last.2,
-      record {
-        dealt = record { sends_are = ended.dealt.sends_are; takes_are = last.0 };
-        sent = ended.sent;
-        taken = last.1;
-        plans = ended.plans;
-      },
-    )
-
-take_kept : (N : Table) (ns ts : List Name) (n : Name) (p : ℕ) (P : Plant) → (lane_at N n.lane).receiver.0 ≢ p → HasEnded N ns (ts ++ n ∷ []) p P
-    → HasEnded N ns ts p P
-take_kept N ns ts n p P other ended = record {
-  dealt = record {
-    sends_are = ended.dealt.sends_are;
-    takes_are = ended.dealt.takes_are ∙ filter_other (is_to N p) ts n (apart (lane_at N n.lane).receiver.0 p other);
-  };
-  sent = ended.sent;
-  taken = ended.taken;
-  plans = ended.plans;
-}
 
 pub takes_popped : (N : Table) (ns ts : List Name) (n : Name) (plants : List Plant) (at : ℕ) (P : Plant) (new : Vec End Global) (o : Option End)
     → at < length plants → P ≡ get_or plants at P
@@ -97,12 +61,29 @@ pub takes_popped : (N : Table) (ns ts : List Name) (n : Name) (plants : List Pla
     → HaveEnded N ns (ts ++ n ∷ []) plants
     → IsTheLast n o × HaveEnded N ns ts (set plants at (record P { takes = new }))
 takes_popped N ns ts n plants at P new o within is parts none owner ended =
-    let here = take_popped N ns ts n at P new o owner parts none (subst (HasEnded N ns (ts ++ n ∷ []) at) (sym is) (ended.each at P within)) in (
-      here.0,
+    let here = subst (HasEnded N ns (ts ++ n ∷ []) at) (sym is) (ended.each at P within) in
+    let last = popped (λ (e : End). e.name) IsClosed P.takes.items new.items o (filter (is_to N at) ts) n
+    (here.dealt.takes_are ∙ filter_own (is_to N at) ts n (eq-eqb (lane_at N n.lane).receiver.0 at owner)) parts none here.taken in (
+      last.2,
       record {
         all_plants = length-set plants at (record P { takes = new }) ∙ ended.all_plants;
-        each = each_set (HasEnded N ns (ts ++ n ∷ [])) (HasEnded N ns ts) plants at (record P { takes = new }) within here.1
-            (λ k Q other. take_kept N ns ts n k Q (λ i. other (sym i ∙ owner))) ended.each;
+        each = each_set (HasEnded N ns (ts ++ n ∷ [])) (HasEnded N ns ts) plants at (record P { takes = new }) within
+            (record {
+              dealt = record { takes_are = last.0; sends_are = here.dealt.sends_are };
+              taken = last.1;
+              sent = here.sent;
+              plans = here.plans;
+            })
+            (λ k Q other e. record {
+              dealt = record {
+                takes_are = e.dealt.takes_are ∙ filter_other (is_to N k) ts n (apart (lane_at N n.lane).receiver.0 k (λ i. other (sym i ∙ owner)));
+                sends_are = e.dealt.sends_are;
+              };
+              taken = e.taken;
+              sent = e.sent;
+              plans = e.plans;
+            })
+            ended.each;
       },
     )
 

@@ -49,7 +49,7 @@ all_taken all sent taken left legal closed parts =
 
 -- what was sent is a legal beginning in the network
 pub legal_there : (N : Table) (plants : List Plant) (l : ℕ) (r : Carried) (of : IsOfEnds N plants l r) → IsLegal N l of.send.list
-legal_there N plants l r of = subst (λ (x : Table × ℕ). IsLegal x.0 x.1 of.send.list) (λ i. (of.ends.network i, of.ends.lane i)) of.shows.legal
+legal_there N plants l r of = subst (λ (x : Table × ℕ). IsLegal x.0 x.1 of.send.list) (λ i. (of.ends.network i, of.ends.lane i)) of.legal
 
 settled : (N : Table) (plants : List Plant) (l : ℕ) (r : Carried) → IsOfEnds N plants l r → IsSettled N l r
 settled N plants l r of =

@@ -148,7 +148,7 @@ module _ (N : Table) (sized : IsSized N) (plants : List Plant) (through : AreThr
           waits = r.left;
           waits_at = r.left_at;
           lists = o.shows.left;
-          stamps = o.shows.stamps;
+          stamps = o.shows.left_at.0;
           legal = legal_there N plants l r o;
         }
 

@@ -11,7 +11,7 @@ use Rattle.mrp_protocol.specs.LocalLaws.{IsPairAt}
 use Rattle.mrp_protocol.specs.State.{opening_state}
 use Rattle.mrp_history.specs.History.{IsPrefix}
 use Rattle.mrp_lane.specs.Ends.{AreOfOneLane, End, HasLegalList, Name}
-use Rattle.mrp_lane.specs.Reconciled.{Carried, figures_on}
+use Rattle.mrp_lane.specs.Reconciled.{Carried, ShowsEnds}
 use Rattle.mrp_agent.specs.Shows.{ShowsHistory}
 use Rattle.mrp_agent.specs.State.{AgentState, plans_of}
 use Rattle.mrp_run.specs.declared.plant.Plant.{Plant}
@@ -156,23 +156,13 @@ pub record HaveLeftOf (before now : List Plant) : Type 0 where
   pub size : length now ≡ length before
   pub each : (k : ℕ) (d : Plant) → k < length before → HasLeftOf (slice_index_or before k d) (slice_index_or now k d)
 
--- what is made of two ends shows what they did; what was sent is a legal beginning
-pub record ShowsEnds (send take : End) (r : Carried) : Type 0 where
-  pub network : r.network ≡ send.name.network
-  pub lane : r.lane ≡ send.name.lane
-  pub sent : r.sent ≡ send.list
-  pub taken : r.taken ≡ take.list
-  pub left : send.list ≡ take.list ++ r.left
-  pub stamps : send.stamps ≡ take.stamps ++ r.left_at
-  pub figures : r.figures ≡ figures_on send.name.network send.name.lane send.list take.list
-  pub legal : HasLegalList send
-
 -- what is answered of a lane is made of two ends of its plants
 pub record IsOfEnds (N : Table) (plants : List Plant) (l : ℕ) (r : Carried) : Type 0 where
   pub send : End
   pub take : End
   pub ends : AreEndsOf N plants l send take
   pub shows : ShowsEnds send take r
+  pub legal : HasLegalList send
 
 -- of all lanes, in lane order
 pub record AreOfEnds (N : Table) (plants : List Plant) (rs : List Carried) : Type 0 where

@@ -47,7 +47,7 @@ impl Bells {
     }
 
     /// Puts up the sign at the other end of a lane over which so many records were moved, and wakes the plant there,
-    /// where it may wait for them. A sender that was refused found the mailbox full, and all that lies in it is taken
+    /// where it may wait for them. A sender that found no room found the mailbox full, and all that lies in it is taken
     /// before its receiver finds none: so where fewer were taken, none waits for room.
     pub(crate) fn ring(&self, lane: LaneNo, lanes: Lanes, count: u64) {
         let Some(ends) = self.lanes.get(lane.0) else {

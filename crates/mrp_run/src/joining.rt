@@ -2,9 +2,10 @@
 ghost use Rattle.std.specs.Prelude.{◌≡◌, ◌+◌, ◌<◌, [], ◌∷◌, ◌++◌, List, length, map, IfOk, IfSome, IsSomeAnd};
 ghost use Rattle.mrp_master_data.specs.Table.{Table};
 ghost use Rattle.mrp_net.specs.Lanes.{lanes, lane_at};
-ghost use Rattle.mrp_lane.specs.Ends.{AreOfOneLane, Name};
+ghost use Rattle.mrp_lane.specs.Ends.{AreOfOneLane, HasLegalList, Name};
+ghost use Rattle.mrp_lane.specs.Reconciled.{ShowsEnds};
 ghost use Rattle.mrp_run.specs.Ends.{AreEndsOf, AreNames, AreOfEnds, HaveEnded, HaveLeft, HaveLeftOf, HavePlans};
-ghost use Rattle.mrp_run.specs.Ends.{IsSendEndOf, IsTakeEndOf, ShowsEnds};
+ghost use Rattle.mrp_run.specs.Ends.{IsSendEndOf, IsTakeEndOf};
 ghost use Rattle.mrp_run.specs.Plant.{IsClosed};
 
 use crate::plant::Plant;
@@ -28,7 +29,8 @@ pub(crate) trait OfEnds: Drop + Sized {
     /// [`Memory`] where a growth is refused; both ends are gone then.
     fn of_ends<R: Wait>(rt: &R, alloc: Global, send: SendEnd, take: TakeEnd) -> Result<Self, Memory>
         requires same { AreOfOneLane send take }
-        ensures { IfOk result (λ r. ShowsEnds send take (carried r)) };
+        ensures shows { IfOk result (λ r. ShowsEnds send take (carried r)) }
+        ensures legal { HasLegalList send };
 }
 
 impl OfEnds for Reconciled {

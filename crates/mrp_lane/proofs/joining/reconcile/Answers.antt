@@ -1,96 +1,58 @@
-use Rattle.std.proofs.Common.{◌++◌, sym, ap, subst, ◌∙◌}
-use Rattle.std.proofs.lemmas.Result.{IfOk-weaker}
-use Rattle.std.specs.Arc.{arc_value}
-use Rattle.crossbeam_queue.specs.Passes.{view}
-use Rattle.mrp_lane.specs.declared.view.LaneView.{LaneView}
-use Rattle.mrp_lane.specs.Ends.{End, HasLegalList}
-use Rattle.mrp_lane.specs.Reconciled.{figures_on}
-use Rattle.mrp_lane.proofs.Ending.{ours_there}
-use Rattle.mrp_lane.proofs.Joined.{both_ours, joins_sending, joins_taking}
-use Rattle.mrp_lane.proofs.Rule.{joins}
+use Rattle.std.proofs.Common.{◌+◌, ◌≤◌, List, length, refl, sym, ap, subst, ◌∙◌, All}
+use Rattle.mrp_qty.specs.declared.quantity.TheConstants.{MOST}
+use Rattle.mrp_lane.specs.declared.tally.ItemPieces.{ItemPieces}
+use Rattle.mrp_lane.specs.Reconciled.{ShowsEnds, figures_of}
+use Rattle.mrp_lane.proofs.Ending.{still_ours}
+use Rattle.mrp_lane.proofs.Joined.{are_counted, shows, sizes_agree, small_sent, small_taken, still_shows}
 use Rattle.mrp_lane.proofs.joining.reconcile.Goals as goal
 
-pub absorb-requires-clause-queue : goal.absorb-requires-clause-queue
-absorb-requires-clause-queue g c = (
-  ours_there c.send.invariant.1 c.deref.ensures,
-  both_ours _ (arc_value c.take.inside.mailbox) _ c.send.inside.pass c.take.inside.pass c.send.inside.lane.0 c.take.inside.lane.0 _ _ _ _ c.args.send
-      c.args.take c.send.view_is c.take.view_is c.requires.same c.send.invariant.1.ours c.take.invariant.1.ours c.deref.ensures,
-)
+pub drained-requires-clause-pass : goal.drained-requires-clause-pass
+drained-requires-clause-pass g c = still_ours _ _ c.meet-met.result.pass c.meet-met.result.pass c.deref.ensures c.meet-met.ensures.ours (refl, refl, refl)
 
-pub absorb-requires-clause-rule : goal.absorb-requires-clause-rule
-absorb-requires-clause-rule g c = joins _ _ _ _ c.send.invariant.0 c.send.invariant.1.named c.take.invariant.0
+pub drained-requires-clause-sends : goal.drained-requires-clause-sends
+drained-requires-clause-sends g c = c.meet-met.ensures.met.may.0
 
-pub settled_lane-requires-clause-sends : goal.settled_lane-requires-clause-sends
-settled_lane-requires-clause-sends g c =
-    joins_sending _ _ c.send.inside.pass c.absorb.new.pass (view c.take.inside.pass) c.send.inside.lane.0 c.send.inside.tally c.send.invariant.1
-    c.deref-2.ensures c.absorb.ensures.queue c.absorb.ensures.rule
+pub drained-requires-clause-takes : goal.drained-requires-clause-takes
+drained-requires-clause-takes g c = c.meet-met.ensures.met.may.1
 
-pub settled_lane-requires-clause-takes : goal.settled_lane-requires-clause-takes
-settled_lane-requires-clause-takes g c =
-    joins_taking _ _ _ c.send.inside.pass c.take.inside.pass c.absorb.new.pass c.send.inside.lane.0 _ c.send.inside.tally c.take.inside.tally c.args.send
-    c.args.take
-    c.send.invariant.1 c.take.invariant.1 c.send.view_is c.take.view_is c.requires.same c.deref-2.ensures c.absorb.ensures.queue c.absorb.ensures.rule
+pub drained-requires-clause-named : goal.drained-requires-clause-named
+drained-requires-clause-named g c = c.meet-met.ensures.met.may.2
 
-pub returns-clause-network : goal.returns-clause-network
-returns-clause-network g c =
-    IfOk-weaker c.settled_lane.result _ _ (λ r is. is ∙ ap (λ (v : LaneView). v.network) c.absorb.ensures.rule
-    ∙ ap (λ (e : End). e.name.network) c.send.view_is) c.settled_lane.ensures.network
+pub lane_figures-requires-clause-items : goal.lane_figures-requires-clause-items
+lane_figures-requires-clause-items g c = ap length c.items-2.ensures ∙ sizes_agree c.meet-met.ensures.met ∙ ap length (sym c.items.ensures)
 
-pub returns-clause-lane : goal.returns-clause-lane
-returns-clause-lane g c = IfOk-weaker c.settled_lane.result _ _ (λ r is. is ∙ ap (λ (e : End). e.name.lane) c.send.view_is) c.settled_lane.ensures.lane
+pub lane_figures-requires-clause-shipped : goal.lane_figures-requires-clause-shipped
+lane_figures-requires-clause-shipped g c =
+    subst (λ (items : List ItemPieces). All (λ (i : ItemPieces). i.opening + i.pieces ≤ MOST) items) (sym c.items.ensures) (small_sent c.meet-met.ensures.met)
 
-pub returns-clause-sent : goal.returns-clause-sent
-returns-clause-sent g c =
-    IfOk-weaker c.settled_lane.result _ _ (λ r is. is ∙ ap (λ (v : LaneView). v.sent) c.absorb.ensures.rule
-    ∙ ap (λ (e : End). e.list) c.send.view_is) c.settled_lane.ensures.sent
+pub lane_figures-requires-clause-received : goal.lane_figures-requires-clause-received
+lane_figures-requires-clause-received g c =
+    subst (λ (items : List ItemPieces). All (λ (i : ItemPieces). i.opening + i.pieces ≤ MOST) items) (sym c.items-2.ensures) (small_taken c.meet-met.ensures.met)
 
-pub returns-clause-taken : goal.returns-clause-taken
-returns-clause-taken g c =
-    IfOk-weaker c.settled_lane.result _ _ (λ r is. is ∙ ap (λ (v : LaneView). v.taken) c.absorb.ensures.rule
-    ∙ ap (λ (e : End). e.list) c.take.view_is) c.settled_lane.ensures.taken
+pub invariant_of-result : goal.invariant_of-result
+invariant_of-result g c =
+    are_counted c.meet-met.ensures.met c.drained.new.pass c.records-2.result c.in_ok-left.left.items c.in_ok-figures.figures.items
+    c.in_ok-left.ensures.took c.records-2.ensures c.in_ok-left.ensures.left
+    (c.in_ok-figures.ensures ∙ (λ j. figures_of c.meet-met.result.lane (c.items.ensures j) (c.items-2.ensures j)))
+    c.records.result c.records-2.result c.records.ensures c.records-2.ensures
 
-pub returns-clause-left : goal.returns-clause-left
-returns-clause-left g c =
-    let known = c.absorb.ensures.rule in
-    IfOk-weaker c.settled_lane.result _ _
-    (λ r is.
-    sym (ap (λ (e : End). e.list) c.send.view_is) ∙ sym (ap (λ (v : LaneView). v.sent) known) ∙ is ∙ ap (λ (v : LaneView). v.taken ++ r.left) known
-    ∙ ap (λ (e : End). e.list ++ r.left) c.take.view_is)
-    c.settled_lane.ensures.left
-
-pub returns-clause-sent_at : goal.returns-clause-sent_at
-returns-clause-sent_at g c =
-    IfOk-weaker c.settled_lane.result _ _ (λ r is. is ∙ ap (λ (v : LaneView). v.sent_at) c.absorb.ensures.rule
-    ∙ ap (λ (e : End). e.stamps) c.send.view_is) c.settled_lane.ensures.sent_at
-
-pub returns-clause-taken_at : goal.returns-clause-taken_at
-returns-clause-taken_at g c =
-    IfOk-weaker c.settled_lane.result _ _ (λ r is. is ∙ ap (λ (v : LaneView). v.taken_at) c.absorb.ensures.rule
-    ∙ ap (λ (e : End). e.stamps) c.take.view_is) c.settled_lane.ensures.taken_at
-
-pub returns-clause-left_at : goal.returns-clause-left_at
-returns-clause-left_at g c =
-    let known = c.absorb.ensures.rule in
-    IfOk-weaker c.settled_lane.result _ _
-    (λ r is. (
-      sym (ap (λ (e : End). e.stamps) c.send.view_is) ∙ sym (ap (λ (v : LaneView). v.sent_at) known) ∙ is.0
-          ∙ ap (λ (v : LaneView). v.taken_at ++ r.left_at) known
-          ∙ ap (λ (e : End). e.stamps ++ r.left_at) c.take.view_is,
-      is.1,
-    ))
-    c.settled_lane.ensures.left_at
-
-pub returns-clause-figures : goal.returns-clause-figures
-returns-clause-figures g c =
-    let known = c.absorb.ensures.rule in
-    IfOk-weaker c.settled_lane.result _ _
-    (λ r is.
-    is ∙ (λ j. figures_on (known j).network c.send.inside.lane.0 (known j).sent (known j).taken)
-    ∙ (λ j. figures_on (c.send.view_is j).name.network (c.send.view_is j).name.lane (c.send.view_is j).list (c.take.view_is j).list))
-    c.settled_lane.ensures.figures
-
-pub returns-clause-legal_sent : goal.returns-clause-legal_sent
-returns-clause-legal_sent g c = subst HasLegalList c.send.view_is c.send.invariant.1.legal
-
-pub returns-clause-legal_taken : goal.returns-clause-legal_taken
-returns-clause-legal_taken g c = subst HasLegalList c.take.view_is c.take.invariant.1.legal
+pub returns : goal.returns
+returns g c =
+    let met = c.meet-met.ensures.met in
+    let still = still_shows met c.drained.new.pass c.records-2.result c.in_ok-left.left.items c.in_ok-figures.figures.items
+    c.in_ok-left.ensures.took c.records-2.ensures c.in_ok-left.ensures.left
+    (c.in_ok-figures.ensures ∙ (λ j. figures_of c.meet-met.result.lane (c.items.ensures j) (c.items-2.ensures j))) in
+    let shown = subst (ShowsEnds c.args.send c.args.take) (sym still) (shows met) in
+    record {
+      network = shown.network;
+      lane = shown.lane;
+      sent = shown.sent;
+      taken = shown.taken;
+      left = shown.left;
+      sent_at = shown.sent_at;
+      taken_at = shown.taken_at;
+      left_at = shown.left_at;
+      figures = shown.figures;
+      legal_sent = met.legal_sent;
+      legal_taken = met.legal_taken;
+    }

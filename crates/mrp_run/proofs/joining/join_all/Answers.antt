@@ -60,7 +60,8 @@ loop-done-preserved g c =
             send = c.last_ends-send.result.0;
             take = c.last_ends-send.result.1;
             ends = ran.ends_before N c.args.plants.now at.plants _ c.last_ends-send.result.0 c.last_ends-send.result.1 at.invariant.left_of c.last_ends-send.ensures.ends;
-            shows = c.in_ok-joined.ensures;
+            shows = c.in_ok-joined.ensures.shows;
+            legal = c.of_ends.ensures.legal;
           })
           at.invariant.joined;
       room = omega (arith, at.invariant.room, c.push.ensures.capacity);
