@@ -1,6 +1,5 @@
 -- What an agent sends is the next record of its lane.
-use Rattle.std.proofs.Common.{◌≡◌, ℕ, ◌<◌, Bool, true, Option, None, Some, List, [], ◌∷◌, ◌++◌, length, get_or, refl, sym, ap, ◌∙◌, subst, arith, All}
-use Rattle.std.specs.Prelude.{IfSome, IfNone}
+use Rattle.std.proofs.Common.{◌≡◌, ℕ, ◌<◌, Bool, true, List, [], ◌∷◌, ◌++◌, length, get_or, refl, sym, ap, ◌∙◌, subst, arith, All}
 use Rattle.std.proofs.lemmas.Bool.{eqb-true, false≢true}
 use Rattle.std.proofs.lemmas.List.{get_or-map, length-map}
 use Rattle.mrp_netting.specs.PlanRows.{PlanRows}
@@ -130,20 +129,3 @@ sent_shows A B l r same appended m p at out =
 
 pub out_within : (A : AgentState) (l : ℕ) → SendsLane ShowsAgent A l → outgoing_place A.view l < length A.view.outgoing
 out_within A l (m, p, at, out) = (out_placed A.view m.network p l at.shown.view (out_there m.network p l out)).within
-
--- ---- what its calls answer
-
-pub given_next : (A : AgentState) (l : ℕ) (o : Option Record) → IfSome o (λ r. GivenIsLegal A (outgoing_place A.view l) r)
-    → IfSome o (λ r. (m : Moment) (p : ℕ) → IsAt ShowsAgent m p A → IsOut m.network p l → IsNext m l r)
-given_next A l None given = tt
-given_next A l (Some r) given = given_is_next A l r given
-
-pub none_next : (A : AgentState) (l : ℕ) (o : Option Record) → IfNone o (NoneCanBeSent A (outgoing_place A.view l))
-    → IfNone o ((m : Moment) (p : ℕ) → IsAt ShowsAgent m p A → IsOut m.network p l → (r : Record) → ¬ IsNext m l r)
-none_next A l None none = none_is_next A l none
-none_next A l (Some r) none = tt
-
-pub sent_next : (A B : AgentState) (l : ℕ) (o : Option Record) → B.view ≡ A.view → IfSome o (λ r. IsAppended A B (outgoing_place A.view l) r)
-    → IfSome o (λ r. (m : Moment) (p : ℕ) → IsAt ShowsAgent m p A → IsOut m.network p l → ShowsAgent m.network p (after_send m.state l r) B)
-sent_next A B l None same appended = tt
-sent_next A B l (Some r) same appended = sent_shows A B l r same appended

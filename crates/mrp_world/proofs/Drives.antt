@@ -6,9 +6,8 @@ use Rattle.mrp_loops.specs.Sized.{IsSized}
 use Rattle.mrp_protocol.specs.declared.event.Event.{Event}
 use Rattle.mrp_protocol.specs.Steps.{steps}
 use Rattle.mrp_protocol.specs.Progress.{steps_left}
-use Rattle.mrp_protocol.specs.State.{State, opening_state, Run, IsReached, IsFinished}
+use Rattle.mrp_protocol.specs.State.{State, opening_state, Run, IsReached}
 use Rattle.mrp_protocol.proofs.Counting.{runs_begin_with_steps, events_are_steps, none_is_left_at_the_end}
-use Rattle.mrp_protocol.proofs.Finishing.{no_schedule_sticks}
 use Rattle.mrp_protocol.proofs.Keeping.{opening_is_reached, reached_goes_on}
 use Rattle.mrp_world.specs.Driving.{LeadOn, Tried}
 use Rattle.mrp_world.specs.Showing.{Showing}
@@ -176,4 +175,4 @@ module _ {A : Type 0} (shows : Showing A) (N M : Table) (capacity : ℕ) (plants
       → AllRests shows N new_plants new_boxes → IsWorld shows (world N capacity new_plants new_boxes 0)
   new_is_driven new_plants new_boxes holds leads rests =
       world_driven shows N capacity new_plants new_boxes rests plants boxes (steps M) leads
-      (is_world shows N M capacity plants boxes (steps M) holds e sized shown held refl)
+      (is_world shows N M capacity plants boxes (steps M) e sized shown held refl holds)

@@ -40,14 +40,6 @@ boxes_hold N capacity boxes all each = record {
   room = λ l h. ap (λ (b : Held). b.room) (each l nothing_held (omega (arith, h, all)));
 }
 
-pub world_opens : {A : Type 0} (shows : Showing A) (N : Table) (capacity : ℕ) (plants : List A) (boxes : List Held) (left : ℕ)
-    → IsSized N → PlantsShow shows N plants opening_state → BoxesHold N capacity boxes opening_state → left ≡ steps N
-    → WorldShows shows (record { network = N; capacity = capacity; plants = plants; boxes = boxes; left = left }) opening_state
-world_opens shows N capacity plants boxes left sized shown held counted = record {
-  parts = record { sized = sized; reached = opening_is_reached N capacity; shown = shown; held = held };
-  left = counted ∙ sym (runs_begin_with_steps N);
-}
-
 -- one plant more shows the opening state
 pub plants_more : {A : Type 0} (shows : Showing A) (N : Table) (plants new : List A) (plant : A) (p : ℕ) → length plants ≡ p → new ≡ plants ++ plant ∷ []
     → ((k : ℕ) (d : A) → k < length plants → shows N k opening_state (get_or plants k d)) → shows N p opening_state plant
@@ -56,19 +48,16 @@ plants_more {A} shows N plants new plant p size grown before here =
     subst (λ (xs : List A). (k : ℕ) (d : A) → k < length xs → shows N k opening_state (get_or xs k d)) (sym grown)
     (each_more (λ k z. shows N k opening_state z) plants plant before (subst (λ (q : ℕ). shows N q opening_state plant) (sym size) here))
 
--- the same, where the network has another name
-pub world_opens_as : {A : Type 0} (shows : Showing A) (N M : Table) (capacity : ℕ) (plants : List A) (boxes : List Held) (left : ℕ)
-    → N ≡ M → IsSized M → PlantsShow shows M plants opening_state → BoxesHold M capacity boxes opening_state → left ≡ steps M
-    → WorldShows shows (record { network = N; capacity = capacity; plants = plants; boxes = boxes; left = left }) opening_state
-world_opens_as shows N M capacity plants boxes left e sized shown held counted =
-    subst (λ (K : Table). WorldShows shows (record { network = K; capacity = capacity; plants = plants; boxes = boxes; left = left }) opening_state) (sym e)
-    (world_opens shows M capacity plants boxes left sized shown held counted)
+-- a world of them, where the network has another name
+module _ {A : Type 0} (shows : Showing A) (N M : Table) (capacity : ℕ) (plants : List A) (boxes : List Held) (left : ℕ) (e : N ≡ M) (sized : IsSized M)
+    (shown : PlantsShow shows M plants opening_state) (held : BoxesHold M capacity boxes opening_state) (counted : left ≡ steps M) where
+  pub world_opens : WorldShows shows (record { network = N; capacity = capacity; plants = plants; boxes = boxes; left = left }) opening_state
+  world_opens =
+      subst (λ (K : Table). WorldShows shows (record { network = K; capacity = capacity; plants = plants; boxes = boxes; left = left }) opening_state) (sym e)
+      (record {
+        parts = record { sized = sized; reached = opening_is_reached M capacity; shown = shown; held = held };
+        left = counted ∙ sym (runs_begin_with_steps M);
+      })
 
-pub is_world : {A : Type 0} (shows : Showing A) (N M : Table) (capacity : ℕ) (plants : List A) (boxes : List Held) (left : ℕ) → 1 ≤ capacity
-    → N ≡ M → IsSized M → PlantsShow shows M plants opening_state → BoxesHold M capacity boxes opening_state → left ≡ steps M
-    → IsWorld shows (record { network = N; capacity = capacity; plants = plants; boxes = boxes; left = left })
-is_world shows N M capacity plants boxes left holds e sized shown held counted = record {
-  holds = holds;
-  state = opening_state;
-  shown = world_opens_as shows N M capacity plants boxes left e sized shown held counted;
-}
+  pub is_world : 1 ≤ capacity → IsWorld shows (record { network = N; capacity = capacity; plants = plants; boxes = boxes; left = left })
+  is_world holds = record { holds = holds; state = opening_state; shown = world_opens }

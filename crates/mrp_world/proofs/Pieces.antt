@@ -61,89 +61,68 @@ read_on shows N plants boxes l item plant box lane within there some held is joi
   asked = asked;
 }
 
-pub box_read : {A : Type 0} (shows : Showing A) (N : Table) (plants : List A) (boxes : List Held) (l : ℕ) (item : ItemNo) (box : Held)
-    → l < length (lanes N) → AreSomewhere shows N plants boxes → box ≡ get_or boxes l box → box ≡ box_at boxes l
-box_read shows N plants boxes l item box within shown is = is ∙ box_is shows N plants boxes l box shown within
-
-pub waiting_is_small : {A : Type 0} (shows : Showing A) (N : Table) (plants : List A) (boxes : List Held) (l : ℕ) (item : ItemNo) (box : Held)
-    → l < length (lanes N) → Contains (lane_items N (lane_at N l)) item → AreSomewhere shows N plants boxes → box ≡ get_or boxes l box
-    → moved item.0 (contents box.records) ≤ 1000000000000000
-waiting_is_small shows N plants boxes l item box within there some is =
-    let e : moved item.0 (contents box.records) ≡ moved item.0 (contents (box_at boxes l).records) =
-    ap (λ (b : Held). moved item.0 (contents b.records)) (box_read shows N plants boxes l item box within some is) in
-    omega (
-      arith,
-      e,
-      shipped_is shows N some.0 plants boxes some.1 l item some.2 within there,
-      shipped_is_small shows N some.0 plants boxes some.1 l item some.2
-          within there,
-    )
-
 -- what the receiver says of an item
 abbrev pub SaysReceived : {A : Type 0} → Showing A → A → ℕ → ItemNo → ℕ → Type 0
 SaysReceived shows plant l item received =
     (m : Moment) (p : ℕ) → IsAt shows m p plant → IsIn m.network p l → Contains (lane_items m.network (lane_at m.network l)) item
     → received ≡ cum_on m.network l item (m.state.taken l)
 
-received_is : {A : Type 0} (shows : Showing A) (N : Table) (capacity : ℕ) (plants : List A) (boxes : List Held) (s : State) (l : ℕ) (item : ItemNo) (plant : A)
-    (box : Held) (p received : ℕ)
-    → Read shows N plants boxes l item plant box p → SaysReceived shows plant l item received → AreAt shows N capacity plants boxes s
-    → received ≡ cum_on N l item (s.taken l)
-received_is shows N capacity plants boxes s l item plant box p received read says at =
-    says (moment N capacity s) p (subst (λ z. IsAt shows (moment N capacity s) p z) (sym read.asked)
-    (plant_is_at shows N capacity plants boxes s at p plant read.known))
-    (record { lane = read.within; plant = read.receiver }) read.there
-
-shipped_read : {A : Type 0} (shows : Showing A) (N : Table) (capacity : ℕ) (plants : List A) (boxes : List Held) (s : State) (l : ℕ) (item : ItemNo) (plant : A)
-    (box : Held) (p received waiting : ℕ)
-    → Read shows N plants boxes l item plant box p → SaysReceived shows plant l item received → waiting ≡ moved item.0 (contents box.records)
-    → AreAt shows N capacity plants boxes s → received + waiting ≡ cum_on N l item (s.sent l)
-shipped_read shows N capacity plants boxes s l item plant box p received waiting read says waits at =
-    let e : moved item.0 (contents box.records) ≡ moved item.0 (contents (box_at boxes l).records) =
-    ap (λ (b : Held). moved item.0 (contents b.records)) (box_read shows N plants boxes l item box read.within read.some read.held) in
-    omega (
-      arith,
-      e,
-      waits,
-      received_is shows N capacity plants boxes s l item plant box p received read says at,
-      shipped_is shows N capacity plants boxes s l
-          item at read.within read.there,
-    )
-
-pub shipped_fits : {A : Type 0} (shows : Showing A) (N : Table) (plants : List A) (boxes : List Held) (l : ℕ) (item : ItemNo) (plant : A) (box : Held)
-    (p received waiting : ℕ)
-    → Read shows N plants boxes l item plant box p → SaysReceived shows plant l item received → waiting ≡ moved item.0 (contents box.records)
-    → received + waiting ≤ 1000000000000000
-shipped_fits shows N plants boxes l item plant box p received waiting read says waits =
-    let some = read.some in
-    omega (
-      arith,
-      shipped_read shows N some.0 plants boxes some.1 l item plant box p received waiting read says waits some.2,
-      shipped_is_small shows N some.0
-          plants boxes some.1 l item some.2 read.within read.there,
-    )
-
 abbrev pub figure_record : ℕ → ItemNo → ℕ → ℕ → ℕ → LaneFigure
 figure_record l item opens ships received =
     record { lane = record { 0 = l }; item = item; opening = opens; shipped = ships; received = received }
 
-pub figure_is : {A : Type 0} (shows : Showing A) (N : Table) (capacity : ℕ) (plants : List A) (boxes : List Held) (s : State) (l : ℕ) (item : ItemNo)
-    (plant : A) (box : Held) (p received waiting opens ships : ℕ)
-    → Read shows N plants boxes l item plant box p → SaysReceived shows plant l item received → waiting ≡ moved item.0 (contents box.records)
-    → opens ≡ opening N (lane_at N l) item
-    → ships ≡ received + waiting → AreAt shows N capacity plants boxes s
-    → figure_record l item opens ships received ≡ lane_figure_at N s l item
-figure_is shows N capacity plants boxes s l item plant box p received waiting opens ships read says waits opened shipped at =
-    ap (λ (o : ℕ). figure_record l item o ships received) opened
-    ∙ ap (λ (n : ℕ). figure_record l item (opening N (lane_at N l) item) n received)
-    (shipped ∙ shipped_read shows N capacity plants boxes s l item plant box p received waiting read says waits at)
-    ∙ ap (λ (n : ℕ). figure_record l item (opening N (lane_at N l) item) (cum_on N l item (s.sent l)) n)
-    (received_is shows N capacity plants boxes s l item plant box p received read says at)
+-- what lies in the mailbox
+held_is : {A : Type 0} (shows : Showing A) (N : Table) (plants : List A) (boxes : List Held) (l : ℕ) (item : ItemNo) (box : Held)
+    → l < length (lanes N) → AreSomewhere shows N plants boxes → box ≡ get_or boxes l box
+    → moved item.0 (contents box.records) ≡ moved item.0 (contents (box_at boxes l).records)
+held_is shows N plants boxes l item box within some is =
+    ap (λ (b : Held). moved item.0 (contents b.records)) (is ∙ box_is shows N plants boxes l box some within)
 
-pub may_be_asked : {A : Type 0} (shows : Showing A) (N : Table) (plants : List A) (boxes : List Held) (l : ℕ) (item : ItemNo) (plant : A) (box : Held) (p : ℕ)
-    → Read shows N plants boxes l item plant box p → Receives shows plant l
-may_be_asked shows N plants boxes l item plant box p read =
-    subst (λ z. Receives shows z l) (sym read.asked) (may_receive shows N plants boxes l p plant read.some read.within read.known read.receiver)
+pub waiting_is_small : {A : Type 0} (shows : Showing A) (N : Table) (plants : List A) (boxes : List Held) (l : ℕ) (item : ItemNo) (box : Held)
+    → l < length (lanes N) → Contains (lane_items N (lane_at N l)) item → AreSomewhere shows N plants boxes → box ≡ get_or boxes l box
+    → moved item.0 (contents box.records) ≤ 1000000000000000
+waiting_is_small shows N plants boxes l item box within there some is =
+    omega (
+      arith,
+      held_is shows N plants boxes l item box within some is,
+      shipped_is shows N some.0 plants boxes some.1 l item some.2 within there,
+      shipped_is_small shows N some.0 plants boxes some.1 l item some.2 within there,
+    )
+
+module _ {A : Type 0} {shows : Showing A} {N : Table} {plants : List A} {boxes : List Held} {l : ℕ} {item : ItemNo} {plant : A} {box : Held} {p : ℕ}
+    (read : Read shows N plants boxes l item plant box p) where
+  pub may_be_asked : Receives shows plant l
+  may_be_asked =
+      subst (λ z. Receives shows z l) (sym read.asked) (may_receive shows N plants boxes l p plant read.some read.within read.known read.receiver)
+
+  module _ (received waiting : ℕ) (says : SaysReceived shows plant l item received) (waits : waiting ≡ moved item.0 (contents box.records)) where
+    received_at : (capacity : ℕ) (s : State) → AreAt shows N capacity plants boxes s → received ≡ cum_on N l item (s.taken l)
+    received_at capacity s at =
+        says (moment N capacity s) p (subst (λ z. IsAt shows (moment N capacity s) p z) (sym read.asked)
+        (plant_is_at shows N capacity plants boxes s at p plant read.known))
+        (record { lane = read.within; plant = read.receiver }) read.there
+
+    shipped_at : (capacity : ℕ) (s : State) → AreAt shows N capacity plants boxes s → received + waiting ≡ cum_on N l item (s.sent l)
+    shipped_at capacity s at =
+        omega (
+          arith,
+          held_is shows N plants boxes l item box read.within read.some read.held,
+          waits,
+          received_at capacity s at,
+          shipped_is shows N capacity plants boxes s l item at read.within read.there,
+        )
+
+    pub shipped_fits : received + waiting ≤ 1000000000000000
+    shipped_fits =
+        let some = read.some in
+        omega (arith, shipped_at some.0 some.1 some.2, shipped_is_small shows N some.0 plants boxes some.1 l item some.2 read.within read.there)
+
+    pub figure_is : (opens ships : ℕ) → opens ≡ opening N (lane_at N l) item → ships ≡ received + waiting
+        → (capacity : ℕ) (s : State) → AreAt shows N capacity plants boxes s → figure_record l item opens ships received ≡ lane_figure_at N s l item
+    figure_is opens ships opened shipped capacity s at =
+        ap (λ (o : ℕ). figure_record l item o ships received) opened
+        ∙ ap (λ (n : ℕ). figure_record l item (opening N (lane_at N l) item) n received) (shipped ∙ shipped_at capacity s at)
+        ∙ ap (λ (n : ℕ). figure_record l item (opening N (lane_at N l) item) (cum_on N l item (s.sent l)) n) (received_at capacity s at)
 
 -- ---- lists of figures
 

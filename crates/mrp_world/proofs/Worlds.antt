@@ -1,7 +1,7 @@
 -- What events do to a world.
 use Rattle.std.proofs.Common.{◌≡◌, Option, None, Some, get_or, take, ℕ, ◌+◌, ◌-◌, ◌<◌, ◌≤◌, ◌==◌, Bool, true, false, List, [], ◌∷◌, ◌++◌, inl, inr, length}
 use Rattle.std.proofs.Common.{refl, sym, ap, subst, ◌∙◌, arith}
-use Rattle.std.specs.Prelude.{slice_get, MatchBool, IfSome, IfNone, IsSome, IsSomeAnd, IfOk, Result, Ok, Err}
+use Rattle.std.specs.Prelude.{slice_get, MatchBool, IfNone, IsSome, IsSomeAnd}
 use Rattle.std.proofs.lemmas.Bool.{cases_Bool, cases_from_iff, eqb-true, eq-eqb, false≢true}
 use Rattle.std.proofs.lemmas.List.{take_more}
 use Rattle.std.proofs.lemmas.Option.{slice_get_read}
@@ -126,14 +126,6 @@ runs_one shows w event new applied leads nowhere same network capacity = record 
 }
 
 -- ---- what plants and mailboxes say
-
-pub some_more : {X : Type 0} (o : Option X) (P Q : X → Type 0) → ((x : X) → P x → Q x) → IfSome o P → IfSome o Q
-some_more None P Q f h = h
-some_more (Some x) P Q f h = f x h
-
-pub ok_more : {X E : Type 0} (r : Result X E) (P Q : X → Type 0) → ((x : X) → P x → Q x) → IfOk r P → IfOk r Q
-ok_more (Ok x) P Q f h = f x h
-ok_more (Err e) P Q f h = h
 
 module _ {A : Type 0} (shows : Showing A) (N : Table) (capacity : ℕ) (plants plants_too : List A) (boxes boxes_too : List Held) (left : ℕ) (w : WorldState A)
     (same_plants : plants_too ≡ plants) (same_boxes : boxes_too ≡ boxes) (e : world N capacity plants boxes left ≡ w) where

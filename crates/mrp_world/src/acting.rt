@@ -76,24 +76,10 @@ fn act<P: Plant>(network: &Network, plants: &mut [P], boxes: &mut [Mailbox], eve
     ensures { Acts P.shows network.now plants.old boxes.old event result plants.new boxes.new }
 {
     match event {
-        Event::Send(lane) => {
-            if lane.0 >= network.lanes() {
-                return false;
-            }
-            send(network, plants, boxes, lane)
-        }
-        Event::Receive(lane) => {
-            if lane.0 >= network.lanes() {
-                return false;
-            }
-            receive(network, plants, boxes, lane)
-        }
-        Event::Plan(x) => {
-            if x.0 >= network.pairs() {
-                return false;
-            }
-            plan(network, plants, x)
-        }
+        Event::Send(lane) if lane.0 < network.lanes() => send(network, plants, boxes, lane),
+        Event::Receive(lane) if lane.0 < network.lanes() => receive(network, plants, boxes, lane),
+        Event::Plan(x) if x.0 < network.pairs() => plan(network, plants, x),
+        _ => false,
     }
 }
 

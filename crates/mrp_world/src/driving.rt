@@ -9,7 +9,8 @@ use crate::acting::{plan, receive, send};
 use crate::{Mailbox, Plant};
 use mrp_net::{LaneNo, Network};
 
-/// Lets enabled events happen one by one until none is enabled.
+/// Lets enabled events happen one by one until none is enabled. What can be planned is planned first, then records
+/// move lane by lane, each computed once.
 pub(crate) fn drive_on<P: Plant>(network: &Network, plants: &mut Vec<P>, boxes: &mut Vec<Mailbox>)
     requires shown { AreSomewhere P.shows network.now plants.old.items boxes.old.items }
     ensures runs { LeadOn P.shows network.now plants.old.items boxes.old.items 0 plants.new.items boxes.new.items }
@@ -23,7 +24,7 @@ pub(crate) fn drive_on<P: Plant>(network: &Network, plants: &mut Vec<P>, boxes: 
     }
 }
 
-/// Lets events happen on all plants and over all lanes once, and answers whether there was one.
+/// A round over the lists that own the plants and the mailboxes. Answers whether something happened.
 fn go_on<P: Plant>(network: &Network, plants: &mut Vec<P>, boxes: &mut Vec<Mailbox>) -> bool
     requires shown { AreSomewhere P.shows network.now plants.old.items boxes.old.items }
     ensures { Tried P.shows network.now plants.old.items boxes.old.items (AllRests P.shows network.now) result
@@ -32,8 +33,8 @@ fn go_on<P: Plant>(network: &Network, plants: &mut Vec<P>, boxes: &mut Vec<Mailb
     go_round(network, plants.as_mut_slice(), boxes.as_mut_slice())
 }
 
-/// Lets pairs be planned where some can be, or else records move over the lanes, and answers whether there was
-/// something.
+/// A round: plans what can be planned or, where nothing can, lets records move over the lanes. Answers whether
+/// something happened.
 fn go_round<P: Plant>(network: &Network, plants: &mut [P], boxes: &mut [Mailbox]) -> bool
     requires shown { AreSomewhere P.shows network.now plants.old boxes.old }
     ensures { Tried P.shows network.now plants.old boxes.old (AllRests P.shows network.now) result plants.new
@@ -45,7 +46,8 @@ fn go_round<P: Plant>(network: &Network, plants: &mut [P], boxes: &mut [Mailbox]
     move_all(network, plants, boxes)
 }
 
-/// Lets records move over each lane in turn, and then its receiver plan. Answers whether something happened.
+/// Lets records move over each lane in turn, after which its receiver plans what it can. Answers whether something
+/// happened.
 fn move_all<P: Plant>(network: &Network, plants: &mut [P], boxes: &mut [Mailbox]) -> bool
     requires shown { AreSomewhere P.shows network.now plants.old boxes.old }
     ensures { Tried P.shows network.now plants.old boxes.old

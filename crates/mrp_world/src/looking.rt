@@ -22,24 +22,15 @@ pub(crate) fn first_place() -> Place {
 /// Where an event happened.
 pub(crate) fn place_after(network: &Network, event: Event, before: Place) -> Place {
     match event {
-        Event::Send(lane) | Event::Receive(lane) => {
-            if lane.0 >= network.lanes() {
-                return before;
-            }
-            Place {
-                lane: lane.0,
-                plant: network.lane(lane).receiver.0,
-            }
-        }
-        Event::Plan(x) => {
-            if x.0 >= network.pairs() {
-                return before;
-            }
-            Place {
-                lane: before.lane,
-                plant: network.pair(x).plant.0,
-            }
-        }
+        Event::Send(lane) | Event::Receive(lane) if lane.0 < network.lanes() => Place {
+            lane: lane.0,
+            plant: network.lane(lane).receiver.0,
+        },
+        Event::Plan(x) if x.0 < network.pairs() => Place {
+            lane: before.lane,
+            plant: network.pair(x).plant.0,
+        },
+        _ => before,
     }
 }
 

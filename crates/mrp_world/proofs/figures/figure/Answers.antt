@@ -25,7 +25,7 @@ pieces-waiting-requires g c =
 
 pub received-received-requires : goal.received-received-requires
 received-received-requires g c = record {
-  lane = piece.may_be_asked g.P.Plant.shows c.args.network.now c.args.plants.now c.args.boxes.now c.args.lane.0 c.args.item _ c.index-boxes-lane.result _
+  lane = piece.may_be_asked
       (piece.read_on _ _ _ _ _ _ _ _ _ c.requires.lane c.requires.item c.requires.shown c.index-boxes-lane.is c.lane.ensures.value c.lane.ensures.plants
       c.index-plants-receiver.is);
 }
@@ -33,11 +33,10 @@ received-received-requires g c = record {
 -- what was received and what lies in the mailbox is small
 fits : (g : Over) (c : After-get g) → c.received-received.result + c.pieces-waiting.result ≤ 1000000000000000
 fits g c =
-    piece.shipped_fits g.P.Plant.shows c.args.network.now c.args.plants.now c.args.boxes.now c.args.lane.0 c.args.item c.index-plants-receiver.result
-    c.index-boxes-lane.result
-    c.lane.result.receiver.0 c.received-received.result c.pieces-waiting.result
+    piece.shipped_fits
     (piece.read_on _ _ _ _ _ _ _ _ _ c.requires.lane c.requires.item c.requires.shown c.index-boxes-lane.is c.lane.ensures.value c.lane.ensures.plants
-    c.index-plants-receiver.is) c.received-received.ensures c.pieces-waiting.ensures
+    c.index-plants-receiver.is)
+    c.received-received.result c.pieces-waiting.result c.received-received.ensures c.pieces-waiting.ensures
 
 pub overflow_add-get : goal.overflow_add-get
 overflow_add-get g c = omega (arith, c.get.ensures.value, fits g (goal.at.overflow_add-get g c).After-get)
@@ -46,10 +45,9 @@ pub of-requires : goal.of-requires
 of-requires g c = omega (arith, c.get.ensures.value, fits g (goal.at.of-requires g c).After-get)
 
 pub returns : goal.returns
-returns g c capacity s at =
-    piece.figure_is g.P.Plant.shows c.args.network.now capacity c.args.plants.now c.args.boxes.now s c.args.lane.0 c.args.item c.index-plants-receiver.result
-    c.index-boxes-lane.result
-    c.lane.result.receiver.0 c.received-received.result c.pieces-waiting.result _ _
+returns g c =
+    piece.figure_is
     (piece.read_on _ _ _ _ _ _ _ _ _ c.requires.lane c.requires.item c.requires.shown c.index-boxes-lane.is c.lane.ensures.value c.lane.ensures.plants
-    c.index-plants-receiver.is) c.received-received.ensures c.pieces-waiting.ensures
-    (c.of-opening.ensures ∙ c.opening.ensures) (c.of.ensures ∙ ap (λ (n : ℕ). n + c.pieces-waiting.result) c.get.ensures.value) at
+    c.index-plants-receiver.is)
+    c.received-received.result c.pieces-waiting.result c.received-received.ensures c.pieces-waiting.ensures _ _ (c.of-opening.ensures ∙ c.opening.ensures)
+    (c.of.ensures ∙ ap (λ (n : ℕ). n + c.pieces-waiting.result) c.get.ensures.value)

@@ -1,6 +1,7 @@
-use Rattle.std.proofs.Common.{◌≡◌, ◌≤◌, sym, ap, subst, ◌∙◌, arith}
+use Rattle.std.proofs.Common.{◌≡◌, ◌≤◌, sym, ap, arith}
 use Rattle.mrp_world.specs.Moves.{IsWorld}
 use Rattle.std.proofs.lemmas.Bool.{true≢false}
+use Rattle.mrp_world.proofs.Drives as drive
 use Rattle.mrp_world.proofs.Worlds as world
 use Rattle.mrp_world.proofs.world.World.apply.Goals as goal
 
@@ -49,18 +50,10 @@ returns-clause-capacity g c = ap (λ w. w.capacity) c.self.view_is
 
 pub returns-then-not-act_on-clause-unchanged : goal.returns-then-not-act_on-clause-unchanged
 returns-then-not-act_on-clause-unchanged g c _ =
-    let still = c.if-not-act_on.ensures in
     let w = c.self.inside in
-    (λ j. record { network = w.network.now; capacity = w.capacity; plants = still.same_plants j; boxes = still.same_boxes j; left = w.left }) ∙ c.self.view_is
+    drive.still_has (λ p b. world.world w.network.now w.capacity p b w.left ≡ c.args.self.now) c.if-not-act_on.ensures c.self.view_is
 
 pub invariant_of-self : goal.invariant_of-self
 invariant_of-self g c =
-    let still = c.if-not-act_on.ensures in
     let w = c.self.inside in
-    subst (IsWorld g.P.Plant.shows) (λ j. record {
-      network = w.network.now;
-      capacity = w.capacity;
-      plants = sym still.same_plants j;
-      boxes = sym still.same_boxes j;
-      left = w.left;
-    }) c.self.invariant
+    drive.still_has (λ p b. IsWorld g.P.Plant.shows (world.world w.network.now w.capacity p b w.left)) c.if-not-act_on.ensures c.self.invariant
