@@ -1,16 +1,20 @@
 """The reports of mrp as the tools for planners read them, and how all tools speak. What a row is python/mrp.py says."""
 import argparse
 import contextlib
+import difflib
+import heapq
 import mmap
 import os
 import re
 import sys
+from datetime import timedelta
 from typing import NamedTuple
 
 HERE = os.path.dirname(os.path.realpath(__file__))
 TOP = os.path.dirname(HERE)
 # (mrp.py stands in python/, or beside this file where bin/install put both: so this module is imported before it)
 sys.path.append(f"{TOP}/python")
+import headed  # noqa: E402
 import mrp  # noqa: E402
 from mrp import Names, Refused  # noqa: E402
 
@@ -20,6 +24,8 @@ TOOL = (f"{FOLDER}/" if FOLDER in ("bin", "tools") else "") + os.path.basename(s
 LABELS = ("Gross requirements", "Scheduled receipts", "Projected available")
 LABELS += ("Planned order receipts", "Planned order releases")
 WITH_DELAYS = "Available with delays"
+# How many names that are like one are told.
+MOST_NEAREST = 3
 
 
 class Record(NamedTuple):
@@ -202,6 +208,49 @@ def count(text):
     if not re.fullmatch("[1-9][0-9]{0,8}", text):
         raise argparse.ArgumentTypeError(f"{text!r} is no number from 1 on")
     return int(text)
+
+
+def moment(text):
+    """Returns the period that a word says, or the day."""
+    if re.fullmatch("0|[1-9][0-9]{0,2}", text):
+        return int(text)
+    try:
+        return headed.day(text, None)
+    except headed.Slip:
+        raise argparse.ArgumentTypeError(f"{text!r} is no period and no day; write it as 3 or as 2026-12-07") from None
+
+
+def period_of(when, run):
+    """Returns the period that a word says of the plan of a run row: of a day the one that holds it. A day outside the plan is refused."""
+    if isinstance(when, int):
+        return when
+    calendar = mrp.calendar_of(run)
+    period = calendar.period(when)
+    if not 0 <= period < run.periods:
+        last = calendar.first_day(run.periods) - timedelta(days=1)
+        raise Refused(f"{when} is not in the plan, which goes from {run.first} to {last}")
+    return period
+
+
+def nearest(text, names):
+    """Returns the names that are most like a text, three at most, as a question in brackets, or nothing. Of each it takes what is compared and what is told."""
+    plain, wanted = {it.casefold(): told for it, told in names}, text.casefold()
+    # (of many names those that share the most pairs of letters, for matching takes long)
+    likely = heapq.nlargest(30, plain, key=lambda it: len({*zip(it, it[1:])} & {*zip(wanted, wanted[1:])}))
+    found = difflib.get_close_matches(wanted, likely, MOST_NEAREST)
+    return f" ({', '.join(plain[it] for it in found)}?)" if found else ""
+
+
+def no_pair(where, plant, item, pairs, names):
+    """Refuses a pair that isn't among those of a table or report. It names the plants that keep the item, else the nearest items of the plant, else the nearest pairs."""
+    known = [(pair, names.own(*pair)) for pair in pairs]
+    same = [" ".join(own) for pair, own in known if item in (pair[1], own[1])][:MOST_NEAREST]
+    here = [(own[1], " ".join(own)) for pair, own in known if plant in (pair[0], own[0])]
+    if same:
+        meant = f" ({', '.join(same)}?)"
+    else:
+        meant = nearest(item, here) if here else nearest(f"{plant} {item}", [2 * (" ".join(own),) for _, own in known])
+    raise Refused(f"{where} has no pair {plant} {item}{meant}")
 
 
 def program():

@@ -47,6 +47,18 @@ def test_page_says_what_it_leaves_out(room):
     ]
 
 
+def test_page_names_the_nearest(room):
+    """Of a plant, an item or a pair that the report hasn't."""
+    for words, said in (
+        ("--plant SOTH", "no plant SOTH (SOUTH, NORTH?)"),
+        ("--item WHEELS", "no item WHEELS (WHEEL?)"),
+        ("--plant SOUTH --item TUB", "no pair SOUTH TUB (SOUTH TUBE?)"),
+        ("--item 7", "no item 7"),
+    ):
+        wanted = f"bin/page: the report has {said}\n"
+        assert room.run(f"bin/page {words} < examples/three_plants.plan.csv", status=1) == wanted
+
+
 def open_page(room, name):
     """Opens a page in a browser, and returns what stands on it then."""
     browser = wants("chromium", "chromium-browser", "google-chrome")
