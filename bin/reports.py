@@ -6,6 +6,7 @@ import heapq
 import mmap
 import os
 import re
+import subprocess
 import sys
 from datetime import timedelta
 from typing import NamedTuple
@@ -217,11 +218,12 @@ def moment(text):
     try:
         return headed.day(text, None)
     except headed.Slip:
-        raise argparse.ArgumentTypeError(f"{text!r} is no period and no day; write it as 3 or as 2026-12-07") from None
+        said = f"{text!r} is no period and no day; write it as 3 or as 2026-12-07"
+        raise argparse.ArgumentTypeError(said) from None
 
 
 def period_of(when, run):
-    """Returns the period that a word says of the plan of a run row: of a day the one that holds it. A day outside the plan is refused."""
+    """Returns the period that a word says, of a day the one that holds it. A day outside the plan of a run row is refused."""
     if isinstance(when, int):
         return when
     calendar = mrp.calendar_of(run)
@@ -233,7 +235,10 @@ def period_of(when, run):
 
 
 def nearest(text, names):
-    """Returns the names that are most like a text, three at most, as a question in brackets, or nothing. Of each it takes what is compared and what is told."""
+    """Returns the names that are most like a text, three at most, as a question in brackets, or nothing.
+
+    Of each name it takes what is compared and what is told.
+    """
     plain, wanted = {it.casefold(): told for it, told in names}, text.casefold()
     # (of many names those that share the most pairs of letters, for matching takes long)
     likely = heapq.nlargest(30, plain, key=lambda it: len({*zip(it, it[1:])} & {*zip(wanted, wanted[1:])}))
@@ -242,20 +247,32 @@ def nearest(text, names):
 
 
 def no_pair(where, plant, item, pairs, names):
-    """Refuses a pair that isn't among those of a table or report. It names the plants that keep the item, else the nearest items of the plant, else the nearest pairs."""
+    """Refuses a pair that isn't among those of a table or report.
+
+    It names the plants that keep the item, else the nearest items of the plant, else the nearest pairs.
+    """
     known = [(pair, names.own(*pair)) for pair in pairs]
     same = [" ".join(own) for pair, own in known if item in (pair[1], own[1])][:MOST_NEAREST]
     here = [(own[1], " ".join(own)) for pair, own in known if plant in (pair[0], own[0])]
     if same:
         meant = f" ({', '.join(same)}?)"
+    elif here:
+        meant = nearest(item, here)
     else:
-        meant = nearest(item, here) if here else nearest(f"{plant} {item}", [2 * (" ".join(own),) for _, own in known])
+        meant = nearest(f"{plant} {item}", [2 * (" ".join(own),) for _, own in known])
     raise Refused(f"{where} has no pair {plant} {item}{meant}")
 
 
 def program():
     """Returns the path of mrp: the one that MRP names, else the one on the path, else bin/mrp."""
     return mrp.program().path
+
+
+def ask(words, table, path):
+    """Has the program write a report of a table into a file. Where it refuses, it has said why, and the tool ends."""
+    with open(table, "rb") as rows, open(path, "wb") as file:
+        if subprocess.run([program(), *words.split()], stdin=rows, stdout=file, check=False).returncode:
+            sys.exit(1)
 
 
 def run(main):

@@ -88,7 +88,7 @@ def test_why_takes_a_day_for_its_period(room):
 
 
 def test_why_names_the_nearest(room):
-    """Plants that keep the item, else items of the plant, else pairs; by the names of the sheets where these are given."""
+    """Plants that keep the item, else items of the plant, else pairs; by the names of the sheets where given."""
     reports_from_files(room, three_plants(), "orders", "pegs")
     for words, meant in (
         ("SOUTH TUB", " (SOUTH TUBE?)"),
