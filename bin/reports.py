@@ -79,9 +79,16 @@ def day(dates, period):
     return dates[period]
 
 
-def parts(file, wanted=lambda plant, item: True):
+class Line(NamedTuple):
+    """A row of a report that isn't read yet, and its number."""
+
+    text: str
+    number: int
+
+
+def parts(file, wanted=lambda plant, item: True, unread=()):
     """Yields the parts of a report in its order: a Record for each pair that is wanted, a pair of names for each other
-    one, and each other row.
+    one, and each other row, as a Line where it begins with words of which many rows may stand unread.
 
     The file gives bytes and is read once, a line at a time; plan rows of pairs that aren't wanted, and rows of names,
     are passed over.
@@ -103,6 +110,8 @@ def parts(file, wanted=lambda plant, item: True):
                 lines = [line]
             else:
                 yield plant, item
+        elif line.startswith(unread):
+            yield Line(line.decode(errors="replace"), number)
         elif line.rstrip() not in HEADERS:
             yield mrp.report_row(line.decode(errors="replace"), number)
     if lines:
