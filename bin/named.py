@@ -55,7 +55,8 @@ class Report:
         self.table, self.path = f"{folder}/table.csv", f"{folder}/report.csv"
         with open(self.table, "wb") as copy:
             shutil.copyfileobj(sys.stdin.buffer, copy)
-        reports.ask(f"{command} --header", self.table, self.path)
+        with open(self.path, "wb") as file:
+            reports.ask(f"{command} --header", self.table, file)
 
     def of_table(self, kind):
         """Returns the rows of a kind in the table."""

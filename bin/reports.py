@@ -277,9 +277,10 @@ def program():
     return mrp.program().path
 
 
-def ask(words, table, path):
+def ask(words, table, file):
     """Has the program write a report of a table into a file. Where it refuses, it has said why, and the tool ends."""
-    with open(table, "rb") as rows, open(path, "wb") as file:
+    file.flush()
+    with open(table, "rb") as rows:
         if subprocess.run([program(), *words.split()], stdin=rows, stdout=file, check=False).returncode:
             sys.exit(1)
 
