@@ -226,7 +226,7 @@ class Board:
                 figures = [out.opening, out.shipped - out.opening, call.shipped - out.shipped, call.shipped]
                 rows.append([self.plant(out.sender), self.plant(out.receiver), self.item(out.receiver, out.item), *figures])
         heads = ["Supplier", "Customer", "Item", "Received", "In transit", "Still to be shipped", "Called for in all"]
-        return self.section("lanes", "Between plants", sortable(heads, rows), "") if rows else ""
+        return self.section("lanes", "Between plants", sortable(heads, rows, " stack"), "") if rows else ""
 
     # The records.
 

@@ -237,14 +237,15 @@ def test_page_folds_what_can_wait(room):
 
 # What a reader sees of a page in a frame, said to the page around it: how many weeks of the first record; and whether
 # nothing stands out of the window, the first picture is whole, and the lateness of the first order to release and of
-# the first late one can be read, on a phone without lists that scroll.
+# the first late one can be read; no list scrolls, and on a phone the heads above stacked cells say what they are for.
 SEEN = """
 const within = (it, outer) => it.left >= outer.left && it.right <= outer.right + 1, place = (words) => document.querySelector(words).getBoundingClientRect();
 const window_ = { left: 0, right: innerWidth }, scroll = place("article .scroll"), whole = (words) => within(place(words), window_);
 const weeks = [...document.querySelectorAll("article:first-of-type thead th:not(.name)")].filter((it) => within(it.getBoundingClientRect(), scroll)).length;
 const fits = (it) => it.scrollWidth <= it.clientWidth && it.scrollHeight <= it.clientHeight;
-const lists = innerWidth > 400 || [...document.querySelectorAll(".list")].every(fits);
-const seen = ["#release b.late", "#release time", "#late b.late"].every((it) => within(place(it), place(it.split(" ")[0] + " .list")) && whole(it)) && lists;
+const lists = [...document.querySelectorAll(".list")].every(fits);
+const said = getComputedStyle(document.querySelector(".stack thead tr"), "::before").content, sorts = innerWidth > 400 ? "none" : '"Sort by"';
+const seen = ["#release b.late", "#release time", "#late b.late"].every((it) => within(place(it), place(it.split(" ")[0] + " .list")) && whole(it)) && lists && said === sorts;
 parent.postMessage([innerWidth, weeks, document.documentElement.scrollWidth <= innerWidth, whole("article svg"), seen].join(" "), "*");
 """
 FRAMES = """<body><script>addEventListener("message", (it) => document.body.append("seen " + it.data + ";"));</script>
@@ -263,9 +264,13 @@ def test_page_fits_a_screen_and_a_phone(room):
     ]
     rows = [f"plan,HAM,PUMP-{item},{it}\n" for item in range(3) for it in figures]
     rows += ["late,HAM,PUMP-1,1,1250,9\n", f"order,HAM,PUMP-1,from:BRN:700:LYO:300,1250,0,{days[0]},1,{days[1]},9\n"]
+    rows += [f"order,HAM,PUMP-1,from:BRN:700:LYO:300,12500,0,{days[0]},{t},{days[t]},{9 - t}\n" for t in range(2, 9)]
     rows += [f"advice,expedite,receipt,HAM,PUMP-1,,6,{days[6]},60,0,{days[0]}\n"] * 40 + [
         f"hit,HAM,PUMP-0,3,{days[3]},1200,8,HAM,PUMP-1\n"
     ]
+    rows += ["schedule,opening,BRN,HAM,PUMP-1,,,150000,975000\n"]
+    rows += [f"schedule,call,BRN,HAM,PUMP-1,{t},{days[t]},250000,1225000\n" for t in (1, 3)]
+    rows += ["lane,despatch,BRN,HAM,PUMP-1,825000,975000,975000,0\nlane,schedule,HAM,BRN,PUMP-1,975000,1475000,1475000,0\n"]
     room.write("reports.csv", "".join(rows))
     names = [
         ",".join(reports.Names.COLUMNS),
