@@ -5,8 +5,8 @@ from datetime import timedelta
 import reports
 import mrp
 
-# At most so many rows of a list, so many late orders of a pair in it, and so many demands that are hit.
-MOST_ROWS, MOST_ORDERS, MOST_LINES = 1000, 4, 20
+# At most so many rows of a list, of which so many are seen at once, so many orders of a pair in it, and lines that open.
+MOST_ROWS, MOST_SEEN, MOST_ORDERS, MOST_LINES = 1000, 100, 4, 20
 # The days of a month: what is released in it is unfolded, and what is late by as much is marked most.
 MONTH = 31
 RULES = {"lot": "lot for lot", "fixed": "lots of {}", "periods": "for {} {}s", "min": "at least {}, by {}"}
@@ -25,8 +25,11 @@ def grouped(rows, *columns):
     return found
 
 
-def sortable(heads, rows, kind=""):
-    """Returns a table that can be sorted, of texts, of figures, and of texts with what they are sorted by. It says how many rows it leaves out."""
+def sortable(heads, rows, kind="", count=0):
+    """Returns a table that can be sorted, of texts, of figures, and of texts with what they are sorted by.
+
+    One of many rows scrolls, and says how many it has, and of how many, where the rows are the first of so many.
+    """
 
     def cell(it):
         shown, by = it if isinstance(it, tuple) else (it, None)
@@ -37,8 +40,10 @@ def sortable(heads, rows, kind=""):
     styles = [' class="name"' if cell(it).startswith('<td class="name"') else "" for it in rows[0]]
     head = "".join(f'<th{style}><button type="button">{it}</button></th>' for style, it in zip(styles, heads))
     body = "\n".join(f"<tr>{''.join(map(cell, row))}</tr>" for row in rows[:MOST_ROWS])
-    left_out = f"<p>{len(rows) - MOST_ROWS:,} more are left out.</p>" if len(rows) > MOST_ROWS else ""
-    return f'<div class="list{kind}"><table><thead><tr>{head}</tr></thead><tbody>\n{body}\n</tbody></table></div>{left_out}'
+    count = max(count, len(rows))
+    of = f"The first {MOST_ROWS:,} of {count:,} rows" if count > MOST_ROWS else f"{count:,} rows"
+    kind, said = (f"{kind} long", f"<p>{of}; the list scrolls.</p>") if count > MOST_SEEN else (kind, "")
+    return f'<div class="list{kind}"><table><thead><tr>{head}</tr></thead><tbody>\n{body}\n</tbody></table></div>{said}'
 
 
 def folded(lines):
@@ -58,9 +63,9 @@ class Board:
         calendar = mrp.Calendar.of_report(dates) if len(dates) > 1 else None
         self.unit = {1: "day", 7: "week"}.get(calendar.days, "period") if calendar else "period"
         self.month = calendar.period(dates[0] + timedelta(days=MONTH - 1)) + 1 if calendar else 1
-        self.late, self.messages, self.released, self.hit = (
-            grouped(outline.rows[it], "plant", "item") for it in (mrp.Late, mrp.Advice, mrp.Order, mrp.Hit)
-        )
+        kinds = mrp.Late, mrp.Order, mrp.Hit
+        self.late, self.released, self.hit = (grouped(outline.rows[it], "plant", "item") for it in kinds)
+        self.messages = outline.messages
         self.hits = grouped(outline.rows[mrp.Hit], "by_plant", "by_item")
 
     # What parts are made of.
@@ -115,8 +120,8 @@ class Board:
         """Returns how many there are of what the page is about."""
         rows = self.outline.rows
         counts = [(len(self.outline.pairs), "pair"), (len(self.dates), self.unit), (len(rows[mrp.Late]), "late order")]
-        counted = (mrp.Hit, "demand"), (mrp.Order, "order"), (mrp.Advice, "open order")
-        counts += [(len(rows[kind]), word) for kind, word in counted]
+        counts += [(len(rows[mrp.Hit]), "demand"), (len(rows[mrp.Order]), "order")]
+        counts += [(self.messages.count(), "open order")]
         ends = ["", "", "", " hit", " to release", " to be moved"]
         return ", ".join(reports.counted(*it) + end for it, end in zip(counts, ends) if it[0] or not end)
 
@@ -125,31 +130,48 @@ class Board:
         lists = []
         for (plant,), orders in grouped(self.outline.rows[mrp.Order], "plant").items():
             orders.sort(key=lambda it: -it.late)
-            rows = [[self.item(plant, it.item), it.quantity, self.lateness(it.late), self.dated(it.due_date), self.supply(it.supply)] for it in orders]
+            rows = [self.release(plant, it) for it in grouped(orders, "item").values()]
             lists.append(f'<div><h3>{self.plant(plant)}</h3>{sortable(["Item", "Quantity", "Late", "Due", "Supply"], rows, " stack")}</div>')
         when = {"week": "this week", "day": "today"}.get(self.unit, "now")
         return self.section("release", f"To release {when}", f'<div class="lists">{"".join(lists)}</div>' if lists else "", "Nothing.")
+
+    def release(self, plant, orders):
+        """Returns the row of an item that is released, the latest first of several orders: they open below their sum."""
+        first, due = orders[0], [f"{it.quantity:,} due {self.day(it.due_date)}" for it in orders]
+        lines = [line + (f", {self.lateness(it.late)[0]}" if it.late else "") for line, it in zip(due, orders)]
+        several = folded([f"{self.day(first.due_date)}, {len(orders):,} orders", *lines])
+        dated = several if len(orders) > 1 else self.day(first.due_date), str(first.due_date)
+        whole = sum(it.quantity for it in orders)
+        return [self.item(plant, first.item), whole, self.lateness(first.late), dated, self.supply(first.supply)]
 
     def late_orders(self):
         """Returns the pairs with late orders, and with each the demands that wait for it."""
         rows, hits_known = [], self.outline.facts is not None or bool(self.hits)
         for pair, orders in self.late.items():
-            lines = [f"{it.quantity:,} due {self.day(reports.day(self.dates, it.period))}" for it in orders]
-            if len(orders) > 1:
-                lines = [f"{line}, {reports.counted(it.by, self.unit)}" for line, it in zip(lines[:MOST_ORDERS], orders)]
-                lines += [f"and {len(orders) - MOST_ORDERS:,} more"] if len(orders) > MOST_ORDERS else []
-            lines += [f"or expedite {it.quantity:,} of {self.day(it.date)}" for it in self.messages.get(pair, []) if it.action == "expedite"]
             hits = self.hits.get(pair, [])
             ends = [len(hits), folded([self.demand(it) for it in hits])] if hits_known else []
             if others := self.outline.others.get(pair):
                 ends = [("", 0), self.others(others)]
-            rows.append([self.plant(pair[0]), self.item(*pair), self.lateness(orders[0].by), "<br>".join(lines), *ends])
+            rows.append([self.plant(pair[0]), self.item(*pair), self.lateness(orders[0].by), self.due(pair, orders), *ends])
         if not rows:
             return self.section("late", "Late orders", "", "No order is late.")
         title, heads = ("Late orders, and the demands that they hit", ["Demands", "Worst by this order"]) if hits_known else ("Late orders", [])
         note = "A demand stands by the late order that delays it most, with how late it is at worst; <em>also</em> counts those that wait for this one too."
         note = f"<p>{note}</p>" if hits_known else ""
         return self.section("late", title, sortable(["Plant", "Item", "Late", "Orders", *heads], rows, " stack") + note, "")
+
+    def due(self, pair, orders):
+        """Returns the late orders of a pair, and which open orders could come in their place; many open below their sum."""
+        days = [self.day(reports.day(self.dates, it.period)) for it in orders]
+        lines = [f"{it.quantity:,} due {day}" for it, day in zip(orders, days)]
+        if len(orders) > 1:
+            lines = [f"{line}, {reports.counted(it.by, self.unit)}" for line, it in zip(lines, orders)]
+        if len(orders) > MOST_ORDERS:
+            whole = f"{sum(it.quantity for it in orders):,} in {len(orders):,} orders, the first due {days[0]}"
+            lines = [folded([whole, *lines])]
+        found = [it for it in self.messages.rows(pair) if it.action == "expedite"]
+        instead = [f"or expedite {it.quantity:,} of {self.day(it.date)}" for it in found]
+        return "<br>".join([*lines, *instead]) if len(instead) <= MOST_ORDERS else "<br>".join([*lines, folded(instead)])
 
     def others(self, hits):
         """Returns how many demands wait for a pair, and for which other ones they wait longer."""
@@ -164,13 +186,14 @@ class Board:
     def moves(self):
         """Returns the open orders that are to be moved."""
         rows = []
-        for it in self.outline.rows[mrp.Advice]:
+        for it in self.messages.rows():
             comes = self.day(it.date) + self.notes(it.kind, it.plant, it.item, it.period)
             needed = self.dated(it.needed_date) if it.needed_date else ("never", "never")
             kind = f"in transit from {self.plant(it.supplier)}" if it.supplier else "receipt"
             rows.append([f"<b>{it.action}</b>", self.plant(it.plant), self.item(it.plant, it.item), it.quantity, (comes, str(it.date)), needed, kind])
         heads = ["Message", "Plant", "Item", "Quantity", "Comes", "Needed", "Kind"]
-        return self.section("moves", "Open orders to expedite, defer, cancel", sortable(heads, rows, " stack") if rows else "", "Each comes when it is needed.")
+        table = sortable(heads, rows, " stack", self.messages.count()) if rows else ""
+        return self.section("moves", "Open orders to expedite, defer, cancel", table, "Each comes when it is needed.")
 
     def deliveries(self):
         """Returns the next deliveries, a list for each lane, by when they leave."""
@@ -203,7 +226,7 @@ class Board:
                 figures = [out.opening, out.shipped - out.opening, call.shipped - out.shipped, call.shipped]
                 rows.append([self.plant(out.sender), self.plant(out.receiver), self.item(out.receiver, out.item), *figures])
         heads = ["Supplier", "Customer", "Item", "Received", "In transit", "Still to be shipped", "Called for in all"]
-        return self.section("lanes", "Between plants", sortable(heads, rows), "") if rows else ""
+        return self.section("lanes", "Between plants", sortable(heads, rows, " stack"), "") if rows else ""
 
     # The records.
 
@@ -256,9 +279,12 @@ class Board:
         orders = [(f"{it.quantity:,} to release,", it.due_date, it.late) for it in self.released.get(pair, [])]
         orders = orders or [(f"{it.quantity:,}", reports.day(record.dates, it.period), it.by) for it in self.late.get(pair, [])]
         lines = [f"{what} due {self.day(day)}" + (f", {self.lateness(late)[0]} late" if late else "") for what, day, late in orders]
-        for it in self.messages.get(pair, []):
+        messages = self.messages.rows(pair)
+        for it in messages:
             needed = f", needed {self.day(it.needed_date)}" if it.needed_date else ""
             lines.append(f"{it.action} {it.quantity:,} of {self.day(it.date)}{needed}")
+        more = self.messages.counts[pair] - len(messages)
+        lines += [f"and {reports.counted(more, 'open order')} more to be moved"] if more else []
         return "<br>".join(lines)
 
     def heads(self):

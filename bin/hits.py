@@ -72,18 +72,34 @@ class Firm:
 
     def __init__(self, lines, orders):
         """Takes the lines of the table, and its Orders."""
-        self.orders, self.leads, self.comes_in, self.takes = orders, {}, {}, {}
-        for row in mrp.table_rows(lines, mrp.Run, mrp.Pair, mrp.Bill, mrp.Receipt, mrp.Ship):
+        self.orders, self.leads, self.comes_in, self.takes, self.ends = orders, {}, {}, {}, {}
+        for row in mrp.table_rows(self.needed(lines), mrp.Run, mrp.Pair, mrp.Bill, mrp.Receipt, mrp.Ship):
             self.take(row)
+        self.settle()
+        self.gross, self.demand = ({pair: array("q", [0]) * min(end, self.periods) for pair, end in self.ends.items() if end} for _ in "12")
+
+    def needed(self, lines):
+        """Yields the lines of a table, but for receipts and shipments of what can't wait: there may be a million."""
+        for line in lines:
+            if line.startswith(("receipt,", "ship,")) and '"' not in line:
+                # (these stand behind all pairs and bills)
+                self.settle()
+                word, *names, _ = line.split(",", 4)
+                if not self.ends.get(tuple(names[:2] if word == "receipt" else names[1:])):
+                    continue
+            yield line
+
+    def settle(self):
+        """Finds which pairs can wait, and for how many periods, once all pairs and bills are there."""
+        if self.ends:
+            return
         self.pairs = [*self.leads]
         self.places = {pair: place for place, pair in enumerate(self.pairs)}
         self.order = [*graphlib.TopologicalSorter(self.takes).static_order()]
-        self.ends = {}
         for pair in self.order:
             # (nothing waits longer than the lead times from a late order up to it)
             below = max((self.ends[it] for it in self.takes[pair]), default=0)
-            self.ends[pair] = self.leads[pair] + below if below or pair in orders.late else 0
-        self.gross, self.demand = ({pair: array("q", [0]) * min(end, self.periods) for pair, end in self.ends.items() if end} for _ in "12")
+            self.ends[pair] = self.leads[pair] + below if below or pair in self.orders.late else 0
 
     def take(self, row):
         """Takes over a row of the table."""

@@ -1,16 +1,21 @@
 """The reports of mrp as the tools for planners read them, and how all tools speak. What a row is python/mrp.py says."""
 import argparse
 import contextlib
+import difflib
+import heapq
 import mmap
 import os
 import re
+import subprocess
 import sys
+from datetime import timedelta
 from typing import NamedTuple
 
 HERE = os.path.dirname(os.path.realpath(__file__))
 TOP = os.path.dirname(HERE)
 # (mrp.py stands in python/, or beside this file where bin/install put both: so this module is imported before it)
 sys.path.append(f"{TOP}/python")
+import headed  # noqa: E402
 import mrp  # noqa: E402
 from mrp import Names, Refused  # noqa: E402
 
@@ -20,6 +25,8 @@ TOOL = (f"{FOLDER}/" if FOLDER in ("bin", "tools") else "") + os.path.basename(s
 LABELS = ("Gross requirements", "Scheduled receipts", "Projected available")
 LABELS += ("Planned order receipts", "Planned order releases")
 WITH_DELAYS = "Available with delays"
+# How many names that are like one are told.
+MOST_NEAREST = 3
 
 
 class Record(NamedTuple):
@@ -72,9 +79,16 @@ def day(dates, period):
     return dates[period]
 
 
-def parts(file, wanted=lambda plant, item: True):
+class Line(NamedTuple):
+    """A row of a report that isn't read yet, and its number."""
+
+    text: str
+    number: int
+
+
+def parts(file, wanted=lambda plant, item: True, unread=()):
     """Yields the parts of a report in its order: a Record for each pair that is wanted, a pair of names for each other
-    one, and each other row.
+    one, and each other row, as a Line where it begins with words of which many rows may stand unread.
 
     The file gives bytes and is read once, a line at a time; plan rows of pairs that aren't wanted, and rows of names,
     are passed over.
@@ -96,6 +110,8 @@ def parts(file, wanted=lambda plant, item: True):
                 lines = [line]
             else:
                 yield plant, item
+        elif line.startswith(unread):
+            yield Line(line.decode(errors="replace"), number)
         elif line.rstrip() not in HEADERS:
             yield mrp.report_row(line.decode(errors="replace"), number)
     if lines:
@@ -204,9 +220,69 @@ def count(text):
     return int(text)
 
 
+def moment(text):
+    """Returns the period that a word says, or the day."""
+    if re.fullmatch("0|[1-9][0-9]{0,2}", text):
+        return int(text)
+    try:
+        return headed.day(text, None)
+    except headed.Slip:
+        said = f"{text!r} is no period and no day; write it as 3 or as 2026-12-07"
+        raise argparse.ArgumentTypeError(said) from None
+
+
+def period_of(when, run):
+    """Returns the period that a word says, of a day the one that holds it. A day outside the plan of a run row is refused."""
+    if isinstance(when, int):
+        return when
+    calendar = mrp.calendar_of(run)
+    period = calendar.period(when)
+    if not 0 <= period < run.periods:
+        last = calendar.first_day(run.periods) - timedelta(days=1)
+        raise Refused(f"{when} is not in the plan, which goes from {run.first} to {last}")
+    return period
+
+
+def nearest(text, names):
+    """Returns the names that are most like a text, three at most, as a question in brackets, or nothing.
+
+    Of each name it takes what is compared and what is told.
+    """
+    plain, wanted = {it.casefold(): told for it, told in names}, text.casefold()
+    # (of many names those that share the most pairs of letters, for matching takes long)
+    likely = heapq.nlargest(30, plain, key=lambda it: len({*zip(it, it[1:])} & {*zip(wanted, wanted[1:])}))
+    found = difflib.get_close_matches(wanted, likely, MOST_NEAREST)
+    return f" ({', '.join(plain[it] for it in found)}?)" if found else ""
+
+
+def no_pair(where, plant, item, pairs, names):
+    """Refuses a pair that isn't among those of a table or report.
+
+    It names the plants that keep the item, else the nearest items of the plant, else the nearest pairs.
+    """
+    known = [(pair, names.own(*pair)) for pair in pairs]
+    same = [" ".join(own) for pair, own in known if item in (pair[1], own[1])][:MOST_NEAREST]
+    here = [(own[1], " ".join(own)) for pair, own in known if plant in (pair[0], own[0])]
+    if same:
+        meant = f" ({', '.join(same)}?)"
+    elif here:
+        meant = nearest(item, here)
+    else:
+        meant = nearest(f"{plant} {item}", [2 * (" ".join(own),) for _, own in known])
+    raise Refused(f"{where} has no pair {plant} {item}{meant}")
+
+
 def program():
     """Returns the path of mrp: the one that MRP names, else the one on the path, else bin/mrp."""
     return mrp.program().path
+
+
+def ask(words, table, file):
+    """Has the program write a report of a table into a file. Where it refuses, it has said why, and the tool ends."""
+    file.flush()
+    with open(table, "rb") as rows:
+        if subprocess.run([program(), *words.split()], stdin=rows, stdout=file, check=False).returncode:
+            sys.exit(1)
 
 
 def run(main):

@@ -556,7 +556,7 @@ class Names:
     COLUMNS = ["row", "plant", "item", "period", "date", "quantity", "name", "description", "note"]
 
     def __init__(self, path=None):
-        self.plants, self.pairs, self.rows, self.is_given = {}, {}, {}, path is not None
+        self.plants, self.pairs, self.notes, self.rows, self.is_given = {}, {}, {}, {}, path is not None
         if self.is_given:
             try:
                 with open(path, encoding="utf-8", newline="") as file:
@@ -573,7 +573,7 @@ class Names:
         if kind == "plant":
             self.plants[plant] = name
         elif kind == "pair":
-            self.pairs[plant, item] = name, description
+            self.pairs[plant, item], self.notes[plant, item] = (name, description), note
         else:
             said = f"{quantity} of {date}" + (f": {note}" if note else "")
             self.rows.setdefault((kind, plant, item, int(period)), []).append(said)
@@ -588,6 +588,10 @@ class Names:
 
     def pair(self, plant, item):
         return f"{self.plant(plant)} {self.item(plant, item)}"
+
+    def own(self, plant, item):
+        """Returns the names of a plant and of an item there, without its description."""
+        return self.plant(plant), self.pairs.get((plant, item), (item,))[0]
 
     def meant(self, plant, item):
         """Returns the names in the table of a plant and an item, which may be those of the sheets."""

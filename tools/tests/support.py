@@ -17,6 +17,7 @@ import tempfile
 
 import cases
 import firms
+import oracle
 import pytest
 
 TOP = os.path.dirname(os.path.dirname(os.path.dirname(os.path.realpath(__file__))))
@@ -98,6 +99,14 @@ class Room:
         """Skips what is left of the test where there is no program."""
         if not self.program:
             skip("the program")
+
+
+def reports_from_files(room, table, *words):
+    """Writes a table, and reports of it that tools/oracle.py makes, for the program words/files."""
+    room.write("table.csv", table)
+    room.stand_in("words/files", "from_files")
+    for it in words:
+        room.write(f"{it}.csv", oracle.Oracle(table.encode()).answer(it).out.decode())
 
 
 COMMANDS = ("plan", "check", "peg", "cums", "orders", "schedule", "pegs", "advice")

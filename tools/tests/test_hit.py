@@ -9,20 +9,12 @@ import hits
 import mrp
 import oracle
 import reports
-from support import DELAYED
+from support import DELAYED, reports_from_files
 
 # By hand, with the orders of DELAYED_PLAN. X has 10 for the 11 of period 1 and the 16 of period 2, until the 3 and the
 # 5 come in period 3. Y has 9 for the 5 of period 1, though the order for its safety stock is late, and for the 12 of
 # period 4, until the 8 come in period 6.
 DELAYED_HITS = "hit,A,X,1,2026-01-12,7,2,A,X\nhit,A,Y,4,2026-02-02,7,2,A,Y\nhit,A,X,2,2026-01-19,5,1,A,X\n"
-
-
-def reports_from_files(room, table, *words):
-    """Writes a table, and reports of it that tools/oracle.py makes, for the program words/files."""
-    room.write("table.csv", table)
-    room.stand_in("words/files", "from_files")
-    for it in words:
-        room.write(f"{it}.csv", oracle.Oracle(table.encode()).answer(it).out.decode())
 
 
 def test_hit_is_worked_by_hand(room):

@@ -47,6 +47,18 @@ def test_page_says_what_it_leaves_out(room):
     ]
 
 
+def test_page_names_the_nearest(room):
+    """Of a plant, an item or a pair that the report hasn't."""
+    for words, said in (
+        ("--plant SOTH", "no plant SOTH (SOUTH, NORTH?)"),
+        ("--item WHEELS", "no item WHEELS (WHEEL?)"),
+        ("--plant SOUTH --item TUB", "no pair SOUTH TUB (SOUTH TUBE?)"),
+        ("--item 7", "no item 7"),
+    ):
+        wanted = f"bin/page: the report has {said}\n"
+        assert room.run(f"bin/page {words} < examples/three_plants.plan.csv", status=1) == wanted
+
+
 def open_page(room, name):
     """Opens a page in a browser, and returns what stands on it then."""
     browser = wants("chromium", "chromium-browser", "google-chrome")
@@ -82,20 +94,12 @@ def test_page_says_what_is_to_be_done(room):
     Tags(text)
     assert "10 pairs, 8 weeks, 4 late orders, 8 orders to release, 6 open orders to be moved" in text
     rows = listed(text, "release")
-    assert [it[0] for it in rows] == [
-        "PUMP",
-        "CASTING",
-        "CASTING",
-        "HOUSING",
-        "IMPELLER",
-        "BRASS",
-        "IMPELLER",
-        "IMPELLER",
-    ]
-    assert (rows[1], rows[6]) == (
-        ["CASTING", "50", "5 weeks", "30 Nov W49", "buy"],
-        ["IMPELLER", "1", "1 week", "7 Dec W50", "from WORKS 70%, FOUNDRY 30%"],
-    )
+    assert [it[0] for it in rows] == ["PUMP", "CASTING", "HOUSING", "IMPELLER", "BRASS", "IMPELLER"]
+    # (of two orders the first and their sum, and both where they open)
+    two = "30 Nov W49, 2 orders50 due 30 Nov W49, 5 weeks50 due 7 Dec W50, 4 weeks"
+    assert rows[1] == ["CASTING", "100", "5 weeks", two, "buy"]
+    two = "7 Dec W50, 2 orders1 due 7 Dec W50, 1 week4 due 14 Dec W51"
+    assert rows[5] == ["IMPELLER", "5", "1 week", two, "from WORKS 70%, FOUNDRY 30%"]
     orders = "50 due 30 Nov W49, 5 weeks50 due 7 Dec W50, 4 weeksor expedite 60 of 28 Dec W53"
     assert listed(text, "late")[:2] == [
         ["FOUNDRY", "CASTING", "5 weeks", orders],
@@ -108,6 +112,55 @@ def test_page_says_what_is_to_be_done(room):
     rows = [it[1:] for it in listed(text, "deliveries") if it[0] == "HOUSING"]
     called = [["7 Dec W50", "25", "1,000"], ["21 Dec W52", "44", "1,044"], ["4 Jan W01", "14", "141,044 closed"]]
     assert rows == [["in transit", "15", "975"], *called]
+
+
+def test_page_has_an_item_once(room):
+    """Nine late orders of an item are one row in each list, with their sum, and open; five open orders of it open too."""
+    days = [datetime.date(2026, 11, 30) + datetime.timedelta(days=7 * it) for it in range(10)]
+    orders = (1, 2, 3, 4, 5, 6, 7, 8, 9, 0)
+    rows = [plan_rows("2026-11-30", 7, {"H": orders}, [("H", t, 9 - t) for t in range(9)])]
+    rows += [f"order,A,H,make,{t + 1},0,{days[0]},{t},{day},{9 - t}\n" for t, day in enumerate(days[:9])]
+    rows += [f"advice,expedite,receipt,A,H,,9,{days[9]},{it},0,{days[0]}\n" for it in range(1, 6)]
+    room.write("reports.csv", "".join(rows))
+    text = room.run("bin/page < reports.csv")
+    Tags(text)
+    ((item, whole, late, opens, supply),) = listed(text, "release")
+    assert (item, whole, late, supply) == ("H", "45", "9 weeks", "make")
+    assert opens.startswith("30 Nov W49, 9 orders1 due 30 Nov W49, 9 weeks2 due 7 Dec W50, 8 weeks")
+    ((_, item, late, opens),) = listed(text, "late")
+    assert (item, late) == ("H", "9 weeks")
+    assert opens.startswith("45 in 9 orders, the first due 30 Nov W491 due 30 Nov W49, 9 weeks2 due")
+    assert opens.endswith("or expedite 1 of 1 Feb W05or expedite 2 of 1 Feb W05or expedite 3 of 1 Feb W05"
+                          "or expedite 4 of 1 Feb W05or expedite 5 of 1 Feb W05")
+    assert text.count("<summary>45 in 9 orders") == text.count("<summary>or expedite 1") == 1
+
+
+def test_page_says_how_many_rows_scroll(room):
+    """A hundred rows stand open, more scroll and are counted; of thousands of messages the first are shown, those to
+    expedite first, and in the record those of its pair.
+    """
+    day, plan = "2026-11-30", plan_rows("2026-11-30", 7, {f"I{it}": (0, 0) for it in range(60)})
+    defer, expedite = f"advice,defer,receipt,A,I7,,0,{day},5,1,2026-12-07\n", f"advice,expedite,receipt,A,I50,,1,2026-12-07,6,0,{day}\n"
+    room.write("reports.csv", plan + 99 * defer + expedite)
+    text = room.run("bin/page < reports.csv")
+    assert len(listed(text, "moves")) == 100
+    assert "scrolls" not in text
+    room.write("reports.csv", plan + 100 * defer + expedite)
+    text = room.run("bin/page < reports.csv")
+    assert '<div class="list stack long">' in text
+    assert "<p>101 rows; the list scrolls.</p>" in text
+    room.write("reports.csv", plan + 3000 * defer + expedite)
+    text = room.run("bin/page < reports.csv")
+    assert "<p>The first 1,000 of 3,001 rows; the list scrolls.</p>" in text
+    assert "3,001 open orders to be moved" in text
+    rows = listed(text, "moves")
+    assert ([it[0] for it in rows], rows[0][2]) == (["expedite", *["defer"] * 999], "I50")
+    assert Tags(text).articles[:2] == [("A", "I50"), ("A", "I7")]
+    assert text.count("<br>defer 5 of") == 19
+    assert "<br>and 2,980 open orders more to be moved</p>" in text
+    for line, place in ((f"advice,hurry,receipt,A,I7,,0,{day},5,1,{day}\n", 3122), ("advice,cancel\n", 3122)):
+        room.write("reports.csv", plan + 3000 * defer + expedite + line)
+        assert room.run("bin/page < reports.csv", status=1).startswith(f"bin/page: row {place} is no row of a report: ")
 
 
 def test_page_of_a_table_has_its_reports(room, program):
@@ -184,14 +237,15 @@ def test_page_folds_what_can_wait(room):
 
 # What a reader sees of a page in a frame, said to the page around it: how many weeks of the first record; and whether
 # nothing stands out of the window, the first picture is whole, and the lateness of the first order to release and of
-# the first late one can be read, on a phone without lists that scroll.
+# the first late one can be read; no list scrolls, and on a phone the heads above stacked cells say what they are for.
 SEEN = """
 const within = (it, outer) => it.left >= outer.left && it.right <= outer.right + 1, place = (words) => document.querySelector(words).getBoundingClientRect();
 const window_ = { left: 0, right: innerWidth }, scroll = place("article .scroll"), whole = (words) => within(place(words), window_);
 const weeks = [...document.querySelectorAll("article:first-of-type thead th:not(.name)")].filter((it) => within(it.getBoundingClientRect(), scroll)).length;
 const fits = (it) => it.scrollWidth <= it.clientWidth && it.scrollHeight <= it.clientHeight;
-const lists = innerWidth > 400 || [...document.querySelectorAll(".list")].every(fits);
-const seen = ["#release b.late", "#release time", "#late b.late"].every((it) => within(place(it), place(it.split(" ")[0] + " .list")) && whole(it)) && lists;
+const lists = [...document.querySelectorAll(".list")].every(fits);
+const said = getComputedStyle(document.querySelector(".stack thead tr"), "::before").content, sorts = innerWidth > 400 ? "none" : '"Sort by"';
+const seen = ["#release b.late", "#release time", "#late b.late"].every((it) => within(place(it), place(it.split(" ")[0] + " .list")) && whole(it)) && lists && said === sorts;
 parent.postMessage([innerWidth, weeks, document.documentElement.scrollWidth <= innerWidth, whole("article svg"), seen].join(" "), "*");
 """
 FRAMES = """<body><script>addEventListener("message", (it) => document.body.append("seen " + it.data + ";"));</script>
@@ -210,9 +264,13 @@ def test_page_fits_a_screen_and_a_phone(room):
     ]
     rows = [f"plan,HAM,PUMP-{item},{it}\n" for item in range(3) for it in figures]
     rows += ["late,HAM,PUMP-1,1,1250,9\n", f"order,HAM,PUMP-1,from:BRN:700:LYO:300,1250,0,{days[0]},1,{days[1]},9\n"]
+    rows += [f"order,HAM,PUMP-1,from:BRN:700:LYO:300,12500,0,{days[0]},{t},{days[t]},{9 - t}\n" for t in range(2, 9)]
     rows += [f"advice,expedite,receipt,HAM,PUMP-1,,6,{days[6]},60,0,{days[0]}\n"] * 40 + [
         f"hit,HAM,PUMP-0,3,{days[3]},1200,8,HAM,PUMP-1\n"
     ]
+    rows += ["schedule,opening,BRN,HAM,PUMP-1,,,150000,975000\n"]
+    rows += [f"schedule,call,BRN,HAM,PUMP-1,{t},{days[t]},250000,1225000\n" for t in (1, 3)]
+    rows += ["lane,despatch,BRN,HAM,PUMP-1,825000,975000,975000,0\nlane,schedule,HAM,BRN,PUMP-1,975000,1475000,1475000,0\n"]
     room.write("reports.csv", "".join(rows))
     names = [
         ",".join(reports.Names.COLUMNS),

@@ -51,3 +51,10 @@ def test_record_fits_100_columns(room):
     assert "284" in said
     assert "1000000000000000" in said
     assert [it for it in said.split("\n") if len(it) > 100] == []
+
+
+def test_record_names_the_nearest(room):
+    said = room.run("bin/record SOUTH TUB < examples/three_plants.plan.csv", status=1)
+    assert said == "bin/record: the report has no pair SOUTH TUB (SOUTH TUBE?)\n"
+    said = room.run("bin/record WEST WHEEL < examples/three_plants.plan.csv", status=1)
+    assert said == "bin/record: the report has no pair WEST WHEEL (NORTH WHEEL, SOUTH WHEEL, EAST WHEEL?)\n"

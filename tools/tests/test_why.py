@@ -1,4 +1,5 @@
 """bin/why."""
+from support import reports_from_files, TOP
 
 
 def test_why_has_each_requirement_once(room, program):
@@ -60,3 +61,46 @@ A X: 19 released in period 0
       6 demand
 """
     )
+
+
+def three_plants():
+    with open(f"{TOP}/examples/three_plants.csv", encoding="utf-8") as file:
+        return file.read()
+
+
+def test_why_takes_a_day_for_its_period(room):
+    """Each day of a week, from the first to the last; one outside the plan is refused, and one in which nothing is
+    released is told with its period.
+    """
+    reports_from_files(room, three_plants(), "orders", "pegs")
+    why = "MRP=words/files bin/why"
+    wanted = room.run(f"{why} EAST BIKE 4 < table.csv")
+    assert wanted.startswith("EAST BIKE: 12 released in period 4, due in period 5 (2026-02-09)\n")
+    for day in ("2026-02-02", "2026-02-08", "8.2.2026"):
+        assert room.run(f"{why} EAST BIKE {day} < table.csv") == wanted
+    said = "no order of EAST BIKE is released in period 5, which holds 2026-02-09; releases are in 1, 4\n"
+    assert said in room.run(f"{why} EAST BIKE 2026-02-09 < table.csv", status=1)
+    for day in ("2026-01-04", "2026-02-16"):
+        said = room.run(f"{why} EAST BIKE {day} < table.csv", status=1)
+        assert said == f"bin/why: {day} is not in the plan, which goes from 2026-01-05 to 2026-02-15\n"
+    for word in ("2026-02-30", "2/2/2026", "-1", "1000"):
+        assert room.run(f"{why} -- EAST BIKE {word} < table.csv", status=2).startswith("bin/why: argument PERIOD: ")
+
+
+def test_why_names_the_nearest(room):
+    """Plants that keep the item, else items of the plant, else pairs; by the names of the sheets where given."""
+    reports_from_files(room, three_plants(), "orders", "pegs")
+    for words, meant in (
+        ("SOUTH TUB", " (SOUTH TUBE?)"),
+        ("X FRAME", " (NORTH FRAME, SOUTH FRAME?)"),
+        ("SOTH TUBS", " (SOUTH TUBE?)"),
+        ("Z Q", ""),
+    ):
+        said = room.run(f"MRP=words/files bin/why {words} 0 < table.csv", status=1)
+        assert said == f"bin/why: the table has no pair {words}{meant}\n"
+    room.run("bin/sheets --names names.csv --out table.csv examples/sheets 2> said")
+    with open(f"{room.folder}/table.csv", encoding="utf-8") as file:
+        reports_from_files(room, file.read(), "orders", "pegs")
+    for words, meant in (("WORKS SEAL", "SEAL_25"), ("--names names.csv WORKS SEAL", "SEAL 25")):
+        said = room.run(f"MRP=words/files bin/why {words} 0 < table.csv", status=1)
+        assert said == f"bin/why: the table has no pair WORKS SEAL (WORKS {meant}?)\n"

@@ -13,6 +13,8 @@ TOOLS = [
     "bin/renew",
     "bin/sheets",
     "bin/counts",
+    "bin/orders",
+    "bin/schedule",
     "bin/install",
     "bin/release",
 ]
@@ -58,6 +60,8 @@ def test_words_of_tools(room):
         "bin/release --all",
         "bin/release named",
     ]
+    bad += ["bin/orders A", "bin/orders --until x", "bin/orders --until 2026-02-30", "bin/orders --sums plant"]
+    bad += ["bin/schedule A", "bin/schedule --until -1", "bin/schedule --from", "bin/schedule --sums item"]
     bad += ["bin/renew", "bin/renew plan.csv", "tools/try", "tools/torture x", "tools/torture --seed 0"]
     bad += [
         "tools/edits none",
@@ -112,6 +116,11 @@ def test_bad_input(room):
         "renew none/plan.csv plan < examples/bicycle.csv",
         "sheets none",
         "sheets --names none/names.csv examples/sheets 2> >(tail -n 1 >&2)",
+        "orders --names none < examples/pumps.csv",
+        "orders --until 2026-11-29 < examples/pumps.csv",
+        "orders --out none/orders.csv < examples/pumps.csv",
+        "schedule --from WORK < examples/pumps.csv",
+        "schedule --to WORK < examples/pumps.csv",
         "install /proc/none",
     )
     for command in (*(f"bin/{it}" for it in commands), "tools/torture --program none"):
@@ -124,7 +133,7 @@ def test_tools_find_the_program(room):
     room.run(f"mkdir tree path only && cp -r {TOP}/bin {TOP}/python tree && ln -s $(command -v python3) only")
     for name in ("tree/bin/mrp", "path/mrp", "named"):
         room.stand_in(name, "says_its_name", name=name)
-    for tool in ("why P1 WHEEL 1", "hit", "renew plan.csv plan"):
+    for tool in ("why P1 WHEEL 1", "hit", "renew plan.csv plan", "orders", "schedule"):
         for variables, wanted in (
             ("MRP=./named PATH=path:only", "named"),
             ("MRP= PATH=path:only", "path/mrp"),

@@ -1,0 +1,183 @@
+"""bin/orders and bin/schedule: what leaves the house, in the firm's own names."""
+import named
+
+# The sheets of the example without receipts, with a vendor and the vendor's part number for what is bought or taken.
+ITEMS = """\
+Plant,Item,Description,Supply,Lot rule,Lead (days),On hand,Safety stock,Vendor,Vendor part no.
+WORKS,100/250-A,"Pump, 2.5 kW",make,lot,7,12,4,,
+WORKS,MOTOR,Motor 2.5 kW,buy,fixed:20,14,8,2,Lumen,LM 2.5-K
+WORKS,SEAL 25,Shaft seal 25 mm,buy,periods:2,5,60,10,Dicht & Co,0815
+DEPOT,100/250-A,"Pump, 2.5 kW",from:WORKS,lot,7,3,1,,P-100
+"""
+SHIPMENTS = "From,To,Item,Arrives,Quantity,Delivery note\nWORKS,DEPOT,100/250-A,2026-12-02,2,LS 77\n"
+# By hand. The depot has 3 and gets 2, and 6 are wanted in period 3: 2 are ordered up to its safety stock of 1, a period
+# before. The works have 12, 5 are wanted now, and 15 and the depot's 2 in period 2: 14 are ordered up to 4, a period
+# before. These take 14 motors of 8, of which 2 are kept: a lot of 20, due in period 1, with a lead time of 2.
+ORDERS = """\
+row,plant,item,supply,quantity,release,release_date,due,due_date,late
+order,WORKS,100_250-A,make,14,1,2026-12-07,2,2026-12-14,0
+order,WORKS,MOTOR,buy,20,0,2026-11-30,1,2026-12-07,1
+order,DEPOT,100_250-A,from:WORKS,2,2,2026-12-14,3,2026-12-21,0
+"""
+# The depot has booked 140, and 2 are on their way. Figures start again in period 4.
+SCHEDULE = """\
+row,kind,supplier,customer,item,period,date,quantity,cumulative
+schedule,opening,WORKS,DEPOT,100_250-A,,,2,142
+schedule,call,WORKS,DEPOT,100_250-A,2,2026-12-14,2,144
+schedule,reset,WORKS,DEPOT,100_250-A,4,2026-12-28,,144
+"""
+OWN_ORDERS = """\
+row,plant,item,supply,quantity,release,release_date,due,due_date,late,description,vendor,vendor_item,notes
+order,WORKS,100/250-A,make,14,1,2026-12-07,2,2026-12-14,0,"Pump, 2.5 kW",,,"8 of 2026-12-16: Order 4720, Customer \
+Grundmann; 7 of 2026-12-18: Order 4722, Customer Weber"
+order,WORKS,MOTOR,buy,20,0,2026-11-30,1,2026-12-07,1,Motor 2.5 kW,Lumen,LM 2.5-K,
+order,DEPOT,100/250-A,from:WORKS,2,2,2026-12-14,3,2026-12-21,0,"Pump, 2.5 kW",WORKS,P-100,"6 of 2026-12-22: Order \
+4725, Customer Spares"
+"""
+OWN_SCHEDULE = """\
+row,kind,supplier,customer,item,period,date,quantity,cumulative,description,vendor_item,notes
+schedule,opening,WORKS,DEPOT,100/250-A,,,2,142,"Pump, 2.5 kW",P-100,2 of 2026-12-02: Delivery note LS 77
+schedule,call,WORKS,DEPOT,100/250-A,2,2026-12-14,2,144,"Pump, 2.5 kW",P-100,
+schedule,reset,WORKS,DEPOT,100/250-A,4,2026-12-28,,144,"Pump, 2.5 kW",P-100,
+"""
+
+
+def firm(room):
+    """Makes table.csv and names.csv of the sheets, and a program words/files that has their reports."""
+    room.run("cp -r examples/sheets firm && rm firm/receipts.csv")
+    room.write("firm/items.csv", ITEMS)
+    room.write("firm/shipments.csv", SHIPMENTS)
+    room.run("bin/sheets --names names.csv --out table.csv firm 2> said")
+    room.stand_in("words/files", "from_files")
+    room.write("orders.csv", ORDERS)
+    room.write("schedule.csv", SCHEDULE)
+    room.variables["MRP"] = "words/files"
+
+
+def test_reports_are_those_of_the_program(room, program):
+    """The reports from which the tests below begin are those of their table."""
+    firm(room)
+    assert room.run(f"{program} orders --header < table.csv") == ORDERS
+    assert room.run(f"{program} schedule --header < table.csv") == SCHEDULE
+
+
+def test_orders_have_the_firms_names(room):
+    """With descriptions, vendors, their part numbers, and the customers' orders up to the pair's next order; without
+    names.csv the columns are there, and the names are the table's.
+    """
+    firm(room)
+    assert room.run("bin/orders --names names.csv < table.csv") == OWN_ORDERS
+    wanted = [f"{it},,,," for it in ORDERS.splitlines()[1:]]
+    assert room.run("bin/orders < table.csv").splitlines()[1:] == [*wanted[:2], wanted[2].replace(",,,,", ",,WORKS,,")]
+    # (a further pump in period 4 is the next order's, and what comes before it this one's)
+    room.run("sed -i '/^4731/s/2027-03-01/2026-12-28/' firm/demands.csv")
+    room.run("bin/sheets --names names.csv --out table.csv firm 2> said && grep -q 'Order 4731' names.csv")
+    later = "order,WORKS,100_250-A,make,9,3,2026-12-21,4,2026-12-28,0\n"
+    room.write("orders.csv", ORDERS.replace("14,0\n", f"14,0\n{later}", 1))
+    rows = room.run("bin/orders --names names.csv --until 1 < table.csv").splitlines()
+    assert rows == OWN_ORDERS.splitlines()[:3]
+
+
+def test_schedule_has_the_firms_names(room):
+    """With the vendor's part number of the customer's item, else of the supplier's, and the shipments in transit."""
+    firm(room)
+    assert room.run("bin/schedule --names names.csv < table.csv") == OWN_SCHEDULE
+    assert room.run("bin/schedule < table.csv").splitlines()[2:] == [f"{it},,," for it in SCHEDULE.splitlines()[2:]]
+    room.run("sed -i 's/P-100$//; s/7,12,4,,$/7,12,4,,W-9/' firm/items.csv")
+    room.run("bin/sheets --names names.csv --out table.csv firm 2> said")
+    assert room.run("bin/schedule --names names.csv < table.csv") == OWN_SCHEDULE.replace("P-100", "W-9")
+
+
+def test_orders_and_schedules_up_to_a_day(room):
+    """A day says its period; one outside the plan is refused, and the file of --out is as it was."""
+    firm(room)
+    head, pumps, motors, depot = OWN_ORDERS.splitlines(keepends=True)
+    both = pumps + motors
+    for until, rows in (("0", motors), ("2026-12-06", motors), ("2026-12-07", both), ("13.12.2026", both)):
+        assert room.run(f"bin/orders --until {until} --names names.csv < table.csv") == head + rows
+    assert room.run("bin/orders --until 103 --names names.csv < table.csv") == head + pumps + motors + depot
+    lines = OWN_SCHEDULE.splitlines(keepends=True)
+    for until, count in (("0", 2), ("2026-12-13", 2), ("2026-12-14", 3), ("2026-12-28", 4)):
+        assert room.run(f"bin/schedule --until {until} --names names.csv < table.csv") == "".join(lines[:count])
+    room.run("echo old > out.csv")
+    for tool, day in (("orders", "2026-11-29"), ("schedule", "2027-01-11")):
+        said = room.run(f"bin/{tool} --until {day} --out out.csv < table.csv", status=1)
+        assert said == f"bin/{tool}: {day} is not in the plan, which goes from 2026-11-30 to 2027-01-10\n"
+    assert room.run("cat out.csv; bin/orders --names names.csv --out out.csv < table.csv") == "old\n"
+    assert room.run("cat out.csv") == OWN_ORDERS
+
+
+def test_schedules_of_a_plant(room):
+    """By its name in the sheets or in the table; another one is refused, and the nearest told."""
+    firm(room)
+    room.run("sed -i 's/DEPOT/Lager Süd/' firm/*.csv; bin/sheets --names names.csv --out table.csv firm 2> said")
+    room.run("sed -i 's/DEPOT/Lager_Sued/' schedule.csv")
+    wanted = OWN_SCHEDULE.replace("DEPOT", "Lager Süd")
+    asked = "bin/schedule --names names.csv"
+    for words in ("--to 'Lager Süd'", "--to Lager_Sued --from WORKS"):
+        assert room.run(f"{asked} {words} < table.csv") == wanted
+    assert room.run(f"{asked} --from 'Lager Süd' < table.csv") == wanted.splitlines(keepends=True)[0]
+    for words, said in (
+        ("--from WORK", "WORK (WORKS?)"),
+        ("--to 'Lager Sud'", "Lager Sud (Lager Süd?)"),
+        ("--to 7", "7"),
+    ):
+        assert room.run(f"{asked} {words} < table.csv", status=1) == f"bin/schedule: the table has no plant {said}\n"
+
+
+def test_sums_by_vendor_and_by_customer(room):
+    """Of what isn't made; of the stored reports of pumps, in which an item has two sources."""
+    firm(room)
+    columns = "item,description,vendor_item,{},quantity,first_date"
+    motors, pumps = "MOTOR,Motor 2.5 kW,LM 2.5-K,1,20,2026-11-30", '100/250-A,"Pump, 2.5 kW",P-100,1,2,2026-12-14'
+    assert room.run("bin/orders --sums vendor --names names.csv < table.csv").splitlines() == [
+        f"row,vendor,{columns.format('orders')}",
+        f"sum,Lumen,{motors}",
+        "total,Lumen,,,,1,20,2026-11-30",
+        f"sum,WORKS,{pumps}",
+        "total,WORKS,,,,1,2,2026-12-14",
+    ]
+    assert room.run("bin/orders --sums customer --until 0 --names names.csv < table.csv").splitlines() == [
+        f"row,customer,{columns.format('orders')}",
+        f"sum,WORKS,{motors}",
+        "total,WORKS,,,,1,20,2026-11-30",
+    ]
+    for who, plant in (("vendor", "WORKS"), ("customer", "DEPOT")):
+        assert room.run(f"bin/schedule --sums {who} --names names.csv < table.csv").splitlines() == [
+            f"row,{who},{columns.format('calls')}",
+            f"sum,{plant},{pumps}",
+            f"total,{plant},,,,1,2,2026-12-14",
+        ]
+    room.variables["MRP"] = room.mrp
+    said = room.run("bin/orders --sums vendor < examples/pumps.csv")
+    assert 'sum,"WORKS 70%, FOUNDRY 30%",IMPELLER,,,6,27,2026-11-30\n' in said
+    assert "sum,FOUNDRY,HOUSING,,,3,83,2026-12-07\nsum,FOUNDRY,IMPELLER,,,5,160,2026-12-07\n" in said
+    assert "total,FOUNDRY,,,,8,243,2026-12-07\n" in said
+    assert "order,DEPOT,IMPELLER,from:WORKS:700:FOUNDRY:300,1,0," in room.run("bin/orders < examples/pumps.csv")
+
+
+def test_refused_tables_and_programs_that_fail(room):
+    """In the program's line, and nothing is written; also where it fails after some rows."""
+    for stand_in, said in (("refusing", "mrp: row 6: UnknownPair\n"), ("failing", "mrp: WriteFault\n")):
+        room.stand_in("words/other", stand_in)
+        for tool in ("orders", "schedule"):
+            assert room.run(f"MRP=words/other bin/{tool} --out out.csv < examples/pumps.csv", status=1) == said
+            assert room.run("ls out.csv 2>&1 || true") == "ls: cannot access 'out.csv': No such file or directory\n"
+
+
+def test_headings_of_vendors():
+    """The longest heading counts, and the first column of two."""
+    for text, wanted in (
+        ("Vendor Lumen", ("vendor", "Lumen")),
+        ("Lieferant Dicht & Co", ("vendor", "Dicht & Co")),
+        ("Supplier part number 6ES7 315", ("vendor_item", "6ES7 315")),
+        ("Lieferantenmaterialnummer 0815", ("vendor_item", "0815")),
+        ("Réf. fournisseur A-1", ("vendor_item", "A-1")),
+        ("Buyer Smith", None),
+        ("Vendor", None),
+        ("", None),
+    ):
+        assert named.headed_words(text) == wanted, text
+    names = named.reports.Names()
+    names.take("pair", "A", "X", "", "", "", "x", "", "Buyer Smith, Vendor One, Vendor code 77, Vendor part P 1")
+    assert named.Items(names).noted(("A", "X")) == ("One", "P 1")
