@@ -14,6 +14,8 @@ MOST_SLIPS, DIGITS = 100, re.compile("-?(0|[1-9][0-9]{0,98})")
 # A number with marks between thousands, with decimals, or with both.
 MARKED = re.compile(r"-?(?P<whole>[0-9]{1,3}(?:(?P<group>[.,' \u2019\u00a0\u202f])[0-9]{3}(?:(?P=group)[0-9]{3})*)?|[0-9]+)"
                     r"(?:(?P<mark>[.,])(?P<decimals>[0-9]+))?")
+# How --numbers says that numbers are written: which sign parts thousands, and which decimals.
+FORMS = ("1.234,5", "1,234.5")
 # What is said of a part of a piece.
 SMALLER = "plan the item in a smaller unit (docs/limits.md, fractions)"
 # What is written for letters where a keyboard hasn't them, if that isn't the letter without its mark.
@@ -24,7 +26,7 @@ ITEM = "part material article sku product artikel teil teile sach produkt codear
 PIECES = "pieces menge stueck stueckzahl quantite qte cantidad"
 DATES = "date duedate delivery deliverydate datum termin liefertermin lieferdatum datelivraison datedelivraison fecha fechaentrega fechadeentrega"
 EXPECTED = f"{DATES} arrival arrivaldate eta expected expecteddate ankunft arrivee datedarrivee llegada fechadellegada"
-NEEDED = f"{DATES} needby needdate required requireddate faellig bedarfstermin bedarfsdatum echeance datedecheance datedebesoin fechadenecesidad fecharequerida"
+NEEDED = f"{DATES} needby needdate required requireddate faellig bedarfstermin bedarfsdatum echeance datedecheance datedebesoin fechadenecesidad fecharequerida shipdate"
 LANE = {
     "From": "fromplant supplier source sourceplant sender von vonwerk lieferant lieferwerk de fournisseur expediteur desde proveedor origen",
     "To": "toplant customer destination receiver nach nachwerk kunde empfaenger vers client destinataire hasta cliente destino destinatario",
@@ -51,10 +53,10 @@ SHEETS = {
     "items.csv": {
         "Plant": PLANT,
         "Item": ITEM,
-        "Supply": "source sourcing procurement makeorbuy makebuy beschaffung beschaffungsart bezug approvisionnement aprovisionamiento abastecimiento",
+        "Supply": "source sourcing procurement makeorbuy makebuy procurementtype beschaffung beschaffungsart bezug approvisionnement aprovisionamiento abastecimiento",
         "Lot rule": "rule lotsize lotsizing lotsizingrule orderpolicy losgroesse losregel tailledelot regledelot tamanodelote regladelote",
         "Lead": " ".join(LEADS),
-        "On hand": "stock stockonhand quantityonhand onhandquantity inventory bestand lagerbestand enstock quantiteenstock existencias inventario",
+        "On hand": "stock stockonhand quantityonhand onhandquantity inventory unrestricted bestand lagerbestand bestandfrei freiverwendbar enstock quantiteenstock existencias inventario",
         "Safety stock": "safety safetystockquantity sicherheitsbestand stockdesecurite stockdeseguridad existenciasdeseguridad",
     },
     "bills.csv": {
@@ -154,10 +156,29 @@ def instead(text, part):
     return f"write {digits} if that is meant" + (f", else {part}" if part else "")
 
 
-def number(least, most, part=SMALLER):
-    """Returns what reads a whole number between two, and for a part of one says what is given."""
+def unsigned(text, form, part):
+    """Returns a number without the signs by which a form parts thousands and decimals. Decimals of 0 say nothing."""
+    group, mark = form[1], form[5]
+    if group not in text and mark not in text:
+        return text
+    found = re.fullmatch(f"(-?(?:0|[1-9][0-9]*|[1-9][0-9]{{0,2}}(?:[{group}][0-9]{{3}})+))(?:[{mark}]([0-9]+))?", text)
+    if not found:
+        raise Slip(f"{text!r} isn't written as --numbers {form} says")
+    if (found[2] or "").strip("0"):
+        raise Slip(f"{text!r} is no whole number" + (f"; {part}" if part else ""))
+    return found[1].replace(group, "")
 
-    def read(text):
+
+def is_zero(text, form=None):
+    """Returns whether a number is 0, in the form that --numbers says."""
+    return text == "0" or bool(form and re.fullmatch(f"0[{form[5]}]0+", text))
+
+
+def number(least, most, part=SMALLER, form=None):
+    """Returns what reads a whole number between two, in the form that --numbers says, and for a part of one says what is given."""
+
+    def read(cell):
+        text = unsigned(cell, form, part) if form else cell
         if not DIGITS.fullmatch(text):
             if re.fullmatch("-?0[0-9]+", text):
                 sign, digits = text[: text.startswith("-")], text.lstrip("-")
