@@ -102,3 +102,36 @@ def test_headings_of_erp_systems(tmp_path):
     # (the day on which a shipment leaves isn't that on which it arrives)
     found["shipments.csv"] = "From,To,Item,Ship date,Quantity\n"
     assert sheets(tmp_path, found) == (1, "", f"shipments.csv row 1: it has no column Arrives\n{REFUSED}")
+
+
+def test_what_is_overdue_is_listed_with_number_and_days(tmp_path):
+    """The latest first, by strict too, and whatever is planned; of many a hundred of each sheet."""
+    found = {
+        "firm.csv": BICYCLE["firm.csv"],
+        "items.csv": "Plant,Item,Supply,Lot rule,Lead (periods),On hand,Safety stock\n"
+        "P1,BIKE/28,from:P2,lot,1,500,0\nP2,BIKE/28,buy,lot,1,900,0\n",
+        "demands.csv": "Order,Customer,Plant,Item,Due,Quantity\n7001,Ann,P1,BIKE/28,2026-01-04,3\n7002,,P1,BIKE/28,2025-12-24,4\n"
+        "7003,Bob,P1,BIKE/28,2026-01-05,5\n,,P1,BIKE/28,04.01.2026,6\n7004,Bob,P1,BIKE/28,2025-12-24,0\n",
+        "receipts.csv": "PO,Plant,Item,Due,Quantity,Vendor\n4500171,P2,BIKE/28,2025-01-05,50,Lumen\n4500172,P2,BIKE/28,2026-01-12,50,Lumen\n",
+        "shipments.csv": "From,To,Item,Arrives,Quantity,Note\nP2,P1,BIKE/28,2026-01-01,7,L-88\n",
+    }
+    status, table, said = sheets(tmp_path, found, "--strict")
+    assert (status, table.count("BIKE_28,0,")) == (1, 0)
+    assert "demands.csv: 1 row of 0 left out (row 6)\n" in said
+    found["demands.csv"] = found["demands.csv"].rpartition("7004")[0]
+    told = """\
+items.csv: 1 name written otherwise, as BIKE_28 for BIKE/28
+demands.csv: 3 overdue rows in period 0
+demands.csv row 3: 4 of P1 BIKE/28, 12 days late (Order 7002)
+demands.csv row 2: 3 of P1 BIKE/28, 1 day late (Order 7001, Customer Ann)
+demands.csv row 5: 6 of P1 BIKE/28, 1 day late
+receipts.csv: 1 overdue row in period 0
+receipts.csv row 2: 50 of P2 BIKE/28, 365 days late (PO 4500171, Vendor Lumen)
+shipments.csv: 1 overdue row in period 0
+shipments.csv row 2: 7 of P1 BIKE/28, 4 days late (from P2, Note L-88)
+"""
+    status, table, said = sheets(tmp_path, found, "--strict")
+    assert (status, table.count("BIKE_28,0,"), said) == (0, 6, told)
+    rows = "".join(f"P1,BIKE,2026-01-04,{it}\n" for it in range(1, 108))
+    lines = sheets(tmp_path, {**BICYCLE, "demands.csv": f"Plant,Item,Due,Quantity\n{rows}"})[2].splitlines()
+    assert (len(lines), lines[1], lines[-1]) == (102, "demands.csv row 2: 1 of P1 BIKE, 1 day late", "demands.csv: overdue: 7 more")
