@@ -32,6 +32,8 @@ LANE = {
     "To": "toplant customer destination receiver nach nachwerk kunde empfaenger vers client destinataire hasta cliente destino destinatario",
     "Item": ITEM,
 }
+CUSTOMER = "customername soldto shipto client kunde kunden kundenname abnehmer cliente"
+FIGURE = "cum cumulativequantity cumquantity fortschrittszahl cumul acumulado"
 CUM = "eingangsfortschrittszahl fortschrittszahlempfangen empfangenefortschrittszahl"
 WANTED = {"Plant": PLANT, "Item": ITEM, "Due": NEEDED, "Quantity": f"orderquantity openquantity bedarfsmenge bestellmenge offenemenge {PIECES}"}
 # How lead times are headed in front of their unit, and the days of each unit.
@@ -41,7 +43,11 @@ UNITS = {"period periods periode perioden periodes periodo periodos": 0, "week w
 UNITS |= {"day days tag tage tagen jour jours dia dias": 1}
 LEADS = {front + link + unit: days for units, days in UNITS.items() for front, link, unit in itertools.product(LEAD.split(), ("", "in", "en"), units.split())}
 # The columns that name things. A row in which two cells are empty, and one of these is, may be a sum.
-NAMING = {"Plant", "Item", "Parent", "Component", "From", "To"}
+NAMING = {"Plant", "Item", "Parent", "Component", "From", "To", "Customer"}
+# The columns that a sheet may lack. Their cells may be empty.
+OPTIONAL = {"Starts again"}
+# What stands for yes and for no in a cell, as `plain` has it.
+YES, NO = {*"x yes y ja j oui o si s true wahr vrai verdadero 1".split()}, {*"no n nein non false falsch faux falso 0 -".split(), ""}
 # The columns of each sheet, and what else they are headed.
 SHEETS = {
     "firm.csv": {
@@ -66,6 +72,20 @@ SHEETS = {
         "Per": f"quantityper quantityperparent quantity usage mengeje mengepro quantitepar cantidadpor {PIECES}",
     },
     "demands.csv": WANTED,
+    "calls.csv": {
+        "Customer": CUSTOMER,
+        "Plant": PLANT,
+        "Item": ITEM,
+        "Date": NEEDED,
+        "Cumulative": f"cumulativecalled calledcumulative cumcalled abruffortschrittszahl cumulappele {FIGURE}",
+        "Starts again": "startagain restart restarts reset nullstellung neustart beginntneu remiseazero recommence reinicio puestaacero",
+    },
+    "shipped.csv": {
+        "Customer": CUSTOMER,
+        "Plant": PLANT,
+        "Item": ITEM,
+        "Cumulative": f"cumulativeshipped shippedcumulative cumshipped lieferfortschrittszahl cumulexpedie {FIGURE}",
+    },
     "receipts.csv": {**WANTED, "Due": f"arrives {EXPECTED}"},
     "shipments.csv": {**LANE, "Arrives": f"due {EXPECTED}", "Quantity": PIECES},
     "cums.csv": {**LANE, "Cum received": f"cumulativereceived received figure empfangen {CUM} recu cumulrecu recibido acumuladorecibido"},
@@ -231,6 +251,13 @@ class Row:
             self.slip(column, why if not text or repr(text) in str(why) else f"{text!r}: {why}")
             return None
 
+    def has_mark(self, column):
+        """Returns whether a cell says yes. Where the column is missing it says no."""
+        text = self.text(column) if column in self.sheet.places else ""
+        if (word := plain(text).casefold()) not in YES | NO:
+            self.slip(column, f"{text!r} is neither yes nor no; write x, or nothing")
+        return word in YES
+
     def rest(self):
         """Returns what the other columns say: descriptions, and the others, each behind its heading."""
         taken, parts = {*self.sheet.places.values()}, ([], [])
@@ -277,7 +304,7 @@ class Sheet:
             self.places = {}
 
     def find(self, column, others):
-        """Finds a column by its headings, and returns whether there is one."""
+        """Finds a column by its headings, and returns whether there is one, or none is needed."""
         unclear, question = UNCLEAR.get(column, ("", ""))
         headings = keys(column, others) - {*unclear.split()}
         found = [place for place, head in enumerate(self.heads) if key(head) in headings]
@@ -288,12 +315,15 @@ class Sheet:
         elif asked := [it for it in self.heads if key(it) in unclear.split()]:
             self.slip(1, f", {asked[0]}: {question}")
         else:
-            self.slip(1, f": it has no column {column}{self.nearest(headings)}")
+            meant = self.nearest(headings, 0.8 if column in OPTIONAL else 0.65)
+            if column in OPTIONAL and not meant:
+                return True
+            self.slip(1, f": it has no column {column}{meant}")
         return len(found) == 1
 
-    def nearest(self, headings):
+    def nearest(self, headings, least):
         """Returns the heading that is most like those of a column, and is of no other one, as a question in brackets, or nothing."""
-        likely = [(it, difflib.get_close_matches(key(it), headings, 1, 0.65)) for it in self.heads[:100] if key(it) not in known_keys()]
+        likely = [(it, difflib.get_close_matches(key(it), headings, 1, least)) for it in self.heads[:100] if key(it) not in known_keys()]
         found = max(((difflib.SequenceMatcher(None, key(it), same[0]).ratio(), it) for it, same in likely if same), default=None)
         return f" ({found[1]}?)" if found else ""
 
@@ -315,7 +345,7 @@ class Sheet:
                 self.slip(place, f": it has more cells than headings, as {next(filter(None, cells[wide:]))!r}; a separator within a cell wants quotes")
             if any(cells):
                 row = Row(self, place, cells + [""] * (wide - len(cells)))
-                empty = [it for it in self.places if not row.text(it)]
+                empty = [it for it in self.places if it not in OPTIONAL and not row.text(it)]
                 if len(empty) > 1 and NAMING.intersection(empty):
                     *heads, last = map(self.heading, empty)
                     self.slip(place, f": {', '.join(heads)} and {last} are empty; delete the row if it is a sum")

@@ -1,6 +1,11 @@
 """What comes in from customers, by bin/sheets: numbers as they are exported, what is past due, call-offs and forecasts."""
+import datetime
+import random
+import re
+
 import pytest
-from test_slips import BICYCLE, REFUSED, sheets, SMALLER, TABLE
+from support import module_of
+from test_slips import BICYCLE, REFUSED, sheets, SMALLER, STRICT, TABLE
 
 POINTS, COMMAS = "1.234,5", "1,234.5"
 
@@ -135,3 +140,187 @@ shipments.csv row 2: 7 of P1 BIKE/28, 4 days late (from P2, Note L-88)
     rows = "".join(f"P1,BIKE,2026-01-04,{it}\n" for it in range(1, 108))
     lines = sheets(tmp_path, {**BICYCLE, "demands.csv": f"Plant,Item,Due,Quantity\n{rows}"})[2].splitlines()
     assert (len(lines), lines[1], lines[-1]) == (102, "demands.csv row 2: 1 of P1 BIKE, 1 day late", "demands.csv: overdue: 7 more")
+
+
+# A firm whose first day is 2026-01-05, with call-offs from before then to after its last day, 2026-02-01.
+CALLS = {
+    **BICYCLE,
+    "demands.csv": "Plant,Item,Due,Quantity\n",
+    "calls.csv": """\
+Customer,Plant,Item,Date,Cumulative,Starts again,Release
+Ann,P1,BIKE,2026-01-12,130,,R7
+Ann,P1,BIKE,2025-12-29,100,,R7
+Ann,P1,BIKE,2025-12-22,95,no,R7
+Ann,P1,BIKE,2026-01-26,20,x,R7
+Ann,P1,BIKE,2026-01-19,130,,R7
+Ann,P1,BIKE,2026-02-02,50,,R7
+Bob,P1,BIKE,2026-01-12,7,,
+""",
+    "shipped.csv": "Customer,Plant,Item,Cumulative\nAnn,P1,BIKE,90\nBob,P1,BIKE,0\n",
+}
+
+
+def demands_of(table):
+    """Returns the demands of a table: pairs of a period and a quantity."""
+    return [(int(period), int(quantity)) for period, quantity in re.findall("^demand,P1,BIKE,(.*),(.*),,,$", table, re.MULTILINE)]
+
+
+def call_offs(rows, shipped):
+    """Returns the sheets with these call-offs of Ann, and what was shipped to her."""
+    head = CALLS["calls.csv"].partition("\n")[0].removesuffix(",Release")
+    more = {"shipped.csv": f"Customer,Plant,Item,Cumulative\nAnn,P1,BIKE,{shipped}\n"}
+    return {**CALLS, **more, "calls.csv": "\n".join([head, *(f"Ann,P1,BIKE,{it}" for it in rows), ""])}
+
+
+def test_call_offs_become_demands(tmp_path):
+    """Of each figure what was neither called for before nor shipped; what is behind is told."""
+    status, table, said = sheets(tmp_path, CALLS, "--strict", "--names", "names.csv")
+    told = """\
+calls.csv: 2 overdue rows in period 0, 1 row beyond 2026-02-01 left out (row 7)
+calls.csv row 4: backlog of 10 of P1 BIKE, 14 days late (Customer Ann)
+"""
+    assert (status, demands_of(table), said) == (0, [(0, 5), (0, 5), (1, 30), (3, 20), (1, 7)], told)
+    assert "\ndemand,P1,BIKE,1,2026-01-12,30,,,\"Customer Ann, Cumulative 130, Release R7\"\n" in (tmp_path / "names.csv").read_text()
+
+
+@pytest.mark.parametrize(
+    "shipped, demands",
+    [
+        (0, [(0, 100), (1, 30), (3, 20)]),
+        (100, [(1, 30), (3, 20)]),
+        (110, [(1, 20), (3, 20)]),
+        (130, [(3, 20)]),
+        # (what was shipped ahead is less in the year after)
+        (135, [(3, 15)]),
+        (155, []),
+    ],
+)
+def test_what_was_shipped_of_call_offs(tmp_path, shipped, demands):
+    found = call_offs(["2025-12-29,100,", "2026-01-12,130,", "2026-01-26,20,yes"], shipped)
+    status, table, said = sheets(tmp_path, found)
+    above = f"shipped.csv row 2: {shipped} of Ann P1 BIKE is above its last figure, 130 of 2026-01-12 (calls.csv row 3)"
+    assert (status, demands_of(table), above in said) == (0, demands, shipped > 130)
+
+
+def test_call_offs_are_pieces_in_the_order_of_dates():
+    """Of which those that were shipped are the first, over all years."""
+    demand = module_of("demand.py", "bin")
+    for seed in range(300):
+        chance, figure, calls, pieces = random.Random(seed), 0, [], []
+        for place in range(chance.randrange(1, 8)):
+            again, before = chance.random() < 0.2, figure
+            figure = chance.randrange(9) if again else figure + chance.randrange(9)
+            pieces += [place] * (figure - (0 if again else before))
+            calls.append(demand.Call(datetime.date(2026, 1, 5) + datetime.timedelta(place), figure, again, place))
+        shipped = 0 if calls[0].starts_again else chance.randrange(30)
+        found = [(it.row, quantity) for it, quantity in demand.asked(calls, shipped)]
+        assert found == [(it.row, pieces[shipped:].count(it.row)) for it in calls], seed
+
+
+@pytest.mark.parametrize(
+    "rows, shipped, told",
+    [
+        (
+            ["2026-01-12,130,", "2026-01-19,129,"],
+            90,
+            "row 3, Cumulative: 129 is below 130, that of 2026-01-12 (row 2); mark it in Starts again if figures start again there",
+        ),
+        (
+            ["2026-01-19,129,", "2026-01-26,5,x", "2026-01-12,130,", "2026-02-09,4,"],
+            90,
+            "row 2, Cumulative: 129 is below 130, that of 2026-01-12 (row 4); mark it in Starts again if figures start again there\n"
+            "calls.csv row 5, Cumulative: 4 is below 5, that of 2026-01-26 (row 3); mark it in Starts again if figures start again there",
+        ),
+        (["2026-01-12,130,", "12.1.2026,140,"], 90, "row 3, Date: Ann P1 BIKE 2026-01-12 stands in row 2 already"),
+        (
+            ["2025-12-22,130,", "2026-01-02,5,x", "2026-01-12,9,"],
+            0,
+            "row 3, Starts again: it is before 2026-01-05; delete the rows before it, and give in shipped.csv what was shipped since then",
+        ),
+        (
+            ["2026-01-12,9,x"],
+            142,
+            "row 2, Starts again: no figure is before it of which 142 were shipped; give that figure, or no mark where shipped.csv counts since then",
+        ),
+        (["2026-01-12,9,maybe"], 0, "row 2, Starts again: 'maybe' is neither yes nor no; write x, or nothing"),
+        (["2026-01-12,,"], 0, "row 2, Cumulative: nothing stands here"),
+        (["2026-01-12,-1,"], 0, "row 2, Cumulative: '-1' is not from 0 to 1000000000000000"),
+        (
+            ["2026-01-12,1000000000001,"],
+            0,
+            "row 2, Cumulative: it asks for 1000000000001, which is not from 1 to 1000000000000",
+        ),
+        ([",130,"], 0, "row 2, Date: nothing stands here"),
+    ],
+)
+def test_call_offs_that_are_slips(tmp_path, rows, shipped, told):
+    said = sheets(tmp_path, call_offs(rows, shipped))
+    count = told.count("\n") + 1
+    assert said == (1, "", f"calls.csv {told}\n{REFUSED.replace('1 slip', f'{count} slips') if count > 1 else REFUSED}")
+
+
+def test_figures_that_started_again_already(tmp_path):
+    """Without the rows before, what was shipped counts since then; so it does where nothing was."""
+    for rows, shipped, demands in (
+        (["2026-01-01,5,x", "2026-01-12,9,"], 2, [(0, 3), (1, 4)]),
+        (["2026-01-05,5,x", "2026-01-12,9,"], 0, [(0, 5), (1, 4)]),
+    ):
+        assert demands_of(sheets(tmp_path, call_offs(rows, shipped))[1]) == demands
+
+
+@pytest.mark.parametrize(
+    "row, told",
+    [
+        ("Ann,P1,BIKE,91", "row 4, Item: Ann P1 BIKE stands in row 2 already"),
+        ("Ann,P1,BELL,9", "row 4, Item: P1 has no item 'BELL' (BIKE?)"),
+        ("Ann,P9,BIKE,9", "row 4, Plant: there is no plant 'P9' (P1?)"),
+        (",P1,BIKE,9", "row 4, Customer: nothing stands here"),
+        (",,,181", "row 4: Customer, Plant and Item are empty; delete the row if it is a sum"),
+        ("Cleo,P1,BIKE,1.5", f"row 4, Cumulative: '1.5' is no whole number; {SMALLER}"),
+    ],
+)
+def test_what_was_shipped_has_slips_too(tmp_path, row, told):
+    found = {**CALLS, "shipped.csv": CALLS["shipped.csv"] + row + "\n"}
+    assert sheets(tmp_path, found) == (1, "", f"shipped.csv {told}\n{REFUSED}")
+
+
+@pytest.mark.parametrize(
+    "change, told",
+    [
+        ({"shipped.csv": None}, "shipped.csv: it is missing, and 1 item is called for; what was shipped is planned again\n"),
+        (
+            {"calls.csv": None, "demands.csv": BICYCLE["demands.csv"]},
+            "calls.csv: it is missing, and shipped.csv has figures; what customers call for isn't planned\n",
+        ),
+        ({"demands.csv": None}, "demands.csv: it is missing, and nothing is asked for but in calls.csv\n"),
+        (
+            {"shipped.csv": CALLS["shipped.csv"].replace("Bob", "Bobb")},
+            "calls.csv row 8: shipped.csv has no figure of Bob P1 BIKE (Bobb?); 0 is taken\n",
+        ),
+    ],
+)
+def test_what_may_not_be_meant_of_call_offs(tmp_path, change, told):
+    found = {name: text for name, text in {**CALLS, **change}.items() if text is not None}
+    assert sheets(tmp_path, found)[2].startswith(told)
+    assert sheets(tmp_path, found, "--strict") == (1, "", told + STRICT)
+
+
+def test_sheets_of_call_offs_have_other_headings(tmp_path):
+    """The column of where figures start again may be missing; one that is like it may not."""
+    wanted = sheets(tmp_path, CALLS, "--names", "names.csv")
+    for calls, shipped in (
+        ("Kunde,Werk,Material,Termin,Fortschrittszahl,Nullstellung,Release", "Kundennummer,Werk,Teil,Lieferfortschrittszahl"),
+        ("Customer no.,Plant,Article,Due date,Cum Qty,Start again,Release", "Sold-to,Site,SKU,Cum shipped"),
+        ("Client,Usine,Article,Date de livraison,Cumul,Remise à zéro,Release", "Client,Usine,Article,Cumul expédié"),
+        ("Cliente,Planta,Artículo,Fecha,Acumulado,Reinicio,Release", "Cliente,Centro,Producto,Acumulado"),
+    ):
+        found = {
+            **CALLS,
+            "calls.csv": "\n".join([calls, *CALLS["calls.csv"].splitlines()[1:]]),
+            "shipped.csv": "\n".join([shipped, *CALLS["shipped.csv"].splitlines()[1:]]),
+        }
+        assert sheets(tmp_path, found)[:2] == wanted[:2]
+    found["calls.csv"] = CALLS["calls.csv"].replace("Starts again", "Starts agaim")
+    assert sheets(tmp_path, found)[2].startswith("calls.csv row 1: it has no column Starts again (Starts agaim?)\n")
+    found["calls.csv"] = "Customer,Plant,Item,Date,Cumulative,Remark\nAnn,P1,BIKE,2026-01-12,130,x\n"
+    assert demands_of(sheets(tmp_path, found)[1]) == [(1, 40)]
