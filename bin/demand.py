@@ -1,4 +1,4 @@
-"""What customers call for by cumulative figures, for bin/sheets."""
+"""What customers call for by cumulative figures, and what orders leave of forecasts, for bin/sheets."""
 import datetime
 from typing import NamedTuple
 
@@ -29,3 +29,21 @@ def asked(calls, shipped):
 def last_of_first(calls):
     """Returns the last call-off before figures start again for the first time, in the order of dates."""
     return next((before for before, it in zip(calls, calls[1:]) if it.starts_again), calls[-1])
+
+
+def consumed(forecasts, orders, back, forward):
+    """Returns how much of the forecast of each period orders consume, of an item's pieces by period.
+
+    Each order, in the order of periods, takes from the forecast of its own period, then from those before it, the nearest
+    first, so many back, and then from those after it, so many forward.
+    """
+    taken = dict.fromkeys(forecasts, 0)
+    for period in sorted(orders):
+        left = orders[period]
+        for it in (*range(period, period - back - 1, -1), *range(period + 1, period + forward + 1)):
+            if not left:
+                break
+            if it in taken:
+                part = min(left, forecasts[it] - taken[it])
+                taken[it], left = taken[it] + part, left - part
+    return taken

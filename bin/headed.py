@@ -45,15 +45,23 @@ LEADS = {front + link + unit: days for units, days in UNITS.items() for front, l
 # The columns that name things. A row in which two cells are empty, and one of these is, may be a sum.
 NAMING = {"Plant", "Item", "Parent", "Component", "From", "To", "Customer"}
 # The columns that a sheet may lack. Their cells may be empty.
-OPTIONAL = {"Starts again"}
+OPTIONAL = {"Starts again", "Backward consumption", "Forward consumption"}
 # What stands for yes and for no in a cell, as `plain` has it.
 YES, NO = {*"x yes y ja j oui o si s true wahr vrai verdadero 1".split()}, {*"no n nein non false falsch faux falso 0 -".split(), ""}
+# How the periods are headed in which orders consume forecasts, in front of a word for periods, and without it.
+BACKWARD = "consumeback backwardconsumption backwardsconsumption consumptionbackward consumptionbackwards rueckwaertsverrechnung verrechnungrueckwaerts"
+BACKWARD += " consommationarriere consommationenarriere consumohaciaatras"
+FORWARD = "consumeforward forwardconsumption forwardsconsumption consumptionforward consumptionforwards vorwaertsverrechnung verrechnungvorwaerts"
+FORWARD += " consommationavant consommationenavant consumohaciaadelante"
+PERIODS = [it for it in UNITS if not UNITS[it]][0].split()
 # The columns of each sheet, and what else they are headed.
 SHEETS = {
     "firm.csv": {
         "First day": "first start startdate erstertag beginn startdatum premierjour debut datededebut primerdia inicio fechadeinicio",
         "Days": "daysperperiod perioddays tage tagejeperiode tageproperiode jours joursparperiode dias diasporperiodo",
         "Periods": "numberofperiods noofperiods perioden anzahlperioden periodes nombredeperiodes periodos numerodeperiodos",
+        "Backward consumption": " ".join(it + unit for it in BACKWARD.split() for unit in PERIODS),
+        "Forward consumption": " ".join(it + unit for it in FORWARD.split() for unit in PERIODS),
     },
     "plants.csv": {"Plant": PLANT},
     "items.csv": {
@@ -86,6 +94,7 @@ SHEETS = {
         "Item": ITEM,
         "Cumulative": f"cumulativeshipped shippedcumulative cumshipped lieferfortschrittszahl cumulexpedie {FIGURE}",
     },
+    "forecasts.csv": {**WANTED, "Quantity": f"forecast forecastquantity prognose prognosemenge vorhersage prevision quantiteprevue pronostico {PIECES}"},
     "receipts.csv": {**WANTED, "Due": f"arrives {EXPECTED}"},
     "shipments.csv": {**LANE, "Arrives": f"due {EXPECTED}", "Quantity": PIECES},
     "cums.csv": {**LANE, "Cum received": f"cumulativereceived received figure empfangen {CUM} recu cumulrecu recibido acumuladorecibido"},
@@ -100,6 +109,8 @@ UNCLEAR = {
         "cum cumulative cumshipped cumulativeshipped fortschrittszahl lieferfortschrittszahl cumul acumulado",
         "with what is on its way? Give the figure without it, headed Cum received",
     ),
+    "Backward consumption": (BACKWARD, "in which unit? Head it Backward consumption (periods)"),
+    "Forward consumption": (FORWARD, "in which unit? Head it Forward consumption (periods)"),
 }
 
 

@@ -324,3 +324,173 @@ def test_sheets_of_call_offs_have_other_headings(tmp_path):
     assert sheets(tmp_path, found)[2].startswith("calls.csv row 1: it has no column Starts again (Starts agaim?)\n")
     found["calls.csv"] = "Customer,Plant,Item,Date,Cumulative,Remark\nAnn,P1,BIKE,2026-01-12,130,x\n"
     assert demands_of(sheets(tmp_path, found)[1]) == [(1, 40)]
+
+
+# A firm whose first day is 2026-01-05, with forecasts from before then to after its last day, 2026-02-01.
+FORECASTS = {
+    **BICYCLE,
+    "firm.csv": "First day,Days,Periods,Backward consumption (periods),Forward consumption (periods)\n2026-01-05,7,4,1,1\n",
+    "demands.csv": "Plant,Item,Due,Quantity\n",
+    "forecasts.csv": "Plant,Item,Due,Quantity\n",
+}
+
+
+def forecast(window, forecasts, orders):
+    """Returns the sheets with a window, and with forecasts and orders of pieces by their dates."""
+    head = "Plant,Item,Due,Quantity\n"
+    rows = (head + "".join(f"P1,BIKE,{day},{quantity}\n" for day, quantity in it) for it in (forecasts, orders))
+    return {**FORECASTS, "firm.csv": FORECASTS["firm.csv"].replace("4,1,1", f"4,{window}"), **dict(zip(("forecasts.csv", "demands.csv"), rows))}
+
+
+WEEKS = "2026-01-05", "2026-01-12", "2026-01-19", "2026-01-26"
+
+
+@pytest.mark.parametrize(
+    "window, forecasts, orders, demands",
+    [
+        # (an order that comes a period before its forecast, and one that comes a period after it)
+        ("1,1", [100, 100], [150, 20], [150, 50]),
+        ("1,1", [100, 100], [40, 160], [40, 160]),
+        # (the other way they aren't found)
+        ("1,0", [100, 100], [150, 20], [150, 100]),
+        ("0,1", [100, 100], [40, 160], [100, 160]),
+        ("0,0", [100, 100], [150, 20], [150, 100]),
+        # (backward first, the nearest first, then forward)
+        ("2,1", [10, 10, 10, 10], [0, 0, 25, 0], [5, 0, 25, 10]),
+        ("2,1", [10, 10, 10, 10], [0, 0, 35, 0], [0, 0, 35, 5]),
+        ("1,2", [10, 10, 10, 10], [0, 35, 0, 0], [0, 35, 0, 5]),
+        ("104,104", [10, 10, 10, 10], [0, 45, 0, 0], [0, 45, 0, 0]),
+        # (each in the order of its date: the first takes what the second has then to leave)
+        ("1,1", [0, 10, 10], [15, 0, 15], [15, 0, 15]),
+        ("1,1", [0, 10, 0, 10], [4, 0, 15], [4, 0, 15, 1]),
+    ],
+)
+def test_orders_consume_forecasts(tmp_path, window, forecasts, orders, demands):
+    found = forecast(window, zip(WEEKS, forecasts), zip(WEEKS, orders))
+    _, table, said = sheets(tmp_path, found)
+    sums = [0] * len(WEEKS)
+    for period, quantity in demands_of(table):
+        sums[period] += quantity
+    assert (sums[: len(demands)], sum(sums)) == (demands, sum(demands))
+    assert [it for it in said.splitlines() if " of 0 left out " not in it and "nothing is asked for" not in it] == []
+
+
+def test_forecasts_of_periods_that_have_passed(tmp_path):
+    """Overdue orders consume them by their own dates, and orders of period 0 by the window; what is left of them is dropped."""
+    forecasts = [("2025-12-24", 50), ("2026-01-01", 30), ("2026-01-06", 20), ("2026-01-10", 25)]
+    orders = [("2025-12-30", 8), ("2026-01-05", 52)]
+    status, table, said = sheets(tmp_path, forecast("1,1", forecasts, orders), "--strict")
+    told = """\
+demands.csv: 1 overdue row in period 0
+demands.csv row 2: 8 of P1 BIKE, 6 days late
+forecasts.csv: 65 left of periods before 2026-01-05 dropped (rows 2, 3)
+"""
+    assert (status, demands_of(table), said) == (0, [(0, 8), (0, 52)], told)
+    # (an overdue order whose forecast is gone takes from those after it)
+    _, table, said = sheets(tmp_path, forecast("1,1", forecasts[2:], orders[:1]))
+    assert (demands_of(table), "dropped" in said) == ([(0, 8), (0, 12), (0, 25)], False)
+
+
+def test_orders_and_forecasts_beyond_the_end(tmp_path):
+    """Orders beyond the end consume what is within; of forecasts beyond it those with pieces left are told."""
+    forecasts = [("2026-01-26", 10), ("2026-02-02", 10), ("2026-02-09", 10), ("2026-02-16", 10)]
+    _, table, said = sheets(tmp_path, forecast("1,0", forecasts, [("2026-02-03", 14), ("2026-02-10", 10), ("2026-01-05", 1)]))
+    assert (demands_of(table), said.splitlines()) == (
+        [(0, 1), (3, 6)],
+        [
+            "demands.csv: 2 rows beyond 2026-02-01 left out (rows 2, 3)",
+            "forecasts.csv: 1 row beyond 2026-02-01 left out (row 5)",
+        ],
+    )
+
+
+def test_forecasts_of_an_item_at_a_plant_alone(tmp_path):
+    """Those of one period add up, the earliest are consumed first, and call-offs consume too; what is left keeps its row."""
+    found = forecast("0,0", [("2026-01-18", 10), ("2026-01-12", 20)], [("2026-01-14", 3)])
+    found["items.csv"] += "P2,BIKE,buy,lot,1,0,0\n"
+    found["forecasts.csv"] = found["forecasts.csv"].replace("Quantity", "Quantity,Region").replace("12,20", "12,20,North")
+    found["forecasts.csv"] += "P2,BIKE,2026-01-12,7,\nP1,WHEEL,2026-01-12,9,\n"
+    found["calls.csv"] = "Customer,Plant,Item,Date,Cumulative\nAnn,P1,BIKE,2026-01-15,104\n"
+    found["shipped.csv"] = "Customer,Plant,Item,Cumulative\nAnn,P1,BIKE,100\n"
+    status, table, said = sheets(tmp_path, found, "--names", "names.csv", "--strict")
+    assert (status, table.partition("demand")[2], said) == (
+        0,
+        ",P1,BIKE,1,3,,,\ndemand,P1,BIKE,1,4,,,\ndemand,P1,BIKE,1,13,,,\ndemand,P1,BIKE,1,10,,,\n"
+        "demand,P2,BIKE,1,7,,,\ndemand,P1,WHEEL,1,9,,,\n",
+        "",
+    )
+    names = (tmp_path / "names.csv").read_text()
+    assert '\ndemand,P1,BIKE,1,2026-01-12,13,,,"forecast, 13 of 20, Region North"\n' in names
+    assert "\ndemand,P1,BIKE,1,2026-01-18,10,,,forecast\n" in names
+
+
+def test_a_piece_consumes_the_first_forecast_that_is_left():
+    """Piece by piece: of its own period, else of the nearest before, else of the nearest after."""
+    demand = module_of("demand.py", "bin")
+    for seed in range(500):
+        chance = random.Random(seed)
+        back, forward = chance.randrange(4), chance.randrange(4)
+        left, orders = ({chance.randrange(-3, 8): chance.randrange(9) for _ in range(chance.randrange(7))} for _ in range(2))
+        taken = demand.consumed({**left}, orders, back, forward)
+        before = {**left}
+        for period in sorted(orders):
+            for _ in range(orders[period]):
+                near = [it for it in left if left[it] and period - back <= it <= period + forward]
+                if near:
+                    left[min(near, key=lambda it: (it > period, abs(it - period)))] -= 1
+        assert taken == {it: before[it] - left[it] for it in before}, seed
+
+
+@pytest.mark.parametrize(
+    "change, told",
+    [
+        (
+            {"firm.csv": BICYCLE["firm.csv"]},
+            "firm.csv row 1: it has no column Backward consumption (periods), for forecasts.csv\n"
+            "firm.csv row 1: it has no column Forward consumption (periods), for forecasts.csv",
+        ),
+        (
+            {"firm.csv": FORECASTS["firm.csv"].replace("Forward consumption (periods)", "Forward consumption")},
+            "firm.csv row 1, Forward consumption: in which unit? Head it Forward consumption (periods)",
+        ),
+        (
+            {"firm.csv": FORECASTS["firm.csv"].replace("Backward consumption (periods)", "Backward consumption (days)")},
+            "firm.csv row 1: it has no column Backward consumption (Backward consumption (days)?)",
+        ),
+        ({"firm.csv": FORECASTS["firm.csv"].replace("4,1,1", "4,,1")}, "firm.csv row 2, Backward consumption (periods): nothing stands here"),
+        ({"firm.csv": FORECASTS["firm.csv"].replace("4,1,1", "4,1,105")}, "firm.csv row 2, Forward consumption (periods): '105' is not from 0 to 104"),
+        ({"forecasts.csv": FORECASTS["forecasts.csv"] + "P1,BIKE,2026-01-12,-1\n"}, "forecasts.csv row 2, Quantity: '-1' is not from 1 to 1000000000000"),
+        ({"forecasts.csv": FORECASTS["forecasts.csv"] + "P1,BIKE,W3,1\n"}, "forecasts.csv row 2, Due: 'W3' is no date; write it as 2026-12-01"),
+        ({"forecasts.csv": FORECASTS["forecasts.csv"] + "P1,BIK,2026-01-12,1\n"}, "forecasts.csv row 2, Item: P1 has no item 'BIK' (BIKE?)"),
+        ({"forecasts.csv": "Plant,Item,Due\n"}, "forecasts.csv row 1: it has no column Quantity"),
+    ],
+)
+def test_forecasts_that_are_slips(tmp_path, change, told):
+    count = told.count("\n") + 1
+    said = f"{told}\n{REFUSED.replace('1 slip', f'{count} slips') if count > 1 else REFUSED}"
+    assert sheets(tmp_path, {**FORECASTS, "demands.csv": BICYCLE["demands.csv"], **change}) == (1, "", said)
+
+
+def test_what_may_not_be_meant_of_forecasts(tmp_path):
+    found = {**FORECASTS, "demands.csv": BICYCLE["demands.csv"]}
+    assert sheets(tmp_path, found) == (0, TABLE, "")
+    said = "forecasts.csv: it is missing, and firm.csv says how orders consume forecasts; none is planned\n"
+    assert sheets(tmp_path, {name: text for name, text in found.items() if name != "forecasts.csv"}) == (0, TABLE, said)
+    found["forecasts.csv"] += "P1,BIKE,2026-01-12,0\n"
+    assert sheets(tmp_path, found) == (0, TABLE, "forecasts.csv: 1 row of 0 left out (row 2)\n")
+    del found["demands.csv"]
+    found["forecasts.csv"] = FORECASTS["forecasts.csv"] + "P1,BIKE,2026-01-26,10\n"
+    assert sheets(tmp_path, found) == (0, TABLE, "demands.csv: it is missing, and nothing is asked for but in forecasts.csv\n")
+
+
+def test_the_window_has_other_headings(tmp_path):
+    wanted = sheets(tmp_path, found := forecast("1,0", zip(WEEKS, [10, 10]), [("2026-01-12", 15)]))
+    assert demands_of(wanted[1]) == [(1, 15), (0, 5)]
+    for firm, heads in (
+        ("Erster Tag,Tage,Perioden,Rückwärtsverrechnung (Perioden),Vorwärtsverrechnung (Perioden)", "Werk,Material,Termin,Prognose"),
+        ("Start,Days,Periods,Consume back (periods),Consume forward (periods)", "Site,Part,Date,Forecast qty"),
+        ("Début,Jours,Périodes,Consommation en arrière (périodes),Consommation en avant (périodes)", "Usine,Article,Échéance,Quantité prévue"),
+        ("Inicio,Días,Periodos,Consumo hacia atrás (periodos),Consumo hacia adelante (periodos)", "Planta,Artículo,Fecha,Pronóstico"),
+    ):
+        other = {"firm.csv": firm, "forecasts.csv": heads}
+        assert sheets(tmp_path, {**found, **{name: "\n".join([head, *found[name].splitlines()[1:]]) for name, head in other.items()}}) == wanted
