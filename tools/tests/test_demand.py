@@ -3,6 +3,7 @@ import datetime
 import random
 import re
 
+import firms
 import pytest
 from support import module_of
 from test_slips import BICYCLE, REFUSED, sheets, SMALLER, STRICT, TABLE
@@ -240,7 +241,7 @@ def test_call_offs_are_pieces_in_the_order_of_dates():
         (
             ["2026-01-12,9,x"],
             142,
-            "row 2, Starts again: no figure is before it of which 142 were shipped; give that figure, or no mark where shipped.csv counts since then",
+            "row 2, Starts again: no figure before it says how many of 142 were shipped ahead; give the row of that figure, or no mark where shipped.csv counts since then",
         ),
         (["2026-01-12,9,maybe"], 0, "row 2, Starts again: 'maybe' is neither yes nor no; write x, or nothing"),
         (["2026-01-12,,"], 0, "row 2, Cumulative: nothing stands here"),
@@ -494,3 +495,18 @@ def test_the_window_has_other_headings(tmp_path):
     ):
         other = {"firm.csv": firm, "forecasts.csv": heads}
         assert sheets(tmp_path, {**found, **{name: "\n".join([head, *found[name].splitlines()[1:]]) for name, head in other.items()}}) == wanted
+
+
+def test_damaged_sheets_are_refused_or_read(tmp_path):
+    """With slips that are counted, or a table; never otherwise."""
+    found = {**FORECASTS, **{name: CALLS[name] for name in ("calls.csv", "shipped.csv")}, "demands.csv": BICYCLE["demands.csv"]}
+    found["forecasts.csv"] += "P1,BIKE,2026-01-12,7\nP1,WHEEL,2026-02-12,9\nP1,BIKE,2026-01-01,7\n"
+    assert sheets(tmp_path, found)[0] == 0
+    for seed in range(60):
+        chance = random.Random(seed)
+        name = chance.choice(("firm.csv", "calls.csv", "shipped.csv", "forecasts.csv"))
+        text = firms.damaged(chance, found[name].encode()).decode("utf-8", "ignore")
+        form = chance.choice(((), ("--numbers", POINTS), ("--numbers", COMMAS)))
+        status, table, said = sheets(tmp_path, {**found, name: text}, *form)
+        assert status == (0 if table else 1), (seed, said)
+        assert not status or re.search(r"\nbin/sheets: \d+ slips?; nothing is written\n$", said), (seed, said)
