@@ -269,6 +269,23 @@ def test_figures_that_started_again_already(tmp_path):
         assert demands_of(sheets(tmp_path, call_offs(rows, shipped))[1]) == demands
 
 
+def test_figures_that_start_again_on_the_first_day(tmp_path):
+    """What was shipped counts as the rows before it, and what is due on the first day is no backlog."""
+    _, table, said = sheets(tmp_path, call_offs(["2025-12-29,100,", "2026-01-05,5,x"], 90))
+    told = "calls.csv row 2: backlog of 10 of P1 BIKE, 7 days late (Customer Ann)\n"
+    assert (demands_of(table), said) == ([(0, 10), (0, 5)], "calls.csv: 1 overdue row in period 0\n" + told)
+
+
+def test_what_was_shipped_above_the_last_figure(tmp_path):
+    for shipped, said in (
+        (140, ""),
+        (141, "shipped.csv row 2: 141 of Ann P1 BIKE is above its last figure, 140 of 2026-01-19 (calls.csv row 3)\n"),
+    ):
+        found = {**call_offs(["2026-01-12,130,", "2026-01-19,140,"], shipped), "demands.csv": BICYCLE["demands.csv"]}
+        assert sheets(tmp_path, found) == (0, TABLE, said)
+        assert sheets(tmp_path, found, "--strict") == ((1, "", said + STRICT) if said else (0, TABLE, ""))
+
+
 @pytest.mark.parametrize(
     "row, told",
     [
