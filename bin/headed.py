@@ -14,6 +14,8 @@ MOST_SLIPS, DIGITS = 100, re.compile("-?(0|[1-9][0-9]{0,98})")
 # A number with marks between thousands, with decimals, or with both.
 MARKED = re.compile(r"-?(?P<whole>[0-9]{1,3}(?:(?P<group>[.,' \u2019\u00a0\u202f])[0-9]{3}(?:(?P=group)[0-9]{3})*)?|[0-9]+)"
                     r"(?:(?P<mark>[.,])(?P<decimals>[0-9]+))?")
+# How --numbers says that numbers are written: which sign parts thousands, and which decimals.
+FORMS = ("1.234,5", "1,234.5")
 # What is said of a part of a piece.
 SMALLER = "plan the item in a smaller unit (docs/limits.md, fractions)"
 # What is written for letters where a keyboard hasn't them, if that isn't the letter without its mark.
@@ -24,12 +26,14 @@ ITEM = "part material article sku product artikel teil teile sach produkt codear
 PIECES = "pieces menge stueck stueckzahl quantite qte cantidad"
 DATES = "date duedate delivery deliverydate datum termin liefertermin lieferdatum datelivraison datedelivraison fecha fechaentrega fechadeentrega"
 EXPECTED = f"{DATES} arrival arrivaldate eta expected expecteddate ankunft arrivee datedarrivee llegada fechadellegada"
-NEEDED = f"{DATES} needby needdate required requireddate faellig bedarfstermin bedarfsdatum echeance datedecheance datedebesoin fechadenecesidad fecharequerida"
+NEEDED = f"{DATES} needby needdate required requireddate faellig bedarfstermin bedarfsdatum echeance datedecheance datedebesoin fechadenecesidad fecharequerida shipdate"
 LANE = {
     "From": "fromplant supplier source sourceplant sender von vonwerk lieferant lieferwerk de fournisseur expediteur desde proveedor origen",
     "To": "toplant customer destination receiver nach nachwerk kunde empfaenger vers client destinataire hasta cliente destino destinatario",
     "Item": ITEM,
 }
+CUSTOMER = "customername soldto shipto client kunde kunden kundenname abnehmer cliente"
+FIGURE = "cum cumulativequantity cumquantity fortschrittszahl cumul acumulado"
 CUM = "eingangsfortschrittszahl fortschrittszahlempfangen empfangenefortschrittszahl"
 WANTED = {"Plant": PLANT, "Item": ITEM, "Due": NEEDED, "Quantity": f"orderquantity openquantity bedarfsmenge bestellmenge offenemenge {PIECES}"}
 # How lead times are headed in front of their unit, and the days of each unit.
@@ -39,22 +43,34 @@ UNITS = {"period periods periode perioden periodes periodo periodos": 0, "week w
 UNITS |= {"day days tag tage tagen jour jours dia dias": 1}
 LEADS = {front + link + unit: days for units, days in UNITS.items() for front, link, unit in itertools.product(LEAD.split(), ("", "in", "en"), units.split())}
 # The columns that name things. A row in which two cells are empty, and one of these is, may be a sum.
-NAMING = {"Plant", "Item", "Parent", "Component", "From", "To"}
+NAMING = {"Plant", "Item", "Parent", "Component", "From", "To", "Customer"}
+# The columns that a sheet may lack. Their cells may be empty.
+OPTIONAL = {"Starts again", "Backward consumption", "Forward consumption"}
+# What stands for yes and for no in a cell, as `plain` has it.
+YES, NO = {*"x yes y ja j oui o si s true wahr vrai verdadero 1".split()}, {*"no n nein non false falsch faux falso 0 -".split(), ""}
+# How the periods are headed in which orders consume forecasts, in front of a word for periods, and without it.
+BACKWARD = "consumeback backwardconsumption backwardsconsumption consumptionbackward consumptionbackwards rueckwaertsverrechnung verrechnungrueckwaerts"
+BACKWARD += " consommationarriere consommationenarriere consumohaciaatras"
+FORWARD = "consumeforward forwardconsumption forwardsconsumption consumptionforward consumptionforwards vorwaertsverrechnung verrechnungvorwaerts"
+FORWARD += " consommationavant consommationenavant consumohaciaadelante"
+PERIODS = [it for it in UNITS if not UNITS[it]][0].split()
 # The columns of each sheet, and what else they are headed.
 SHEETS = {
     "firm.csv": {
         "First day": "first start startdate erstertag beginn startdatum premierjour debut datededebut primerdia inicio fechadeinicio",
         "Days": "daysperperiod perioddays tage tagejeperiode tageproperiode jours joursparperiode dias diasporperiodo",
         "Periods": "numberofperiods noofperiods perioden anzahlperioden periodes nombredeperiodes periodos numerodeperiodos",
+        "Backward consumption": " ".join(it + unit for it in BACKWARD.split() for unit in PERIODS),
+        "Forward consumption": " ".join(it + unit for it in FORWARD.split() for unit in PERIODS),
     },
     "plants.csv": {"Plant": PLANT},
     "items.csv": {
         "Plant": PLANT,
         "Item": ITEM,
-        "Supply": "source sourcing procurement makeorbuy makebuy beschaffung beschaffungsart bezug approvisionnement aprovisionamiento abastecimiento",
+        "Supply": "source sourcing procurement makeorbuy makebuy procurementtype beschaffung beschaffungsart bezug approvisionnement aprovisionamiento abastecimiento",
         "Lot rule": "rule lotsize lotsizing lotsizingrule orderpolicy losgroesse losregel tailledelot regledelot tamanodelote regladelote",
         "Lead": " ".join(LEADS),
-        "On hand": "stock stockonhand quantityonhand onhandquantity inventory bestand lagerbestand enstock quantiteenstock existencias inventario",
+        "On hand": "stock stockonhand quantityonhand onhandquantity inventory unrestricted bestand lagerbestand bestandfrei freiverwendbar enstock quantiteenstock existencias inventario",
         "Safety stock": "safety safetystockquantity sicherheitsbestand stockdesecurite stockdeseguridad existenciasdeseguridad",
     },
     "bills.csv": {
@@ -64,6 +80,21 @@ SHEETS = {
         "Per": f"quantityper quantityperparent quantity usage mengeje mengepro quantitepar cantidadpor {PIECES}",
     },
     "demands.csv": WANTED,
+    "calls.csv": {
+        "Customer": CUSTOMER,
+        "Plant": PLANT,
+        "Item": ITEM,
+        "Date": NEEDED,
+        "Cumulative": f"cumulativecalled calledcumulative cumcalled abruffortschrittszahl cumulappele {FIGURE}",
+        "Starts again": "startagain restart restarts reset nullstellung neustart beginntneu remiseazero recommence reinicio puestaacero",
+    },
+    "shipped.csv": {
+        "Customer": CUSTOMER,
+        "Plant": PLANT,
+        "Item": ITEM,
+        "Cumulative": f"cumulativeshipped shippedcumulative cumshipped lieferfortschrittszahl cumulexpedie {FIGURE}",
+    },
+    "forecasts.csv": {**WANTED, "Quantity": f"forecast forecastquantity prognose prognosemenge vorhersage prevision quantiteprevue pronostico {PIECES}"},
     "receipts.csv": {**WANTED, "Due": f"arrives {EXPECTED}"},
     "shipments.csv": {**LANE, "Arrives": f"due {EXPECTED}", "Quantity": PIECES},
     "cums.csv": {**LANE, "Cum received": f"cumulativereceived received figure empfangen {CUM} recu cumulrecu recibido acumuladorecibido"},
@@ -78,6 +109,8 @@ UNCLEAR = {
         "cum cumulative cumshipped cumulativeshipped fortschrittszahl lieferfortschrittszahl cumul acumulado",
         "with what is on its way? Give the figure without it, headed Cum received",
     ),
+    "Backward consumption": (BACKWARD, "in which unit? Head it Backward consumption (periods)"),
+    "Forward consumption": (FORWARD, "in which unit? Head it Forward consumption (periods)"),
 }
 
 
@@ -154,10 +187,29 @@ def instead(text, part):
     return f"write {digits} if that is meant" + (f", else {part}" if part else "")
 
 
-def number(least, most, part=SMALLER):
-    """Returns what reads a whole number between two, and for a part of one says what is given."""
+def unsigned(text, form, part):
+    """Returns a number without the signs by which a form parts thousands and decimals. Decimals of 0 say nothing."""
+    group, mark = form[1], form[5]
+    if group not in text and mark not in text:
+        return text
+    found = re.fullmatch(f"(-?(?:0|[1-9][0-9]*|[1-9][0-9]{{0,2}}(?:[{group}][0-9]{{3}})+))(?:[{mark}]([0-9]+))?", text)
+    if not found:
+        raise Slip(f"{text!r} isn't written as --numbers {form} says")
+    if (found[2] or "").strip("0"):
+        raise Slip(f"{text!r} is no whole number" + (f"; {part}" if part else ""))
+    return found[1].replace(group, "")
 
-    def read(text):
+
+def is_zero(text, form=None):
+    """Returns whether a number is 0, in the form that --numbers says."""
+    return text == "0" or bool(form and re.fullmatch(f"0[{form[5]}]0+", text))
+
+
+def number(least, most, part=SMALLER, form=None):
+    """Returns what reads a whole number between two, in the form that --numbers says, and for a part of one says what is given."""
+
+    def read(cell):
+        text = unsigned(cell, form, part) if form else cell
         if not DIGITS.fullmatch(text):
             if re.fullmatch("-?0[0-9]+", text):
                 sign, digits = text[: text.startswith("-")], text.lstrip("-")
@@ -210,6 +262,13 @@ class Row:
             self.slip(column, why if not text or repr(text) in str(why) else f"{text!r}: {why}")
             return None
 
+    def has_mark(self, column):
+        """Returns whether a cell says yes. Where the column is missing it says no."""
+        text = self.text(column) if column in self.sheet.places else ""
+        if (word := plain(text).casefold()) not in YES | NO:
+            self.slip(column, f"{text!r} is neither yes nor no; write x, or nothing")
+        return word in YES
+
     def rest(self):
         """Returns what the other columns say: descriptions, and the others, each behind its heading."""
         taken, parts = {*self.sheet.places.values()}, ([], [])
@@ -256,7 +315,7 @@ class Sheet:
             self.places = {}
 
     def find(self, column, others):
-        """Finds a column by its headings, and returns whether there is one."""
+        """Finds a column by its headings, and returns whether there is one, or none is needed."""
         unclear, question = UNCLEAR.get(column, ("", ""))
         headings = keys(column, others) - {*unclear.split()}
         found = [place for place, head in enumerate(self.heads) if key(head) in headings]
@@ -267,12 +326,15 @@ class Sheet:
         elif asked := [it for it in self.heads if key(it) in unclear.split()]:
             self.slip(1, f", {asked[0]}: {question}")
         else:
-            self.slip(1, f": it has no column {column}{self.nearest(headings)}")
+            meant = self.nearest(headings, 0.8 if column in OPTIONAL else 0.65)
+            if column in OPTIONAL and not meant:
+                return True
+            self.slip(1, f": it has no column {column}{meant}")
         return len(found) == 1
 
-    def nearest(self, headings):
+    def nearest(self, headings, least):
         """Returns the heading that is most like those of a column, and is of no other one, as a question in brackets, or nothing."""
-        likely = [(it, difflib.get_close_matches(key(it), headings, 1, 0.65)) for it in self.heads[:100] if key(it) not in known_keys()]
+        likely = [(it, difflib.get_close_matches(key(it), headings, 1, least)) for it in self.heads[:100] if key(it) not in known_keys()]
         found = max(((difflib.SequenceMatcher(None, key(it), same[0]).ratio(), it) for it, same in likely if same), default=None)
         return f" ({found[1]}?)" if found else ""
 
@@ -294,7 +356,7 @@ class Sheet:
                 self.slip(place, f": it has more cells than headings, as {next(filter(None, cells[wide:]))!r}; a separator within a cell wants quotes")
             if any(cells):
                 row = Row(self, place, cells + [""] * (wide - len(cells)))
-                empty = [it for it in self.places if not row.text(it)]
+                empty = [it for it in self.places if it not in OPTIONAL and not row.text(it)]
                 if len(empty) > 1 and NAMING.intersection(empty):
                     *heads, last = map(self.heading, empty)
                     self.slip(place, f": {', '.join(heads)} and {last} are empty; delete the row if it is a sum")

@@ -325,7 +325,8 @@ def test_sheets_are_read_as_spreadsheets_save_them(room):
     write_sheets(room, "firm", {**BICYCLE, "demands.csv": demands.replace("1.2.2026", "1/2/2026")})
     assert table_of_sheets(room, "--dates", "d/m/y", "firm") == (0, table, "")
     # (2 January 2026 is before the first day)
-    early = table.replace(b"BIKE,3,10", b"BIKE,0,10"), "demands.csv: 1 overdue row in period 0\n"
+    told = "demands.csv: 1 overdue row in period 0\ndemands.csv row 3: 10 of P1 BIKE, 3 days late (Remark x; y)\n"
+    early = table.replace(b"BIKE,3,10", b"BIKE,0,10"), told
     assert table_of_sheets(room, "--dates", "m/d/y", "firm") == (0, *early)
     for days, weeks in (("1", 1), ("7", 1), ("8", 2), ("728", 104)):
         write_sheets(
@@ -480,6 +481,8 @@ def test_sheets_say_what_became_of_rows(room):
 not read, for no sheet has this name: stock list.csv
 items.csv: 1 name written otherwise, as WHEEL_26 for WHEEL/26
 demands.csv: 2 overdue rows in period 0, 2 rows beyond 2026-02-01 left out (rows 5, 6)
+demands.csv row 3: 2 of P1 BIKE, 35 days late
+demands.csv row 2: 1 of P1 BIKE, 1 day late
 items.csv row 4: P1 FORK is made and has no bill
 items.csv row 4: P1 FORK has no demand, and nothing takes it
 items.csv row 5: P1 BELL has no demand, and nothing takes it
@@ -570,6 +573,7 @@ def test_sheets_of_the_example(room):
     told = """\
 items.csv: 2 names written otherwise, as 100_250-A for 100/250-A
 demands.csv: 1 overdue row in period 0, 1 row beyond 2027-01-10 left out (row 5)
+demands.csv row 2: 5 of WORKS 100/250-A, 3 days late (Order 4711, Customer Weber)
 resets.csv row 2: 2027-01-01 isn't the first day of a period; figures start again on 2026-12-28
 """
     assert (status, said) == (0, told)

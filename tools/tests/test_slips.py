@@ -263,6 +263,7 @@ def test_what_became_of_rows_is_no_slip_by_strict(tmp_path):
     found = {name: text.replace("BIKE", "BIKE/28") for name, text in BICYCLE.items()}
     said = "items.csv: 1 name written otherwise, as BIKE_28 for BIKE/28\n"
     said += "demands.csv: 1 overdue row in period 0, 1 row beyond 2026-02-01 left out (row 4)\n"
+    said += "demands.csv row 2: 1 of P1 BIKE/28, 1 day late\n"
     table = TABLE.replace("BIKE", "BIKE_28").replace("demand,", "demand,P1,BIKE_28,0,1,,,\ndemand,")
     assert sheets(tmp_path, {**found, "demands.csv": demands}, "--strict") == (0, table, said)
 

@@ -51,7 +51,8 @@ def test_words_of_tools(room):
         "bin/hit A",
     ]
     bad += ["bin/compare one", "bin/compare --within 0 one two", "bin/compare --last x one two"]
-    bad += ["bin/sheets", "bin/sheets --dates y/m/d examples/sheets", "bin/counts", "bin/counts --fall 101 counts.csv"]
+    bad += ["bin/sheets", "bin/sheets --dates y/m/d examples/sheets", "bin/sheets --numbers 1234 examples/sheets"]
+    bad += ["bin/counts", "bin/counts --fall 101 counts.csv"]
     bad += [
         "bin/install a b",
         "bin/install --all",
