@@ -4,8 +4,8 @@
 It is written for shortness from the manual (docs/tables.md, docs/reports.md, docs/faults.md) and the definitions
 (docs/definitions.md): it plans the whole network at once, on one thread, and drives no lanes or records.
 
-tools/oracle.py --cases N [--seed S] prints N cases of the planning data of one pair with the rows of its plan, for
-tools/pairs: a second planner of the pair sums each term again where it stands. One seed makes the same cases.
+tools/oracle.py --cases N [--seed S] prints N cases of one pair's planning data and plan, for tools/pairs. They are made
+from a seed, and planned by the definitions alone: no sum is kept from period to period.
 """
 import random
 import re
@@ -708,7 +708,7 @@ def pair_cases(count, seed):
 def main():
     parser = reports.Words("tools/oracle.py --cases N [--seed S]", __doc__)
     parser.add_argument("--cases", type=reports.count, required=True, metavar="N", help="print N cases")
-    parser.add_argument("--seed", type=reports.count, default=1, metavar="S", help="make the cases from this number (1)")
+    parser.add_argument("--seed", type=reports.count, default=1, metavar="S", help="make them from this number (1)")
     asked = parser.parse_args()
     for given in pair_cases(asked.cases, asked.seed):
         sys.stdout.write(data_text(given) + plan_text(PairPlan(given)))
