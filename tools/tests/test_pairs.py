@@ -1,4 +1,4 @@
-"""tools/pairs, by a stand-in of rt that plans by the second planner, for the true one takes a minute."""
+"""tools/pairs, by a stand-in of rt that plans by the second planner, and once by the true one, which takes a minute."""
 import pytest
 import support
 
@@ -15,13 +15,20 @@ def test_no_difference(pairs):
     assert pairs.run("tools/pairs --cases 1") == "1 cases, seed 1, no difference\n"
 
 
+def test_sources(room):
+    """The plans of mrp_netting, as its sources stand, are right."""
+    support.wants("rt")
+    assert room.run("tools/pairs --cases 1000 --seed 5") == "1000 cases, seed 5, no difference\n"
+
+
 def test_first_difference(pairs):
     """Its planning data is shown with both plans."""
     said = pairs.run("HOW=order tools/pairs --cases 20 --seed 2", status=1)
     given, plans = said.split("right:\n")
     right, planned = plans.split("planned:\n")
     cases = pairs.run("tools/oracle.py --cases 20 --seed 2").split("end\n")
-    assert f"{given}{right}" == f"{cases[4]}end\n"
+    assert f"{given}{right.partition(chr(10))[2]}" == f"{cases[4]}end\n"
+    assert [it.partition("\n")[0] for it in (right, planned)] == given.splitlines()[-1:] * 2
     assert planned.endswith("end\n20 cases, seed 2, case 5 differs\n")
     orders = [[it for it in plan.splitlines() if it.startswith("order,")] for plan in (right, planned)]
     first = [int(it.split(",")[1]) for it, in orders]
