@@ -1,13 +1,23 @@
+#!/usr/bin/env python3
 """What mrp has to answer of a table, by a second planner: for tools/torture, which compares.
 
 It is written for shortness from the manual (docs/tables.md, docs/reports.md, docs/faults.md) and the definitions
 (docs/definitions.md): it plans the whole network at once, on one thread, and drives no lanes or records.
+
+tools/oracle.py --cases N [--seed S] prints N cases of one pair's planning data and plan, for tools/pairs. They are made
+from a seed, and planned by the definitions alone: no sum is kept from period to period.
 """
+import random
 import re
+import sys
 from bisect import bisect_right
 from datetime import date, timedelta
 from itertools import accumulate
 from typing import NamedTuple
+
+sys.dont_write_bytecode = True
+import crates  # noqa: E402,F401  (which lets the modules of bin/ be found)
+import reports  # noqa: E402
 
 COLUMNS = {
     "run": ("date", "days", "periods"),
@@ -484,3 +494,225 @@ class Oracle:
 
 def refusal(line):
     return Answer(1, b"", f"{line}\n".encode())
+
+
+class PairData(NamedTuple):
+    """What the plan of one pair is made from. A row has the pieces of periods 0, 1, ..; gross has all periods, and a
+    shorter row has nothing in those that it doesn't reach.
+    """
+
+    rule: tuple
+    lead: int
+    on_hand: int
+    safety: int
+    fence: int
+    sooner: int
+    cover: int
+    least: int
+    multiple: int
+    receipts: list
+    arrivals: list
+    firm_start: list
+    firm_due: list
+    gross: list
+
+
+class PairPlan:
+    """The plan of one pair. Each term is a sum of the rows of the planning data, taken where it is used."""
+
+    def __init__(self, given):
+        self.given, self.periods = given, range(len(given.gross))
+        # (the first period in which a planned order is due that is not late)
+        self.earliest = max(given.lead, given.fence)
+        self.incoming = [self.coming(t) for t in self.periods]
+        self.order, self.available = [], []
+        for t in self.periods:
+            self.order.append(self.order_in(t))
+            self.available.append(self.before(t) + self.incoming[t] + self.order[t] - given.gross[t])
+        self.release = [at(given.firm_start, u) + self.released(u) for u in self.periods]
+        self.late = [(t, it, self.earliest - t) for t, it in enumerate(self.order) if it and t < self.earliest]
+
+    def due(self, t):
+        """Returns the scheduled receipts of periods 0 to t."""
+        return pieces(self.given.receipts, 0, t)
+
+    def short(self, t):
+        """Returns the most that requirements lack up to a period, with no receipt and no planned order."""
+        given, lacks = self.given, [0]
+        for s in range(t + 1):
+            wanted = given.safety + pieces(given.gross, 0, s + given.cover)
+            lacks.append(wanted - given.on_hand - pieces(given.arrivals, 0, s) - pieces(given.firm_due, 0, s))
+        return max(lacks)
+
+    def had(self, t):
+        """Returns the receipts that are counted by a period, no piece more than SOONER periods before it comes."""
+        return max(self.due(t), min(self.due(t + self.given.sooner), self.short(t))) if t >= 0 else 0
+
+    def coming(self, t):
+        """Returns what comes in a period without planned orders."""
+        counted = self.had(t) - self.had(t - 1)
+        return counted + at(self.given.arrivals, t) + at(self.given.firm_due, t)
+
+    def before(self, t):
+        """Returns the stock before a period."""
+        return self.available[t - 1] if t else self.given.on_hand
+
+    def need(self, t, last):
+        """Returns what stock and receipts lack of the requirements from a period to the last one that is bought for,
+        of those that COVER adds, and of safety stock; below 0 where they lack nothing.
+        """
+        required = self.given.safety + pieces(self.given.gross, t, last + self.given.cover)
+        return required - self.before(t) - pieces(self.incoming, t, last)
+
+    def lot(self, t):
+        """Returns what the lot rule orders for a period with a net requirement."""
+        word, *numbers = self.given.rule
+        if word == "lot":
+            return self.need(t, t)
+        if word == "fixed":
+            return multiple_of(numbers[0], self.need(t, t))
+        if word == "min":
+            return multiple_of(numbers[1], max(numbers[0], self.need(t, t)))
+        return max(self.need(t, last) for last in range(t, t + numbers[0]))
+
+    def order_in(self, t):
+        """Returns the planned order that is due in a period."""
+        if self.need(t, t) <= 0:
+            return 0
+        return multiple_of(max(self.given.multiple, 1), max(self.given.least, self.lot(t)))
+
+    def released(self, u):
+        """Returns the planned orders that are released in a period."""
+        return sum(self.order[t] for t in self.periods if max(t, self.earliest) - self.given.lead == u)
+
+
+def at(row, t):
+    """Returns the pieces of a period."""
+    return pieces(row, t, t)
+
+
+def pieces(row, first, last):
+    """Returns the pieces from a period to another, both included, as far as the row goes."""
+    return sum(row[first : last + 1])
+
+
+def multiple_of(lot, quantity):
+    """Returns the least multiple of a lot that is not below a quantity."""
+    return -(-quantity // lot) * lot
+
+
+def data_text(given):
+    """Returns the lines of a pair's planning data."""
+    rule, *numbers = given[:9]
+    rows = zip(PairData._fields[9:], given[9:])
+    return csv_text([("pair", ":".join(map(str, rule)), *numbers), *((name, *row) for name, row in rows)])
+
+
+def plan_text(plan):
+    """Returns the lines of a pair's plan."""
+    rows = ((name, *getattr(plan, name)) for name in ("incoming", "order", "release", "available"))
+    return csv_text([*rows, *(("late", *it) for it in plan.late), ("end",)])
+
+
+def csv_text(lines):
+    return "".join(",".join(map(str, it)) + "\n" for it in lines)
+
+
+# What planning data has beside the rows of a plain pair: in turn each case has nothing of it, one of these alone, all
+# of it, or some.
+TERMS = ("firm", "fence", "sooner", "cover", "least", "multiple")
+TURNS = ((), *((it,) for it in TERMS), TERMS, TERMS, None)
+
+
+class PairDraft:
+    """Planning data of a pair in the making, with some of the terms."""
+
+    def __init__(self, chance, terms):
+        self.chance, self.terms = chance, terms
+        others = 1, 2, chance.randint(13, 103), 104
+        self.periods = chance.randint(3, 12) if chance.random() < 0.9 else chance.choice(others)
+        self.most = chance.choice((1, 3, 10, 10, 40, 40, 1000, 10**12))
+
+    def quantity(self):
+        some = self.chance.randint(1, self.most)
+        return self.chance.choice((some, some, self.most))
+
+    def stock(self):
+        return self.chance.choice((0, 0, self.quantity(), min(3 * self.quantity(), 10**12)))
+
+    def row(self, *shares):
+        """Returns a row that has something in one of these shares of its periods."""
+        share = self.chance.choice(shares)
+        return [self.quantity() if self.chance.random() < share else 0 for _ in range(self.periods)]
+
+    def firm_rows(self):
+        """Returns the rows of firm orders by start and by due."""
+        start, due = [0] * self.periods, [0] * self.periods
+        for _ in range(self.chance.randint(1, 6) if "firm" in self.terms else 0):
+            first, last = sorted(self.chance.randrange(self.periods) for _ in "12")
+            quantity = self.quantity()
+            start[first] += quantity
+            due[last] += quantity
+        return start, due
+
+    def rule(self):
+        one, other = self.quantity(), self.quantity()
+        ahead = "periods", self.chance.choice((1, 2, 3, self.periods, 104))
+        return self.chance.choice((("lot",), ("fixed", one), ahead, ahead, ("min", one, other)))
+
+    def ahead(self, term):
+        """Returns a number of periods, which may go beyond the horizon."""
+        return self.chance.choice((1, 1, 2, 3, self.periods - 1, self.periods, 104)) if term in self.terms else 0
+
+    def fence(self, lead):
+        """Returns a fence in the horizon, about the lead time or anywhere."""
+        near = max(0, min(lead + self.chance.randint(-1, 3), self.periods - 1))
+        return self.chance.choice((near, near, self.chance.randrange(self.periods))) if "fence" in self.terms else 0
+
+    def policy(self, lead):
+        """Returns fence, sooner, cover, least and multiple."""
+        most = [min(self.quantity() * self.chance.choice((1, 1, 3)), 10**12) for _ in "12"]
+        lots = [quantity if it in self.terms else 0 for it, quantity in zip(TERMS[4:], most)]
+        return self.fence(lead), self.ahead("sooner"), self.ahead("cover"), *lots
+
+    def data(self):
+        """Returns the planning data. All quantities together are at most the limit, and in some cases of large ones
+        they are just that.
+        """
+        lead = self.chance.choice((0, 0, 1, 1, 2, 3, self.periods - 1, self.periods, 104))
+        rule, stocks, policy = self.rule(), [self.stock(), self.stock()], self.policy(lead)
+        rows = [self.row(0, 0.2, 0.3, 0.6, 1), self.row(0, 0.2, 0.3, 1), *self.firm_rows()]
+        gross = self.row(0, 0.2, 0.5, 0.5, 1, 1)
+        quantities = sum(rule[1:]) if rule[0] != "periods" else 0
+        left = LIMIT - sum((quantities, *stocks, *policy[3:], *rows[0], *rows[1], *rows[3], *gross))
+        if self.most == 10**12 and self.chance.random() < 0.3:
+            self.chance.choice((gross, gross, rows[0], rows[1]))[self.chance.randrange(self.periods)] += left
+        shown = [it if self.chance.random() < 0.7 else without_last_zeros(it) for it in rows]
+        return PairData(rule, lead, *stocks, *policy, *shown, gross)
+
+
+def without_last_zeros(row):
+    """Returns a row up to its last quantity."""
+    return row[: max((t + 1 for t, quantity in enumerate(row) if quantity), default=0)]
+
+
+def pair_cases(count, seed):
+    """Yields so many pairs' planning data, the same from the same seed."""
+    chance = random.Random(seed)
+    for number in range(count):
+        some = tuple(it for it in TERMS if chance.random() < 0.5)
+        terms = TURNS[number % len(TURNS)]
+        yield PairDraft(chance, some if terms is None else terms).data()
+
+
+def main():
+    parser = reports.Words("tools/oracle.py --cases N [--seed S]", __doc__)
+    parser.add_argument("--cases", type=reports.count, required=True, metavar="N", help="print N cases")
+    parser.add_argument("--seed", type=reports.count, default=1, metavar="S", help="make them from this number (1)")
+    asked = parser.parse_args()
+    for given in pair_cases(asked.cases, asked.seed):
+        sys.stdout.write(data_text(given) + plan_text(PairPlan(given)))
+
+
+if __name__ == "__main__":
+    reports.run(main)

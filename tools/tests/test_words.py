@@ -26,6 +26,8 @@ TOOLS += [
     "tools/edits",
     "tools/costs",
     "tools/torture",
+    "tools/oracle.py",
+    "tools/pairs",
     "tools/theorem",
     "tools/completions",
     "tools/test-tools",
@@ -81,6 +83,8 @@ def test_words_of_tools(room):
         "tools/try --test none",
     ]
     bad += ["tools/torture --trials 0", "tools/torture --kind none", "tools/completions x", "tools/completions --none"]
+    bad += ["tools/oracle.py", "tools/oracle.py --seed 1", "tools/oracle.py --cases 0", "tools/oracle.py --cases 1 x"]
+    bad += ["tools/pairs x", "tools/pairs --cases 0", "tools/pairs --seed x", "tools/pairs --none"]
     bad += [
         "tools/costs",
         "tools/costs none",
