@@ -86,11 +86,6 @@ grossed_is demand edges plans new size each =
 pub grossed_length : (demand : List ℕ) (edges : List ParentEdge) (plans : List PlanRows) → length (grossed demand edges plans) ≡ length demand
 grossed_length demand edges plans = length-map-range_with_len (λ (t : ℕ). slice_index demand t + asked_by plans edges t) 0 (length demand)
 
-pub receipts_length : (params : PairParams) (receipts demand : List ℕ) (edges : List ParentEdge) (plans : List PlanRows)
-    → IsWithin params receipts (grossed demand edges plans)
-    → length receipts ≡ length demand
-receipts_length params receipts demand edges plans h = h.periods ∙ grossed_length demand edges plans
-
 -- a plan has a period for each that is called for
 pub drafted_length : (params : PairParams) (receipts demand : List ℕ) (edges : List ParentEdge) (plans : List PlanRows) (plan : PlanRows)
     → plan ≡ one (plain params receipts (grossed demand edges plans))

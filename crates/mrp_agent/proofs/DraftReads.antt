@@ -10,7 +10,7 @@ use Rattle.mrp_agent.specs.Drafts.{CanDraft, drafted}
 use Rattle.mrp_agent.specs.Kept.{Indexes, IsKept}
 use Rattle.mrp_agent.specs.Rows.{edges_at, part_at}
 use Rattle.mrp_agent.specs.State.{AgentState, plant_pair_at, pair_owned, pair_place}
-use Rattle.mrp_agent.proofs.Drafts.{demand_length, receipts_length, drafted_is, has_draft}
+use Rattle.mrp_agent.proofs.Drafts.{demand_length, drafted_is, has_draft}
 use Rattle.mrp_agent.proofs.Placing.{IsAtPlace, can_before}
 
 -- a pair that can be drafted, and the rows and plans that a call was given for it
@@ -70,11 +70,6 @@ module _ {A : AgentState} {I : Indexes} {x : PairNo} {place : ℕ} {params : Pai
       of_read (λ (p : PairParams) (incoming beside : List ℕ) (es : List ParentEdge) (rows : List PlanRows). one (plain p incoming (grossed beside es rows))
       ≡ drafted A x)
       (drafted_is A read.placed.kept.view read.placed.kept.rooms x read.can.own)
-
-  pub receipts_periods : length receipts ≡ A.view.horizon
-  receipts_periods =
-      of_read (λ (_ : PairParams) (z _ : List ℕ) (_ : List ParentEdge) (_ : List PlanRows). length z ≡ A.view.horizon)
-      (receipts_length A read.placed.kept.view read.placed.kept.rooms x read.can.own)
 
   pub demand_periods : length demand ≡ A.view.horizon
   demand_periods =

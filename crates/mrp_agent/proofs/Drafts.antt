@@ -106,9 +106,6 @@ module _ (A : AgentState) (view : IsView A.view) (rooms : HasRooms A) (x : PairN
   pub receipts_are : Part A.scheduled_receipts ≡ drafted_incoming A x
   receipts_are = part_is A.scheduled_receipts (pair_place A.view x.0 * A.view.horizon) A.view.horizon (omega (arith, bound, rooms.scheduled_receipts))
 
-  pub receipts_length : length (Part A.scheduled_receipts) ≡ A.view.horizon
-  receipts_length = ap length receipts_are ∙ length-map-range_with_len (λ (t : ℕ). amount_at A.view A.scheduled_receipts x t) 0 A.view.horizon
-
   demand_is : Part A.outside_demand ≡ map (λ t. slice_index A.outside_demand (pair_place A.view x.0 * A.view.horizon + t)) (range_with_len 0 A.view.horizon)
   demand_is = part_is A.outside_demand (pair_place A.view x.0 * A.view.horizon) A.view.horizon (omega (arith, bound, rooms.outside_demand))
 

@@ -45,18 +45,6 @@ place_of_item item names items same =
 
 -- ---- tests
 
-pub first_of-err : (xs ys : List Test) (f : BookFault) → first_of xs ≡ Some f → first_of (xs ++ ys) ≡ Some f
-first_of-err [] ys f e = absurd (cc)
-first_of-err (x ∷ xs) ys f e =
-    elim (cases_Bool x.holds) [
-      | inl here ↦
-          let is : Some x.fault ≡ Some f = rw here at e in
-          rw here is
-      | inr other ↦
-          let later : first_of xs ≡ Some f = rw other at e in
-          rw other (first_of-err xs ys f later)
-    ]
-
 -- where no test holds, neither the first nor a later one does
 pub first_passed : (x : Test) (xs : List Test) → first_of (x ∷ xs) ≡ None → (x.holds ≡ false) × (first_of xs ≡ None)
 first_passed x xs e =

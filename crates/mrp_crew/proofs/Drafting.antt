@@ -7,9 +7,8 @@ use Rattle.std.proofs.lemmas.List.Elements.{All-push, All-take, All-weaker}
 use Rattle.mrp_netting.proofs.PlainRows.{one-gross}
 use Rattle.mrp_master_data.specs.declared.numbers.PairNo.{PairNo}
 use Rattle.mrp_protocol.specs.LocalPlans.{amount_at, asked_within}
-use Rattle.mrp_agent.specs.Drafts.{CanDraft, drafted, drafted_gross, drafted_incoming}
+use Rattle.mrp_agent.specs.Drafts.{CanDraft, drafted, drafted_gross, drafted_incoming, ready_numbers}
 use Rattle.mrp_agent.specs.State.{AgentState, pair_owned, plans_of}
-use Rattle.mrp_agent.specs.Drafts.{ready_numbers}
 use Rattle.mrp_crew.specs.declared.work.Drafts.{Drafts}
 use Rattle.mrp_crew.specs.declared.work.Work.{Work}
 use Rattle.mrp_crew.specs.Rooms.{AreDrafts, WorkedFor}

@@ -23,21 +23,6 @@ pub record IsCount (d : PairData) (t came could asked has lacked counted : ℕ) 
   pub lacked_is : lacked ≡ short_before d t
   pub counted_is : counted ≡ had_before d t
 
-pub count_init : (d : PairData) (could asked : ℕ) → could ≡ sum (take d.policy.sooner d.receipts)
-    → asked ≡ d.params.safety + sum (take d.policy.cover d.gross)
-    → IsCount d 0 0 could asked d.params.on_hand 0 0
-count_init d could asked c a =
-    let ahead = ap (λ (n : ℕ). sum (take n d.receipts)) (let e : d.policy.sooner ≡ 0 + d.policy.sooner = omega arith in e) in
-    let cover = ap (λ (n : ℕ). sum (take n d.gross)) (let e : d.policy.cover ≡ 0 + d.policy.cover = omega arith in e) in
-    record {
-      came_is = refl;
-      could_is = c ∙ ahead;
-      asked_is = omega (arith, cover);
-      has_is = omega arith;
-      lacked_is = refl;
-      counted_is = refl;
-    }
-
 -- a period further in a row that is looked at ahead
 ahead_next : (row : List ℕ) (t k : ℕ) → sum (take (t + 1 + k) row) ≡ sum (take (t + k) row) + slice_index row (t + k)
 ahead_next row t k =

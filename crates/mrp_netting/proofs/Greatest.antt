@@ -42,12 +42,6 @@ greatest-past needs m (suc k) some past =
       past (suc (m + k)) (omega arith),
     )
 
--- needs that agree have one greatest
-pub greatest-same : (needs others : ℕ → ℕ) (n : ℕ) → ((k : ℕ) → needs k ≡ others k) → greatest needs n ≡ greatest others n
-greatest-same needs others zero same = omega (arith, greatest-zero needs, greatest-zero others)
-greatest-same needs others (suc n) same =
-    omega (arith, greatest-suc needs n, greatest-suc others n, greatest-same needs others n same, same (suc n))
-
 -- the same at n + 1, as a loop counts
 pub greatest-more : (needs : ℕ → ℕ) (n : ℕ) → greatest needs (n + 1) ≡ max (greatest needs n) (needs (n + 1))
 greatest-more needs n =

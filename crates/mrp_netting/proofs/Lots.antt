@@ -44,21 +44,6 @@ made_up-none lot =
     let once : least_multiple_of 1 lot ≡ lot = omega (arith, least_multiple-le lot 1 (omega arith), least_multiple-lt lot 1 (omega arith)) in
     ap (least_multiple_of 1) same ∙ once
 
--- every rule but that of periods looks at the net requirement alone
-pub lot_for-other : (rule : Rule) (needs : ℕ → ℕ) (net : ℕ) → needs 1 ≡ net → ((k : ℕ) → rule ≡ Periods k → ⊥) → lot_of rule net 0 ≡ lot_for rule needs
-lot_for-other LotForLot needs net e other = omega (arith, e)
-lot_for-other (Fixed q) needs net e other = ap (least_multiple_of q) (sym e)
-lot_for-other (Periods k) needs net e other = absurd (other k refl)
-lot_for-other (MinMultiple m k) needs net e other = ap (λ (n : ℕ). least_multiple_of k (max n m)) (sym e)
-
--- a quotient rounded up, times the multiple
-pub made_up-single : (policy : Policy) (lot : ℕ) → policy.multiple ≤ 1 → max lot policy.least ≡ made_up policy lot
-made_up-single policy lot one =
-    let n = max lot policy.least in
-    let single : max policy.multiple 1 ≡ 1 = omega arith in
-    let once : n ≡ least_multiple_of 1 n = omega (arith, least_multiple-le n 1 (omega arith), least_multiple-lt n 1 (omega arith)) in
-    once ∙ ap (λ (k : ℕ). least_multiple_of k n) (sym single)
-
 pub made_up-many : (policy : Policy) (lot : ℕ) → 1 < policy.multiple
     → (max lot policy.least / policy.multiple + min 1 (max lot policy.least % policy.multiple)) * policy.multiple ≡ made_up policy lot
 made_up-many policy lot many =

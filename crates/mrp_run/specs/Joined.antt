@@ -1,6 +1,5 @@
 -- The threads of the plants, and what they bring back.
-use Rattle.std.specs.Prelude.{◌≡◌, ℕ, ◌≤◌, List, [], map, Result, All, IfOk, IfErr, OnOk}
-use Rattle.std.specs.Prelude.{filter_map}
+use Rattle.std.specs.Prelude.{◌≡◌, ℕ, ◌≤◌, List, [], map, Result, All, IfOk, IfErr, OnOk, filter_map}
 use Rattle.std.specs.Result.{result_err}
 use Rattle.std.specs.Vec.{vec_capacity}
 use Rattle.std.specs.declared.thread.PromisedHandle.{PromisedHandle}

@@ -1,7 +1,6 @@
 -- How a network is run.
 use Rattle.std.specs.Prelude.{ℕ, ◌≤◌}
-use Rattle.mrp_qty.specs.declared.limits.TheConstants.{MOST_WORKERS}
-use Rattle.mrp_qty.specs.declared.limits.TheConstants.{MOST_ROOM}
+use Rattle.mrp_qty.specs.declared.limits.TheConstants.{MOST_WORKERS, MOST_ROOM}
 
 -- how many workers each plant has, and how many records a mailbox has room for
 pub record Limits : Type 0 where
