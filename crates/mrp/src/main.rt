@@ -11,8 +11,8 @@ ghost use Rattle.std.specs.Process.{exit_status};
 ghost use Rattle.mrp_api.specs.Ending.{Reports};
 ghost use Rattle.mrp.specs.Ending.{refusal_fault, refusal_printed, refusal_status};
 
-use mrp_command_line::{ChooseFault, Meaning, choose, means, named_words};
 use mrp_api::{Ending, REFUSED, TextFault, after_help, answer, ended, unread};
+use mrp_command_line::{ChooseFault, Meaning, choose, means, named_words};
 use mrp_report::{ReportFault, send};
 use std::env::FillError;
 use std::io::{IsTerminal, Stderr, Write};

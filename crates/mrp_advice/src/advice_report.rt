@@ -29,10 +29,10 @@ use mrp_csv_out::{
 };
 use mrp_grouping::Groups;
 use mrp_loops::SizedNet;
+use mrp_master_data::{PairNo, PairRow};
 use mrp_net::Network;
 use mrp_plan::Plan;
 use mrp_qty::{Qty, Row};
-use mrp_master_data::{PairNo, PairRow};
 use std::alloc::Global;
 use std::io::Write;
 

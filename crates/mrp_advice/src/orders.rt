@@ -1,7 +1,7 @@
 //! Open orders: what is to come in.
 
-use mrp_qty::Qty;
 use mrp_master_data::{PairNo, PlantNo};
+use mrp_qty::Qty;
 
 /// What kind of open order it is.
 #[derive(Clone, Copy, Debug)]

@@ -5,12 +5,12 @@ ghost use Rattle.std.specs.List.{position_or_len};
 ghost use Rattle.mrp_agent.specs.After.{receipts_after, demand_after, items_of, with_line, added_at, ended_place};
 ghost use Rattle.mrp_agent.specs.After.{BlockEnded, IsAwaited};
 
-use crate::places::ItemPlaces;
 use crate::Agent;
-use mrp_readiness::Readiness;
+use crate::places::ItemPlaces;
 use mrp_book::BookFault;
 use mrp_net::{LaneKind, LaneNo};
 use mrp_plant_view::{IncomingLane, PlantFrame};
+use mrp_readiness::Readiness;
 use mrp_record::Record;
 
 impl Agent {

@@ -7,10 +7,10 @@ ghost use Rattle.mrp_agent.specs.State.{pair_place};
 ghost use Rattle.mrp_qty.specs.declared.limits.TheConstants.{MOST_PAIRS};
 ghost use Rattle.mrp_plant_view.specs.Seen.{IsOwnPair, IsPlantEdge};
 
-use mrp_readiness::Join;
 use mrp_grouping::KeyOf;
 use mrp_net::PairNo;
 use mrp_plant_view::{PlantEdge, PlantFrame};
+use mrp_readiness::Join;
 use std::alloc::{AllocError, Global};
 
 /// An edge of the plant by the places of its pairs. A plant has far fewer than 2^32 of them.

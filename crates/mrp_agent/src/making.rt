@@ -12,11 +12,11 @@ ghost use Rattle.mrp_agent.specs.Making.{AreFit, AreIdleOuts, new_figures, IsIdl
 ghost use Rattle.mrp_agent.specs.Shows.{book_item, form_of};
 
 use crate::PairNo;
-use mrp_readiness::{Join, Readiness, first_waits};
 use mrp_book::{Book, BookItem};
 use mrp_net::LaneKind;
 use mrp_plant_view::{IncomingItem, IncomingLane, OutgoingLane, PlantFrame};
 use mrp_qty::{Memory, Qty};
+use mrp_readiness::{Join, Readiness, first_waits};
 use mrp_record::OutCursor;
 use std::alloc::{AllocError, Global};
 

@@ -13,12 +13,12 @@ use crate::making::{are_fit, first_progress, idle_outs, new_books};
 use crate::places::ItemPlaces;
 use crate::queues::{QueuePlace, queues};
 use crate::room::Room;
-use mrp_readiness::{Components, Join, Readiness};
 use mrp_book::Book;
 use mrp_grouping::{Groups, group};
 use mrp_netting::{PairPlan, blank_plans};
 use mrp_plant_view::PlantFrame;
 use mrp_qty::Memory;
+use mrp_readiness::{Components, Join, Readiness};
 use mrp_record::OutCursor;
 use std::alloc::Global;
 

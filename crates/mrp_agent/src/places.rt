@@ -3,8 +3,8 @@
 ghost use Rattle.std.specs.Prelude.{◌≡◌, IfOk, map};
 
 use mrp_grouping::Places;
-use mrp_plant_view::PlantPair;
 use mrp_master_data::ItemNo;
+use mrp_plant_view::PlantPair;
 use std::alloc::{AllocError, Global};
 use std::marker::Model;
 

@@ -10,12 +10,12 @@ ghost use Rattle.mrp_agent.specs.Kept.{IsShowing};
 use crate::Agent;
 use crate::booking::incoming_near;
 use mrp_book::Book;
+use mrp_master_data::ItemNo;
 use mrp_net::{LaneKind, LaneNo, Shipment, share_of};
 use mrp_netting::PairPlan;
 use mrp_plant_view::{Call, OutgoingItem, OutgoingItems, OutgoingLane};
 use mrp_qty::Row;
 use mrp_record::{NextLine, Record, Remainder};
-use mrp_master_data::ItemNo;
 
 /// The record that a lane is to be sent next, and what is left of its item before: [`Agent::next_at`] gives it, and
 /// [`Agent::sent_at`] takes it back.

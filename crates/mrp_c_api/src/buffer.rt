@@ -5,8 +5,8 @@ ghost use Rattle.mrp_c_api.specs.Answers.{Answers, Tells, TellsFault, TellsOrMem
 ghost use Rattle.mrp_c_api.specs.Buffer.{HandsOver};
 ghost use Rattle.mrp_api.specs.Answer.{IsAlone, IsAnswer, question_of};
 
-use mrp_commands::Choice;
 use mrp_api::{REFUSED, TextFault, report_text, status, write_fault};
+use mrp_commands::Choice;
 use std::alloc::Global;
 
 /// Hands over the report that one thread is asked for, or the line of its fault. Answers with the status.

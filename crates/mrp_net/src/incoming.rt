@@ -10,8 +10,8 @@ ghost use Rattle.mrp_net.specs.Sums.{received};
 
 use crate::sums::{ByPeriod, Pieces};
 use mrp_grouping::{KeyOf, add_amounts};
-use mrp_qty::Memory;
 use mrp_master_data::{ShipRow, Tables};
+use mrp_qty::Memory;
 use std::alloc::Global;
 
 /// What comes in for each pair to which something is on its way, row by row, and the place of each

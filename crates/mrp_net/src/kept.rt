@@ -4,8 +4,8 @@ ghost use Rattle.std.specs.Prelude.{◌≡◌, ◌==◌, ◌&&◌, ◌↔◌, Is
 ghost use Rattle.mrp_master_data.specs.Table.{IsPair, IsTable, horizon, pair_no};
 ghost use Rattle.mrp_master_data.specs.Dropping.{without_bills_and_demands};
 
-use mrp_qty::Horizon;
 use mrp_master_data::{ItemNo, PairNo, PlantNo, RowLists, Tables};
+use mrp_qty::Horizon;
 use std::alloc::Global;
 use std::marker::Model;
 use std::snapshot::Snapshot;

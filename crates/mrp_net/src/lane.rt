@@ -1,7 +1,7 @@
 //! A lane between two plants, its kind and its shipments.
 
-use mrp_qty::Qty;
 use mrp_master_data::PlantNo;
+use mrp_qty::Qty;
 
 /// A lane, by its place among the lanes of the network, from 0: by customer in table order, then by
 /// supplier, the despatch lane before the schedule lane.

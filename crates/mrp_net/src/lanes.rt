@@ -11,8 +11,8 @@ ghost use Rattle.mrp_net.specs.SourceRows.{sent, AreSourceStarts, AreShipments, 
 use crate::lane::{Lane, LaneKind, Shipment};
 use crate::sums::{OfPair, Pieces};
 use mrp_grouping::{AmountOf, Groups, KeyOf, add_totals, group, starts};
-use mrp_qty::Memory;
 use mrp_master_data::{ItemNo, PairNo, PlantNo, Tables};
+use mrp_qty::Memory;
 use std::alloc::Global;
 
 /// The lanes of a network, the items of each route, where the sources of each pair begin, and what

@@ -8,9 +8,8 @@ ghost use Rattle.mrp_netting.specs.One.{released, release_row};
 ghost use Rattle.mrp_netting.specs.Bound.{IsWithin};
 ghost use Rattle.mrp_netting.specs.Plan.{AreOrders};
 
-use crate::PairPlan;
 use crate::netting::order_and_balance;
-use crate::PairParams;
+use crate::{PairParams, PairPlan};
 use mrp_qty::Qty;
 
 /// Whether the planned order receipts and the projected available are those of the plan.

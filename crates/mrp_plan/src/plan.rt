@@ -84,13 +84,7 @@ pub fn plan_all(alloc: Global, net: &SizedNet) -> Result<Plan, Memory>
 }
 
 /// Plans the pair at place `k` of the order, where those before it are planned. `gross` is room to work in.
-fn plan_next(
-    net: &SizedNet,
-    order: &[PairNo],
-    k: usize,
-    plans: &mut [PairPlan],
-    gross: &mut Row,
-)
+fn plan_next(net: &SizedNet, order: &[PairNo], k: usize, plans: &mut [PairPlan], gross: &mut Row)
     requires sized { IsSized net.now.network }
     requires needs { AreNeeds net.now.network net.now.needs }
     requires order { IsPlanningOrder net.now.network (map (λ x. x.0) order.now) }

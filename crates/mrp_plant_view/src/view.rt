@@ -1,8 +1,8 @@
 //! What one plant sees of the network: its pairs, their rows, its lanes.
 
 use crate::frame::PlantFrame;
-use mrp_netting::PairParams;
 use mrp_net::{ItemNo, LaneKind, LaneNo, PairNo, Shipment};
+use mrp_netting::PairParams;
 use mrp_qty::{Horizon, Memory};
 use std::alloc::Global;
 use std::marker::Model;

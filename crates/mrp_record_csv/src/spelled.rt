@@ -10,9 +10,9 @@ use crate::RecordFaultKind;
 use crate::items::NamedItems;
 use crate::kind::Kind;
 use csv::StringRecord;
+use mrp_master_data::number;
 use mrp_net::ItemNo;
 use mrp_record::Record;
-use mrp_master_data::number;
 use mrp_validation::{field, is_free};
 
 /// How many fields a row has.

@@ -8,9 +8,9 @@ ghost use Rattle.mrp_schedules.specs.Schedule.{line_of};
 ghost use Rattle.mrp_schedules.specs.Calls.{call_lines, calls_by};
 
 use crate::ScheduleLine;
+use mrp_master_data::SourceRow;
 use mrp_net::share_of;
 use mrp_qty::{Qty, Row};
-use mrp_master_data::SourceRow;
 
 /// Appends the calls of a source for its share of each period's release to a list that has room for them, from
 /// a figure on, and the reset before the first call that is counted anew.

@@ -1,12 +1,12 @@
 //! Bill, demand and receipt rows, tested against the rows before them. Names that find a pair aren't tested for being
 //! names.
 
-use mrp_validation::{TableFaultKind, field};
 use crate::draft::{BillKey, Draft};
 use crate::spelled::{spelled_amount, spelled_bill};
 use csv::StringRecord;
-use mrp_qty::Qty;
 use mrp_master_data::{BillRow, DemandRow, MOST_BILLS, MOST_OF_A_KIND, PairNo, ReceiptRow, Supply};
+use mrp_qty::Qty;
+use mrp_validation::{TableFaultKind, field};
 
 /// What a demand or a receipt row says of a pair that is there: a period, counted from 0, and so many pieces.
 #[derive(Clone, Copy)]

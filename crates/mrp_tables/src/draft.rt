@@ -4,10 +4,10 @@ ghost use Rattle.std.specs.Prelude.{◌≡◌, ◌+◌, OnOk, IfOk};
 
 use crate::names::KnownNames;
 use crate::spelled::{row_kind, spelled_run};
-use mrp_validation::{Kind, TableFaultKind, may_follow};
 use csv::StringRecord;
 use indexmap::IndexSet;
 use mrp_master_data::{PairNo, PlantNo, RowLists};
+use mrp_validation::{Kind, TableFaultKind, may_follow};
 use std::alloc::Global;
 
 /// A source of a pair by its plant and the pair.

@@ -4,12 +4,12 @@
 ghost use Rattle.std.specs.Prelude.{◌≡◌, IfOk};
 ghost use Rattle.mrp_tables.specs.Lists.{key_between};
 
-use mrp_validation::{TableFaultKind, field};
 use crate::draft::{Draft, LaneKey};
 use crate::spelled::{spelled_lane_number, spelled_ship};
 use csv::StringRecord;
-use mrp_qty::{MOST, Qty};
 use mrp_master_data::{CumRow, MOST_OF_A_KIND, PairNo, PlantNo, ResetRow, ShipRow};
+use mrp_qty::{MOST, Qty};
+use mrp_validation::{TableFaultKind, field};
 
 /// What a row on a lane names, as far as it is there.
 #[derive(Clone, Copy)]

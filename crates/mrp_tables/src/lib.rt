@@ -20,7 +20,7 @@ mod spelled;
 mod spelling;
 mod steps;
 
-pub use mrp_validation::{TableFault, TableFaultKind};
 pub use mrp_qty::MAX_TURNS;
+pub use mrp_validation::{TableFault, TableFaultKind};
 pub use reading::{read_tables, read_tables_uncounted};
 pub use steps::Steps;

@@ -4,11 +4,11 @@ ghost use Rattle.std.specs.Prelude.{◌≡◌, ℕ, List, position};
 ghost use Rattle.std.specs.Str.{bytes_eq};
 ghost use Rattle.mrp_tables.specs.Keys.{FindsNames};
 
-use mrp_validation::TableFaultKind;
 use crate::draft::Draft;
 use crate::name_key::{NameKey, PairKey};
 use indexmap::IndexSet;
 use mrp_master_data::{ItemNo, PairNo, PairRow, PlantNo, RowLists};
+use mrp_validation::TableFaultKind;
 use std::alloc::Global;
 
 /// The plants, the items and the pairs of the rows so far by their keys, in their order. A pair is found by the names

@@ -5,15 +5,15 @@ ghost use Rattle.mrp_master_data.specs.SupplyParsing.{named_sources};
 ghost use Rattle.mrp_validation.specs.Grammar.{supply_kind};
 ghost use Rattle.mrp_master_data.specs.Spelled.{source_view, supply_view, AreSources, HasSources};
 
-use mrp_validation::TableFaultKind;
 use crate::draft::{Arrivals, Draft, LaneKey};
 use crate::spelled::{SpelledPair, spelled_pair, spelled_plant};
 use csv::StringRecord;
-use mrp_qty::Qty;
 use mrp_master_data::{
     MOST_PAIRS, MOST_PLANTS, PairNo, PairRow, PlantNo, SourceRow, SpelledSource, SpelledSupply,
     Supply, names_plant,
 };
+use mrp_qty::Qty;
+use mrp_validation::TableFaultKind;
 use std::alloc::Global;
 
 impl Draft {

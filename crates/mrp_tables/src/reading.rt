@@ -13,12 +13,12 @@ ghost use Rattle.mrp_validation.specs.Left.{fault_of, GivesAll, MayCome, OfLeft,
 ghost use Rattle.mrp_validation.specs.Left.{rows_left};
 ghost use Rattle.mrp_tables.specs.Drafts.{IsDraftKept, TellsFirstAt, draft_state};
 
-use crate::draft::Draft;
 use crate::Steps;
-use mrp_validation::{TableFault, TableFaultKind};
+use crate::draft::Draft;
 use csv::{ErrorKind, Reader, ReaderBuilder, StringRecord};
-use mrp_qty::MAX_TURNS;
 use mrp_master_data::Tables;
+use mrp_qty::MAX_TURNS;
+use mrp_validation::{TableFault, TableFaultKind};
 use std::alloc::Global;
 use std::io::Read;
 use std::marker::Brand;

@@ -13,12 +13,12 @@ ghost use Rattle.mrp_master_data.specs.Table.{IsName};
 ghost use Rattle.mrp_tables.specs.Drafts.{TellsRun};
 
 use crate::spelling::{name, ranged};
-use mrp_validation::{Kind, TableFaultKind, field, is_free, used};
 use csv::StringRecord;
 use mrp_cal::Calendar;
 use mrp_lot::{LONGEST_LEAD, Rule};
-use mrp_qty::{Horizon, LONGEST};
 use mrp_master_data::{MOST_IN_ROW, MOST_PER, SpelledSupply, is_same_text, number, rule, supply};
+use mrp_qty::{Horizon, LONGEST};
+use mrp_validation::{Kind, TableFaultKind, field, is_free, used};
 use std::alloc::Global;
 
 /// How many fields a row has.

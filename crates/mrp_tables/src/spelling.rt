@@ -4,8 +4,8 @@ ghost use Rattle.std.specs.Prelude.{◌≡◌, ◌≤◌, IfOk};
 ghost use Rattle.mrp_master_data.specs.Table.{IsName};
 ghost use Rattle.mrp_validation.specs.Grammar.{name_field, ranged, seen};
 
-use mrp_validation::TableFaultKind;
 use mrp_master_data::{is_name, number_within};
+use mrp_validation::TableFaultKind;
 
 /// The text itself, where it is a name.
 pub(crate) fn name(text: &str) -> Result<&str, TableFaultKind>

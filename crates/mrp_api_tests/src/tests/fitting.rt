@@ -4,13 +4,13 @@ ghost use Rattle.std.specs.Prelude.{◌≡◌, ◌≤◌, length};
 ghost use Rattle.mrp_lot.specs.declared.rule.TheConstants.{LONGEST_LEAD};
 
 use crate::tests::network;
-use mrp_run_tests::BICYCLE;
 use mrp_loops::{SizedNet, bound, check};
 use mrp_lot::Rule;
 use mrp_net::{Network, PairNo};
 use mrp_netting::{PairParams, PairPlan, plan_pair};
 use mrp_plan::{Plan, fits, plan_all};
 use mrp_qty::{Horizon, Qty, Row};
+use mrp_run_tests::BICYCLE;
 use std::alloc::Global;
 use std::test::Fail;
 

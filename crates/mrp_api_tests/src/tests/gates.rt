@@ -3,8 +3,8 @@
 use super::is_report;
 use super::outcomes::outcome;
 use super::reports::TWO_PLANTS_PLAN;
-use mrp_run_tests::TWO_PLANTS;
 use mrp_api::{Gate, Settings, plan_text};
+use mrp_run_tests::TWO_PLANTS;
 use std::alloc::{AllocError, Global};
 use std::process::Abort;
 use std::sync::Wait;

@@ -4,11 +4,11 @@ use super::reports::{
     EARLY, EARLY_ADVICE, TWO_PLANTS_CUMS, TWO_PLANTS_ORDERS, TWO_PLANTS_PEGS, TWO_PLANTS_PLAN,
     TWO_PLANTS_SCHEDULE,
 };
-use mrp_commands::Heading;
-use mrp_run_tests::TWO_PLANTS;
 use mrp_api::{
     TextFault, advice_text, cums_text, drive_text, orders_text, pegs_text, schedule_text,
 };
+use mrp_commands::Heading;
+use mrp_run_tests::TWO_PLANTS;
 use mrp_validation::TableFaultKind;
 use std::alloc::Global;
 use std::test::Fail;

@@ -2,9 +2,9 @@
 
 use crate::tests::network_of;
 use crate::tests::records::DESPATCHES;
-use mrp_run_tests::TWO_PLANTS;
 use mrp_net::Network;
 use mrp_record_csv::{RecordFault, RecordFaultKind, read_records};
+use mrp_run_tests::TWO_PLANTS;
 use std::alloc::Global;
 use std::io;
 use std::io::{ErrorKind, Read};

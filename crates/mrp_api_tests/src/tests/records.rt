@@ -5,11 +5,11 @@ ghost use Rattle.mrp_record_csv.specs.Rows.{HasRow};
 
 use crate::tests::network_of;
 use mrp_book::{Book, BookFault, BookItem};
-use mrp_run_tests::{RING, SHARED_AFTER_SHIPMENT, TWO_PLANTS};
 use mrp_net::{ItemNo, LaneKind, Network};
 use mrp_qty::{Horizon, Qty};
 use mrp_record::Record;
 use mrp_record_csv::{read_records, write_record};
+use mrp_run_tests::{RING, SHARED_AFTER_SHIPMENT, TWO_PLANTS};
 use std::alloc::Global;
 
 /// What B has sent to A of the firm.

@@ -7,9 +7,9 @@ use super::outcomes::outcome;
 use super::reports::{
     BICYCLE_PLAN, EARLY, EARLY_ADVICE, TWO_PLANTS_CUMS, TWO_PLANTS_PEGS, TWO_PLANTS_SCHEDULE,
 };
+use mrp_api::{TextFault, answer, check_text, drive_text, status};
 use mrp_commands::{Choice, Heading};
 use mrp_run_tests::{BICYCLE, TWO_PLANTS};
-use mrp_api::{TextFault, answer, check_text, drive_text, status};
 use mrp_validation::TableFaultKind;
 use std::alloc::{AllocError, Global};
 use std::io;
