@@ -106,6 +106,39 @@ impl Model for JoinedLane {
     ghost view = { λ j. joined_over j.pass };
 }
 
+/// Two ends of a lane that have met: their mailbox, the joined pass to it, and what each counted.
+#[derive(Drop)]
+struct Met {
+    mailbox: Arc<Mailbox, Global>,
+    pass: LanePass,
+    lane: LaneNo,
+    sent: Tally,
+    taken: Tally,
+}
+
+/// Joins the two ends of one lane, and learns what waits in the mailbox.
+fn meet(send: SendEnd, take: TakeEnd) -> Met
+    requires same { AreOfOneLane send take }
+    ensures ours { IsPassOf (arc_value result.mailbox) result.pass }
+    ensures met { HaveMet send take result.pass result.lane.0 result.sent result.taken }
+{
+    let SendEnd {
+        mailbox,
+        mut pass,
+        lane,
+        tally: sent,
+    } = send;
+    mailbox.absorb::<Meeting>(&mut pass, take.pass);
+    mailbox.learn_as::<Taken>(&mut pass);
+    Met {
+        mailbox,
+        pass,
+        lane,
+        sent,
+        taken: take.tally,
+    }
+}
+
 /// Joins the two ends of one lane, for proofs alone. What lies in the mailbox is dropped with it.
 ///
 /// What was sent is what was taken and then what is left. The figures are those of these lists. It has no allocator
@@ -166,39 +199,6 @@ pub fn reconcile<R: Wait>(
         left,
         figures,
     })
-}
-
-/// Two ends of a lane that have met: their mailbox, the joined pass to it, and what each counted.
-#[derive(Drop)]
-struct Met {
-    mailbox: Arc<Mailbox, Global>,
-    pass: LanePass,
-    lane: LaneNo,
-    sent: Tally,
-    taken: Tally,
-}
-
-/// Joins the two ends of one lane, and learns what waits in the mailbox.
-fn meet(send: SendEnd, take: TakeEnd) -> Met
-    requires same { AreOfOneLane send take }
-    ensures ours { IsPassOf (arc_value result.mailbox) result.pass }
-    ensures met { HaveMet send take result.pass result.lane.0 result.sent result.taken }
-{
-    let SendEnd {
-        mailbox,
-        mut pass,
-        lane,
-        tally: sent,
-    } = send;
-    mailbox.absorb::<Meeting>(&mut pass, take.pass);
-    mailbox.learn_as::<Taken>(&mut pass);
-    Met {
-        mailbox,
-        pass,
-        lane,
-        sent,
-        taken: take.tally,
-    }
 }
 
 /// Takes all that is left with the joined pass.
