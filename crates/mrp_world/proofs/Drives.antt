@@ -138,7 +138,8 @@ module _ {A : Type 0} (shows : Showing A) (N : Table) (plants : List A) (boxes :
 
 -- ---- worlds
 
-module _ {A : Type 0} (shows : Showing A) (N : Table) (capacity : ℕ) (new_plants : List A) (new_boxes : List Held) (rests : AllRests shows N new_plants new_boxes) where
+module _ {A : Type 0} (shows : Showing A) (N : Table) (capacity : ℕ) (new_plants : List A) (new_boxes : List Held)
+    (rests : AllRests shows N new_plants new_boxes) where
   -- a world of plants and mailboxes that rest has no steps left
   rest_shown : (s : State) → 1 ≤ capacity → AreAt shows N capacity new_plants new_boxes s → WorldShows shows (world N capacity new_plants new_boxes 0) s
   rest_shown s holds at = record {

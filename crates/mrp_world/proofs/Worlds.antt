@@ -213,7 +213,8 @@ module _ {A : Type 0} {shows : Showing A} {N : Table} {capacity : ℕ} {plants :
   -- it stands at its number, so what holds of it holds of the plant of the pair
   pub asked_there : (Says : A → Type 0) → Says plant → IsSomeAnd (slice_get w.plants (pair_at w.network x).plant.0) Says
   asked_there Says says =
-      let known : p < length plants = owner_among shows N plants boxes x p (somewhere shows (world N capacity plants boxes left) asked.is) own_pair asked.owner in
+      let known : p < length plants =
+      owner_among shows N plants boxes x p (somewhere shows (world N capacity plants boxes left) asked.is) own_pair asked.owner in
       let there : slice_get plants p ≡ Some plant = slice_get_read plants (length plants) p plant refl known asked.at in
       subst (λ (v : WorldState A). IsSomeAnd (slice_get v.plants (pair_at v.network x).plant.0) Says) asked.same
       (subst (λ (q : ℕ). IsSomeAnd (slice_get plants q) Says) (sym asked.owner) (subst (λ (o : Option A). IsSomeAnd o Says) (sym there) says))
