@@ -24,8 +24,7 @@ form_with periods rising items = record { rising = rising; horizon = periods; it
 
 -- the form of a lane by what its receiver sees
 form_is : (V : PlantRows) (lane : IncomingLane) → seen_form V.horizon lane ≡ form_of V lane
-form_is V lane =
-    ap (form_with V.horizon (is_schedule lane.kind)) (sym (map-map book_form_item book_item lane.items))
+form_is V lane = ap (form_with V.horizon (is_schedule lane.kind)) (sym (map-map book_form_item book_item lane.items))
 
 -- it is the form by which the lane's receiver books, wherever it sees the lane
 pub form_seen : (N : Table) (p : ℕ) (V : PlantRows) → V ≡ plant_rows N p → (l k : ℕ) → incoming_at V k ≡ incoming_lane N l

@@ -91,8 +91,7 @@ blocks_open V y (lane ∷ lanes) =
 
 pub first_awaits : (V : PlantRows) (progress : Progress) → IsFirstProgress V progress
     → AreCounts progress.waits (joins_of V) progress.planned (open_blocks (awaited V nothing))
-first_awaits V progress h =
-    record { counted = λ y within. omega (arith, h.waits.counted y within, blocks_open V y V.incoming) }
+first_awaits V progress h = record { counted = λ y within. omega (arith, h.waits.counted y within, blocks_open V y V.incoming) }
 
 -- ---- sums
 

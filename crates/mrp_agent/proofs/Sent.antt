@@ -54,8 +54,7 @@ own_place A x (p, there, is) =
     place_found (λ (q : PlantPair). eqb q.number.0 x.0) A.view.pairs p there (eq-eqb p.number.0 x.0 (ap (λ (n : PairNo). n.0) is))
 
 pub periods_kept : (A : AgentState) → HasRooms A → (x : PairNo) → IsOwnPair A.view x → HasPlanRows A.view (plans_of A x.0)
-periods_kept A rooms x own =
-    rooms.plans.periods (pair_place A.view x.0) no_rows (omega (arith, own_place A x own, rooms.plans.count))
+periods_kept A rooms x own = rooms.plans.periods (pair_place A.view x.0) no_rows (omega (arith, own_place A x own, rooms.plans.count))
 
 pub own_of : (A : AgentState) (lane : OutgoingLane) (j : ℕ) → IsScheduleLane A.view lane → j < length lane.items
     → IsOwnPair A.view (call_of (load_at lane.items j)).customer

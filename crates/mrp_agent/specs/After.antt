@@ -10,7 +10,6 @@ use Rattle.mrp_plant_view.specs.View.{PlantRows}
 use Rattle.mrp_record.specs.declared.record.Record.{Record}
 use Rattle.mrp_record.specs.declared.record.Record.TheVariants.{Line, ItemEnd, Reset, Close}
 use Rattle.mrp_book.specs.Figures.{Figures}
-use Rattle.mrp_record.specs.declared.remainder.Remainder.{Remainder}
 use Rattle.mrp_record.specs.Cursor.{OutFigures}
 use Rattle.mrp_record.specs.Next.{stepped, queued}
 use Rattle.mrp_readiness.specs.declared.join.Join.{Join}

@@ -10,7 +10,7 @@ use Rattle.mrp_lot.specs.Lot.{lot_of, periods_covered}
 use Rattle.mrp_qty.proofs.RangeLaws.{sum_take-suc, sum_drop_take-one, map-range-same}
 use Rattle.mrp_netting.specs.declared.params.PairParams.{PairParams}
 use Rattle.mrp_netting.specs.One as today
-use Rattle.mrp_netting.specs.PlanRows.{PlanRows, late_orders}
+use Rattle.mrp_netting.specs.PlanRows.{late_orders}
 use Rattle.mrp_netting.specs.One.{released}
 use Rattle.mrp_netting.specs.Rules.{FollowsRules}
 use Rattle.mrp_netting.specs.PlanningData.{plain, incoming_at, incoming_row, need, greatest, lot_for, no_policy, made_up}

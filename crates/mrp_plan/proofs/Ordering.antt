@@ -5,7 +5,7 @@ use Rattle.std.specs.List.{filter, range_with_len, sum_by}
 use Rattle.std.proofs.lemmas.Bool.{and_from, and_left, and_right, cond_both, eqb-true, eq-eqb, le-ltb, lt-ltb, ltb-false, ltb-true, true≢false}
 use Rattle.std.proofs.lemmas.List.FromFn.{get_or-map-range_with_len, length-map-range_with_len}
 use Rattle.std.proofs.lemmas.List.Sums.{sum_by-cons}
-use Rattle.mrp_netting.specs.PlanRows.{PlanRows, is_late, late_order, late_orders}
+use Rattle.mrp_netting.specs.PlanRows.{PlanRows, is_late, late_order}
 use Rattle.mrp_netting.specs.One.{release_row, released}
 use Rattle.mrp_netting.specs.PlanningData.{plain, one}
 use Rattle.mrp_netting.specs.declared.params.Late.{Late}

@@ -1,11 +1,10 @@
 -- One more pair is planned.
 use Rattle.std.proofs.Common.{◌≡◌, ℕ, ◌+◌, ◌*◌, ◌<◌, ◌≤◌, ◌≢◌, List, [], ◌∷◌, length, sum, sum_by, slice_index, slice_index_or, slice_set, suc, arith, refl, ap}
 use Rattle.std.proofs.Common.{sym, ◌∙◌, ⊎_elim, subst}
-use Rattle.std.specs.List.{range_with_len}
 use Rattle.std.proofs.lemmas.Bool.{cases_eq}
 use Rattle.std.proofs.lemmas.List.{get_or_default, get_or-set_same, get_or-set_other, length-set}
 use Rattle.std.proofs.lemmas.List.FromFn.{fill_by_all, get_or-map-range_with_len, length-map-range_with_len}
-use Rattle.std.proofs.lemmas.List.Sums.{sum_by-cons, sum-map}
+use Rattle.std.proofs.lemmas.List.Sums.{sum_by-cons}
 use Rattle.std.proofs.Math.Nat.{mul-le-mul_left}
 use Rattle.mrp_lot.specs.Lot.{rule_quantities}
 use Rattle.mrp_netting.specs.PlanRows.{PlanRows}

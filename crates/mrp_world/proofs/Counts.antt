@@ -80,8 +80,7 @@ abbrev pub no_lane : Lane
 no_lane = record { kind = Despatch; sender = record { 0 = 0 }; receiver = record { 0 = 0 } }
 
 pub text_is_short : (N : Table) → IsTable N → (l : ℕ) → l < length (lanes N) → text_of_lane N (lane_at N l) ≤ 1000000000000000
-text_is_short N table l within =
-    omega (arith, texts_are_few N table, get_or-le-sum_by (text_of_lane N) (lanes N) l no_lane within)
+text_is_short N table l within = omega (arith, texts_are_few N table, get_or-le-sum_by (text_of_lane N) (lanes N) l no_lane within)
 
 -- ---- calls
 

@@ -1,4 +1,4 @@
-use Rattle.std.proofs.Common.{◌++◌, List, Err, ap, refl}
+use Rattle.std.proofs.Common.{◌++◌, Err, ap, refl}
 use Rattle.std.proofs.lemmas.Result.{err_from_is_err_and}
 use Rattle.mrp_csv_out.specs.Headings.{header_row}
 use Rattle.mrp_report.specs.Headings.{pegs_names}

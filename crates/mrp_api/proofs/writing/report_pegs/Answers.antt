@@ -1,4 +1,4 @@
-use Rattle.std.proofs.Common.{rules, subst}
+use Rattle.std.proofs.Common.{subst}
 use Rattle.mrp_master_data.specs.Table.{Table}
 use Rattle.mrp_net.specs.Names.{IsNamed}
 use Rattle.mrp_report.specs.Headings.{peg_names}

@@ -11,8 +11,7 @@ pub loop-l-init : goal.loop-l-init
 loop-l-init g c = record { holds = λ k low less. absurd (omega (arith, less)); same_plants = refl; same_boxes = refl }
 
 pub move_over_lane-happened-requires-clause-shown : goal.move_over_lane-happened-requires-clause-shown
-move_over_lane-happened-requires-clause-shown g c =
-    drive.on_somewhere c.requires.shown (drive.tried_on _ _ _ _ _ _ _ _ c.loop-l.invariant)
+move_over_lane-happened-requires-clause-shown g c = drive.on_somewhere c.requires.shown (drive.tried_on _ _ _ _ _ _ _ _ c.loop-l.invariant)
 
 pub plan_ready-happened-requires-clause-plant : goal.plan_ready-happened-requires-clause-plant
 plan_ready-happened-requires-clause-plant g c =

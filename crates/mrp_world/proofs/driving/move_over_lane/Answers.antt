@@ -6,8 +6,7 @@ pub move_one-requires-in-loop-record-clause-shown : goal.move_one-requires-in-lo
 move_one-requires-in-loop-record-clause-shown g c = drive.on_somewhere c.requires.shown c.loop-record.invariant
 
 pub loop-record-preserved : goal.loop-record-preserved
-loop-record-preserved g c =
-    drive.on_and_on c.loop-record.invariant (drive.on_at_all c.if-not-move_one-2.ensures)
+loop-record-preserved g c = drive.on_and_on c.loop-record.invariant (drive.on_at_all c.if-not-move_one-2.ensures)
 
 pub returns-then-not-move_one-2 : goal.returns-then-not-move_one-2
 returns-then-not-move_one-2 g c =

@@ -8,8 +8,7 @@ plan_one-requires-in-loop-pair-clause-shown g c =
     (some.0, drive.on_somewhere some.1 (c.loop-pair.invariant some.0))
 
 pub loop-pair-preserved : goal.loop-pair-preserved
-loop-pair-preserved g c boxes =
-    drive.on_and_on (c.loop-pair.invariant boxes) (drive.on_at_all (c.if-not-plan_one-2.ensures boxes))
+loop-pair-preserved g c boxes = drive.on_and_on (c.loop-pair.invariant boxes) (drive.on_at_all (c.if-not-plan_one-2.ensures boxes))
 
 pub returns-then-not-plan_one-2 : goal.returns-then-not-plan_one-2
 returns-then-not-plan_one-2 g c boxes =

@@ -21,8 +21,7 @@ add_lane-requires-clause-plan c =
     c.args.plan.now (subst (λ (M : Table). Fits M c.args.plan.now) (sym c.network-network.ensures.value) c.requires)
 
 pub loop-l-preserved : goal.loop-l-preserved
-loop-l-preserved c =
-    piece.lanes_next (last_on c.network-network.result.now) _ _ c.loop-l.l c.loop-l.invariant c.in_ok-add_lane.ensures
+loop-l-preserved c = piece.lanes_next (last_on c.network-network.result.now) _ _ c.loop-l.l c.loop-l.invariant c.in_ok-add_lane.ensures
 
 -- the figures of all lanes
 are_last : (c : After-loop-l) → c.loop-l.figures.items ≡ last_figures c.args.net.now.network

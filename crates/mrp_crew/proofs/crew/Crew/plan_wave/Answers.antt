@@ -1,7 +1,6 @@
 use Rattle.std.proofs.Common.{[], ◌∷◌, ap, arith, get_or, length, subst, Contains}
 use Rattle.std.proofs.lemmas.List.Elements.{Contains-get_or}
 use Rattle.mrp_master_data.specs.declared.numbers.PairNo.{PairNo}
-use Rattle.mrp_agent.specs.Drafts.{ready_numbers}
 use Rattle.mrp_agent.specs.State.{AgentState}
 use Rattle.mrp_crew.proofs.Keeping.{when_true}
 use Rattle.mrp_crew.proofs.PlanningLaws.{plans_one}

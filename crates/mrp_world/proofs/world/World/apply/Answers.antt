@@ -6,8 +6,7 @@ use Rattle.mrp_world.proofs.Worlds as world
 use Rattle.mrp_world.proofs.world.World.apply.Goals as goal
 
 pub returns-then-not-act_on-clause-nowhere : goal.returns-then-not-act_on-clause-nowhere
-returns-then-not-act_on-clause-nowhere g c _ =
-    world.world_nowhere _ _ _ _ _ _ _ _ c.self.view_is c.if-not-act_on.ensures.holds
+returns-then-not-act_on-clause-nowhere g c _ = world.world_nowhere _ _ _ _ _ _ _ _ c.self.view_is c.if-not-act_on.ensures.holds
 
 pub overflow_sub-self : goal.overflow_sub-self
 overflow_sub-self g c = world.some_left _ _ _ _ _ _ _ _ _ c.if-not-act_on.ensures c.self.invariant
