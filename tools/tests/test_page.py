@@ -140,7 +140,8 @@ def test_page_says_how_many_rows_scroll(room):
     expedite first, and in the record those of its pair.
     """
     day, plan = "2026-11-30", plan_rows("2026-11-30", 7, {f"I{it}": (0, 0) for it in range(60)})
-    defer, expedite = f"advice,defer,receipt,A,I7,,0,{day},5,1,2026-12-07\n", f"advice,expedite,receipt,A,I50,,1,2026-12-07,6,0,{day}\n"
+    defer = f"advice,defer,receipt,A,I7,,0,{day},5,1,2026-12-07\n"
+    expedite = f"advice,expedite,receipt,A,I50,,1,2026-12-07,6,0,{day}\n"
     room.write("reports.csv", plan + 99 * defer + expedite)
     text = room.run("bin/page < reports.csv")
     assert len(listed(text, "moves")) == 100
@@ -270,7 +271,8 @@ def test_page_fits_a_screen_and_a_phone(room):
     ]
     rows += ["schedule,opening,BRN,HAM,PUMP-1,,,150000,975000\n"]
     rows += [f"schedule,call,BRN,HAM,PUMP-1,{t},{days[t]},250000,1225000\n" for t in (1, 3)]
-    rows += ["lane,despatch,BRN,HAM,PUMP-1,825000,975000,975000,0\nlane,schedule,HAM,BRN,PUMP-1,975000,1475000,1475000,0\n"]
+    rows += ["lane,despatch,BRN,HAM,PUMP-1,825000,975000,975000,0\n"]
+    rows += ["lane,schedule,HAM,BRN,PUMP-1,975000,1475000,1475000,0\n"]
     room.write("reports.csv", "".join(rows))
     names = [
         ",".join(reports.Names.COLUMNS),
