@@ -56,11 +56,11 @@ one_of_plan N text a b sized x y = x.2 ∙ ap text (the_plan N x.0 sized x.1 ∙
 
 -- so its rows are the plan report
 pub is_plan_report : (N : Table) (plans : List PlanRows) → IsSized N → Fits N plans → IsPlanReport N (plan_text N plans ++ late_text N plans)
-is_plan_report N plans sized fits = (sized, plans, fits, refl)
+is_plan_report N plans sized fits = (sized, (plans, fits, refl))
 
 -- and its plan rows those of the network
 pub are_plan_rows : (N : Table) (plans : List PlanRows) → IsSized N → Fits N plans → IsPlanRows N (plan_text N plans)
-are_plan_rows N plans sized fits = (sized, plans, fits, refl)
+are_plan_rows N plans sized fits = (sized, (plans, fits, refl))
 
 -- ---- one report
 

@@ -11,13 +11,13 @@ returns-in_err-advice_rows-clause-text g c =
     let N = c.args.net.now.network in
     rw p.1
     (report-fails _ _ (advice_text c.args.heading N c.in_ok-plan.plan) c.in_err-advice_rows.field-0.0 p.0 (IsAdviceReport c.args.heading N)
-    (c.requires, c.in_ok-plan.plan, c.in_ok-plan.ensures.fits, refl) c.in_err-advice_rows.ensures.text
+    (c.requires, (c.in_ok-plan.plan, c.in_ok-plan.ensures.fits, refl)) c.in_err-advice_rows.ensures.text
     (λ same. ap g.W.Write.contents (c.in_err-advice_rows.ensures.untouched (ap Err same))) p.2)
 
 pub returns-clause-text : goal.returns-clause-text
 returns-clause-text g c =
     let N = c.args.net.now.network in (
       _,
-      (c.requires, c.in_ok-plan.plan, c.in_ok-plan.ensures.fits, refl),
+      (c.requires, (c.in_ok-plan.plan, c.in_ok-plan.ensures.fits, refl)),
       c.in_ok-advice_rows.ensures.text,
     )

@@ -14,13 +14,13 @@ returns-in_err-pegs_rows-clause-text g c =
     let rows = pegs_text N c.in_ok-plan.plan in
     rw p.1
     (report-fails _ _ (header_row c.args.heading pegs_names ++ rows) c.in_err-pegs_rows.field-0.0 p.0 (IsHeaded c.args.heading pegs_names (IsPegsReport N))
-    (rows, (c.requires, c.in_ok-plan.plan, c.in_ok-plan.ensures.fits, refl), refl) c.in_err-pegs_rows.ensures.text
+    (rows, (c.requires, (c.in_ok-plan.plan, c.in_ok-plan.ensures.fits, refl)), refl) c.in_err-pegs_rows.ensures.text
     (λ same. ap g.W.Write.contents (c.in_err-pegs_rows.ensures.untouched (ap Err same))) p.2)
 
 pub returns-clause-text : goal.returns-clause-text
 returns-clause-text g c =
     let N = c.args.net.now.network in (
       _,
-      (pegs_text N c.in_ok-plan.plan, (c.requires, c.in_ok-plan.plan, c.in_ok-plan.ensures.fits, refl), refl),
+      (pegs_text N c.in_ok-plan.plan, (c.requires, (c.in_ok-plan.plan, c.in_ok-plan.ensures.fits, refl)), refl),
       c.in_ok-pegs_rows.ensures.text,
     )

@@ -12,13 +12,13 @@ returns-in_err-order_rows-clause-text g c =
     rw p.1
     (report-fails _ _ (order_text c.args.heading c.args.until N c.in_ok-plan.plan) c.in_err-order_rows.field-0.0 p.0
     (IsOrderReport c.args.until c.args.heading N)
-    (c.requires, c.in_ok-plan.plan, c.in_ok-plan.ensures.fits, refl) c.in_err-order_rows.ensures.text
+    (c.requires, (c.in_ok-plan.plan, c.in_ok-plan.ensures.fits, refl)) c.in_err-order_rows.ensures.text
     (λ same. ap g.W.Write.contents (c.in_err-order_rows.ensures.untouched (ap Err same))) p.2)
 
 pub returns-clause-text : goal.returns-clause-text
 returns-clause-text g c =
     let N = c.args.net.now.network in (
       _,
-      (c.requires, c.in_ok-plan.plan, c.in_ok-plan.ensures.fits, refl),
+      (c.requires, (c.in_ok-plan.plan, c.in_ok-plan.ensures.fits, refl)),
       c.in_ok-order_rows.ensures.text,
     )

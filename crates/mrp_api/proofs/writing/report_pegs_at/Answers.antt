@@ -16,7 +16,7 @@ returns-in_err-peg_rows-clause-text g c =
     rw p.1
     (report-fails _ _ (header_row c.args.heading peg_names ++ rows) c.in_err-peg_rows.field-0.0 p.0
     (IsHeaded c.args.heading peg_names (IsPegs N c.args.x.0 c.args.period))
-    (rows, (c.requires.plannable, c.requires.period, c.in_ok-plan.plan, c.in_ok-plan.ensures.fits, ap (peg_text N) terms), refl) c.in_err-peg_rows.ensures.text
+    (rows, (c.requires.plannable, c.requires.period, (c.in_ok-plan.plan, c.in_ok-plan.ensures.fits, ap (peg_text N) terms)), refl) c.in_err-peg_rows.ensures.text
     (λ same. ap g.W.Write.contents (c.in_err-peg_rows.ensures.untouched (ap Err same))) p.2)
 
 pub returns-clause-text : goal.returns-clause-text
@@ -24,4 +24,4 @@ returns-clause-text g c =
     let N = c.args.net.now.network in
     let terms = c.as_slice.ensures.value ∙ c.in_ok-terms.ensures.terms in
     let rows = peg_text N c.as_slice.result.now in
-    (_, (rows, (c.requires.plannable, c.requires.period, c.in_ok-plan.plan, c.in_ok-plan.ensures.fits, ap (peg_text N) terms), refl), c.in_ok-peg_rows.ensures.text)
+    (_, (rows, (c.requires.plannable, c.requires.period, (c.in_ok-plan.plan, c.in_ok-plan.ensures.fits, ap (peg_text N) terms)), refl), c.in_ok-peg_rows.ensures.text)
