@@ -21,7 +21,7 @@ pub record PlanRows : Type 0 where
 abbrev pub sum_from : List ℕ → ℕ → ℕ → ℕ
 sum_from row t n = sum (take n (drop t row))
 
--- the period has an order, and lies less than a lead time after period 0
+-- the period has an order, and lies before the first one that can be met: the lead time, or the fence
 abbrev pub is_late : ℕ → List ℕ → ℕ → Bool
 is_late lead order t = nat_lt t lead && nat_lt 0 (slice_index order t)
 

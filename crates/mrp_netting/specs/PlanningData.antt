@@ -126,7 +126,7 @@ abbrev pub earliest : PairData → ℕ
 earliest d = max d.params.lead d.policy.fence
 
 -- what of the planned orders is released in period u: those due a lead time later, and in the first period in which
--- any is released, all that are due up to then
+-- any is released, also all that are due before those
 abbrev pub planned_release : PairData → List ℕ → ℕ → ℕ
 planned_release d order u =
     let due_in = u + d.params.lead in

@@ -66,7 +66,7 @@ pub record IsOrder (d : PairData) (t ordered : ℕ) : Type 0 where
 abbrev pub OrdersAreLeastMultiples : Type 0
 OrdersAreLeastMultiples = (d : PairData) (t : ℕ) → t < length d.gross → IsOrder d t (slice_index (one d).order t)
 
--- inside the fence nothing but firm planned orders is released
+-- what would come in inside the fence is released by firm planned orders alone
 abbrev pub FenceHoldsReleases : Type 0
 FenceHoldsReleases = (d : PairData) (u : ℕ) → IsWithinData d → u + d.params.lead < d.policy.fence
     → slice_index (one d).release u ≡ slice_index d.firm_start u

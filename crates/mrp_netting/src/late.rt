@@ -6,7 +6,8 @@ ghost use Rattle.mrp_netting.specs.PlanRows.{late_periods};
 
 use mrp_qty::Qty;
 
-/// Writes into `late` the periods whose order is due within the lead time, by rising period.
+/// Writes into `late` the periods before `lead` that have an order, by rising period: `lead` is the first period that
+/// can be met, the lead time where there is no fence.
 ///
 /// There are at most 104 orders, and `late` has room for as many periods.
 pub fn note_late(lead: u64, order: &[Qty], late: &mut Vec<u8>)

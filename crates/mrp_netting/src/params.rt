@@ -17,13 +17,13 @@ pub struct PairParams {
     pub safety: Qty,
 }
 
-/// An order that would have had to be released before period 0.
+/// An order that is due before the first period that can be met: within the lead time, or inside the fence.
 #[derive(Clone, Copy, Debug, PartialEq, Eq)]
 pub struct Late {
     /// The period of the order's receipt, 0 to 103 and below the horizon.
     pub period: usize,
     /// How many pieces are ordered, 1 to 10^15.
     pub quantity: Qty,
-    /// How many periods are missing: lead time less period, 1 to 104.
+    /// How many periods are missing: the lead time, or the fence where that is longer, less period, 1 to 104.
     pub by: u64,
 }

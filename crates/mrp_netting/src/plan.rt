@@ -104,7 +104,7 @@ impl PairPlan {
     }
 
     /// Scheduled receipts: the pieces that come in from orders that are open already, 0 to 10^15. In a plan of
-    /// [`plan_from`] receipts are here in the period in which they are counted.
+    /// [`plan_from`] receipts are here in the period in which they are counted, and firm planned orders when due.
     pub fn incoming(&self) -> &Row
         ensures { result.now ≡ self.now.incoming }
     {
@@ -120,7 +120,7 @@ impl PairPlan {
 
     /// Planned order releases in pieces, 0 to 10^15: the orders a lead time earlier, the late ones in
     /// period 0. In a plan of [`plan_from`] firm planned orders are released too, and late orders in the first period
-    /// behind the fence.
+    /// in which a planned order may be released: the fence less the lead time, or period 0.
     pub fn release(&self) -> &Row
         ensures { result.now ≡ self.now.release }
     {

@@ -5,7 +5,8 @@ use crate::PairParams;
 /// How a pair is planned beyond its lot rule, lead time and stocks. 0 is none of each.
 #[derive(Clone, Copy, Debug, PartialEq, Eq)]
 pub struct Policy {
-    /// The planning time fence: no planned order is released for a period before this one, 0 to the horizon less 1.
+    /// The planning time fence: no planned order is released that would come in before this period, 0 to the horizon
+    /// less 1.
     pub fence: u64,
     /// By how many periods scheduled receipts may be counted sooner than they come, 0 to 104.
     pub sooner: u64,

@@ -16,8 +16,8 @@ pub(crate) fn earliest_period(given: &PlanningData<'_>) -> u64
     given.params.lead.max(given.policy.fence)
 }
 
-/// Writes what is released: firm planned orders, and each planned order a lead time before it is due, at the earliest
-/// so that the first period that can be met is.
+/// Writes what is released: firm planned orders when they start, and each planned order a lead time before it is due.
+/// One that is due before the first period that can be met is released a lead time before that period.
 pub(crate) fn release_all(given: &PlanningData<'_>, gross: &[Qty], order: &[Qty], release: &mut Row)
     requires within { IsWithinData (data_of given.now gross.now) }
     requires orders { length order.now ≡ length gross.now }
