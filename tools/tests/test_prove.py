@@ -25,7 +25,7 @@ def tree_that_builds(room):
         "mkdir -p tree/crates/mrp/{src,specs,proofs} && echo mrp: > tree/crates.txt && echo one > tree/crates/mrp/src/main.rt"
     )
     room.run(
-        f"mkdir tree/bin tree/tools && cp {TOP}/bin/{{mrp,reports.py}} {TOP}/python/mrp.py tree/bin && cp {TOP}/tools/{{prove,crates.py,made.py}} tree/tools"
+        f"mkdir tree/bin tree/tools && cp {TOP}/bin/{{mrp,reports.py,headed.py}} {TOP}/python/mrp.py tree/bin && cp {TOP}/tools/{{prove,crates.py,made.py}} tree/tools"
     )
     room.stand_in("words/rt", "rt_run")
     room.variables |= {"PROVED": f"{room.folder}/proved", "SOURCE": f"{room.folder}/tree/crates/mrp/src/main.rt"}
