@@ -25,6 +25,7 @@ read_without N is =
         ships = is.limits.ships;
         cums = is.limits.cums;
         resets = is.limits.resets;
+        firms = is.limits.firms;
       };
       plants = is.plants;
       items = is.items;
@@ -44,6 +45,7 @@ read_without N is =
       ships = λ k d h. let r = is.ships k d h in record { from = r.from; pair = r.pair; period = r.period; some = r.some; quantity = r.quantity };
       cums = λ k d h. let r = is.cums k d h in record { from = r.from; pair = r.pair; figure = r.figure };
       resets = λ k d h. let r = is.resets k d h in record { from = r.from; pair = r.pair; period = r.period };
+      firms = λ k d h. let f = is.firms k d h in record { pair = f.pair; start = f.start; due = f.due; some = f.some; quantity = f.quantity };
     }
 
 pub table_without : (N : Table) → IsTable N → IsTable (without_bills_and_demands N)

@@ -12,12 +12,13 @@ use Rattle.mrp_master_data.specs.declared.rows.ReceiptRow.{ReceiptRow}
 use Rattle.mrp_master_data.specs.declared.rows.ShipRow.{ShipRow}
 use Rattle.mrp_master_data.specs.declared.rows.CumRow.{CumRow}
 use Rattle.mrp_master_data.specs.declared.rows.ResetRow.{ResetRow}
+use Rattle.mrp_master_data.specs.declared.rows.FirmRow.{FirmRow}
 
 -- the table of these rows
 abbrev pub table_of : CalendarTerms → List (List ℕ) → List (List ℕ) → List PairRow → List SourceRow → List BillRow
     → List DemandRow
-    → List ReceiptRow → List ShipRow → List CumRow → List ResetRow → Table
-table_of calendar plants items pairs sources bills demands receipts ships cums resets = record {
+    → List ReceiptRow → List ShipRow → List CumRow → List ResetRow → List FirmRow → Table
+table_of calendar plants items pairs sources bills demands receipts ships cums resets firms = record {
   calendar = calendar;
   plants = plants;
   items = items;
@@ -29,6 +30,7 @@ table_of calendar plants items pairs sources bills demands receipts ships cums r
   ships = ships;
   cums = cums;
   resets = resets;
+  firms = firms;
 }
 
 -- whether the pair behind a source has no row
@@ -70,6 +72,9 @@ with_cum N c = record N { cums = N.cums ++ c ∷ [] }
 abbrev pub with_reset : Table → ResetRow → Table
 with_reset N r = record N { resets = N.resets ++ r ∷ [] }
 
+abbrev pub with_firm : Table → FirmRow → Table
+with_firm N f = record N { firms = N.firms ++ f ∷ [] }
+
 -- the table of a calendar without any row
 abbrev pub empty_table : CalendarTerms → Table
-empty_table c = table_of c [] [] [] [] [] [] [] [] [] []
+empty_table c = table_of c [] [] [] [] [] [] [] [] [] [] []

@@ -16,6 +16,7 @@ use Rattle.mrp_qty.specs.declared.limits.TheConstants.{MOST_SHARE, MOST_SOURCES_
 use Rattle.mrp_master_data.specs.declared.rows.BillRow.{BillRow}
 use Rattle.mrp_master_data.specs.declared.rows.CumRow.{CumRow}
 use Rattle.mrp_master_data.specs.declared.rows.DemandRow.{DemandRow}
+use Rattle.mrp_master_data.specs.declared.rows.FirmRow.{FirmRow}
 use Rattle.mrp_master_data.specs.declared.rows.PairRow.{PairRow}
 use Rattle.mrp_master_data.specs.declared.rows.ReceiptRow.{ReceiptRow}
 use Rattle.mrp_master_data.specs.declared.rows.ResetRow.{ResetRow}
@@ -39,6 +40,7 @@ pub record Table : Type 0 where
   pub ships : List ShipRow
   pub cums : List CumRow
   pub resets : List ResetRow
+  pub firms : List FirmRow
 
 -- the number of periods
 abbrev pub horizon : Table → ℕ
@@ -109,6 +111,14 @@ pub record IsResetRow (N : Table) (r : ResetRow) : Type 0 where
   pub pair : IsPair N r.pair.0
   pub period : r.period < horizon N
 
+-- a firm planned order is released no later than it is due, and due within the horizon
+pub record IsFirmRow (N : Table) (f : FirmRow) : Type 0 where
+  pub pair : IsPair N f.pair.0
+  pub start : f.start ≤ f.due
+  pub due : f.due < horizon N
+  pub some : 1 ≤ f.quantity
+  pub quantity : IsAmount f.quantity
+
 -- the table has a period, and no more periods, names and rows of each kind than a table may have
 pub record IsLimited (N : Table) : Type 0 where
   pub some_periods : 1 ≤ horizon N
@@ -123,6 +133,7 @@ pub record IsLimited (N : Table) : Type 0 where
   pub ships : length N.ships ≤ MOST_OF_A_KIND
   pub cums : length N.cums ≤ MOST_OF_A_KIND
   pub resets : length N.resets ≤ MOST_SOURCES
+  pub firms : length N.firms ≤ MOST_OF_A_KIND
 
 -- the calendar is one, there are no more rows than a table may have, names are names, and each row is in range and
 -- names plants, items and pairs of the table
@@ -139,6 +150,7 @@ pub record IsRead (N : Table) : Type 0 where
   pub ships : All (IsShipRow N) N.ships
   pub cums : All (IsCumRow N) N.cums
   pub resets : All (IsResetRow N) N.resets
+  pub firms : All (IsFirmRow N) N.firms
 
 -- the item of the pair at a place
 abbrev pub item_at : Table → ℕ → ℕ

@@ -28,7 +28,7 @@ pub use mrp_qty::{
 pub use numbers::{ItemNo, PairNo, PlantNo};
 pub use row_lists::RowLists;
 pub use rows::{
-    BillRow, CumRow, DemandRow, PairRow, ReceiptRow, ResetRow, ShipRow, SourceRow, Supply,
+    BillRow, CumRow, DemandRow, FirmRow, PairRow, ReceiptRow, ResetRow, ShipRow, SourceRow, Supply,
 };
 pub use spelled_names::is_name;
 pub use spelled_numbers::{number, number_within};

@@ -2,8 +2,8 @@
 
 use crate::names::{name_at, place_of_name, push_name};
 use crate::{
-    BillRow, CumRow, DemandRow, ItemNo, PairNo, PairRow, PlantNo, ReceiptRow, ResetRow, ShipRow,
-    SourceRow,
+    BillRow, CumRow, DemandRow, FirmRow, ItemNo, PairNo, PairRow, PlantNo, ReceiptRow, ResetRow,
+    ShipRow, SourceRow,
 };
 use mrp_cal::Calendar;
 use std::alloc::{AllocError, Global};
@@ -33,6 +33,7 @@ pub struct RowLists {
     ships: Vec<ShipRow>,
     cums: Vec<CumRow>,
     resets: Vec<ResetRow>,
+    firms: Vec<FirmRow>,
 }
 
 impl Model for RowLists {
@@ -47,12 +48,14 @@ impl Model for RowLists {
 
     ghost view = { λ r. table_of r.calendar (map string_bytes r.plants.items)
         (map string_bytes r.items.items) r.pairs.items r.sources.items
-        r.bills.items r.demands.items r.receipts.items r.ships.items r.cums.items r.resets.items };
+        r.bills.items r.demands.items r.receipts.items r.ships.items r.cums.items r.resets.items
+        r.firms.items };
 
     // the rows are in range, and each pair is found
     ghost invariant = { λ r. IsRead (table_of r.calendar (map string_bytes r.plants.items)
         (map string_bytes r.items.items) r.pairs.items r.sources.items
-        r.bills.items r.demands.items r.receipts.items r.ships.items r.cums.items r.resets.items)
+        r.bills.items r.demands.items r.receipts.items r.ships.items r.cums.items r.resets.items
+        r.firms.items)
         × FindsPairs (get is_same_place r.pair_places) r.pairs.items };
 }
 
@@ -67,9 +70,11 @@ impl RowLists {
     ghost use Rattle.mrp_master_data.specs.Growing.{lacks_pair, with_plant, with_item};
     ghost use Rattle.mrp_master_data.specs.Growing.{with_pair, with_source, with_bill};
     ghost use Rattle.mrp_master_data.specs.Growing.{with_demand, with_receipt, with_ship, with_cum, with_reset};
+    ghost use Rattle.mrp_master_data.specs.Growing.{with_firm};
     ghost use Rattle.mrp_master_data.specs.Table.{item_at, IsName, IsRead, IsPairRow, IsSourceRow, IsBillRow};
     ghost use Rattle.mrp_master_data.specs.Growing.{empty_table};
     ghost use Rattle.mrp_master_data.specs.Table.{IsDemandRow, IsReceiptRow, IsShipRow, IsCumRow, IsResetRow};
+    ghost use Rattle.mrp_master_data.specs.Table.{IsFirmRow};
 
     /// The lists after the run row.
     pub fn new(alloc: Global, calendar: Calendar) -> RowLists
@@ -89,6 +94,7 @@ impl RowLists {
             ships: Vec::new(alloc),
             cums: Vec::new(alloc),
             resets: Vec::new(alloc),
+            firms: Vec::new(alloc),
         }
     }
 
@@ -251,6 +257,21 @@ impl RowLists {
         Ok(())
     }
 
+    /// Adds a firm row.
+    ///
+    /// # Errors
+    ///
+    /// [`AllocError`] where a growth is refused.
+    pub fn add_firm(&mut self, row: FirmRow) -> Result<(), AllocError>
+        requires row { IsFirmRow self.old row }
+        requires room { length self.old.firms < MOST_OF_A_KIND }
+        ensures rows { OnOk result (IsRead self.new) }
+        ensures table { OnOk result (self.new ≡ with_firm self.old row) }
+    {
+        self.firms.push(row)?;
+        Ok(())
+    }
+
     /// The pair of a plant and an item.
     pub fn find_pair(&self, plant: PlantNo, item: ItemNo) -> Option<PairNo>
         ensures place { option_map (λ x. x.0) result
@@ -353,6 +374,13 @@ impl RowLists {
         ensures value { result.now ≡ self.now.resets }
     {
         self.resets.as_slice()
+    }
+
+    /// The firm rows in table order.
+    pub fn firms(&self) -> &[FirmRow]
+        ensures value { result.now ≡ self.now.firms }
+    {
+        self.firms.as_slice()
     }
 
     /// How many items there are.

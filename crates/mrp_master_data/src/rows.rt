@@ -137,3 +137,16 @@ pub struct ResetRow {
     /// The first period of the new figures, below the horizon.
     pub period: usize,
 }
+
+/// A firm planned order: a planned order whose quantity and periods the planner has set, and no plan changes.
+#[derive(Clone, Copy, Debug)]
+pub struct FirmRow {
+    /// The pair that is ordered.
+    pub pair: PairNo,
+    /// The period of its release, in which components or deliveries are asked for.
+    pub start: usize,
+    /// The period in which it is due, not before its release, and below the horizon.
+    pub due: usize,
+    /// How many pieces, 1 to 10^12.
+    pub quantity: Qty,
+}

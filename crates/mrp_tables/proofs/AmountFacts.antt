@@ -1,6 +1,6 @@
--- What a demand or a receipt row says of a pair.
-use Rattle.std.proofs.Common.{◌≡◌, ◌<◌, ℕ, ◌-◌, Bool, true, false, List, [], get_or, Option, None, Some, is_some, position, Result, Ok, Err, ok_or}
-use Rattle.std.proofs.Common.{refl, ap, sym, subst, ◌∙◌, ◌≤◌, nat_lt, arith, true≢false}
+-- What a demand, a receipt or a firm row says of a pair.
+use Rattle.std.proofs.Common.{◌≡◌, ◌<◌, ℕ, Bool, true, false, List, [], get_or, Option, None, Some, is_some, position, Result, Ok, Err, ok_or}
+use Rattle.std.proofs.Common.{option_map, refl, ap, sym, subst, ◌∙◌, ◌≤◌, nat_lt, arith, true≢false}
 use Rattle.std.specs.List.{All}
 use Rattle.std.specs.Str.{bytes_eq}
 use Rattle.std.proofs.lemmas.Bool.Decides.{nat_tests}
@@ -11,12 +11,11 @@ use Rattle.mrp_master_data.specs.declared.numbers.PlantNo.{PlantNo}
 use Rattle.mrp_master_data.specs.Names.{pair_named, pair_of_item, plant_no}
 use Rattle.mrp_master_data.specs.Table.{horizon, IsName, Table}
 use Rattle.mrp_tables.specs.Amounts.{known_amount}
-use Rattle.mrp_validation.specs.Grammar.{◌>>=◌, amount_row, amount_terms, AmountTerms, check, known_pair}
+use Rattle.mrp_validation.specs.Grammar.{◌>>=◌, amount_row, amount_terms, AmountTerms, check, firm_of, firm_terms, FirmTerms, known_pair, seen}
 use Rattle.mrp_tables.specs.Keys.{Knows}
 use Rattle.mrp_validation.specs.declared.fault.TableFaultKind.{TableFaultKind}
 use Rattle.mrp_validation.specs.declared.fault.TableFaultKind.TheVariants as fault
 use Rattle.mrp_tables.specs.declared.names.KnownNames.{KnownNames}
-use Rattle.mrp_validation.proofs.KeepingSteps.{same_Ok}
 
 -- ---- a pair that is there
 
@@ -26,36 +25,23 @@ name_at name names i named at =
     let there = position-Some (bytes_eq name) names i [] at in
     subst IsName (sym ((bytes_eq-Decides name (get_or names i [])).0 there.1)) (named i [] there.0)
 
--- the names of a pair that was found
-pub record AreOfPair (N : Table) (plant item : List ℕ) (x : ℕ) : Type 0 where
-  pub place : ℕ
-  pub at : plant_no N plant ≡ Some place
-  pub pair : pair_named N (Some place) item ≡ Some x
-  pub of_plant : IsName plant
-  pub of_item : IsName item
-
+-- the names of a pair that was found are names
 pub pair_names : (N : Table) (k : KnownNames) (plant item : List ℕ) (x : ℕ) → Knows N k → pair_named N (plant_no N plant) item ≡ Some x
-    → AreOfPair N plant item x
+    → IsName plant × IsName item
 pair_names N k plant item x knows found = by (plant_no N plant) refl found
   where
     of_item : (p : ℕ) (o : Option ℕ) → position (bytes_eq item) N.items ≡ o → pair_of_item N p o ≡ Some x → IsName item
     of_item p None at e = absurd (cc)
     of_item p (Some i) at e = name_at item N.items i knows.items.named at
 
-    by : (o : Option ℕ) → plant_no N plant ≡ o → pair_named N o item ≡ Some x → AreOfPair N plant item x
+    by : (o : Option ℕ) → plant_no N plant ≡ o → pair_named N o item ≡ Some x → IsName plant × IsName item
     by None at e = absurd (cc)
-    by (Some p) at e = record {
-      place = p;
-      at = at;
-      pair = e;
-      of_plant = name_at plant N.plants p knows.plants.named at;
-      of_item = of_item p (position (bytes_eq item) N.items) refl e;
-    }
+    by (Some p) at e = (name_at plant N.plants p knows.plants.named at, of_item p (position (bytes_eq item) N.items) refl e)
 
 -- ---- what a row says of a pair
 
 -- its names are of no plant
-no_plant : (N : Table) (plant item : List ℕ) → is_some (plant_no N plant) ≡ false → known_pair N plant item ≡ Err fault.UnknownPlant
+pub no_plant : (N : Table) (plant item : List ℕ) → is_some (plant_no N plant) ≡ false → known_pair N plant item ≡ Err fault.UnknownPlant
 unfolding known_pair
 no_plant N plant item lacks = by (plant_no N plant) lacks
   where
@@ -79,41 +65,50 @@ no_pair N plant item none there = by (plant_no N plant) none there
     by None none some = absurd (true≢false (sym some))
     by (Some p) none some = rw none refl
 
--- of a pair
-pair_there : (N : Table) (k : KnownNames) (plant item : List ℕ) (x : ℕ) → Knows N k → pair_named N (plant_no N plant) item ≡ Some x
-    → (p : PlantNo) × (known_pair N plant item ≡ Ok (p, record { 0 = x }))
+-- what is answered where a pair was looked for and the plant is there
+pub pair_answered : (N : Table) (plant item : List ℕ) (x : Option PairNo) → option_map (λ (p : PairNo). p.0) x ≡ pair_named N (plant_no N plant) item
+    → is_some (plant_no N plant) ≡ true
+    → ◌≡◌ {A = Result PairNo TableFaultKind} (ok_or x fault.UnknownPair) (seen (λ (f : PlantNo × PairNo). f.1) (known_pair N plant item))
 unfolding known_pair
-pair_there N k plant item x knows found =
-    let of = pair_names N k plant item x knows found in
-    (record { 0 = of.place }, rw (of.at, of.pair) refl)
+pair_answered N plant item x is there = by (plant_no N plant) x is there
+  where
+    by : (o : Option ℕ) (x : Option PairNo) → option_map (λ (p : PairNo). p.0) x ≡ pair_named N o item → is_some o ≡ true
+        → ◌≡◌ {A = Result PairNo TableFaultKind} (ok_or x fault.UnknownPair) (seen (λ (f : PlantNo × PairNo). f.1)
+        (ok_or o fault.UnknownPlant >>= λ p. ok_or (pair_named N (Some p) item) fault.UnknownPair >>= λ x. Ok (record { 0 = p }, record { 0 = x })))
+    by None x is some = absurd (true≢false (sym some))
+    by (Some p) None is some = rw (sym is) refl
+    by (Some p) (Some x) is some = rw (sym is) refl
+
+-- what is made of the pair alone
+of_pair : {A : Type 0} (r : Result (PlantNo × PairNo) TableFaultKind) (then : PairNo → Result A TableFaultKind)
+    → (r >>= λ f. then f.1) ≡ (seen (λ (f : PlantNo × PairNo). f.1) r >>= then)
+of_pair (Ok f) then = refl
+of_pair (Err e) then = refl
 
 pub misspelled : (N : Table) (row : List (List ℕ)) (e : TableFaultKind) → amount_terms row (horizon N) ≡ Err e → known_amount N row ≡ Err e
 unfolding known_amount
 misspelled N row e is = rw is refl
 
-pub unknown_plant : (N : Table) (row : List (List ℕ)) (t : AmountTerms) → amount_terms row (horizon N) ≡ Ok t → is_some (plant_no N t.plant) ≡ false
-    → known_amount N row ≡ Err fault.UnknownPlant
+pub then_known : (N : Table) (row : List (List ℕ)) (t : AmountTerms) (x : Result PairNo TableFaultKind) → amount_terms row (horizon N) ≡ Ok t
+    → x ≡ seen (λ (f : PlantNo × PairNo). f.1) (known_pair N t.plant t.item)
+    → known_amount N row ≡ (x >>= λ (pair : PairNo). Ok (pair, t.period, t.quantity))
 unfolding known_amount
-unknown_plant N row t is lacks = rw is (rw (no_plant N t.plant t.item lacks) refl)
+then_known N row t x is found =
+    let made : PairNo → Result (PairNo × ℕ × ℕ) TableFaultKind = λ pair. Ok (pair, t.period, t.quantity) in
+    rw is (of_pair (known_pair N t.plant t.item) made ∙ ap (λ (r : Result PairNo TableFaultKind). r >>= made) (sym found))
 
-pub unknown_pair : (N : Table) (row : List (List ℕ)) (t : AmountTerms) → amount_terms row (horizon N) ≡ Ok t
-    → pair_named N (plant_no N t.plant) t.item ≡ None → is_some (plant_no N t.plant) ≡ true → known_amount N row ≡ Err fault.UnknownPair
-unfolding known_amount
-unknown_pair N row t is none there = rw is (rw (no_pair N t.plant t.item none there) refl)
+-- ---- a firm row of no pair
 
-pub known_there : (N : Table) (k : KnownNames) (row : List (List ℕ)) (t : AmountTerms) (x : ℕ) → Knows N k → amount_terms row (horizon N) ≡ Ok t
-    → pair_named N (plant_no N t.plant) t.item ≡ Some x → known_amount N row ≡ Ok (record { 0 = x }, t.period, t.quantity)
-unfolding known_amount
-known_there N k row t x knows is found = rw is (rw (pair_there N k t.plant t.item x knows found).1 refl)
+unseen : (r : Result (PlantNo × PairNo) TableFaultKind) (e : TableFaultKind)
+    → ◌≡◌ {A = Result PairNo TableFaultKind} (Err e) (seen (λ (f : PlantNo × PairNo). f.1) r) → r ≡ Err e
+unseen (Ok f) e is = absurd (cc)
+unseen (Err g) e is = cc
 
--- what was looked for, and is there or not
-pub lacking : {A E : Type 0} (o : Option A) (e f : E) → ◌≡◌ {A = Result A E} (Err e) (ok_or o f) → (o ≡ None) × (e ≡ f)
-lacking None e f is = (refl, cc)
-lacking (Some x) e f is = absurd (cc)
-
-pub having : {A E : Type 0} (o : Option A) (x : A) (f : E) → ◌≡◌ {A = Result A E} (Ok x) (ok_or o f) → o ≡ Some x
-having None x f is = absurd (cc)
-having (Some y) x f is = ap Some (sym (same_Ok x y is))
+pub firm_of_none : (N : Table) (row : List (List ℕ)) (t : FirmTerms) (e : TableFaultKind) → firm_terms row (horizon N) ≡ Ok t
+    → ◌≡◌ {A = Result PairNo TableFaultKind} (Err e) (seen (λ (f : PlantNo × PairNo). f.1) (known_pair N t.plant t.item))
+    → firm_of N row ≡ Err e
+unfolding firm_of
+firm_of_none N row t e is refused = rw (is, unseen (known_pair N t.plant t.item) e refused) refl
 
 -- ---- a row made of them
 

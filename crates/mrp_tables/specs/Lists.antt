@@ -23,7 +23,7 @@ use Rattle.mrp_tables.specs.declared.draft.Draft.{Draft}
 use Rattle.mrp_tables.specs.declared.draft.Arrivals.{Arrivals}
 use Rattle.mrp_tables.specs.declared.lanes.KnownLane.{KnownLane}
 use Rattle.mrp_tables.specs.declared.lanes.NamedLane.{NamedLane}
-use Rattle.mrp_validation.specs.Grammar.{◌>>=◌, check, BillTerms, LaneTerms}
+use Rattle.mrp_validation.specs.Grammar.{◌>>=◌, check, BillTerms, field, LaneTerms}
 
 abbrev pub lane_of : SourceRow → LaneKey
 lane_of s = record { from = s.plant; pair = s.pair }
@@ -141,6 +141,12 @@ pub record FindsBill (N : Table) (t : BillTerms) (x y : Option PairNo) : Type 0 
   pub within : IfSome x (λ p. p.0 < length N.pairs)
   pub inside : IfSome y (λ p. p.0 < length N.pairs)
   pub plant : OnSome x (is_some (plant_no N t.plant) ≡ true)
+
+-- what the reading finds of the second and the third field of a row, the names of a pair
+pub record FindsPair (N : Table) (row : List (List ℕ)) (x : Option PairNo) : Type 0 where
+  pub pair : option_map (λ p. p.0) x ≡ pair_named N (plant_no N (field row 1)) (field row 2)
+  pub within : IfSome x (λ p. p.0 < length N.pairs)
+  pub plant : OnSome x (is_some (plant_no N (field row 1)) ≡ true)
 
 -- the lane of the names that were found, where all of it is there
 unfoldable pub known_found : NamedLane → Result KnownLane TableFaultKind

@@ -4,10 +4,11 @@ use Rattle.mrp_lot.specs.Lot.{IsRule}
 use Rattle.mrp_lot.specs.declared.rule.TheConstants.{LONGEST_LEAD}
 use Rattle.mrp_qty.specs.declared.limits.TheConstants.{MOST_IN_ROW}
 use Rattle.mrp_master_data.specs.Spelled.{HasSources, supply_view}
+use Rattle.mrp_tables.specs.declared.spelled.SpelledFirm.{SpelledFirm}
 use Rattle.mrp_tables.specs.declared.spelled.SpelledPair.{SpelledPair}
 use Rattle.mrp_tables.specs.declared.spelled.SpelledRun.{SpelledRun}
 use Rattle.mrp_master_data.specs.Table.{IsName}
-use Rattle.mrp_validation.specs.Grammar.{field, AmountTerms, BillTerms, LaneTerms, PairTerms, RunTerms}
+use Rattle.mrp_validation.specs.Grammar.{field, AmountTerms, BillTerms, FirmTerms, LaneTerms, PairTerms, RunTerms}
 
 -- a pair row whose item is a name, and whose numbers are in their ranges
 pub record IsSpelledPair (p : SpelledPair) : Type 0 where
@@ -52,6 +53,15 @@ terms_of_amount row period quantity = record {
   item = field row 2;
   period = period;
   quantity = quantity;
+}
+
+abbrev pub terms_of_firm : List (List ℕ) → SpelledFirm → FirmTerms
+terms_of_firm row f = record {
+  plant = field row 1;
+  item = field row 2;
+  start = f.start;
+  due = f.due;
+  quantity = f.quantity;
 }
 
 abbrev pub terms_of_lane : List (List ℕ) → LaneTerms

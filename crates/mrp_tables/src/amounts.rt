@@ -135,10 +135,7 @@ impl Draft {
         let found = self.find_pair(field(row, 1), field(row, 2));
         let horizon = self.lists.calendar().horizon();
         let (period, quantity) = spelled_amount(row, horizon, found.is_some())?;
-        if !self.has_plant_of(found, field(row, 1)) {
-            return Err(TableFaultKind::UnknownPlant);
-        }
-        let pair = found.ok_or(TableFaultKind::UnknownPair)?;
+        let pair = self.known_pair(row, found)?;
         Ok(KnownAmount {
             pair,
             period,

@@ -138,6 +138,7 @@ impl Draft {
             Kind::Ship => self.add_ship(row),
             Kind::Cum => self.add_cum(row),
             Kind::Reset => self.add_reset(row),
+            Kind::Firm => self.add_firm(row),
         }
     }
 }

@@ -1,7 +1,7 @@
 //! Reading a planner's table: which rows it has, or the first fault and its row.
 //!
 //! A table is comma-separated text of eight fields a row: the run, plants, pairs, bills, demands,
-//! receipts, shipments between plants, cumulative figures and where those start anew. What is
+//! receipts, shipments between plants, cumulative figures, where those start anew, and firm planned orders. What is
 //! accepted are the [`Tables`](mrp_master_data::Tables) of its rows, by the grammar of `mrp_validation`: what each row
 //! says, which rows make which table, and which fault a text has first.
 //!
@@ -11,6 +11,7 @@
 
 mod amounts;
 mod draft;
+mod firms;
 mod lanes;
 mod name_key;
 mod names;

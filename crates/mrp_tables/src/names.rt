@@ -6,9 +6,10 @@ ghost use Rattle.mrp_tables.specs.Keys.{FindsNames};
 
 use crate::draft::Draft;
 use crate::name_key::{NameKey, PairKey};
+use csv::StringRecord;
 use indexmap::IndexSet;
 use mrp_master_data::{ItemNo, PairNo, PairRow, PlantNo, RowLists};
-use mrp_validation::TableFaultKind;
+use mrp_validation::{TableFaultKind, field};
 use std::alloc::Global;
 
 /// The plants, the items and the pairs of the rows so far by their keys, in their order. A pair is found by the names
@@ -131,7 +132,10 @@ impl KnownNames {
 }
 
 impl Draft {
-    ghost use Rattle.std.specs.Prelude.{◌≡◌, ◌<◌, is_some, length, option_map, true, IfSome, OnSome};
+    ghost use Rattle.std.specs.Prelude.{◌≡◌, ◌<◌, is_some, length, option_map, true, IfOk, IfSome, OnSome};
+    ghost use Rattle.csv.specs.Records.{fields_of};
+    ghost use Rattle.mrp_validation.specs.Grammar.{field, known_pair, seen};
+    ghost use Rattle.mrp_tables.specs.Lists.{FindsPair};
     ghost use Rattle.mrp_master_data.specs.Names.{has_plant, pair_named, plant_no};
     ghost use Rattle.mrp_master_data.specs.Table.{IsName, IsRead};
     ghost use Rattle.mrp_tables.specs.Keys.{Knows};
@@ -161,6 +165,24 @@ impl Draft {
         ensures { result ≡ is_some (plant_no self.now.lists plant.now) }
     {
         found.is_some() || self.has_plant(plant)
+    }
+
+    /// The pair that the second and the third field of a row name, if it was found.
+    pub(crate) fn known_pair(
+        &self,
+        row: &StringRecord,
+        found: Option<PairNo>,
+    ) -> Result<PairNo, TableFaultKind>
+        requires knows { Knows self.now.lists self.now.known }
+        requires found { FindsPair self.now.lists (fields_of row.now) found }
+        ensures exact { result ≡ seen (λ known. known.1)
+            (known_pair self.now.lists (field (fields_of row.now) 1) (field (fields_of row.now) 2)) }
+        ensures within { IfOk result (λ pair. pair.0 < length self.now.lists.pairs) }
+    {
+        if !self.has_plant_of(found, field(row, 1)) {
+            return Err(TableFaultKind::UnknownPlant);
+        }
+        found.ok_or(TableFaultKind::UnknownPair)
     }
 
     /// The pair of these names, if there is one.

@@ -4,10 +4,10 @@ ghost use Rattle.std.specs.Prelude.{◌≡◌, ◌≤◌, ◌<◌, true, IfOk};
 ghost use Rattle.mrp_qty.specs.declared.horizon.TheConstants.{LONGEST};
 ghost use Rattle.mrp_qty.specs.declared.limits.TheConstants.{MOST_IN_ROW, MOST_PER};
 ghost use Rattle.csv.specs.Records.{fields_of};
-ghost use Rattle.mrp_validation.specs.Grammar.{amount_terms, bill_terms, field, is_empty_from};
+ghost use Rattle.mrp_validation.specs.Grammar.{amount_terms, bill_terms, field, firm_terms, is_empty_from};
 ghost use Rattle.mrp_validation.specs.Grammar.{kind_of, lane_number, lane_terms, name_field, pair_terms, plant_terms};
 ghost use Rattle.mrp_validation.specs.Grammar.{row_kind, run_terms, seen, ship_terms, TellsSeen};
-ghost use Rattle.mrp_tables.specs.Spelled.{terms_of_amount, terms_of_bill, terms_of_lane, pair_view, run_view};
+ghost use Rattle.mrp_tables.specs.Spelled.{terms_of_amount, terms_of_bill, terms_of_firm, terms_of_lane, pair_view, run_view};
 ghost use Rattle.mrp_tables.specs.Spelled.{HasThreeNames, HasTwoNames, IsSpelledPair};
 ghost use Rattle.mrp_master_data.specs.Table.{IsName};
 ghost use Rattle.mrp_tables.specs.Drafts.{TellsRun};
@@ -38,6 +38,8 @@ fn kind_of(word: &str) -> Option<Kind>
         Some(Kind::Bill)
     } else if is_same_text(word, "pair") {
         Some(Kind::Pair)
+    } else if is_same_text(word, "firm") {
+        Some(Kind::Firm)
     } else if is_same_text(word, "cum") {
         Some(Kind::Cum)
     } else if is_same_text(word, "reset") {
@@ -207,6 +209,39 @@ pub(crate) fn spelled_amount(
     let period = ranged(field(row, 3), 0, horizon.get() - 1)? as usize;
     let quantity = ranged(field(row, 4), 1, MOST_IN_ROW)?;
     Ok((period, quantity))
+}
+
+/// The order of a firm row: the period, counted from 0, of its release, that in which it is due, and its pieces.
+#[derive(Clone, Copy)]
+pub(crate) struct SpelledFirm {
+    pub(crate) start: usize,
+    pub(crate) due: usize,
+    pub(crate) quantity: u64,
+}
+
+/// The order of a firm row. Its names aren't tested where they are known.
+#[tactic(auto, unfolding(mrp_validation::specs::Grammar::firm_terms))]
+pub(crate) fn spelled_firm(
+    row: &StringRecord,
+    horizon: Horizon,
+    are_known: bool,
+) -> Result<SpelledFirm, TableFaultKind>
+    requires known { are_known ≡ true → HasTwoNames (fields_of row.now) }
+    ensures exact { seen (terms_of_firm (fields_of row.now)) result ≡ firm_terms (fields_of row.now) horizon }
+    ensures ranges { IfOk result (λ f. (f.start ≤ f.due) × (f.due < horizon) × (1 ≤ f.quantity)
+        × (f.quantity ≤ MOST_IN_ROW)) }
+{
+    test_name(row, 1, are_known)?;
+    test_name(row, 2, are_known)?;
+    let last = horizon.get() - 1;
+    let start = ranged(field(row, 3), 0, last)?;
+    let due = ranged(field(row, 4), start, last)?;
+    let quantity = ranged(field(row, 5), 1, MOST_IN_ROW)?;
+    Ok(SpelledFirm {
+        start: start as usize,
+        due: due as usize,
+        quantity,
+    })
 }
 
 /// Tests the names of a ship, cum or reset row, unless they are known.

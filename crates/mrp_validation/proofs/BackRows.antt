@@ -1,4 +1,4 @@
--- Bill, demand, receipt, ship, cum and reset rows that are written of a table are read as its own, one after the other.
+-- Bill, demand, receipt, ship, cum, reset and firm rows that are written of a table are read as its own, one after the other.
 use Rattle.std.proofs.Common.{◌≡◌, ◌≤◌, ◌<◌, ◌^◌, ℕ, ◌+◌, ◌-◌, ◌==◌, Bool, true, false, leb, ltb, List, [], ◌∷◌, ◌++◌, codes, length, map, Option, Some, None}
 use Rattle.std.proofs.Common.{option_map, slice_get, unwrap_or, Ok, refl, ap, sym, ◌∙◌, subst, append_assoc, append-nil, arith}
 use Rattle.std.specs.List.{list_all}
@@ -19,24 +19,25 @@ use Rattle.mrp_master_data.specs.declared.rows.BillRow.{BillRow}
 use Rattle.mrp_master_data.specs.declared.rows.CumRow.{CumRow}
 use Rattle.mrp_master_data.specs.declared.rows.DemandRow.{DemandRow}
 use Rattle.mrp_master_data.specs.declared.rows.PairRow.{PairRow}
+use Rattle.mrp_master_data.specs.declared.rows.FirmRow.{FirmRow}
 use Rattle.mrp_master_data.specs.declared.rows.ReceiptRow.{ReceiptRow}
 use Rattle.mrp_master_data.specs.declared.rows.ResetRow.{ResetRow}
 use Rattle.mrp_master_data.specs.declared.rows.ShipRow.{ShipRow}
 use Rattle.mrp_master_data.specs.declared.rows.Supply.TheVariants as supply
 use Rattle.mrp_qty.specs.declared.limits.TheConstants.{MOST_BILLS, MOST_IN_ROW, MOST_OF_A_KIND, MOST_PER}
-use Rattle.mrp_master_data.specs.Growing.{with_bill, with_cum, with_demand, with_receipt, with_reset, with_ship}
+use Rattle.mrp_master_data.specs.Growing.{with_bill, with_cum, with_demand, with_firm, with_receipt, with_reset, with_ship}
 use Rattle.mrp_master_data.specs.Names.{pair_named, plant_no}
 use Rattle.mrp_master_data.specs.Table.{arrivals, horizon, is_same_bill, is_same_cum, is_same_reset, is_taken_from}
-use Rattle.mrp_master_data.specs.Table.{IsBillRow, IsCumRow, IsDemandRow, IsName, IsPair}
+use Rattle.mrp_master_data.specs.Table.{IsBillRow, IsCumRow, IsDemandRow, IsFirmRow, IsName, IsPair}
 use Rattle.mrp_master_data.specs.Table.{IsReceiptRow, IsResetRow, IsShipRow, IsTable, plant_at, rises_from, supply_at, Table}
 use Rattle.mrp_validation.specs.declared.kind.Kind.{Kind}
 use Rattle.mrp_validation.specs.declared.kind.Kind.TheVariants as kind
 use Rattle.mrp_validation.specs.Grammar.{◌>>=◌, amount_row, amount_terms, bill_fits, bill_row, bill_terms, cum_between, cum_of, cum_row, lane_number, demand_made}
 use Rattle.mrp_validation.specs.Grammar.{demand_of, field, has_bill, is_empty_from, is_made, is_make, kind_of, known_lane, known_pair, lane_terms, may_follow}
 use Rattle.mrp_validation.specs.Grammar.{kind_place, receipt_made, receipt_of, reset_between, reset_in_row, reset_row, row_kind, ship_of, ship_row}
-use Rattle.mrp_validation.specs.Grammar.{ship_terms, used}
+use Rattle.mrp_validation.specs.Grammar.{firm_of, firm_row, firm_terms, ship_terms, used}
 use Rattle.mrp_validation.specs.Reading.{at_row, go_on, kind_of_row, row_after, row_of_kind, rows_after}
-use Rattle.mrp_validation.specs.Written.{bill_fields, cum_fields, demand_fields, receipt_fields, reset_fields, ship_fields}
+use Rattle.mrp_validation.specs.Written.{bill_fields, cum_fields, demand_fields, firm_fields, receipt_fields, reset_fields, ship_fields}
 use Rattle.mrp_master_data.specs.Said.{pair_item, pair_plant, plant_name}
 use Rattle.mrp_validation.proofs.BackNames.{at_place, none_before, pair_by_names, plant_at_place, plant_of_pair, stands}
 use Rattle.mrp_validation.proofs.BackTexts.{name_is_text, number_is_text, word_is_text}
@@ -140,6 +141,14 @@ reset_read : (N : Table) (a b c d : List ℕ) (f g x p : ℕ) → NamesLane N a 
 unfolding field_at reset_in_row lane_number lane_terms known_lane
 reset_read N a b c d f g x p l period new rises = rw (l.from_is, l.to_is, l.item_is, period, l.from, l.to, l.pair, l.taken, new, rises) refl
 
+firm_read : (N : Table) (a b c d e : List ℕ) (f x s p q : ℕ) → is_name a ≡ true → is_name b ≡ true → number_within c 0 (horizon N - 1) ≡ Some s
+    → number_within d s (horizon N - 1) ≡ Some p → number_within e 1 MOST_IN_ROW ≡ Some q → plant_no N a ≡ Some f → pair_named N (Some f) b ≡ Some x
+    → ltb (length N.firms) MOST_OF_A_KIND ≡ true
+    → firm_row N (codes "firm" ∷ a ∷ b ∷ c ∷ d ∷ e ∷ [] ∷ [] ∷ [])
+    ≡ Ok (with_firm N (record { pair = record { 0 = x }; start = s; due = p; quantity = q }))
+unfolding field_at firm_of firm_terms known_pair
+firm_read N a b c d e f x s p q na nb start due quantity plant pair room = rw (na, nb, start, due, quantity, plant, pair, room) refl
+
 -- ---- a made pair, room for one more, and numbers in their ranges
 
 made_pair : (N : Table) (x : ℕ) → supply_at N x ≡ supply.Make → is_made N x ≡ true
@@ -181,23 +190,26 @@ module _ (N : Table) (table : IsTable N) where
   item_of_pair_is_name x is = All-get_or IsName N.items _ [] (stands N table x is).item table.read.items
 
   -- the table whose rows of a kind are these, and that has no rows of the kinds after it
+  abbrev pub with_firms : List FirmRow → Table
+  with_firms firms = record N { firms = firms }
+
   abbrev pub with_resets : List ResetRow → Table
-  with_resets resets = record N { resets = resets }
+  with_resets resets = record N { resets = resets; firms = [] }
 
   abbrev pub with_cums : List CumRow → Table
-  with_cums cums = record N { cums = cums; resets = [] }
+  with_cums cums = record N { cums = cums; resets = []; firms = [] }
 
   abbrev pub with_ships : List ShipRow → Table
-  with_ships ships = record N { ships = ships; cums = []; resets = [] }
+  with_ships ships = record N { ships = ships; cums = []; resets = []; firms = [] }
 
   abbrev pub with_receipts : List ReceiptRow → Table
-  with_receipts receipts = record N { receipts = receipts; ships = []; cums = []; resets = [] }
+  with_receipts receipts = record N { receipts = receipts; ships = []; cums = []; resets = []; firms = [] }
 
   abbrev pub with_demands : List DemandRow → Table
-  with_demands demands = record N { demands = demands; receipts = []; ships = []; cums = []; resets = [] }
+  with_demands demands = record N { demands = demands; receipts = []; ships = []; cums = []; resets = []; firms = [] }
 
   abbrev pub with_bills : List BillRow → Table
-  with_bills bills = record N { bills = bills; demands = []; receipts = []; ships = []; cums = []; resets = [] }
+  with_bills bills = record N { bills = bills; demands = []; receipts = []; ships = []; cums = []; resets = []; firms = [] }
 
   bill_step : (before : List BillRow) (b : BillRow) (after : List BillRow) (last : Kind) → before ++ b ∷ after ≡ N.bills
       → kind_place last ≤ kind_place kind.Bill
@@ -226,7 +238,7 @@ module _ (N : Table) (table : IsTable N) where
 
   -- demand and receipt rows are read alike
   abbrev with_amounts : List DemandRow → List ReceiptRow → Table
-  with_amounts demands receipts = record N { demands = demands; receipts = receipts; ships = []; cums = []; resets = [] }
+  with_amounts demands receipts = record N { demands = demands; receipts = receipts; ships = []; cums = []; resets = []; firms = [] }
 
   abbrev amount_fields : List ℕ → ℕ → ℕ → ℕ → Row
   amount_fields word x period quantity = word ∷ pair_plant N x ∷ pair_item N x ∷ decimal period ∷ decimal quantity ∷ [] ∷ [] ∷ [] ∷ []
@@ -277,9 +289,9 @@ module _ (N : Table) (table : IsTable N) where
       (record { pair = is.pair; falls = is.period; some = is.some; few = is.quantity })
       (has_room before r after N.receipts MOST_OF_A_KIND e table.read.limits.receipts)
 
-  -- the names of a lane, whatever stands of the kinds from the ship rows on
+  -- the names of a lane, whatever stands of the ship, cum and reset rows
   abbrev with_lanes : List ShipRow → List CumRow → List ResetRow → Table
-  with_lanes ships cums resets = record N { ships = ships; cums = cums; resets = resets }
+  with_lanes ships cums resets = record N { ships = ships; cums = cums; resets = resets; firms = [] }
 
   names_lane : (ships : List ShipRow) (cums : List CumRow) (resets : List ResetRow) (f x : ℕ) → f < length N.plants → IsPair N x → is_taken_from N x f ≡ true
       → NamesLane (with_lanes ships cums resets) (plant_name N f) (pair_plant N x) (pair_item N x) f (plant_at N x) x
@@ -359,18 +371,49 @@ module _ (N : Table) (table : IsTable N) where
       (none_before is_same_reset before r after N.resets e table.once.resets)
       (at_place (λ r. rises_from 0 (arrivals N r.from.0 r.pair.0) ≡ true) before r after N.resets e table.sourced.arrive))
 
+  firm_step : (before : List FirmRow) (o : FirmRow) (after : List FirmRow) (last : Kind) → before ++ o ∷ after ≡ N.firms
+      → kind_place last ≤ kind_place kind.Firm
+      → row_after (with_firms before, last) (firm_fields N o) ≡ Ok (with_firms (before ++ o ∷ []), kind.Firm)
+  unfolding field_at row_of_kind
+  firm_step before o after last e low =
+      let is = at_place (IsFirmRow N) before o after N.firms e table.read.firms in
+      let x = o.pair.0 in
+      let na = plant_of_pair_is_name x is.pair in
+      let nb = item_of_pair_is_name x is.pair in
+      let periods = table.read.limits.periods in
+      let early : o.start < 10 ^ 16 = omega (arith, is.start, is.due, periods) in
+      let late : o.due < 10 ^ 16 = omega (arith, is.due, periods) in
+      let few : o.quantity < 10 ^ 16 = omega (arith, is.quantity) in
+      row_read (with_firms before) (with_firms (before ++ o ∷ [])) last kind.Firm (firm_fields N o)
+      (kind_read (firm_fields N o) kind.Firm (six_texts (codes "firm") (pair_plant N x) (pair_item N x) (decimal o.start) (decimal o.due) (decimal o.quantity)
+      (word_is_text (codes "firm") refl) (name_is_text _ na) (name_is_text _ nb) (number_is_text o.start early) (number_is_text o.due late)
+      (number_is_text o.quantity few)) refl refl refl)
+      (may_stand kind.Firm last (omega arith) low)
+      (firm_read (with_firms before) (pair_plant N x) (pair_item N x) (decimal o.start) (decimal o.due) (decimal o.quantity) (plant_at N x) x o.start o.due
+      o.quantity na nb (period_written o.start (horizon N) (omega (arith, is.start, is.due)) periods)
+      (number_written o.start (horizon N - 1) o.due is.start (omega (arith, is.due)) late)
+      (number_written 1 MOST_IN_ROW o.quantity is.some is.quantity few)
+      (plant_of_pair N table x is.pair) (pair_by_names N table x is.pair) (has_room before o after N.firms MOST_OF_A_KIND e table.read.limits.firms))
+
   -- ---- the rows from the bills on
 
-  resets_end : (last : Kind) → kind_place last ≤ kind_place kind.Reset → Ends (with_resets [], last) (map (reset_fields N) N.resets) N
-  resets_end last low =
-      subst (λ (rows : List Row). Ends (with_resets [], last) rows N) (append-nil (map (reset_fields N) N.resets))
-      (one_by_one kind.Reset with_resets (reset_fields N) N.resets [] N reset_step (λ l h. ends_here N l) [] N.resets last refl low)
+  firms_end : (last : Kind) → kind_place last ≤ kind_place kind.Firm → Ends (with_firms [], last) (map (firm_fields N) N.firms) N
+  firms_end last low =
+      subst (λ (rows : List Row). Ends (with_firms [], last) rows N) (append-nil (map (firm_fields N) N.firms))
+      (one_by_one kind.Firm with_firms (firm_fields N) N.firms [] N firm_step (λ l h. ends_here N l) [] N.firms last refl low)
 
-  cums_end : (last : Kind) → kind_place last ≤ kind_place kind.Cum → Ends (with_cums [], last) (map (cum_fields N) N.cums ++ map (reset_fields N) N.resets) N
+  abbrev from_resets : List Row
+  from_resets = map (reset_fields N) N.resets ++ map (firm_fields N) N.firms
+
+  resets_end : (last : Kind) → kind_place last ≤ kind_place kind.Reset → Ends (with_resets [], last) from_resets N
+  resets_end last low = one_by_one kind.Reset with_resets (reset_fields N) N.resets _ N reset_step (λ l h. firms_end l (omega (arith, h))) [] N.resets last
+      refl low
+
+  cums_end : (last : Kind) → kind_place last ≤ kind_place kind.Cum → Ends (with_cums [], last) (map (cum_fields N) N.cums ++ from_resets) N
   cums_end last low = one_by_one kind.Cum with_cums (cum_fields N) N.cums _ N cum_step (λ l h. resets_end l (omega (arith, h))) [] N.cums last refl low
 
   abbrev from_ships : List Row
-  from_ships = map (ship_fields N) N.ships ++ (map (cum_fields N) N.cums ++ map (reset_fields N) N.resets)
+  from_ships = map (ship_fields N) N.ships ++ (map (cum_fields N) N.cums ++ from_resets)
 
   ships_end : (last : Kind) → kind_place last ≤ kind_place kind.Ship → Ends (with_ships [], last) from_ships N
   ships_end last low = one_by_one kind.Ship with_ships (ship_fields N) N.ships _ N ship_step (λ l h. cums_end l (omega (arith, h))) [] N.ships last refl low

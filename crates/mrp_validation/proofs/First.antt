@@ -27,10 +27,10 @@ use Rattle.mrp_validation.specs.Grammar.{◌>>=◌, amount_row, amount_terms, Am
 use Rattle.mrp_validation.specs.Grammar.{demand_made, demand_of, field, has_bill, has_cum, has_reset, is_empty_from, is_made, kind_of, known_lane, known_pair}
 use Rattle.mrp_validation.specs.Grammar.{knows_sources, lane_terms, LaneTerms, may_follow, name_field, pair_fits, pair_terms, PairTerms, plant_in_row}
 use Rattle.mrp_validation.specs.Grammar.{receipt_made, receipt_of, reset_between, reset_in_row, row_kind, run_terms, RunTerms, ship_of, ship_terms}
-use Rattle.mrp_validation.specs.Grammar.{used}
+use Rattle.mrp_validation.specs.Grammar.{firm_of, firm_terms, FirmTerms, used}
 use Rattle.mrp_validation.specs.Reading.{first_terms, is_run, kind_of_row, row_after, row_of_kind}
 use Rattle.mrp_validation.specs.Tests.{amount_passes, bill_passes, cum_passes, first_failed, fits_kind, has_number, HasFirstFault, is_in_order, is_lane, pair_in}
-use Rattle.mrp_validation.specs.Tests.{pair_passes, passes, passes_of, plant_in, plant_passes}
+use Rattle.mrp_validation.specs.Tests.{firm_passes, first_due, pair_passes, passes, passes_of, plant_in, plant_passes}
 use Rattle.mrp_validation.specs.Tests.{reset_passes, row_passes, run_passes, ship_passes, sources_in, stands_well, three_names, two_names}
 use Rattle.mrp_validation.proofs.KeepingRows.{on_lane}
 use Rattle.mrp_validation.proofs.KeepingSteps.{after, after_check, after_some, same_Ok}
@@ -293,6 +293,46 @@ pair_is row t e =
       supply = h.1 ∙ ap (λ (p : PairTerms). Some p.supply) same;
     }
 
+-- a firm row: two names and three numbers, of which the second is not below the first
+firm_refusal : (N : Table) (row : List (List ℕ)) → result_err (firm_terms row (horizon N))
+    ≡ cond (not (two_names row)) (Some fault.BadName) (cond (not (has_number row 3 0 (horizon N - 1) && has_number row 4 (first_due N row) (horizon N - 1)
+    && has_number row 5 1 MOST_IN_ROW)) (Some fault.BadNumber) None)
+unfolding firm_terms
+firm_refusal N row =
+    by (is_name (field row 1)) (is_name (field row 2)) (field row 1) (field row 2) (number_within (field row 3) 0 (horizon N - 1))
+    (number_within (field row 5) 1 MOST_IN_ROW)
+  where
+    ends : (x y : List ℕ) (i : ℕ) (d q : Option ℕ) → result_err {T = FirmTerms} (ok_or d fault.BadNumber >>= λ j. ok_or q fault.BadNumber >>= λ k. Ok
+        (record { plant = x; item = y; start = i; due = j; quantity = k }))
+        ≡ cond (not (is_some d && is_some q)) (Some fault.BadNumber) None
+    ends x y i (Some j) (Some k) = refl
+    ends x y i (Some j) None = refl
+    ends x y i None q = refl
+
+    by : (a b : Bool) (x y : List ℕ) (s q : Option ℕ)
+        → result_err {T = FirmTerms} ((if a then Ok x else Err fault.BadName) >>= λ p. (if b then Ok y
+        else Err fault.BadName) >>= λ o. ok_or s fault.BadNumber >>= λ i. ok_or (number_within (field row 4) i (horizon N - 1)) fault.BadNumber >>= λ j.
+        ok_or q fault.BadNumber >>= λ k. Ok (record { plant = p; item = o; start = i; due = j; quantity = k }))
+        ≡ cond (not (a && b)) (Some fault.BadName) (cond (not (is_some s && is_some (number_within (field row 4) (unwrap_or s 0) (horizon N - 1)) && is_some q))
+        (Some fault.BadNumber) None)
+    by true true x y (Some i) q = ends x y i (number_within (field row 4) i (horizon N - 1)) q
+    by true true x y None q = refl
+    by true false x y s q = refl
+    by false b x y s q = refl
+
+firm_names : (row : List (List ℕ)) (periods : ℕ) (t : FirmTerms) → firm_terms row periods ≡ Ok t → (t.plant ≡ field row 1) × (t.item ≡ field row 2)
+unfolding firm_terms
+firm_names row periods t e =
+    let a = after (name_field (field row 1)) _ t e in
+    let b = after (name_field (field row 2)) _ t a.2 in
+    let c = after_some (number_within (field row 3) 0 (periods - 1)) _ _ t b.2 in
+    let d = after_some (number_within (field row 4) c.0 (periods - 1)) _ _ t c.2 in
+    let f = after_some (number_within (field row 5) 1 MOST_IN_ROW) _ _ t d.2 in
+    let same = same_Ok _ t f.2 in (
+      sym (ap (λ (p : FirmTerms). p.plant) same) ∙ name_same (field row 1) a.0 a.1,
+      sym (ap (λ (p : FirmTerms). p.item) same) ∙ name_same (field row 2) b.0 b.1,
+    )
+
 -- ---- what a row says, tested against the rows before it
 
 known_refusal : (N : Table) (plant item : List ℕ) → result_err (known_pair N plant item)
@@ -313,9 +353,9 @@ known_refusal N plant item = by (plant_no N plant)
     by None = refl
     by (Some p) = found p (pair_named N (Some p) item)
 
-known_in : (N : Table) (row : List (List ℕ)) (t : AmountTerms) → (t.plant ≡ field row 1) × (t.item ≡ field row 2) → result_err (known_pair N t.plant t.item)
+known_in : (N : Table) (row : List (List ℕ)) (plant item : List ℕ) → (plant ≡ field row 1) × (item ≡ field row 2) → result_err (known_pair N plant item)
     ≡ cond (not (is_some (plant_in N row 1))) (Some fault.UnknownPlant) (cond (not (is_some (pair_in N row 1 2))) (Some fault.UnknownPair) None)
-known_in N row t names = rw (names.0, names.1) (known_refusal N (field row 1) (field row 2))
+known_in N row plant item names = rw (names.0, names.1) (known_refusal N (field row 1) (field row 2))
 
 lane_there : (N : Table) (row : List (List ℕ)) → result_err (known_lane N (lane_in row))
     ≡ cond (not (is_some (plant_in N row 1) && is_some (plant_in N row 2))) (Some fault.UnknownPlant)
@@ -466,7 +506,7 @@ amount-first N row has_room made =
     more p (fault.BadName ∷ fault.BadNumber ∷ []) (fault.UnknownPlant ∷ fault.UnknownPair ∷ fault.TooMany ∷ []) (amount_terms row (horizon N)) _
     (amount_refusal row (horizon N))
     (λ t is. more p (fault.UnknownPlant ∷ fault.UnknownPair ∷ []) (fault.TooMany ∷ []) (known_pair N t.plant t.item) _
-    (known_in N row t (amount_names row (horizon N) t is)) (λ x found. last has_room fault.TooMany _))
+    (known_in N row t.plant t.item (amount_names row (horizon N) t is)) (λ x found. last has_room fault.TooMany _))
 
 demand-first : (N : Table) (row : List (List ℕ)) → result_err (demand_of N row)
     ≡ first_failed (amount_passes (nat_lt (length N.demands) MOST_OF_A_KIND) N row) (faults_of_kind kind.Demand)
@@ -510,6 +550,15 @@ reset-first N row =
     (lane_refusal N row t.0 (number_names row (horizon N - 1) t is))
     (λ lane known. last (rises_from 0 (arrivals N lane.0.0 lane.1.0)) fault.ResetOrder _
     ∙ ap (λ b. cond (not b) (Some fault.ResetOrder) None) (sym (order_is N row t.0 lane (number_names row (horizon N - 1) t is) known)))))
+
+firm-first : (N : Table) (row : List (List ℕ)) → result_err (firm_of N row) ≡ first_failed (firm_passes N row) (faults_of_kind kind.Firm)
+unfolding firm_of
+firm-first N row =
+    let p = firm_passes N row in
+    more p (fault.BadName ∷ fault.BadNumber ∷ []) (fault.UnknownPlant ∷ fault.UnknownPair ∷ fault.TooMany ∷ []) (firm_terms row (horizon N)) _
+    (firm_refusal N row)
+    (λ t is. more p (fault.UnknownPlant ∷ fault.UnknownPair ∷ []) (fault.TooMany ∷ []) (known_pair N t.plant t.item) _
+    (known_in N row t.plant t.item (firm_names row (horizon N) t is)) (λ x found. last (nat_lt (length N.firms) MOST_OF_A_KIND) fault.TooMany _))
 
 -- ---- a row of any kind
 
@@ -560,6 +609,7 @@ of-kind kind.Receipt last N row u follows = kept (receipt_of N row) _ ∙ receip
 of-kind kind.Ship last N row u follows = kept (ship_of N row) _ ∙ ship-first N row
 of-kind kind.Cum last N row u follows = kept (cum_of N row) _ ∙ cum-first N row
 of-kind kind.Reset last N row u follows = kept (reset_in_row N row) _ ∙ reset-first N row
+of-kind kind.Firm last N row u follows = kept (firm_of N row) _ ∙ firm-first N row
 
 of-named : (k : Kind) (o : Option Kind) (last : Kind) (N : Table) (row : List (List ℕ)) (u : Unit {0}) → o ≡ Some k
     → check (may_follow k last) fault.KindOrder ≡ Ok u

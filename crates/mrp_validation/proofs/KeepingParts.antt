@@ -5,6 +5,7 @@ use Rattle.mrp_qty.specs.declared.limits.TheConstants.{MOST_BILLS, MOST_OF_A_KIN
 use Rattle.mrp_master_data.specs.declared.rows.BillRow.{BillRow}
 use Rattle.mrp_master_data.specs.declared.rows.CumRow.{CumRow}
 use Rattle.mrp_master_data.specs.declared.rows.DemandRow.{DemandRow}
+use Rattle.mrp_master_data.specs.declared.rows.FirmRow.{FirmRow}
 use Rattle.mrp_master_data.specs.declared.rows.ReceiptRow.{ReceiptRow}
 use Rattle.mrp_master_data.specs.declared.rows.ResetRow.{ResetRow}
 use Rattle.mrp_master_data.specs.declared.rows.ShipRow.{ShipRow}
@@ -15,7 +16,7 @@ use Rattle.mrp_master_data.specs.declared.numbers.PairNo.{PairNo}
 use Rattle.mrp_qty.specs.declared.quantity.TheConstants.{MOST}
 use Rattle.mrp_validation.specs.Grammar.{AmountTerms, BillTerms, LaneTerms, amount_row, amount_terms, bill_fits, cum_of, lane_number, demand_made, demand_of}
 use Rattle.mrp_validation.specs.Grammar.{has_bill, has_cum, has_reset, is_made, known_lane, known_pair, receipt_made, receipt_of, reset_in_row}
-use Rattle.mrp_validation.specs.Grammar.{ship_of, ship_terms}
+use Rattle.mrp_validation.specs.Grammar.{firm_of, firm_terms, FirmTerms, ship_of, ship_terms}
 use Rattle.mrp_validation.proofs.KeepingSteps.{after, after_check, after_some, same_Ok}
 
 pub record BillParts (N : Table) (t : BillTerms) (b : BillRow) : Type 0 where
@@ -80,6 +81,24 @@ pub receipt_parts : (N : Table) (row : List (List ℕ)) (x : ReceiptRow) → rec
     → AmountParts N row (ltb (length N.receipts) MOST_OF_A_KIND) receipt_made x
 unfolding receipt_of
 receipt_parts N row x is = amount_parts N row (ltb (length N.receipts) MOST_OF_A_KIND) receipt_made x is
+
+-- ---- firm orders
+
+pub record FirmParts (N : Table) (row : List (List ℕ)) (x : FirmRow) : Type 0 where
+  pub terms : FirmTerms
+  pub found : PlantNo × PairNo
+  pub read : firm_terms row (horizon N) ≡ Ok terms
+  pub known : known_pair N terms.plant terms.item ≡ Ok found
+  pub room : ltb (length N.firms) MOST_OF_A_KIND ≡ true
+  pub same : record { pair = found.1; start = terms.start; due = terms.due; quantity = terms.quantity } ≡ x
+
+pub firm_parts : (N : Table) (row : List (List ℕ)) (x : FirmRow) → firm_of N row ≡ Ok x → FirmParts N row x
+unfolding firm_of
+firm_parts N row x is =
+    let a = after (firm_terms row (horizon N)) _ x is in
+    let b = after (known_pair N a.0.plant a.0.item) _ x a.2 in
+    let c = after_check (ltb (length N.firms) MOST_OF_A_KIND) _ _ x b.2 in
+    record { terms = a.0; found = b.0; read = a.1; known = b.1; room = c.0; same = same_Ok _ x c.1 }
 
 -- ---- rows of a lane
 

@@ -16,16 +16,17 @@ use Rattle.mrp_qty.specs.declared.limits.TheConstants.{MOST_BILLS, MOST_IN_ROW, 
 use Rattle.mrp_master_data.specs.declared.rows.BillRow.{BillRow}
 use Rattle.mrp_master_data.specs.declared.rows.CumRow.{CumRow}
 use Rattle.mrp_master_data.specs.declared.rows.DemandRow.{DemandRow}
+use Rattle.mrp_master_data.specs.declared.rows.FirmRow.{FirmRow}
 use Rattle.mrp_master_data.specs.declared.rows.ReceiptRow.{ReceiptRow}
 use Rattle.mrp_master_data.specs.declared.rows.ResetRow.{ResetRow}
 use Rattle.mrp_master_data.specs.declared.rows.ShipRow.{ShipRow}
 use Rattle.mrp_master_data.specs.declared.rows.SourceRow.{SourceRow}
-use Rattle.mrp_master_data.specs.Growing.{with_bill, with_cum, with_demand, with_plant, with_receipt, with_reset, with_ship}
+use Rattle.mrp_master_data.specs.Growing.{with_bill, with_cum, with_demand, with_firm, with_plant, with_receipt, with_reset, with_ship}
 use Rattle.mrp_master_data.specs.Names.{has_plant, pair_named, pair_of_item, plant_no}
 use Rattle.mrp_master_data.specs.Table.{horizon, IsBillRow, IsCumRow, IsDemandRow, IsName, IsOnce, IsRead, IsReceiptRow, IsResetRow, IsShipRow, is_same_reset}
-use Rattle.mrp_master_data.specs.Table.{IsSourced, Table}
+use Rattle.mrp_master_data.specs.Table.{IsFirmRow, IsSourced, Table}
 use Rattle.mrp_master_data.proofs.Keys.{same_test}
-use Rattle.mrp_master_data.proofs.Grow.{read-with_bill, read-with_cum, read-with_demand, read-with_plant, read-with_receipt, read-with_reset, read-with_ship}
+use Rattle.mrp_master_data.proofs.Grow.{read-with_bill, read-with_cum, read-with_demand, read-with_firm, read-with_plant, read-with_receipt, read-with_reset, read-with_ship}
 use Rattle.mrp_master_data.specs.Spelling.{is_name}
 use Rattle.mrp_master_data.specs.Parsing.{number_within}
 use Rattle.mrp_master_data.proofs.Mapped.{list_any_keys}
@@ -34,9 +35,9 @@ use Rattle.mrp_validation.specs.declared.fault.TableFaultKind.{TableFaultKind}
 use Rattle.mrp_validation.specs.declared.fault.TableFaultKind.TheVariants as fault
 use Rattle.mrp_validation.specs.Grammar.{◌>>=◌, amount_terms, AmountTerms, bill_fits, bill_of, bill_terms, BillTerms, cum_of, lane_number, demand_made, demand_of}
 use Rattle.mrp_validation.specs.Grammar.{field, known_lane, known_pair, lane_terms, LaneTerms, name_field, plant_in_row, plant_terms, ranged}
-use Rattle.mrp_validation.specs.Grammar.{receipt_made, receipt_of, reset_in_row, ship_of, ship_terms}
+use Rattle.mrp_validation.specs.Grammar.{firm_of, firm_terms, FirmTerms, receipt_made, receipt_of, reset_in_row, ship_of, ship_terms}
 use Rattle.mrp_validation.proofs.KeepingLists.{position_there}
-use Rattle.mrp_validation.proofs.KeepingParts.{AmountParts, bill_parts, cum_parts, demand_parts, receipt_parts, reset_parts, ship_parts}
+use Rattle.mrp_validation.proofs.KeepingParts.{AmountParts, bill_parts, cum_parts, demand_parts, firm_parts, receipt_parts, reset_parts, ship_parts}
 use Rattle.mrp_validation.proofs.KeepingRows.{on_lane}
 use Rattle.mrp_validation.proofs.KeepingSteps.{after, after_check, after_some, same_Ok}
 
@@ -209,6 +210,41 @@ receipt_read N row x read is =
     let says = amount_known N row _ receipt_made x read p in
     read-with_receipt N x read (subst (IsReceiptRow N) p.same (record { pair = says.0; period = says.1.period; some = says.1.some; quantity = says.1.few }))
     (lt_test (length N.receipts) MOST_OF_A_KIND p.room)
+
+-- ---- firm orders
+
+-- each field of a firm row is read as it stands in the terms
+pub record FirmRead (row : List (List ℕ)) (periods : ℕ) (t : FirmTerms) : Type 0 where
+  pub plant : name_field (field row 1) ≡ Ok t.plant
+  pub item : name_field (field row 2) ≡ Ok t.item
+  pub start : ranged (field row 3) 0 (periods - 1) ≡ Ok t.start
+  pub due : ranged (field row 4) t.start (periods - 1) ≡ Ok t.due
+  pub quantity : ranged (field row 5) 1 MOST_IN_ROW ≡ Ok t.quantity
+
+pub firm_terms_read : (row : List (List ℕ)) (periods : ℕ) (t : FirmTerms) → firm_terms row periods ≡ Ok t → FirmRead row periods t
+unfolding firm_terms
+firm_terms_read row periods t is =
+    let n = two_names_read row _ t is in
+    let c = after (ranged (field row 3) 0 (periods - 1)) _ t n.rest in
+    let d = after (ranged (field row 4) c.0 (periods - 1)) _ t c.2 in
+    let e = after (ranged (field row 5) 1 MOST_IN_ROW) _ t d.2 in
+    let same : record { plant = n.first; item = n.second; start = c.0; due = d.0; quantity = e.0 } ≡ t = same_Ok _ t e.2 in
+    subst (FirmRead row periods) same (record { plant = n.first_is; item = n.second_is; start = c.1; due = d.1; quantity = e.1 })
+
+pub firm_read : (N : Table) (row : List (List ℕ)) (x : FirmRow) → IsRead N → firm_of N row ≡ Ok x → IsRead (with_firm N x)
+firm_read N row x read is =
+    let p = firm_parts N row x is in
+    let fields = firm_terms_read row (horizon N) p.terms p.read in
+    let due = ranged_is (field row 4) p.terms.start (horizon N - 1) p.terms.due fields.due in
+    let few = ranged_is (field row 5) 1 MOST_IN_ROW p.terms.quantity fields.quantity in
+    let made : IsFirmRow N x = subst (IsFirmRow N) p.same (record {
+      pair = known_within N p.terms.plant p.terms.item p.found p.known;
+      start = due.0;
+      due = omega (arith, due.1, read.limits.some_periods);
+      some = few.0;
+      quantity = few.1;
+    }) in
+    read-with_firm N x read made (lt_test (length N.firms) MOST_OF_A_KIND p.room)
 
 -- ---- lanes
 

@@ -8,11 +8,12 @@ use Rattle.mrp_master_data.specs.declared.numbers.PairNo.{PairNo}
 use Rattle.mrp_qty.specs.declared.limits.TheConstants.{MOST_PLANTS}
 use Rattle.mrp_master_data.specs.declared.rows.CumRow.{CumRow}
 use Rattle.mrp_master_data.specs.declared.rows.DemandRow.{DemandRow}
+use Rattle.mrp_master_data.specs.declared.rows.FirmRow.{FirmRow}
 use Rattle.mrp_master_data.specs.declared.rows.ReceiptRow.{ReceiptRow}
 use Rattle.mrp_master_data.specs.declared.rows.ResetRow.{ResetRow}
 use Rattle.mrp_master_data.specs.declared.rows.ShipRow.{ShipRow}
 use Rattle.mrp_master_data.specs.Table.{Table, IsOnce, IsSourced, is_taken_from, is_same_cum, is_same_reset}
-use Rattle.mrp_master_data.specs.Growing.{with_plant, with_demand, with_receipt, with_ship, with_cum, with_reset}
+use Rattle.mrp_master_data.specs.Growing.{with_plant, with_demand, with_receipt, with_ship, with_cum, with_reset, with_firm}
 use Rattle.mrp_validation.specs.Grammar.{LaneTerms, cum_between, cum_of, known_lane, plant_in_row, plant_terms, reset_between, reset_in_row, ship_of}
 use Rattle.mrp_master_data.specs.Names.{has_plant, pair_named, plant_no}
 use Rattle.mrp_master_data.specs.Table.{rises_from, arrivals}
@@ -52,6 +53,14 @@ pub receipt_keeps : (N : Table) (x : ReceiptRow) → IsOnce N → IsSourced N �
 receipt_keeps N x once sourced = (
   stays_once N (with_receipt N x) refl once once.plants once.bills once.cums once.resets,
   stays_sourced N (with_receipt N x) refl sourced sourced.parents sourced.plants sourced.ships sourced.cums sourced.resets sourced.arrive,
+)
+
+-- ---- firm orders
+
+pub firm_keeps : (N : Table) (x : FirmRow) → IsOnce N → IsSourced N → IsOnce (with_firm N x) × IsSourced (with_firm N x)
+firm_keeps N x once sourced = (
+  stays_once N (with_firm N x) refl once once.plants once.bills once.cums once.resets,
+  stays_sourced N (with_firm N x) refl sourced sourced.parents sourced.plants sourced.ships sourced.cums sourced.resets sourced.arrive,
 )
 
 -- ---- lanes

@@ -8,7 +8,7 @@ use Rattle.mrp_master_data.specs.Table.{is_same_reset, is_taken_from, plant_at, 
 
 -- the plants and the rows of `M` beside the items, pairs and sources of `N`
 abbrev pub with_rows : Table → Table → Table
-with_rows N M = record N { plants = M.plants; bills = M.bills; demands = M.demands; receipts = M.receipts; ships = M.ships; cums = M.cums; resets = M.resets }
+with_rows N M = record N { plants = M.plants; bills = M.bills; demands = M.demands; receipts = M.receipts; ships = M.ships; cums = M.cums; resets = M.resets; firms = M.firms }
 
 pub stays_once : (N M : Table) → M ≡ with_rows N M → IsOnce N
     → IsDistinct bytes_eq M.plants → IsDistinct is_same_bill M.bills → IsDistinct is_same_cum M.cums → IsDistinct is_same_reset M.resets → IsOnce M

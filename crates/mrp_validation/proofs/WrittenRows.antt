@@ -13,6 +13,7 @@ use Rattle.mrp_qty.specs.declared.limits.TheConstants.{MOST_IN_ROW, MOST_PER, MO
 use Rattle.mrp_master_data.specs.declared.rows.BillRow.{BillRow}
 use Rattle.mrp_master_data.specs.declared.rows.CumRow.{CumRow}
 use Rattle.mrp_master_data.specs.declared.rows.DemandRow.{DemandRow}
+use Rattle.mrp_master_data.specs.declared.rows.FirmRow.{FirmRow}
 use Rattle.mrp_master_data.specs.declared.rows.ReceiptRow.{ReceiptRow}
 use Rattle.mrp_master_data.specs.declared.rows.ResetRow.{ResetRow}
 use Rattle.mrp_master_data.specs.declared.rows.ShipRow.{ShipRow}
@@ -21,15 +22,15 @@ use Rattle.mrp_master_data.specs.Table.{horizon, Table}
 use Rattle.mrp_validation.specs.declared.kind.Kind.{Kind}
 use Rattle.mrp_validation.specs.declared.kind.Kind.TheVariants as kind
 use Rattle.mrp_validation.specs.Grammar.{amount_terms, AmountTerms, bill_fits, bill_of, bill_terms, BillTerms, cum_of, lane_number, demand_made, demand_of, field}
-use Rattle.mrp_validation.specs.Grammar.{known_lane, known_pair, lane_terms, LaneTerms, name_field}
+use Rattle.mrp_validation.specs.Grammar.{firm_of, firm_terms, FirmTerms, known_lane, known_pair, lane_terms, LaneTerms, name_field}
 use Rattle.mrp_validation.specs.Grammar.{plant_in_row, plant_terms, ranged, receipt_made, receipt_of, reset_in_row, run_terms, RunTerms, ship_of}
 use Rattle.mrp_validation.specs.Grammar.{ship_terms}
 use Rattle.mrp_validation.specs.Reading.{first_terms, is_run, kind_of_row}
 use Rattle.mrp_validation.specs.Written.{bill_fields, cum_fields, demand_fields, plant_fields, receipt_fields, reset_fields}
 use Rattle.mrp_master_data.specs.Said.{pair_item, pair_plant, plant_name}
-use Rattle.mrp_validation.specs.Written.{run_fields, ship_fields}
-use Rattle.mrp_validation.proofs.KeepingParts.{AmountParts, bill_parts, cum_parts, demand_parts, receipt_parts, reset_parts, ship_parts}
-use Rattle.mrp_validation.proofs.KeepingRead.{amount_terms_read, bill_terms_read, lane_number_read, ship_terms_read, two_names_read}
+use Rattle.mrp_validation.specs.Written.{firm_fields, run_fields, ship_fields}
+use Rattle.mrp_validation.proofs.KeepingParts.{AmountParts, bill_parts, cum_parts, demand_parts, firm_parts, receipt_parts, reset_parts, ship_parts}
+use Rattle.mrp_validation.proofs.KeepingRead.{amount_terms_read, bill_terms_read, firm_terms_read, lane_number_read, ship_terms_read, two_names_read}
 use Rattle.mrp_validation.proofs.KeepingRows.{on_lane}
 use Rattle.mrp_validation.proofs.KeepingSteps.{after, after_check, after_some, same_Ok}
 use Rattle.mrp_validation.proofs.WrittenDay.{first_text}
@@ -118,6 +119,33 @@ demand_said N row x k is = let p = demand_parts N row x is in subst (λ (z : Dem
 pub receipt_said : (N : Table) (row : List (List ℕ)) (x : ReceiptRow) → IsOfKind row kind.Receipt → receipt_of N row ≡ Ok x → row ≡ receipt_fields N x
 receipt_said N row x k is = let p = receipt_parts N row x is in subst (λ (z : ReceiptRow). row ≡ receipt_fields N z) p.same
     (amount_said N row kind.Receipt _ receipt_made x k k.free p)
+
+-- ---- firm orders
+
+record FirmSaid (row : List (List ℕ)) (t : FirmTerms) : Type 0 where
+  plant : field row 1 ≡ t.plant
+  item : field row 2 ≡ t.item
+  start : field row 3 ≡ decimal t.start
+  due : field row 4 ≡ decimal t.due
+  quantity : field row 5 ≡ decimal t.quantity
+
+firm_terms_said : (row : List (List ℕ)) (periods : ℕ) (t : FirmTerms) → firm_terms row periods ≡ Ok t → FirmSaid row t
+firm_terms_said row periods t is =
+    let read = firm_terms_read row periods t is in record {
+      plant = name_text (field row 1) t.plant read.plant;
+      item = name_text (field row 2) t.item read.item;
+      start = ranged_text (field row 3) 0 (periods - 1) t.start read.start;
+      due = ranged_text (field row 4) t.start (periods - 1) t.due read.due;
+      quantity = ranged_text (field row 5) 1 MOST_IN_ROW t.quantity read.quantity;
+    }
+
+pub firm_said : (N : Table) (row : List (List ℕ)) (x : FirmRow) → IsOfKind row kind.Firm → firm_of N row ≡ Ok x → row ≡ firm_fields N x
+firm_said N row x k is =
+    let p = firm_parts N row x is in
+    let says = firm_terms_said row (horizon N) p.terms p.read in
+    let names = known_said N p.terms.plant p.terms.item p.found p.known in
+    subst (λ (z : FirmRow). row ≡ firm_fields N z) p.same (six_used row _ _ _ _ _ _ k.size k.word k.free (says.plant ∙ names.plant) (says.item ∙ names.item)
+    says.start says.due says.quantity)
 
 -- ---- what one plant ships to another
 
@@ -224,6 +252,7 @@ run_kind kind.Receipt e = absurd (cc)
 run_kind kind.Ship e = absurd (cc)
 run_kind kind.Cum e = absurd (cc)
 run_kind kind.Reset e = absurd (cc)
+run_kind kind.Firm e = absurd (cc)
 
 pub run_said : (row : List (List ℕ)) (t : RunTerms) (c : CalendarTerms) → first_terms row ≡ Ok t → IsCalendarFrom t.first t.days t.periods c → IsCalendar c
     → row ≡ run_fields c

@@ -63,6 +63,8 @@ faults_of_kind kind.Cum =
 faults_of_kind kind.Reset =
     fault.BadName ∷ fault.BadNumber ∷ fault.Repeated ∷ fault.UnknownPlant ∷ fault.UnknownPair ∷ fault.NotSourced
     ∷ fault.ResetOrder ∷ []
+faults_of_kind kind.Firm = fault.BadName ∷ fault.BadNumber ∷ fault.UnknownPlant ∷ fault.UnknownPair ∷ fault.TooMany
+    ∷ []
 
 -- the faults that a row may have, where it has a kind and where it has none
 abbrev pub faults_of : Result Kind TableFaultKind → List TableFaultKind

@@ -24,6 +24,7 @@ use Rattle.mrp_qty.specs.declared.limits.TheConstants.{MOST_PLANTS}
 use Rattle.mrp_master_data.specs.declared.rows.Supply.{Supply}
 use Rattle.mrp_master_data.specs.declared.rows.Supply.TheVariants as supply
 use Rattle.mrp_master_data.specs.declared.rows.BillRow.{BillRow}
+use Rattle.mrp_master_data.specs.declared.rows.FirmRow.{FirmRow}
 use Rattle.mrp_master_data.specs.declared.rows.ResetRow.{ResetRow}
 use Rattle.mrp_master_data.specs.declared.rows.CumRow.{CumRow}
 use Rattle.mrp_master_data.specs.declared.rows.ShipRow.{ShipRow}
@@ -37,7 +38,7 @@ use Rattle.mrp_master_data.specs.declared.rows.SourceRow.{SourceRow}
 use Rattle.mrp_master_data.specs.Table.{arrivals, is_taken_from, rises_from}
 use Rattle.mrp_master_data.specs.Growing.{add_item, with_plant, with_bill, with_demand}
 use Rattle.mrp_master_data.specs.Growing.{with_receipt, with_ship, with_cum}
-use Rattle.mrp_master_data.specs.Growing.{with_reset}
+use Rattle.mrp_master_data.specs.Growing.{with_firm, with_reset}
 use Rattle.mrp_master_data.specs.Spelling.{is_name}
 use Rattle.mrp_master_data.specs.Parsing.{spelled_number, number_within, rule_of}
 
@@ -90,6 +91,7 @@ kind_of word =
     else if bytes_eq word (codes "ship") then Some kind.Ship
     else if bytes_eq word (codes "bill") then Some kind.Bill
     else if bytes_eq word (codes "pair") then Some kind.Pair
+    else if bytes_eq word (codes "firm") then Some kind.Firm
     else if bytes_eq word (codes "cum") then Some kind.Cum
     else if bytes_eq word (codes "reset") then Some kind.Reset
     else if bytes_eq word (codes "plant") then Some kind.Plant
@@ -107,6 +109,7 @@ used kind.Receipt = 5
 used kind.Ship = 6
 used kind.Cum = 5
 used kind.Reset = 5
+used kind.Firm = 6
 
 -- the place of a kind in the order of the kinds
 abbrev pub kind_place : Kind → ℕ
@@ -119,6 +122,7 @@ kind_place kind.Receipt = 5
 kind_place kind.Ship = 6
 kind_place kind.Cum = 7
 kind_place kind.Reset = 8
+kind_place kind.Firm = 9
 
 -- the run stands first and once, and rows of one kind stand together
 abbrev pub may_follow : Kind → Kind → Bool
@@ -183,6 +187,23 @@ amount_terms row periods = do
   period ← ranged (field row 3) 0 (periods - 1)
   quantity ← ranged (field row 4) 1 MOST_IN_ROW
   Ok (record { plant = plant; item = item; period = period; quantity = quantity })
+
+-- a firm row: the order is due no earlier than it is released
+pub record FirmTerms : Type 0 where
+  pub plant : List ℕ
+  pub item : List ℕ
+  pub start : ℕ
+  pub due : ℕ
+  pub quantity : ℕ
+
+unfoldable pub firm_terms : List (List ℕ) → ℕ → Result FirmTerms TableFaultKind
+firm_terms row periods = do
+  plant ← name_field (field row 1)
+  item ← name_field (field row 2)
+  start ← ranged (field row 3) 0 (periods - 1)
+  due ← ranged (field row 4) start (periods - 1)
+  quantity ← ranged (field row 5) 1 MOST_IN_ROW
+  Ok (record { plant = plant; item = item; start = start; due = due; quantity = quantity })
 
 -- the names of a row on what one plant ships to another
 pub record LaneTerms : Type 0 where
@@ -430,6 +451,13 @@ reset_in_row N row = do
   _ ← check (rises_from 0 (arrivals N lane.0.0 lane.1.0)) fault.ResetOrder
   Ok (record { from = lane.0; pair = lane.1; period = t.1 })
 
+unfoldable pub firm_of : Table → List (List ℕ) → Result FirmRow TableFaultKind
+firm_of N row = do
+  t ← firm_terms row (horizon N)
+  found ← known_pair N t.plant t.item
+  _ ← check (nat_lt (length N.firms) MOST_OF_A_KIND) fault.TooMany
+  Ok (record { pair = found.1; start = t.start; due = t.due; quantity = t.quantity })
+
 abbrev pub bill_row : Table → List (List ℕ) → Result Table TableFaultKind
 bill_row N row = bill_of N row >>= λ x. Ok (with_bill N x)
 
@@ -447,3 +475,6 @@ cum_row N row = cum_of N row >>= λ x. Ok (with_cum N x)
 
 abbrev pub reset_row : Table → List (List ℕ) → Result Table TableFaultKind
 reset_row N row = reset_in_row N row >>= λ x. Ok (with_reset N x)
+
+abbrev pub firm_row : Table → List (List ℕ) → Result Table TableFaultKind
+firm_row N row = firm_of N row >>= λ x. Ok (with_firm N x)

@@ -98,6 +98,19 @@ amount_passes room N row fault.UnknownPair = is_some (pair_in N row 1 2)
 amount_passes room N row fault.TooMany = room
 amount_passes room N row e = true
 
+-- the first period that an order may be due in, by the period of its release in the field before
+abbrev pub first_due : Table → List (List ℕ) → ℕ
+first_due N row = unwrap_or (number_within (field row 3) 0 (horizon N - 1)) 0
+
+abbrev pub firm_passes : Table → List (List ℕ) → TableFaultKind → Bool
+firm_passes N row fault.BadName = two_names row
+firm_passes N row fault.BadNumber = has_number row 3 0 (horizon N - 1)
+    && has_number row 4 (first_due N row) (horizon N - 1) && has_number row 5 1 MOST_IN_ROW
+firm_passes N row fault.UnknownPlant = is_some (plant_in N row 1)
+firm_passes N row fault.UnknownPair = is_some (pair_in N row 1 2)
+firm_passes N row fault.TooMany = nat_lt (length N.firms) MOST_OF_A_KIND
+firm_passes N row e = true
+
 -- a row on a lane, whose numbers are good or not, which repeats none, and for which there is room, or not
 abbrev pub lane_passes : Bool → Bool → Bool → Table → List (List ℕ) → TableFaultKind → Bool
 lane_passes numbers new room N row fault.BadName = three_names row
@@ -135,6 +148,7 @@ passes_of (Some kind.Receipt) N row e = amount_passes (nat_lt (length N.receipts
 passes_of (Some kind.Ship) N row e = ship_passes N row e
 passes_of (Some kind.Cum) N row e = cum_passes N row e
 passes_of (Some kind.Reset) N row e = reset_passes N row e
+passes_of (Some kind.Firm) N row e = firm_passes N row e
 
 -- ---- the tests of every row
 

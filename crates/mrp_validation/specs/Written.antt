@@ -11,6 +11,7 @@ use Rattle.mrp_master_data.specs.Table.{Table}
 use Rattle.mrp_master_data.specs.declared.rows.BillRow.{BillRow}
 use Rattle.mrp_master_data.specs.declared.rows.CumRow.{CumRow}
 use Rattle.mrp_master_data.specs.declared.rows.DemandRow.{DemandRow}
+use Rattle.mrp_master_data.specs.declared.rows.FirmRow.{FirmRow}
 use Rattle.mrp_master_data.specs.declared.rows.PairRow.{PairRow}
 use Rattle.mrp_master_data.specs.declared.rows.ReceiptRow.{ReceiptRow}
 use Rattle.mrp_master_data.specs.declared.rows.ResetRow.{ResetRow}
@@ -64,6 +65,12 @@ reset_fields N r =
     codes "reset" ∷ plant_name N r.from.0 ∷ pair_plant N r.pair.0 ∷ pair_item N r.pair.0 ∷ decimal r.period ∷ []
     ∷ [] ∷ [] ∷ []
 
+abbrev pub firm_fields : Table → FirmRow → List (List ℕ)
+firm_fields N f =
+    codes "firm" ∷ pair_plant N f.pair.0 ∷ pair_item N f.pair.0 ∷ decimal f.start ∷ decimal f.due
+    ∷ decimal f.quantity
+    ∷ [] ∷ [] ∷ []
+
 -- ---- the rows of a table
 
 -- pairs, the first of which stands at that place
@@ -77,7 +84,7 @@ later_rows N =
     map plant_fields N.plants ++ (pair_rows N 0 N.pairs
     ++ (map (bill_fields N) N.bills ++ (map (demand_fields N) N.demands
     ++ (map (receipt_fields N) N.receipts ++ (map (ship_fields N) N.ships
-    ++ (map (cum_fields N) N.cums ++ map (reset_fields N) N.resets))))))
+    ++ (map (cum_fields N) N.cums ++ (map (reset_fields N) N.resets ++ map (firm_fields N) N.firms)))))))
 
 -- the whole table
 abbrev pub rows_of : Table → List (List (List ℕ))

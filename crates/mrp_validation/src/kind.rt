@@ -24,6 +24,8 @@ pub enum Kind {
     Cum,
     /// Where such a figure starts anew.
     Reset,
+    /// A firm planned order.
+    Firm,
 }
 
 /// How many of the eight fields a row of this kind uses.
@@ -40,6 +42,7 @@ pub fn used(kind: Kind) -> usize
         Kind::Ship => 6,
         Kind::Cum => 5,
         Kind::Reset => 5,
+        Kind::Firm => 6,
     }
 }
 

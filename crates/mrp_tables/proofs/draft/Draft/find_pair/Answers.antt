@@ -50,6 +50,5 @@ returns-in-Some-clause-plant c =
 
 pub returns-in-Some-clause-named : goal.returns-in-Some-clause-named
 returns-in-Some-clause-named c =
-    let names = pair_names c.args.self.now.lists c.args.self.now.known c.args.plant.now c.args.item.now c.in-Some.place c.requires.knows
-    (sym (c.in-Some.ensures.index ∙ found (goal.at.returns-in-Some-clause-named c).After-get_index_of)) in
-    (names.of_plant, names.of_item)
+    pair_names c.args.self.now.lists c.args.self.now.known c.args.plant.now c.args.item.now c.in-Some.place c.requires.knows
+    (sym (c.in-Some.ensures.index ∙ found (goal.at.returns-in-Some-clause-named c).After-get_index_of))
