@@ -1,6 +1,6 @@
 -- One period of the loop over a pair's receipts.
 use Rattle.std.specs.Prelude.{◌≡◌, ℕ, ◌+◌, ◌-◌, ◌≤◌, min, max, List, sum, take, slice_index, zero, suc}
-use Rattle.std.proofs.Common.{arith, ap, ◌∙◌, add-one}
+use Rattle.std.proofs.Common.{arith, ap, add-one}
 use Rattle.mrp_qty.proofs.RangeLaws.{sum_take-suc}
 use Rattle.mrp_netting.specs.PlanningData.{PairData, lack, short, had, had_before, incoming_at}
 use Rattle.mrp_netting.proofs.ReceiptLaws.{short-zero, short-suc, incoming_at-is, had_before-le}

@@ -7,13 +7,14 @@ pub mod ReceiptLaws
 pub mod DataLaws
 pub mod DataRows
 pub mod TogetherLaws
+pub mod OneRows
 pub mod Counting
 pub mod DataPlans
+pub mod Matched
 pub mod WorkedPairs
 pub mod PlannedReleases
 pub mod ReleaseSteps
 pub mod PlainLaws
-pub mod PlainRows
 pub mod RulesLaws
 pub mod Balances
 pub mod Compared

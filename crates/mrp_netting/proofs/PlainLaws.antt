@@ -149,7 +149,7 @@ released-later lead order u later =
     omega (arith, all, none, get_or_past order from 0 outside))
     (cases_lt from n)
 
-release-plain : (pair : PairParams) (incoming gross order : List ℕ) (u : ℕ)
+pub release-plain : (pair : PairParams) (incoming gross order : List ℕ) (u : ℕ)
     → planned_release (plain pair incoming gross) order u ≡ released pair.lead order (length order) u
 release-plain pair incoming gross order zero =
     let earliest_is : max pair.lead 0 ≡ pair.lead = omega arith in
@@ -166,7 +166,7 @@ release_row-plain pair incoming gross order len =
     (λ u h. omega (arith, release-plain pair incoming gross order u))
     ∙ ap (λ (n : ℕ). map (released pair.lead order (length order)) (range_with_len 0 n)) (sym len)
 
-late-plain : (pair : PairParams) (order : List ℕ) → late_orders (max pair.lead 0) order ≡ late_orders pair.lead order
+pub late-plain : (pair : PairParams) (order : List ℕ) → late_orders (max pair.lead 0) order ≡ late_orders pair.lead order
 late-plain pair order = let same : max pair.lead 0 ≡ pair.lead = omega arith in ap (λ (lead : ℕ). late_orders lead order) same
 
 pub plain_is_today : PlainIsToday

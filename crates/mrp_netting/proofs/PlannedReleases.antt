@@ -2,9 +2,10 @@
 use Rattle.std.specs.Prelude.{◌≡◌, ℕ, ◌+◌, ◌≤◌, ◌<◌, ◌==◌, nat_lt, List, sum, sum_by, take, slice_index, zero, suc}
 use Rattle.std.specs.List.{range_with_len}
 use Rattle.std.proofs.Common.{arith, refl, ap, ◌∙◌, ⊎_elim, eq-eqb, ne_eqb, le-ltb, lt-ltb}
-use Rattle.std.proofs.lemmas.Bool.{cases_eq, cond-true, cond-false}
+use Rattle.std.proofs.lemmas.Bool.{cases_eq, cases_lt, cond-true, cond-false}
 use Rattle.mrp_qty.proofs.RangeLaws.{sum_take-suc, sum_by-range-suc}
 use Rattle.mrp_netting.specs.PlanningData.{PairData, earliest, planned_release}
+use Rattle.mrp_netting.proofs.RowSums.{slice_index-le, sum_take-most}
 
 -- none before the first period in which any can be
 pub planned_release-none : (d : PairData) (order : List ℕ) (u : ℕ) → u + d.params.lead < earliest d → planned_release d order u ≡ 0
@@ -50,3 +51,18 @@ planned-sum d order (suc n) past =
     let after : earliest d < due_in = omega arith in
     omega (arith, up_to, more, planned-sum d order n after, planned_release-later d order n after, sum_take-suc order due_in))
     (cases_eq due_in (earliest d))
+
+-- none releases more than all orders
+pub planned_release-le : (d : PairData) (order : List ℕ) (u : ℕ) → planned_release d order u ≤ sum order
+planned_release-le d order u =
+    let due_in = u + d.params.lead in
+    ⊎_elim
+    (λ (soon : due_in < earliest d). omega (arith, planned_release-none d order u soon))
+    (λ (rest : earliest d ≤ due_in).
+    ⊎_elim
+    (λ (first : due_in ≡ earliest d). omega (arith, planned_release-first d order u first, sum_take-most order (suc due_in)))
+    (λ (later : due_in ≡ earliest d → ⊥).
+    let after : earliest d < due_in = omega arith in
+    omega (arith, planned_release-later d order u after, slice_index-le order due_in))
+    (cases_eq due_in (earliest d)))
+    (cases_lt due_in (earliest d))

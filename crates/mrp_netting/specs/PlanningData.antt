@@ -28,6 +28,27 @@ pub record PairData : Type 0 where
   -- gross requirements
   pub gross : List ℕ
 
+-- what planners say of a pair: its row, how it is planned beyond that, and its firm planned orders by release and by
+-- due period
+pub record PairTerms : Type 0 where
+  pub params : PairParams
+  pub policy : Policy
+  pub firm_start : List ℕ
+  pub firm_due : List ℕ
+
+-- a pair of these terms whose receipts count when they come: `incoming` has its receipts and what comes from other
+-- plants
+abbrev pub planned : PairTerms → List ℕ → List ℕ → PairData
+planned terms incoming gross = record {
+  params = terms.params;
+  policy = terms.policy;
+  receipts = [];
+  arrivals = incoming;
+  firm_start = terms.firm_start;
+  firm_due = terms.firm_due;
+  gross = gross;
+}
+
 abbrev pub no_policy : Policy
 no_policy = record { fence = 0; sooner = 0; cover = 0; least = 0; multiple = 0 }
 

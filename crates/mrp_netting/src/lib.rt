@@ -19,6 +19,7 @@ mod following;
 mod incoming;
 mod late;
 mod laws;
+mod matching;
 mod netting;
 mod orders;
 mod params;
@@ -36,7 +37,7 @@ pub use laws::{
     rows_stay_within, rules_have_one_plan,
 };
 pub use params::{Late, PairParams};
-pub use plan::{PairPlan, is_plan, plan_from, plan_pair};
+pub use plan::{PairPlan, is_plan, is_plan_from, plan_from, plan_pair};
 pub use planning_data::{PlanningData, Policy};
 pub use planning_laws::{
     all_rows_stay_within, available_covers_ahead, fence_holds_releases, orders_are_least_multiples,

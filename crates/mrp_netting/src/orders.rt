@@ -89,7 +89,7 @@ fn order_ahead(
 
 /// The planned order receipt of period `t` and the balance after it, where `before` is the balance before it and
 /// `ahead` are the gross requirements of the periods of cover behind it.
-fn order_and_stock(
+pub(crate) fn order_and_stock(
     given: &PlanningData<'_>,
     incoming: &[Qty],
     gross: &[Qty],

@@ -11,6 +11,7 @@ ghost use Rattle.mrp_netting.specs.PlanningBound.{IsWithinData, data_of};
 use crate::following::{late_follow, orders_follow, releases_follow};
 use crate::incoming::plan_incoming;
 use crate::late::note_late;
+use crate::matching::{has_incoming, has_orders, has_releases};
 use crate::netting::plan_orders;
 use crate::orders::order_all;
 use crate::release::plan_releases;
@@ -266,4 +267,30 @@ pub fn is_plan(params: &PairParams, plan: &PairPlan) -> bool
         return false;
     }
     late_follow(params.lead, plan)
+}
+
+/// Whether the plan is the one that follows from its planning data and its gross requirements: what comes in, each
+/// order, release, projected available and late order.
+///
+/// Receipts count when they come, and what is within the bound of [`plan_from`] may be asked. Nothing is allocated
+/// (by construction; no clause says so).
+pub fn is_plan_from(given: &PlanningData<'_>, plan: &PairPlan) -> bool
+    requires within { IsWithinData (data_of given.now plan.now.gross) }
+    requires when_due { given.now.policy.sooner ≡ 0 }
+    ensures { IsTrue result ↔ (plan.now ≡ planning.one (data_of given.now plan.now.gross)) }
+{
+    let _len = plan.len();
+    let gross = plan.gross().as_slice();
+    let incoming = plan.incoming().as_slice();
+    if !has_incoming(given, gross, incoming) {
+        return false;
+    }
+    let order = plan.order().as_slice();
+    if !has_orders(given, incoming, gross, order, plan.available().as_slice()) {
+        return false;
+    }
+    if !has_releases(given, gross, order, plan.release().as_slice()) {
+        return false;
+    }
+    late_follow(earliest_period(given), plan)
 }
