@@ -1,6 +1,6 @@
 -- In a table of plans that fits a sized network the releases of each pair are within its need.
 use Rattle.std.proofs.Common.{◌≡◌, ℕ, ◌+◌, ◌*◌, ◌≤◌, ◌==◌, ◌&&◌, if◌then◌else◌, Bool, true, false, inl, inr, leb, List, [], ◌∷◌, sum, sum_by, slice_index}
-use Rattle.std.proofs.Common.{slice_index_or, length, refl, sym, ap, ◌∙◌, subst, arith}
+use Rattle.std.proofs.Common.{slice_index_or, length, take, refl, sym, ap, ◌∙◌, subst, arith}
 use Rattle.std.specs.List.{All}
 use Rattle.std.proofs.lemmas.Bool.{le-leb, leb-true}
 use Rattle.std.proofs.lemmas.List.FromFn.{length-map-range_with_len}
@@ -10,22 +10,30 @@ use Rattle.mrp_qty.specs.declared.quantity.TheConstants.{MOST}
 use Rattle.mrp_lot.specs.Lot.{rule_quantities}
 use Rattle.mrp_netting.specs.PlanRows.{PlanRows}
 use Rattle.mrp_netting.specs.Bound.{IsWithin}
-use Rattle.mrp_netting.proofs.PlainRows.{one-gross, one-incoming, one-release_sum-le, one-within}
+use Rattle.mrp_netting.specs.PlanningBound.{IsWithinData}
+use Rattle.mrp_netting.specs.PlanningData.{one}
+use Rattle.mrp_netting.specs.PlanningLaws.{AreWithinMost}
+use Rattle.mrp_netting.proofs.DataRows.{one-incoming, releases_stay_bounded, all_rows_stay_within}
+use Rattle.mrp_netting.proofs.OneRows.{one-gross, length-one-incoming}
+use Rattle.mrp_netting.proofs.ReceiptLaws.{incoming-le}
+use Rattle.mrp_netting.proofs.RowSums.{sum_take-all}
 use Rattle.mrp_master_data.specs.declared.rows.CumRow.{CumRow}
 use Rattle.mrp_master_data.specs.declared.rows.ShipRow.{ShipRow}
-use Rattle.mrp_master_data.specs.Table.{Table, IsPair, horizon}
+use Rattle.mrp_master_data.specs.Table.{Table, IsTable, IsPair, horizon}
 use Rattle.mrp_net.specs.declared.edge.Edge.{Edge}
 use Rattle.mrp_net.specs.Edges.{demanders}
 use Rattle.mrp_net.specs.Lanes.{figure, shipped_from}
-use Rattle.mrp_net.specs.Plan.{rows_at, gross, plan_of}
+use Rattle.mrp_net.specs.FirmOrders.{firm_start, firm_due, firm_total}
+use Rattle.mrp_net.specs.Plan.{rows_at, gross, pair_data, plan_of}
 use Rattle.mrp_net.specs.PlanLaws.{Fits}
-use Rattle.mrp_net.specs.Sums.{incoming, no_pair, opening_total, pair_at, params_at, row_of, shipped_total}
+use Rattle.mrp_net.specs.Sums.{incoming, no_pair, opening_total, pair_at, params_at, received_total, row_of, shipped_total}
+use Rattle.mrp_net.proofs.Firms.{firms_are_kept}
 use Rattle.mrp_net.proofs.Periods.{incomings-le}
 use Rattle.mrp_net.proofs.Totals.{gross_sum-le}
 use Rattle.mrp_loops.specs.Loop.{HasEdge}
 use Rattle.mrp_loops.specs.Need.{AreNeeds, AreWithin}
 use Rattle.mrp_loops.specs.Sized.{IsSized}
-use Rattle.mrp_loops.specs.Within.{ReleasesAreWithinNeed, GrossIsWithinNeed, SupplyAndReleasesAreWithin, FiguresAreWithin, PlansAreWithin, QuantitiesAreWithin}
+use Rattle.mrp_loops.specs.Within.{ReleasesAreWithinNeed, GrossIsWithinNeed, SupplyAndReleasesAreWithin, FiguresAreWithin, PlansAreWithin, DataAreWithin, QuantitiesAreWithin}
 use Rattle.mrp_loops.specs.Within.{PlanIsWithin}
 use Rattle.mrp_loops.proofs.Edges.{demanders_only, HasEdge-from_in, HasEdge-pairs}
 use Rattle.mrp_net.proofs.Members.{In}
@@ -61,6 +69,54 @@ both-le true true v = omega arith
 both-le true false v = omega arith
 both-le false b v = omega arith
 
+-- what a pair is planned from is within the bound where all its quantities together are
+pub data_is_within : (N : Table) (table : List PlanRows) (x : ℕ) → IsTable N → IsPair N x
+    → (pair_at N x).on_hand + received_total N x + shipped_total N x + firm_total N x + sum (row_of N (gross N table x)) + (pair_at N x).safety
+    + rule_quantities (pair_at N x).rule ≤ MOST
+    → IsWithinData (pair_data N table x)
+data_is_within N table x is pair total =
+    let own = is.read.pairs x no_pair pair in
+    let firms = firms_are_kept N is x in
+    let periods = length-row_of N (gross N table x) in
+    record {
+      rule = own.rule;
+      lead = own.lead;
+      fence = omega (arith, periods, is.read.limits.some_periods);
+      sooner = omega arith;
+      cover = omega arith;
+      least = omega arith;
+      multiple = omega arith;
+      periods = omega (arith, periods, is.read.limits.periods);
+      receipts = omega arith;
+      arrivals = omega (arith, periods, length-row_of N (incoming N x));
+      firm_start = omega (arith, periods, length-row_of N (firm_start N x));
+      firm_due = omega (arith, periods, length-row_of N (firm_due N x));
+      firm = firms.started ∙ sym firms.come;
+      total = omega (arith, incomings-le N x, firms.come, total);
+    }
+
+-- so are its rows
+pub rows_are_within : (N : Table) (table : List PlanRows) (x : ℕ) → IsWithinData (pair_data N table x)
+    → IsWithin (params_at N x) (one (pair_data N table x)).incoming (one (pair_data N table x)).gross
+rows_are_within N table x is =
+    let d = pair_data N table x in
+    let come = one-incoming d in
+    let size = length-one-incoming d in
+    let asked = one-gross d in
+    record {
+      rule = is.rule;
+      lead = is.lead;
+      periods = size ∙ sym (ap (λ (row : List ℕ). length row) asked);
+      total = omega (
+        arith,
+        ap (λ (row : List ℕ). sum row) asked,
+        sym (sum_take-all (one d).incoming (length d.gross) (omega (arith, size))),
+        ap (λ (row : List ℕ). sum (take (length d.gross) row)) come,
+        incoming-le d (length d.gross) (omega arith),
+        is.total,
+      );
+    }
+
 module _ (N : Table) (sized : IsSized N) (needs : List ℕ) (are : AreNeeds N needs) (within : AreWithin N needs) (table : List PlanRows)
     (fits : Fits N table) where
   abbrev ReleasesWithin : ℕ → Type 0
@@ -70,25 +126,23 @@ module _ (N : Table) (sized : IsSized N) (needs : List ℕ) (are : AreNeeds N ne
   DemandersWithin x = (y : ℕ) → HasEdge N y x → ReleasesWithin y
 
   gross-le : (x : ℕ) → IsPair N x → DemandersWithin x
-      → sum (row_of N (gross N table x)) + (pair_at N x).safety + rule_quantities (pair_at N x).rule ≤ slice_index needs x
+      → sum (row_of N (gross N table x)) + (pair_at N x).safety + rule_quantities (pair_at N x).rule + firm_total N x ≤ slice_index needs x
   gross-le x pair each =
       omega (arith, gross_sum-le N table x sized.table, asks-le N table needs x each, are.need x pair)
 
-  rows_within : (x : ℕ) → IsPair N x → DemandersWithin x
-      → IsWithin (params_at N x) (row_of N (incoming N x)) (row_of N (gross N table x))
-  rows_within x pair each =
-      let own = sized.table.read.pairs x no_pair pair in
-      record {
-        rule = own.rule;
-        lead = own.lead;
-        periods = length-row_of N (incoming N x) ∙ sym (length-row_of N (gross N table x));
-        total = omega (arith, incomings-le N x, gross-le x pair each, within x pair);
-      }
+  data-within : (x : ℕ) → IsPair N x → DemandersWithin x → IsWithinData (pair_data N table x)
+  data-within x pair each =
+      data_is_within N table x sized.table pair (omega (arith, gross-le x pair each, within x pair))
 
   next_within : (x : ℕ) → IsPair N x → DemandersWithin x → ReleasesWithin x
   next_within x pair each =
-      let released = one-release_sum-le (params_at N x) (row_of N (incoming N x)) (row_of N (gross N table x)) (rows_within x pair each) in
-      omega (arith, released, gross-le x pair each, ap (λ (rows : PlanRows). sum rows.release) (fits.rows x pair))
+      omega (
+        arith,
+        releases_stay_bounded (pair_data N table x) (data-within x pair each),
+        (firms_are_kept N sized.table x).started,
+        gross-le x pair each,
+        ap (λ (rows : PlanRows). sum rows.release) (fits.rows x pair),
+      )
 
   all_within : (x : ℕ) → IsPair N x → ReleasesWithin x
   all_within x pair =
@@ -101,12 +155,7 @@ module _ (N : Table) (sized : IsSized N) (needs : List ℕ) (are : AreNeeds N ne
   demanders_within x y edge = all_within y (HasEdge-pairs N sized.table y x edge).0
 
   own_gross : (x : ℕ) → IsPair N x → (rows_at table x).gross ≡ row_of N (gross N table x)
-  own_gross x pair = ap (λ (rows : PlanRows). rows.gross) (fits.rows x pair) ∙ one-gross (params_at N x) (row_of N (incoming N x)) (row_of N (gross N table x))
-
-  own_incoming : (x : ℕ) → IsPair N x → (rows_at table x).incoming ≡ row_of N (incoming N x)
-  own_incoming x pair = ap (λ (rows : PlanRows). rows.incoming) (fits.rows x pair)
-      ∙ one-incoming (params_at N x) (row_of N (incoming N x)) (row_of N (gross N table x))
-      (length-row_of N (incoming N x) ∙ sym (length-row_of N (gross N table x)))
+  own_gross x pair = ap (λ (rows : PlanRows). rows.gross) (fits.rows x pair) ∙ one-gross (pair_data N table x)
 
 -- the needs of a sized network are within the bound, whichever list of them is given
 pub needs_within : (N : Table) → IsSized N → (needs : List ℕ) → AreNeeds N needs → AreWithin N needs
@@ -147,31 +196,26 @@ pub figures_within : FiguresAreWithin
 figures_within N sized table fits x supplier pair =
     omega (arith, supply_and_releases_within N sized table fits x pair, figure-le N x supplier, shipped_from-le N x supplier)
 
+pub data_within : DataAreWithin
+data_within N sized table fits x pair =
+    data-within N sized sized.needs sized.are_needs sized.within table fits x pair
+    (demanders_within N sized sized.needs sized.are_needs sized.within table fits x)
+
 pub plans_within : PlansAreWithin
 plans_within N sized table fits x pair =
-    let here = rows_within N sized sized.needs sized.are_needs sized.within table fits x pair
-    (demanders_within N sized sized.needs sized.are_needs sized.within table fits x) in
-    let P : List ℕ → Type 0 = λ row. IsWithin (params_at N x) row (rows_at table x).gross in
-    let Q : List ℕ → Type 0 = λ row. IsWithin (params_at N x) (row_of N (incoming N x)) row in
-    subst P (sym (own_incoming N sized sized.needs sized.are_needs sized.within table fits x pair))
-    (subst Q (sym (own_gross N sized sized.needs sized.are_needs sized.within table fits x pair)) here)
+    let P : PlanRows → Type 0 = λ rows. IsWithin (params_at N x) rows.incoming rows.gross in
+    subst P (sym (fits.rows x pair)) (rows_are_within N table x (data_within N sized table fits x pair))
 
 pub quantities_within : QuantitiesAreWithin
 quantities_within N sized table fits x pair =
     let own = plans_within N sized table fits x pair in
-    let here = rows_within N sized sized.needs sized.are_needs sized.within table fits x pair
-    (demanders_within N sized sized.needs sized.are_needs sized.within table fits x) in
-    let small = one-within (params_at N x) (row_of N (incoming N x)) (row_of N (gross N table x)) here in
-    let P : PlanRows → Type 0 = λ rows. All (λ q. q ≤ MOST) rows.order in
-    let Q : PlanRows → Type 0 = λ rows. All (λ q. q ≤ MOST) rows.release in
-    let R : PlanRows → Type 0 = λ rows. All (λ q. q ≤ MOST) rows.available in
-    let same = sym (fits.rows x pair) in
+    let small = subst AreWithinMost (sym (fits.rows x pair)) (all_rows_stay_within (pair_data N table x) (data_within N sized table fits x pair)) in
     record {
       gross = small_of_sum (rows_at table x).gross (omega (arith, own.total));
-      incoming = small_of_sum (rows_at table x).incoming (omega (arith, own.total));
-      order = subst P same small.0;
-      release = subst Q same small.1;
-      available = subst R same small.2;
+      incoming = small.incoming;
+      order = small.order;
+      release = small.release;
+      available = small.available;
     }
 
 -- ---- the plan
@@ -181,6 +225,7 @@ plan_is_within N sized needs are x pair =
     let fits = (one_plan N sized.table sized.loop_free).fits in
     record {
       together = plans_within N sized (plan_of N) fits x pair;
+      given = data_within N sized (plan_of N) fits x pair;
       releases = releases_within_need N sized needs are (plan_of N) fits x pair;
       supply = supply_and_releases_within N sized (plan_of N) fits x pair;
       each = quantities_within N sized (plan_of N) fits x pair;

@@ -5,33 +5,35 @@ use Rattle.mrp_qty.specs.declared.quantity.TheConstants.{MOST}
 use Rattle.mrp_lot.specs.Lot.{rule_quantities}
 use Rattle.mrp_netting.specs.PlanRows.{PlanRows}
 use Rattle.mrp_netting.specs.Bound.{IsWithin}
+use Rattle.mrp_netting.specs.PlanningBound.{IsWithinData}
 use Rattle.mrp_master_data.specs.declared.rows.SourceRow.{SourceRow}
 use Rattle.mrp_master_data.specs.Table.{Table, IsPair, horizon}
 use Rattle.mrp_net.specs.declared.lane.Lane.{Lane}
 use Rattle.mrp_net.specs.Edges.{part, source_edge}
 use Rattle.mrp_net.specs.Lanes.{customer_of, supplier_of, item_of_source, taken_over, figure, shipped_from, opening}
-use Rattle.mrp_net.specs.Plan.{release_at}
-use Rattle.mrp_net.specs.Plan.{rows_at, plan_of}
+use Rattle.mrp_net.specs.FirmOrders.{firm_total}
+use Rattle.mrp_net.specs.Plan.{rows_at, release_at, pair_data, plan_of}
 use Rattle.mrp_net.specs.PlanLaws.{Fits}
 use Rattle.mrp_net.specs.Sums.{pair_at, params_at, supply}
 use Rattle.mrp_loops.specs.Need.{AreNeeds}
 use Rattle.mrp_loops.specs.Sized.{IsSized}
 
--- in a table of plans that fits, the planned order releases of all periods are within the pair's need
+-- in a table of plans that fits, the releases of all periods, firm and planned, are within the pair's need
 abbrev pub ReleasesAreWithinNeed : Type 0
 ReleasesAreWithinNeed =
     (N : Table) → IsSized N → (needs : List ℕ) → AreNeeds N needs → (table : List PlanRows) → Fits N table → (x : ℕ)
     → IsPair N x
     → sum (rows_at table x).release ≤ slice_index needs x
 
--- and so are gross requirements of all periods, safety stock and the rule's quantities together
+-- and so are gross requirements of all periods, safety stock, the rule's quantities and firm planned orders together
 abbrev pub GrossIsWithinNeed : Type 0
 GrossIsWithinNeed =
     (N : Table) → IsSized N → (needs : List ℕ) → AreNeeds N needs → (table : List PlanRows) → Fits N table → (x : ℕ)
     → IsPair N x
-    → sum (rows_at table x).gross + (pair_at N x).safety + rule_quantities (pair_at N x).rule ≤ slice_index needs x
+    → sum (rows_at table x).gross + (pair_at N x).safety + rule_quantities (pair_at N x).rule + firm_total N x
+    ≤ slice_index needs x
 
--- what a pair has without any order and all its releases are together within 10^15
+-- what a pair has without any planned order and all its releases are together within 10^15
 abbrev pub SupplyAndReleasesAreWithin : Type 0
 SupplyAndReleasesAreWithin =
     (N : Table) → IsSized N → (table : List PlanRows) → Fits N table → (x : ℕ) → IsPair N x
@@ -50,6 +52,12 @@ abbrev pub PlansAreWithin : Type 0
 PlansAreWithin =
     (N : Table) → IsSized N → (table : List PlanRows) → Fits N table → (x : ℕ) → IsPair N x
     → IsWithin (params_at N x) (rows_at table x).incoming (rows_at table x).gross
+
+-- so is what each pair is planned from: receipts, arrivals, firm planned orders, gross requirements and quantities
+abbrev pub DataAreWithin : Type 0
+DataAreWithin =
+    (N : Table) → IsSized N → (table : List PlanRows) → Fits N table → (x : ℕ) → IsPair N x
+    → IsWithinData (pair_data N table x)
 
 -- each quantity and balance of the rows is within 10^15
 pub record IsSmallPlan (rows : PlanRows) : Type 0 where
@@ -74,6 +82,7 @@ plan_at N x = rows_at (plan_of N) x
 -- what the bound says of them
 pub record IsPlanWithin (N : Table) (needs : List ℕ) (x : ℕ) : Type 0 where
   pub together : IsWithin (params_at N x) (plan_at N x).incoming (plan_at N x).gross
+  pub given : IsWithinData (pair_data N (plan_of N) x)
   pub releases : sum (plan_at N x).release ≤ slice_index needs x
   pub supply : supply N x + sum (plan_at N x).release ≤ MOST
   pub each : IsSmallPlan (plan_at N x)

@@ -6,7 +6,7 @@ ghost use Rattle.mrp_loops.specs.Laws.{SetsHaveAFirst, DemandersDecide};
 ghost use Rattle.mrp_loops.specs.Laws.{NeedsExist, NeedsAreOne, CodeOrderPlans, PlanningOrdersExist, SizedHasCodes};
 ghost use Rattle.mrp_loops.specs.Laws.{SizedHasNeeds, OnePlan};
 ghost use Rattle.mrp_loops.specs.Within.{ReleasesAreWithinNeed, GrossIsWithinNeed, SupplyAndReleasesAreWithin};
-ghost use Rattle.mrp_loops.specs.Within.{FiguresAreWithin, PlansAreWithin};
+ghost use Rattle.mrp_loops.specs.Within.{FiguresAreWithin, PlansAreWithin, DataAreWithin};
 ghost use Rattle.mrp_loops.specs.Within.{QuantitiesAreWithin, PlanIsWithin, LaneFiguresAreWithin};
 
 /// Low-level codes rise along edges: a pair's code is above that of each of its demanders. So a
@@ -60,10 +60,10 @@ pub fn one_plan()
     ensures { OnePlan }
 {}
 
-/// In a table of plans that fits a sized network the planned order releases of a pair, and its gross requirements
-/// with safety stock and the rule's quantities, are over all periods at most its need. So supply and
-/// releases together are at most 10^15 pieces, and so is each cumulative figure: opening figure,
-/// shipments and releases.
+/// In a table of plans that fits a sized network the releases of a pair, firm and planned, and its gross
+/// requirements with safety stock, the rule's quantities and firm planned orders, are over all periods at
+/// most its need. So supply and releases together are at most 10^15 pieces, and so is each cumulative
+/// figure: opening figure, shipments and releases.
 pub fn releases_within_need()
     ensures releases { ReleasesAreWithinNeed }
     ensures gross { GrossIsWithinNeed }
@@ -72,15 +72,18 @@ pub fn releases_within_need()
 {}
 
 /// On hand, what comes in, gross requirements, safety stock and the rule's quantities of a pair are
-/// then together at most 10^15 pieces. So no row of it has a quantity or a balance above.
+/// then together at most 10^15 pieces, and what it is planned from is within the bound. So no row of it
+/// has a quantity or a balance above.
 pub fn quantities_within()
     ensures together { PlansAreWithin }
+    ensures given { DataAreWithin }
     ensures each { QuantitiesAreWithin }
 {}
 
 /// The plan of a sized network is within the bound: on hand, what comes in, gross requirements, safety
-/// stock and the rule's quantities of each pair are together at most 10^15 pieces, its releases are
-/// within its need, and no row has a quantity or a balance above 10^15.
+/// stock and the rule's quantities of each pair are together at most 10^15 pieces, what it is planned from
+/// is within the bound, its releases are within its need, and no row has a quantity or a balance above
+/// 10^15.
 pub fn plan_within()
     ensures { PlanIsWithin }
 {}

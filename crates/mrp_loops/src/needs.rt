@@ -10,8 +10,8 @@ use mrp_lot::Rule;
 use mrp_net::{Edge, Network, PairNo};
 
 /// What the pair needs over the whole horizon where its demanders need `needs`, or 2^64 - 1 where
-/// that is more: its demand, what its demanders need of it, its safety stock and its rule's
-/// quantities.
+/// that is more: its demand, what its demanders need of it, its safety stock, its rule's quantities
+/// and its firm planned orders.
 pub fn need(network: &Network, needs: &[u64], x: PairNo) -> u64
     requires pair { IsPair network.now x.0 }
     requires size { length needs.now ≡ length network.now.pairs }
@@ -24,6 +24,7 @@ pub fn need(network: &Network, needs: &[u64], x: PairNo) -> u64
         .saturating_add(asked)
         .saturating_add(row.safety.get())
         .saturating_add(quantities_of(&row.rule))
+        .saturating_add(network.firm_total(x))
 }
 
 /// What the demanders of a pair need of it, or 2^64 - 1 where that is more.

@@ -101,9 +101,10 @@ impl<'a> SizedNet<'a> {
 
 /// The bound: a network whose figures stay at 10^15 pieces or below.
 ///
-/// The supply of a pair is what it has without any order: on hand, receipts, shipments to it and its
-/// opening figures. Its need is its demand, what its demanders need of it, its safety stock and its
-/// rule's quantities. All supplies are tested before any need.
+/// The supply of a pair is what it has without any planned order: on hand, receipts, shipments to it,
+/// its firm planned orders and its opening figures. Its need is its demand, what its demanders need of
+/// it, its safety stock, its rule's quantities and its firm planned orders. All supplies are tested
+/// before any need.
 ///
 /// # Errors
 ///

@@ -7,7 +7,7 @@ use Rattle.std.proofs.lemmas.List.{get_or-map, length-map}
 use Rattle.std.proofs.lemmas.List.Elements.{All-head, All-tail, All-filter, filter_passes, All-from_recursion, recursion_from_All}
 use Rattle.std.proofs.lemmas.List.Sums.{sum_by-cons, sum_by-append}
 use Rattle.std.proofs.lemmas.Map.Keys.{IsDistinct-head, IsDistinct-tail, IsDistinct-cons, IsDistinct-from_apart, apart_from_distinct}
-use Rattle.mrp_netting.specs.PlanningData.{plain, one}
+use Rattle.mrp_netting.specs.PlanningData.{planned, one}
 use Rattle.mrp_master_data.specs.declared.numbers.ItemNo.{ItemNo}
 use Rattle.mrp_master_data.specs.declared.rows.SourceRow.{SourceRow}
 use Rattle.mrp_master_data.specs.Table.{Table, IsTable, IsPair, IsSourceRow, horizon, is_same_source, pair_no}
@@ -19,7 +19,7 @@ use Rattle.mrp_net.specs.LaneLaws.{is_same_item, OneSourceBringsAnItem, LaneItem
 use Rattle.mrp_net.specs.PlanLaws.{PlansLookAtDemanders}
 use Rattle.mrp_net.specs.RouteLaws.{taken_by, taken_from, over_route, over_plants, RoutesCoverCustomers, RoutesCoverSuppliers, RoutesCoverSources}
 use Rattle.mrp_net.specs.Plan.{rows_at, gross}
-use Rattle.mrp_net.specs.Sums.{pair_at, no_pair, demand, incoming, params_at, row_of}
+use Rattle.mrp_net.specs.Sums.{pair_at, no_pair, demand, incoming, terms_at, row_of}
 use Rattle.mrp_grouping.proofs.Kept.{sum-sorted_by}
 use Rattle.mrp_net.proofs.Sharing.{pairs_are_found}
 use Rattle.mrp_grouping.proofs.Sorting.{filter_comm}
@@ -174,5 +174,5 @@ plans_look_at_demanders N a b x same =
     let asks = λ (t : ℕ). sum_by-same (λ (e : Edge). edge_need e t (slice_index (rows_at a e.demander.0).release t))
     (λ (e : Edge). edge_need e t (slice_index (rows_at b e.demander.0).release t)) (demanders N x)
     (λ k d h. ap (λ (r : List ℕ). edge_need (get_or (demanders N x) k d) t (slice_index r t)) (same k d h)) in
-    ap (λ (row : List ℕ). one (plain (params_at N x) (row_of N (incoming N x)) row))
+    ap (λ (row : List ℕ). one (planned (terms_at N x) (row_of N (incoming N x)) row))
     (map_same (gross N a x) (gross N b x) (range_with_len 0 (horizon N)) (λ t. ap (λ (s : ℕ). demand N x t + s) (asks t)))

@@ -20,3 +20,4 @@ pub mod Lengths
 pub mod Ends
 pub mod Growing
 pub mod Awaiting
+pub mod Firms

@@ -18,9 +18,11 @@ use Rattle.mrp_master_data.specs.declared.rows.DemandRow.{DemandRow}
 use Rattle.mrp_master_data.specs.declared.rows.ReceiptRow.{ReceiptRow}
 use Rattle.mrp_master_data.specs.declared.rows.ShipRow.{ShipRow}
 use Rattle.mrp_master_data.specs.declared.rows.CumRow.{CumRow}
+use Rattle.mrp_master_data.specs.declared.rows.FirmRow.{FirmRow}
 use Rattle.mrp_master_data.specs.Table.{Table, IsTable, IsPair, horizon, is_same_cum}
 use Rattle.mrp_grouping.specs.Added.{AddsTotals, AddsAmounts, sum_in, sum_of}
 use Rattle.mrp_grouping.proofs.Adding.{AddsAmounts-same, AddsTotals-same}
+use Rattle.mrp_net.specs.FirmOrders.{firm_total}
 use Rattle.mrp_net.specs.Sums.{pair_at, no_pair, row_of, demand, demand_total, received, shipped}
 use Rattle.mrp_net.specs.Lanes.{figure, shipped_from}
 use Rattle.mrp_net.specs.Built.{AreTotals, ArePeriods, capped_supply}
@@ -39,6 +41,9 @@ demand_within N is x t = some_within (λ d. eqb d.pair.0 x && eqb d.period t) (�
 
 pub demand_total_within : (N : Table) → IsTable N → (x : ℕ) → demand_total N x ≤ 10 ^ 18
 demand_total_within N is x = some_within (λ d. eqb d.pair.0 x) (λ d. d.quantity) N.demands (λ k d h. (is.read.demands k d h).quantity) is.read.limits.demands
+
+pub firm_total_within : (N : Table) → IsTable N → (x : ℕ) → firm_total N x ≤ 10 ^ 18
+firm_total_within N is x = some_within (λ f. eqb f.pair.0 x) (λ f. f.quantity) N.firms (λ k d h. (is.read.firms k d h).quantity) is.read.limits.firms
 
 pub received_within : (N : Table) → IsTable N → (x t : ℕ) → received N x t ≤ 10 ^ 18
 received_within N is x t = some_within (λ r. eqb r.pair.0 x && eqb r.period t) (λ r. r.quantity) N.receipts
@@ -138,18 +143,19 @@ pub demand_totals_built : (N : Table) (totals : List ℕ) → IsTable N
     → AreTotalsOf (λ (d : DemandRow). d.pair.0) (λ d. d.quantity) (length N.pairs) N.demands totals → AreTotals N (demand_total N) totals
 demand_totals_built N totals is are = record { size = are.size; each = λ x h. omega (arith, are.each x h, demand_total_within N is x) }
 
-pub supplies_built : (N : Table) (before with_receipts with_ships after : List ℕ) → before ≡ map (λ p. p.on_hand) N.pairs → length with_receipts ≡ length before
-    → length with_ships ≡ length with_receipts → length after ≡ length with_ships
+pub supplies_built : (N : Table) (before with_receipts with_ships with_cums after : List ℕ) → before ≡ map (λ p. p.on_hand) N.pairs → length with_receipts ≡ length before
+    → length with_ships ≡ length with_receipts → length with_cums ≡ length with_ships → length after ≡ length with_cums
     → AddsTotals (λ (r : ReceiptRow). r.pair.0) (λ r. r.quantity) N.receipts before with_receipts
     → AddsTotals (λ (s : ShipRow). s.pair.0) (λ s. s.quantity) N.ships with_receipts with_ships
-    → AddsTotals (λ (c : CumRow). c.pair.0) (λ c. c.figure) N.cums with_ships after → AreTotals N (capped_supply N) after
-supplies_built N before with_receipts with_ships after is same1 same2 same3 adds1 adds2 adds3 =
+    → AddsTotals (λ (c : CumRow). c.pair.0) (λ c. c.figure) N.cums with_ships with_cums
+    → AddsTotals (λ (f : FirmRow). f.pair.0) (λ f. f.quantity) N.firms with_cums after → AreTotals N (capped_supply N) after
+supplies_built N before with_receipts with_ships with_cums after is same1 same2 same3 same4 adds1 adds2 adds3 adds4 =
     let room : length before ≡ length N.pairs = ap length is ∙ length-map N.pairs (λ p. p.on_hand) in
     record {
-      size = same3 ∙ same2 ∙ same1 ∙ room;
+      size = same4 ∙ same3 ∙ same2 ∙ same1 ∙ room;
       each = λ x h.
           let was : get_or before x 0 ≡ (pair_at N x).on_hand = ap (λ (z : List ℕ). get_or z x 0) is ∙ get_or-map (λ p. p.on_hand) N.pairs x no_pair 0 h in
-          omega (arith, adds1 x (omega arith), adds2 x (omega arith), adds3 x (omega arith), was);
+          omega (arith, adds1 x (omega arith), adds2 x (omega arith), adds3 x (omega arith), adds4 x (omega arith), was);
     }
 
 pub shipped_from_within : (N : Table) → IsTable N → (x p : ℕ) → shipped_from N x p ≤ 10 ^ 18

@@ -11,6 +11,7 @@ use Rattle.mrp_grouping.specs.Groups.{sorted_by}
 use Rattle.mrp_grouping.specs.Starts.{IsGrouped}
 use Rattle.mrp_net.specs.Routes.{AreLaneLists}
 use Rattle.mrp_net.specs.Sums.{demand, demand_total, received, supply}
+use Rattle.mrp_master_data.specs.declared.rows.FirmRow.{FirmRow}
 
 -- all edges in order of their demanders, and then in order of their pairs
 abbrev pub by_demander : Table → List Edge
@@ -45,13 +46,18 @@ pub record AreEdges (N : Table) (e : Edges) : Type 0 where
   pub demanders : AreDemanders N e.demanders.rows.items e.demanders.starts.items
   pub suppliers : AreSuppliers N e.suppliers.rows.items e.suppliers.starts.items
 
--- what the rows add up to
+-- the firm planned orders of each pair: where each pair's begin is in `starts`
+abbrev pub AreFirms : Table → List FirmRow → List ℕ → Type 0
+AreFirms N rows starts = IsGrouped (λ f. f.pair.0) (length N.pairs) N.firms rows starts
+
+-- what the rows add up to, and firm planned orders by their pairs
 pub record AreAmounts (N : Table) (a : Amounts) : Type 0 where
   pub demanded : ArePeriods N (demand N) a.demand.items
   pub receipts : ArePeriods N (received N) a.received.items
   pub coming : IsIncoming N a.incoming
   pub total : AreTotals N (demand_total N) a.demand_totals.items
   pub supplied : AreTotals N (capped_supply N) a.supplies.items
+  pub firms : AreFirms N a.firms.rows.items a.firms.starts.items
 
 -- the table, and what is built of it
 pub record IsBuilt (N : Table) (e : Edges) (a : Amounts) (l : LaneLists) : Type 0 where

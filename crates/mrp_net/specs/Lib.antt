@@ -12,6 +12,8 @@ pub mod Routes
 pub mod Shares
 pub mod SourceRows
 pub mod Sources
+pub mod FirmOrders
+pub mod Terms
 pub mod Sums
 pub mod Suppliers
 pub mod SupplyLaws

@@ -3,11 +3,11 @@
 use Rattle.std.specs.Prelude.{ℕ, ◌+◌, zero, suc, List, [], length, map, sum_by, slice_index, slice_index_or}
 use Rattle.std.specs.List.{range_with_len}
 use Rattle.mrp_netting.specs.PlanRows.{PlanRows}
-use Rattle.mrp_netting.specs.PlanningData.{plain, one}
+use Rattle.mrp_netting.specs.PlanningData.{PairData, planned, one}
 use Rattle.mrp_master_data.specs.Table.{Table}
 use Rattle.mrp_net.specs.declared.edge.Edge.{Edge}
 use Rattle.mrp_net.specs.Edges.{demanders, edge_need}
-use Rattle.mrp_net.specs.Sums.{demand, incoming, params_at, row_of}
+use Rattle.mrp_net.specs.Sums.{demand, incoming, terms_at, row_of}
 
 -- what a look-up past the rows of a plan reads
 abbrev pub no_rows : PlanRows
@@ -25,9 +25,12 @@ asked table edges t = sum_by (λ e. edge_need e t (slice_index (rows_at table e.
 abbrev pub gross : Table → List PlanRows → ℕ → ℕ → ℕ
 gross N table x t = demand N x t + asked table (demanders N x) t
 
--- the plan of a pair beside the plans of its demanders
+-- what a pair is planned from beside the plans of its demanders, and its plan
+abbrev pub pair_data : Table → List PlanRows → ℕ → PairData
+pair_data N table x = planned (terms_at N x) (row_of N (incoming N x)) (row_of N (gross N table x))
+
 abbrev pub pair_plan : Table → List PlanRows → ℕ → PlanRows
-pair_plan N table x = one (plain (params_at N x) (row_of N (incoming N x)) (row_of N (gross N table x)))
+pair_plan N table x = one (pair_data N table x)
 
 -- rounds of planning: in each, every pair is planned beside the releases of the round before; in the
 -- first nothing was released

@@ -1,12 +1,14 @@
 -- Laws of plans: what the plan of a pair looks at, and where its gross requirements come from.
-use Rattle.std.specs.Prelude.{◌≡◌, ℕ, ◌+◌, ◌*◌, ◌==◌, if◌then◌else◌, List, sum_by, All, length}
+use Rattle.std.specs.Prelude.{◌≡◌, ℕ, ◌+◌, ◌*◌, ◌==◌, if◌then◌else◌, List, [], sum, sum_by, All, length}
 use Rattle.mrp_netting.specs.PlanRows.{PlanRows}
+use Rattle.mrp_netting.specs.PlanningData.{plain, one}
 use Rattle.mrp_master_data.specs.declared.rows.BillRow.{BillRow}
 use Rattle.mrp_master_data.specs.declared.rows.SourceRow.{SourceRow}
 use Rattle.mrp_master_data.specs.Table.{Table, IsTable, IsPair, source_pair}
 use Rattle.mrp_net.specs.Edges.{part, source_edge, demanders}
 use Rattle.mrp_net.specs.Plan.{rows_at, gross, pair_plan, release_at, plan_of}
-use Rattle.mrp_net.specs.Sums.{pair_at, demand}
+use Rattle.mrp_net.specs.FirmOrders.{firms_of, firm_start, firm_due, firm_total}
+use Rattle.mrp_net.specs.Sums.{pair_at, params_at, row_of, demand, incoming}
 use Rattle.mrp_net.specs.RouteLaws.{over_route, over_plants}
 
 -- the plan of a pair looks at the releases of its demanders alone
@@ -15,6 +17,19 @@ PlansLookAtDemanders =
     (N : Table) (a b : List PlanRows) (x : ℕ)
     → All (λ e. (rows_at a e.demander.0).release ≡ (rows_at b e.demander.0).release) (demanders N x)
     → pair_plan N a x ≡ pair_plan N b x
+
+-- a pair without firm planned orders is planned from what comes in and what is required of it
+abbrev pub PlainPairs : Type 0
+PlainPairs = (N : Table) (table : List PlanRows) (x : ℕ) → firms_of N x ≡ []
+    → pair_plan N table x ≡ one (plain (params_at N x) (row_of N (incoming N x)) (row_of N (gross N table x)))
+
+-- by release and by due period the firm planned orders of a pair are all of them
+pub record AreAllFirms (N : Table) (x : ℕ) : Type 0 where
+  pub started : sum (row_of N (firm_start N x)) ≡ firm_total N x
+  pub come : sum (row_of N (firm_due N x)) ≡ firm_total N x
+
+abbrev pub FirmsAreKept : Type 0
+FirmsAreKept = (N : Table) → IsTable N → (x : ℕ) → AreAllFirms N x
 
 -- what a component row asks of a pair, and what a source asks of it
 abbrev pub asked_by_bill : List PlanRows → ℕ → ℕ → BillRow → ℕ

@@ -7,6 +7,9 @@ use Rattle.mrp_master_data.specs.declared.rows.PairRow.{PairRow}
 use Rattle.mrp_master_data.specs.declared.rows.Supply.TheVariants.{Buy}
 use Rattle.mrp_master_data.specs.Rows.{params_of}
 use Rattle.mrp_master_data.specs.Table.{Table, horizon}
+use Rattle.mrp_netting.specs.PlanningData.{PairTerms}
+use Rattle.mrp_net.specs.FirmOrders.{firms_of, firm_total}
+use Rattle.mrp_net.specs.Terms.{terms_of}
 
 -- what a look-up past the pairs of the table reads
 abbrev pub no_pair : PairRow
@@ -34,6 +37,10 @@ params_at N x = params_of (pair_at N x)
 abbrev pub row_of : Table → (ℕ → ℕ) → List ℕ
 row_of N amount = map amount (range_with_len 0 (horizon N))
 
+-- what planners say of the pair: its row, and its firm planned orders by release and by due period
+abbrev pub terms_at : Table → ℕ → PairTerms
+terms_at N x = terms_of (horizon N) (params_at N x) (firms_of N x)
+
 -- the demand rows of a pair in a period, and in all periods
 abbrev pub demand : Table → ℕ → ℕ → ℕ
 demand N x t = sum_by (λ d. if (d.pair.0 == x) && (d.period == t) then d.quantity else 0) N.demands
@@ -55,7 +62,7 @@ shipped N x t = sum_by (λ s. if (s.pair.0 == x) && (s.period == t) then s.quant
 abbrev pub shipped_total : Table → ℕ → ℕ
 shipped_total N x = sum_by (λ s. if s.pair.0 == x then s.quantity else 0) N.ships
 
--- what comes in: receipts and shipments
+-- what comes in beside firm planned orders: receipts and shipments
 abbrev pub incoming : Table → ℕ → ℕ → ℕ
 incoming N x t = received N x t + shipped N x t
 
@@ -63,7 +70,8 @@ incoming N x t = received N x t + shipped N x t
 abbrev pub opening_total : Table → ℕ → ℕ
 opening_total N x = sum_by (λ c. if c.pair.0 == x then c.figure else 0) N.cums
 
--- what is counted of a pair without any order: on hand, receipts and shipments, and the opening figures, on which its
--- cumulative figures go on
+-- what is counted of a pair without any planned order: on hand, receipts, shipments and firm planned orders, and the
+-- opening figures, on which its cumulative figures go on
 abbrev pub supply : Table → ℕ → ℕ
 supply N x = (pair_at N x).on_hand + received_total N x + shipped_total N x + opening_total N x
+    + firm_total N x

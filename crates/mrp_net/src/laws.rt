@@ -9,7 +9,7 @@ ghost use Rattle.mrp_net.specs.SupplyLaws.{PairsAreFound};
 ghost use Rattle.mrp_net.specs.EdgeLaws.{SourcePairsAreThere, LocalEdgesAreBills, LocalEdgesAreWhole};
 ghost use Rattle.mrp_net.specs.EdgeLaws.{LocalDemandersAreWhole, CrossingEdgesAreSources};
 ghost use Rattle.mrp_net.specs.LaneLaws.{SourcesHaveLanes, LanesComeInTwos, LanesStandOnce, LanesJoinTwoPlants};
-ghost use Rattle.mrp_net.specs.PlanLaws.{GrossIsLocalAndCalled, PlansLookAtDemanders};
+ghost use Rattle.mrp_net.specs.PlanLaws.{GrossIsLocalAndCalled, PlansLookAtDemanders, PlainPairs, FirmsAreKept};
 ghost use Rattle.mrp_net.specs.LaneLaws.{ItemsHaveSources, OpeningsAreSupplied, IncomingComesOverLanes};
 ghost use Rattle.mrp_net.specs.LaneLaws.{ShipmentsAreOfItems};
 ghost use Rattle.mrp_net.specs.EdgeLaws.{OneEdgeJoinsTwoPairs, DemandersStandOnce};
@@ -57,6 +57,16 @@ pub fn one_source_brings_an_item()
 /// these are the same give the pair the same plan.
 pub fn plans_look_at_demanders()
     ensures { PlansLookAtDemanders }
+{}
+
+/// A pair without firm planned orders is planned from what comes in and from its gross requirements.
+pub fn plain_pairs_have_no_firm_orders()
+    ensures { PlainPairs }
+{}
+
+/// The firm planned orders of a pair by release period, and those by due period, are all of its firm planned orders.
+pub fn firm_orders_are_kept()
+    ensures { FirmsAreKept }
 {}
 
 /// The pair behind a source has the source's plant, and the item of the pair that takes from it.

@@ -10,6 +10,7 @@
 
 mod build;
 mod edge;
+mod firm_rows;
 mod incoming;
 mod kept;
 mod lane;
@@ -20,9 +21,10 @@ mod shares;
 mod sums;
 
 pub use edge::Edge;
+pub use firm_rows::{FirmRows, plan_with_firm_orders};
 pub use lane::{Lane, LaneKind, LaneNo, Shipment};
 pub use mrp_master_data::{
-    ItemNo, PairNo, PairRow, PlantNo, ReceiptRow, ShipRow, SourceRow, Supply,
+    FirmRow, ItemNo, PairNo, PairRow, PlantNo, ReceiptRow, ShipRow, SourceRow, Supply,
 };
 pub use network::Network;
 pub use shares::share_of;

@@ -2,10 +2,11 @@
 
 ghost use Rattle.std.specs.Prelude.{◌≡◌, ◌<◌, ◌^◌, ◌-◌, ◌+◌, ◌*◌, ℕ, true, min};
 ghost use Rattle.std.specs.Prelude.{length, slice_get, Option, Some, None, IfSome, IfNone, IfOk, Contains, All};
-ghost use Rattle.mrp_master_data.specs.Table.{Table, IsTable, horizon, IsPair, is_taken_from, pair_no};
+ghost use Rattle.mrp_master_data.specs.Table.{Table, IsTable, horizon, IsFirmRow, IsPair, is_taken_from, pair_no};
 ghost use Rattle.mrp_net.specs.Edges.{demanders};
 ghost use Rattle.mrp_net.specs.Suppliers.{suppliers, IsEdge};
 ghost use Rattle.mrp_net.specs.Sums.{pair_at, row_of, demand, demand_total, incoming, received, supply};
+ghost use Rattle.mrp_net.specs.FirmOrders.{firm_total, firms_of};
 ghost use Rattle.mrp_net.specs.Names.{IsNamed};
 ghost use Rattle.mrp_net.specs.Lanes.{lanes, lane_at, lane_items, figure, opening, shipments, reset, pair_on};
 ghost use Rattle.mrp_net.specs.Lanes.{customer_of, shipped_from, supplier_of};
@@ -19,7 +20,9 @@ use crate::lane::{Lane, LaneKind, LaneNo, Shipment};
 use crate::lanes::{LaneLists, source_of};
 use crate::{Edge, build, lanes};
 use mrp_cal::Calendar;
-use mrp_master_data::{ItemNo, PairNo, PairRow, PlantNo, ReceiptRow, ShipRow, SourceRow, Tables};
+use mrp_master_data::{
+    FirmRow, ItemNo, PairNo, PairRow, PlantNo, ReceiptRow, ShipRow, SourceRow, Tables,
+};
 use mrp_qty::{Horizon, Memory};
 use std::alloc::Global;
 use std::marker::Model;
@@ -291,7 +294,30 @@ impl Network {
         self.tables.rows().ships()
     }
 
-    /// On hand, receipts, shipments and opening figures of the pair, or 2^64 - 1 where they are more.
+    /// The firm planned orders of the pair, in table order.
+    pub fn firm_orders(&self, x: PairNo) -> &[FirmRow]
+        requires { IsPair self.now x.0 }
+        ensures value { result.now ≡ firms_of self.now x.0 }
+        ensures rows { All (IsFirmRow self.now) result.now }
+    {
+        self.amounts.firms.get(x.0)
+    }
+
+    /// The pieces of all firm planned orders of the pair, at most 10^18.
+    pub fn firm_total(&self, x: PairNo) -> u64
+        requires { IsPair self.now x.0 }
+        ensures { result ≡ firm_total self.now x.0 }
+    {
+        let _pairs = self.pairs();
+        let mut total = 0;
+        for order in self.firm_orders(x) {
+            total += order.quantity.get();
+        }
+        total
+    }
+
+    /// On hand, receipts, shipments, opening figures and firm planned orders of the pair, or 2^64 - 1 where they are
+    /// more.
     pub fn supply(&self, x: PairNo) -> u64
         requires { IsPair self.now x.0 }
         ensures { result ≡ min (supply self.now x.0) (2 ^ 64 - 1) }

@@ -1,7 +1,7 @@
 //! Rows of a table by their pair and their period, by which they are put in order and added up.
 
 use mrp_grouping::{AmountOf, KeyOf};
-use mrp_master_data::{CumRow, DemandRow, ReceiptRow, ShipRow, SourceRow};
+use mrp_master_data::{CumRow, DemandRow, FirmRow, ReceiptRow, ShipRow, SourceRow};
 
 /// The pair of a row as its key.
 pub struct OfPair;
@@ -46,6 +46,14 @@ impl KeyOf<CumRow> for OfPair {
     }
 }
 
+impl KeyOf<FirmRow> for OfPair {
+    ghost key_of = { λ _ f. f.pair.0 };
+
+    fn key(&self, row: &FirmRow) -> usize {
+        row.pair.0
+    }
+}
+
 /// The period of a row as its key.
 pub struct ByPeriod;
 
@@ -70,6 +78,28 @@ impl KeyOf<ShipRow> for ByPeriod {
 
     fn key(&self, row: &ShipRow) -> usize {
         row.period
+    }
+}
+
+/// The period in which a firm planned order is released as its key.
+pub struct ByStart;
+
+impl KeyOf<FirmRow> for ByStart {
+    ghost key_of = { λ _ f. f.start };
+
+    fn key(&self, row: &FirmRow) -> usize {
+        row.start
+    }
+}
+
+/// The period in which a firm planned order is due as its key.
+pub struct ByDue;
+
+impl KeyOf<FirmRow> for ByDue {
+    ghost key_of = { λ _ f. f.due };
+
+    fn key(&self, row: &FirmRow) -> usize {
+        row.due
     }
 }
 
@@ -105,5 +135,13 @@ impl AmountOf<CumRow> for Pieces {
 
     fn amount(&self, row: &CumRow) -> u64 {
         row.figure.get()
+    }
+}
+
+impl AmountOf<FirmRow> for Pieces {
+    ghost amount_of = { λ _ f. f.quantity };
+
+    fn amount(&self, row: &FirmRow) -> u64 {
+        row.quantity.get()
     }
 }
