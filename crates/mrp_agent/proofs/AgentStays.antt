@@ -3,7 +3,7 @@ use Rattle.std.proofs.Common.{◌≡◌, ℕ, ◌+◌, ◌-◌, ◌<◌, true, L
 use Rattle.std.specs.List.{flat_map, range_with_len}
 use Rattle.std.proofs.lemmas.List.Elements.{All-filter, All-contains, All-head, All-tail}
 use Rattle.mrp_netting.specs.PlanRows.{PlanRows}
-use Rattle.mrp_netting.specs.PlanningData.{plain, one}
+use Rattle.mrp_netting.specs.PlanningData.{planned as data_of_terms, one}
 use Rattle.mrp_master_data.specs.declared.numbers.ItemNo.{ItemNo}
 use Rattle.mrp_master_data.specs.declared.numbers.PairNo.{PairNo}
 use Rattle.mrp_master_data.specs.Table.{Table}
@@ -26,7 +26,7 @@ use Rattle.mrp_record.specs.Shows.{ShowsSent}
 use Rattle.mrp_readiness.specs.Counts.{Awaited, AreCounts, open_blocks}
 use Rattle.mrp_protocol.proofs.Seeing.{pairs_are_at}
 use Rattle.mrp_protocol.specs.Goods.{goods_by, goods_of, schedule_goods, IsSendable}
-use Rattle.mrp_protocol.specs.LocalPlans.{amount_at, asked_within, booked_on, is_of_kind, lanes_in, local_gross, local_incoming}
+use Rattle.mrp_protocol.specs.LocalPlans.{amount_at, asked_within, booked_on, is_of_kind, lanes_in, local_gross, local_incoming, terms_in}
 use Rattle.mrp_protocol.specs.LocalPlans.{local_plan, local_row, pieces_in, AwaitsNothing, IsLocal, IsPlannedLocally}
 use Rattle.mrp_agent.specs.Shows.{ShowsHistory, OutShows, awaited, awaited_on, form_of, joins_of, up_to_last}
 use Rattle.mrp_agent.specs.State.{AgentState, book_at, incoming_at, out_at, outgoing_at, pair_place, plans_of, no_incoming, no_outgoing}
@@ -111,8 +111,8 @@ module _ (A : AgentState) (enough : IsView A.view) (s t : State) (same : AgreeOn
 
   plan_same : (plans : ℕ → PlanRows) (p : PlantPair) → local_plan A.view s.taken plans p ≡ local_plan A.view t.taken plans p
   plan_same plans p =
-      ap (λ (row : List ℕ). one (plain p.params row (local_row A.view (local_gross A.view s.taken plans p)))) (incoming_same p)
-      ∙ ap (λ (row : List ℕ). one (plain p.params (local_row A.view (local_incoming A.view t.taken p)) row)) (gross_same plans p)
+      ap (λ (row : List ℕ). one (data_of_terms (terms_in A.view p) row (local_row A.view (local_gross A.view s.taken plans p)))) (incoming_same p)
+      ∙ ap (λ (row : List ℕ). one (data_of_terms (terms_in A.view p) (local_row A.view (local_incoming A.view t.taken p)) row)) (gross_same plans p)
 
   awaits_same : (p : PlantPair) → AwaitsNothing A.view s.taken s.planned p → AwaitsNothing A.view t.taken t.planned p
   awaits_same p ready = record {

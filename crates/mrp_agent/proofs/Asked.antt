@@ -5,10 +5,9 @@ use Rattle.std.proofs.lemmas.List.Elements.{All-from_get_or}
 use Rattle.std.proofs.lemmas.List.FromFn.{fill_by_all, get_or-map-range_with_len, length-map-range_with_len}
 use Rattle.std.proofs.lemmas.List.Sums.{get_or-le-sum_by, sum_by_more_le, sum_by_more}
 use Rattle.mrp_netting.specs.PlanRows.{PlanRows}
-use Rattle.mrp_netting.specs.PlanningData.{plain, one}
-use Rattle.mrp_netting.specs.Bound.{IsWithin}
-use Rattle.mrp_netting.proofs.PlainRows.{one-gross}
-use Rattle.mrp_netting.specs.declared.params.PairParams.{PairParams}
+use Rattle.mrp_netting.specs.PlanningData.{PairTerms, planned, one}
+use Rattle.mrp_netting.specs.PlanningBound.{IsWithinData}
+use Rattle.mrp_netting.proofs.OneRows.{one-gross}
 use Rattle.mrp_qty.specs.declared.quantity.TheConstants.{MOST}
 use Rattle.mrp_agent.specs.declared.edges.ParentEdge.{ParentEdge}
 use Rattle.mrp_agent.specs.Asking.{asked_by, asked_on, grossed}
@@ -57,10 +56,10 @@ grossed_at : (demand : List ℕ) (edges : List ParentEdge) (plans : List PlanRow
 grossed_at demand edges plans t low =
     get_or-map-range_with_len (λ (t : ℕ). slice_index demand t + asked_by plans edges t) 0 (length demand) t t 0 low (omega arith)
 
-pub gross_within : (params : PairParams) (receipts demand : List ℕ) (edges : List ParentEdge) (plans : List PlanRows)
-    → IsWithin params receipts (grossed demand edges plans)
+pub gross_within : (terms : PairTerms) (receipts demand : List ℕ) (edges : List ParentEdge) (plans : List PlanRows)
+    → IsWithinData (planned terms receipts (grossed demand edges plans))
     → (t : ℕ) → t < length demand → slice_index demand t + asked_by plans edges t ≤ MOST
-gross_within params receipts demand edges plans h t low =
+gross_within terms receipts demand edges plans h t low =
     let inside : t < length (grossed demand edges plans) =
     omega (arith, low, length-map-range_with_len (λ (t : ℕ). slice_index demand t + asked_by plans edges t) 0 (length demand)) in
     let part : slice_index (grossed demand edges plans) t ≤ sum (grossed demand edges plans) =
@@ -68,11 +67,11 @@ gross_within params receipts demand edges plans h t low =
     omega (arith, part, h.total, grossed_at demand edges plans t low)
 
 -- so what is called for is small
-pub demand_within : (params : PairParams) (receipts demand : List ℕ) (edges : List ParentEdge) (plans : List PlanRows)
-    → IsWithin params receipts (grossed demand edges plans)
+pub demand_within : (terms : PairTerms) (receipts demand : List ℕ) (edges : List ParentEdge) (plans : List PlanRows)
+    → IsWithinData (planned terms receipts (grossed demand edges plans))
     → All (λ n. n ≤ MOST) demand
-demand_within params receipts demand edges plans h =
-    All-from_get_or (λ (n : ℕ). n ≤ MOST) demand 0 (λ t low. omega (arith, gross_within params receipts demand edges plans h t low))
+demand_within terms receipts demand edges plans h =
+    All-from_get_or (λ (n : ℕ). n ≤ MOST) demand 0 (λ t low. omega (arith, gross_within terms receipts demand edges plans h t low))
 
 -- what is called for, and on top of it what the parents ask
 pub grossed_is : (demand : List ℕ) (edges : List ParentEdge) (plans : List PlanRows) (new : List ℕ) → length new ≡ length demand
@@ -87,8 +86,8 @@ pub grossed_length : (demand : List ℕ) (edges : List ParentEdge) (plans : List
 grossed_length demand edges plans = length-map-range_with_len (λ (t : ℕ). slice_index demand t + asked_by plans edges t) 0 (length demand)
 
 -- a plan has a period for each that is called for
-pub drafted_length : (params : PairParams) (receipts demand : List ℕ) (edges : List ParentEdge) (plans : List PlanRows) (plan : PlanRows)
-    → plan ≡ one (plain params receipts (grossed demand edges plans))
+pub drafted_length : (terms : PairTerms) (receipts demand : List ℕ) (edges : List ParentEdge) (plans : List PlanRows) (plan : PlanRows)
+    → plan ≡ one (planned terms receipts (grossed demand edges plans))
     → length plan.gross ≡ length demand
-drafted_length params receipts demand edges plans plan is =
-    ap (λ (z : PlanRows). length z.gross) is ∙ ap length (one-gross params receipts (grossed demand edges plans)) ∙ grossed_length demand edges plans
+drafted_length terms receipts demand edges plans plan is =
+    ap (λ (z : PlanRows). length z.gross) is ∙ ap length (one-gross (planned terms receipts (grossed demand edges plans))) ∙ grossed_length demand edges plans

@@ -6,7 +6,7 @@ use Rattle.std.proofs.lemmas.Bool.{both_ways, cases_eq, cases_lt, eq-eqb, false_
 use Rattle.std.proofs.lemmas.List.{get_or-map, get_or-set_same, get_or-set_other, length-map, length-set}
 use Rattle.std.proofs.lemmas.List.Elements.{All-contains}
 use Rattle.mrp_netting.specs.PlanRows.{PlanRows}
-use Rattle.mrp_netting.specs.PlanningData.{plain, one}
+use Rattle.mrp_netting.specs.PlanningData.{planned as data_of_terms, one}
 use Rattle.mrp_master_data.specs.declared.numbers.ItemNo.{ItemNo}
 use Rattle.mrp_net.specs.declared.lane.LaneKind.{LaneKind}
 use Rattle.mrp_net.specs.declared.lane.LaneKind.TheVariants.{Despatch, Schedule}
@@ -30,7 +30,7 @@ use Rattle.mrp_record.proofs.Queues.{looks_at_queued}
 use Rattle.mrp_readiness.specs.Counts.{open_blocks}
 use Rattle.mrp_readiness.specs.Progress.{Progress, is_planned}
 use Rattle.mrp_protocol.specs.Goods.{goods_by, goods_of, called_for, by_period_from, IsSendable}
-use Rattle.mrp_protocol.specs.LocalPlans.{amount_at, asked_within, booked_on, is_of_kind, lanes_in, local_gross, local_incoming, local_plan, local_row}
+use Rattle.mrp_protocol.specs.LocalPlans.{amount_at, asked_within, booked_on, is_of_kind, lanes_in, local_gross, local_incoming, local_plan, local_row, terms_in}
 use Rattle.mrp_protocol.specs.LocalPlans.{AwaitsNothing, Carries, IsLocal, IsPlannedLocally}
 use Rattle.mrp_agent.specs.State.{AgentState, book_at, incoming_at, outgoing_at, out_at, pair_place, plans_of, no_book, no_incoming}
 use Rattle.mrp_agent.specs.After.{after_booked, added_for, receipts_after, demand_after, ended_place, items_of, place_among, with_line, BlockEnded, IsAwaited}
@@ -123,8 +123,8 @@ module _ (V : PlantRows) (taken : ℕ → List Record) (planned : ℕ → Bool) 
       let gross : local_row V (local_gross V Later plans p) ≡ local_row V (local_gross V taken plans p) =
       row_same V (local_gross V Later plans p) (local_gross V taken plans p)
       (λ t. ap (λ (n : ℕ). amount_at V V.demands p.number t + asked_within V plans p.number t + n) (booked_same Schedule t)) in
-      ap (λ (row : List ℕ). one (plain p.params row (local_row V (local_gross V Later plans p)))) incoming
-      ∙ ap (λ (row : List ℕ). one (plain p.params (local_row V (local_incoming V taken p)) row)) gross
+      ap (λ (row : List ℕ). one (data_of_terms (terms_in V p) row (local_row V (local_gross V Later plans p)))) incoming
+      ∙ ap (λ (row : List ℕ). one (data_of_terms (terms_in V p) (local_row V (local_incoming V taken p)) row)) gross
 
 -- ---- what is shown
 

@@ -1,5 +1,5 @@
 -- An agent may go to another thread, and threads may share one.
-use denote.Param.Send.{IsSend, IsSync, recorded_send, struct_send, struct_sync, view_send}
+use denote.Param.Send.{IsSend, IsSync, recorded_send, recorded_sync, struct_send, struct_sync, view_send, view_sync}
 use denote.Struct.Declared.{shape}
 use Rattle.mrp_plant_view.proofs.Crossing.{frame_send, frame_sync}
 use Rattle.mrp_agent.proofs.parts.Amounts.TheSendSync as amounts
@@ -19,3 +19,6 @@ fields_sync = struct_sync (shape inside.the_type)
 
 pub agent_send : IsSend Agent.the_row
 agent_send = view_send inside.the_row _ _ _ _ (recorded_send inside.the_field.row _ _ inside.the_type.to_one fields_send)
+
+pub agent_sync : IsSync Agent.the_row
+agent_sync = view_sync inside.the_row _ _ _ _ (recorded_sync inside.the_field.row _ _ inside.the_type.to_one fields_sync)

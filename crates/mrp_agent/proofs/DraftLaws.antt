@@ -7,8 +7,9 @@ use Rattle.std.proofs.lemmas.List.FromFn.{get_or-map-range_with_len, length-map-
 use Rattle.std.proofs.lemmas.List.Sums.{get_or-le-sum_by, passes_at_first}
 use Rattle.mrp_qty.specs.declared.quantity.TheConstants.{MOST}
 use Rattle.mrp_netting.specs.PlanRows.{PlanRows}
-use Rattle.mrp_netting.specs.PlanningData.{plain, one}
-use Rattle.mrp_netting.specs.Bound.{IsWithin}
+use Rattle.mrp_netting.specs.PlanningData.{planned as data_of_terms, one}
+use Rattle.mrp_netting.specs.PlanningBound.{IsWithinData}
+use Rattle.mrp_net.specs.Terms.{terms_of}
 use Rattle.mrp_master_data.specs.Table.{Table}
 use Rattle.mrp_net.specs.declared.lane.LaneKind.TheVariants.{Schedule}
 use Rattle.mrp_net.proofs.Members.{Contains-from_in}
@@ -20,7 +21,7 @@ use Rattle.mrp_loops.specs.Order.{pair_of}
 use Rattle.mrp_record.specs.declared.record.Record.{Record}
 use Rattle.mrp_protocol.specs.State.{State}
 use Rattle.mrp_protocol.specs.LocalLaws.{IsPairAt, IsReadyAt}
-use Rattle.mrp_protocol.specs.LocalPlans.{amount_at, asked_within, booked_on, local_incoming, local_gross, local_row}
+use Rattle.mrp_protocol.specs.LocalPlans.{amount_at, asked_within, booked_on, firms_in, local_data, local_incoming, local_gross, local_row, terms_in}
 use Rattle.mrp_protocol.proofs.LocalPlanned as network
 use Rattle.mrp_protocol.proofs.Seeing.{sees_pair}
 use Rattle.mrp_agent.specs.State.{AgentState, pair_owned, pair_place, plans_of, no_plant_pair}
@@ -65,7 +66,7 @@ module _ (N : Table) (plant x : ℕ) (at : IsPairAt N plant x) where
 -- ---- its rows
 
 module _ (V : PlantRows) (taken : ℕ → List Record) (plans : ℕ → PlanRows) (receipts demand : List ℕ) (p : PlantPair)
-    (small : IsWithin p.params (local_row V (local_incoming V taken p)) (local_row V (local_gross V taken plans p)))
+    (small : IsWithinData (local_data V taken plans p))
     (comes : (t : ℕ) → t < V.horizon → amount_at V receipts p.number t ≡ up_to_last (local_incoming V taken p t))
     (is_called : (t : ℕ) → t < V.horizon → amount_at V demand p.number t ≡ up_to_last (amount_at V V.demands p.number t + booked_on Schedule V taken p.item t))
   where
@@ -125,9 +126,10 @@ drafts_are_within N sized plant s A w x at ready =
     let V : PlantRows = A.view in
     let incoming : List ℕ = local_row V (λ t. amount_at V A.scheduled_receipts (pair_of x) t) in
     let gross : List ℕ = local_row V (λ t. amount_at V A.outside_demand (pair_of x) t + asked_within V (plans_of A) (pair_of x) t) in
-    subst (λ (q : PlantPair). IsWithin q.params incoming gross) (sym rows.0)
-    (subst (λ (z : List ℕ). IsWithin p.params z gross) (sym rows.1)
-    (subst (λ (z : List ℕ). IsWithin p.params (local_row R (local_incoming R s.taken p)) z) (sym rows.2) small))
+    subst (λ (q : PlantPair). IsWithinData (data_of_terms (terms_of V.horizon q.params (firms_in V (pair_of x))) incoming gross)) (sym rows.0)
+    (subst (λ (W : PlantRows). IsWithinData (data_of_terms (terms_of W.horizon p.params (firms_in W (pair_of x))) incoming gross)) (sym w.shown.view)
+    (subst (λ (z : List ℕ). IsWithinData (data_of_terms (terms_in R p) z gross)) (sym rows.1)
+    (subst (λ (z : List ℕ). IsWithinData (data_of_terms (terms_in R p) (local_row R (local_incoming R s.taken p)) z)) (sym rows.2) small)))
 
 pub drafts_are_the_plan : AgentDraftsAreThePlan
 drafts_are_the_plan N sized plant s A w x at ready =
@@ -137,8 +139,9 @@ drafts_are_the_plan N sized plant s A w x at ready =
     let V : PlantRows = A.view in
     let incoming : List ℕ = local_row V (λ t. amount_at V A.scheduled_receipts (pair_of x) t) in
     let gross : List ℕ = local_row V (λ t. amount_at V A.outside_demand (pair_of x) t + asked_within V (plans_of A) (pair_of x) t) in
-    ap (λ (q : PlantPair). one (plain q.params incoming gross)) rows.0
-    ∙ ap (λ (z : List ℕ). one (plain p.params z gross)) rows.1
-    ∙ ap (λ (z : List ℕ). one (plain p.params (local_row R (local_incoming R s.taken p)) z)) rows.2
+    ap (λ (q : PlantPair). one (data_of_terms (terms_of V.horizon q.params (firms_in V (pair_of x))) incoming gross)) rows.0
+    ∙ ap (λ (W : PlantRows). one (data_of_terms (terms_of W.horizon p.params (firms_in W (pair_of x))) incoming gross)) w.shown.view
+    ∙ ap (λ (z : List ℕ). one (data_of_terms (terms_in R p) z gross)) rows.1
+    ∙ ap (λ (z : List ℕ). one (data_of_terms (terms_in R p) (local_row R (local_incoming R s.taken p)) z)) rows.2
     ∙ (network.drafts_are_the_plan N sized.table sized.loop_free plant s.taken s.planned (plans_of A)
     (works N plant s A w) x at ready).plan

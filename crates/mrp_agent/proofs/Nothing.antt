@@ -6,7 +6,7 @@ use Rattle.std.proofs.lemmas.List.{get_or_default}
 use Rattle.std.proofs.lemmas.List.Elements.{Contains-get_or}
 use Rattle.std.proofs.lemmas.List.Sums.{passes_at_first}
 use Rattle.mrp_qty.specs.declared.quantity.TheConstants.{MOST}
-use Rattle.mrp_netting.specs.PlanningData.{plain, one}
+use Rattle.mrp_netting.specs.PlanningData.{planned as data_of_terms, one}
 use Rattle.mrp_master_data.specs.declared.numbers.ItemNo.{ItemNo}
 use Rattle.mrp_master_data.specs.declared.numbers.PairNo.{PairNo}
 use Rattle.mrp_net.specs.declared.lane.LaneKind.TheVariants.{Schedule}
@@ -25,7 +25,8 @@ use Rattle.mrp_readiness.specs.ReadinessLaws.{NothingIsOpen}
 use Rattle.mrp_readiness.specs.Progress.{IsListed, is_planned}
 use Rattle.mrp_readiness.proofs.Counting.{ready_where_nothing_is_open}
 use Rattle.mrp_protocol.specs.State.{changed}
-use Rattle.mrp_protocol.specs.LocalPlans.{amount_at, asked_within, booked_on, local_incoming, local_gross}
+use Rattle.mrp_protocol.specs.LocalPlans.{amount_at, asked_within, booked_on, firms_in, local_gross, local_incoming, terms_in}
+use Rattle.mrp_net.specs.Terms.{terms_of}
 use Rattle.mrp_protocol.specs.LocalPlans.{local_plan, local_row, AwaitsNothing, Carries, HasCome}
 use Rattle.mrp_agent.specs.Drafts.{CanDraft, drafted}
 use Rattle.mrp_agent.specs.Kept.{Indexes, IsKept}
@@ -155,6 +156,6 @@ draft_is_local A p sent taken planned view there can shows =
     (shows.outside_demand p there t low)
     (omega (arith, most)) in
     omega (arith, demand)) in
-    ap (λ (q : PlantPair). one (plain q.params (local_row V receipts) (local_row V asked))) (pair_is V view p there)
-    ∙ ap (λ (row : List ℕ). one (plain p.params row (local_row V asked))) incoming
-    ∙ ap (λ (row : List ℕ). one (plain p.params (local_row V (local_incoming V taken p)) row)) gross
+    ap (λ (q : PlantPair). one (data_of_terms (terms_of V.horizon q.params (firms_in V p.number)) (local_row V receipts) (local_row V asked))) (pair_is V view p there)
+    ∙ ap (λ (row : List ℕ). one (data_of_terms (terms_in V p) row (local_row V asked))) incoming
+    ∙ ap (λ (row : List ℕ). one (data_of_terms (terms_in V p) (local_row V (local_incoming V taken p)) row)) gross

@@ -1,13 +1,13 @@
 -- A pair of the plant stands at a place of an agent.
 use Rattle.std.proofs.Common.{◌≡◌, ℕ, ◌<◌, ◌==◌, Option, Some, length, position, sym, subst, arith}
 use Rattle.std.specs.List.{Contains}
-use Rattle.mrp_netting.specs.Bound.{IsWithin}
+use Rattle.mrp_netting.specs.PlanningBound.{IsWithinData}
 use Rattle.mrp_master_data.specs.declared.numbers.PairNo.{PairNo}
 use Rattle.mrp_plant_view.specs.Seen.{IsOwnPair}
 use Rattle.mrp_readiness.specs.Progress.{IsListed}
-use Rattle.mrp_agent.specs.Drafts.{CanDraft, drafted_gross, drafted_incoming, ready_numbers}
+use Rattle.mrp_agent.specs.Drafts.{CanDraft, drafted_data, ready_numbers}
 use Rattle.mrp_agent.specs.Kept.{Indexes, IsKept}
-use Rattle.mrp_agent.specs.State.{AgentState, pair_owned, pair_place}
+use Rattle.mrp_agent.specs.State.{AgentState, pair_place}
 use Rattle.mrp_agent.proofs.Owning.{own_found, own_place_is, own_within}
 use Rattle.mrp_agent.proofs.Ready.{ready_place, ready_there}
 
@@ -61,7 +61,7 @@ ready_from {A} {S} {I} {x} {place} same h there =
     (ready_there A h.kept.view h.kept.rooms x h.own (subst (Contains A.progress.ready) h.at there))
 
 pub can_draft : {A S : AgentState} {I : Indexes} {x : PairNo} {place : ℕ} → A ≡ S → IsAtPlace A I x place → IsOwnPair S.view x → Contains A.progress.ready place
-    → (Contains (ready_numbers S) x → IsWithin (pair_owned S.view x).params (drafted_incoming S x) (drafted_gross S x)) → CanDraft S x
+    → (Contains (ready_numbers S) x → IsWithinData (drafted_data S x)) → CanDraft S x
 can_draft {A} {S} {I} {x} {place} same h own there within =
     let ready : Contains (ready_numbers S) x = ready_from same h there in
     record { own = own; ready = ready; within = within ready }

@@ -7,7 +7,7 @@ use Rattle.std.proofs.lemmas.List.{get_or-set_same, get_or-set_other}
 use Rattle.std.proofs.lemmas.List.Elements.{All-head, All-tail}
 use Rattle.std.proofs.lemmas.List.Sums.{sum_by-cons}
 use Rattle.mrp_netting.specs.PlanRows.{PlanRows}
-use Rattle.mrp_netting.specs.PlanningData.{plain, one}
+use Rattle.mrp_netting.specs.PlanningData.{planned as data_of_terms, one}
 use Rattle.mrp_master_data.specs.declared.numbers.PairNo.{PairNo}
 use Rattle.mrp_net.specs.declared.lane.LaneKind.TheVariants.{Schedule}
 use Rattle.mrp_net.specs.Plan.{no_rows}
@@ -19,7 +19,7 @@ use Rattle.mrp_record.specs.declared.record.Record.{Record}
 use Rattle.mrp_record.specs.Cursor.{OutFigures}
 use Rattle.mrp_readiness.specs.Progress.{Progress, is_planned}
 use Rattle.mrp_protocol.specs.State.{changed}
-use Rattle.mrp_protocol.specs.LocalPlans.{amount_at, booked_on, local_incoming, local_gross, local_plan, local_row}
+use Rattle.mrp_protocol.specs.LocalPlans.{amount_at, booked_on, local_gross, local_incoming, local_plan, local_row, terms_in}
 use Rattle.mrp_agent.specs.State.{AgentState, pair_place, plans_of}
 use Rattle.mrp_agent.specs.After.{after_settled}
 use Rattle.mrp_agent.specs.Kept.{HasRooms}
@@ -73,7 +73,7 @@ local_same V taken plans others p h =
     map_same (local_gross V taken plans p) (local_gross V taken others p) 0 V.horizon
     (λ t _. let asked = asked_same V plans others p.number.0 t V.edges h in
     ap (λ (n : ℕ). amount_at V V.demands p.number t + n + booked_on Schedule V taken p.item t) asked) in
-    ap (λ (row : List ℕ). one (plain p.params (local_row V (local_incoming V taken p)) row)) gross
+    ap (λ (row : List ℕ). one (data_of_terms (terms_in V p) (local_row V (local_incoming V taken p)) row)) gross
 
 -- ---- which pairs are planned
 

@@ -4,25 +4,22 @@ use Rattle.std.proofs.lemmas.List.{length-set}
 use Rattle.std.proofs.lemmas.List.Elements.{All-set}
 use Rattle.std.proofs.lemmas.List.FromFn.{length-map-range_with_len}
 use Rattle.mrp_netting.specs.PlanRows.{PlanRows}
-use Rattle.mrp_netting.proofs.PlainRows.{one-gross, length-one-release}
-use Rattle.mrp_netting.specs.declared.params.PairParams.{PairParams}
+use Rattle.mrp_netting.proofs.OneRows.{one-gross, length-one-release}
 use Rattle.mrp_master_data.specs.declared.numbers.PairNo.{PairNo}
 use Rattle.mrp_protocol.specs.LocalPlans.{amount_at, asked_within}
-use Rattle.mrp_agent.specs.Drafts.{drafted, drafted_gross, drafted_incoming}
+use Rattle.mrp_agent.specs.Drafts.{drafted, drafted_data, drafted_gross}
 use Rattle.mrp_agent.specs.Kept.{HasPlanRows, Indexes, IsKept}
-use Rattle.mrp_agent.specs.State.{AgentState, pair_owned, plans_of}
+use Rattle.mrp_agent.specs.State.{AgentState, plans_of}
 use Rattle.mrp_agent.proofs.Placing.{IsAtPlace, place_within}
 
 pub drafted_periods : (A : AgentState) (x : PairNo) → HasPlanRows A.view (drafted A x)
 drafted_periods A x =
-    let params : PairParams = (pair_owned A.view x).params in
-    let incoming : List ℕ = drafted_incoming A x in
     let gross : List ℕ = drafted_gross A x in
     let size : length gross ≡ A.view.horizon =
     length-map-range_with_len (λ (t : ℕ). amount_at A.view A.outside_demand x t + asked_within A.view (plans_of A) x t) 0 A.view.horizon in
     record {
-      gross = ap length (one-gross params incoming gross) ∙ size;
-      release = length-one-release params incoming gross ∙ size;
+      gross = ap length (one-gross (drafted_data A x)) ∙ size;
+      release = length-one-release (drafted_data A x) ∙ size;
     }
 
 -- the plan at a place has as many periods as a draft

@@ -2,8 +2,9 @@
 use Rattle.std.specs.Prelude.{◌≡◌, ℕ, ◌*◌, ◌<◌, ◌+◌, List, length, map, sum_by, slice_index, slice_index_or, All}
 use Rattle.std.specs.List.{range_with_len}
 use Rattle.mrp_netting.specs.PlanRows.{PlanRows}
-use Rattle.mrp_netting.specs.Bound.{IsWithin}
-use Rattle.mrp_netting.specs.declared.params.PairParams.{PairParams}
+use Rattle.mrp_netting.specs.PlanningBound.{IsWithinData}
+use Rattle.mrp_netting.specs.PlanningData.{PairTerms, planned}
+use Rattle.mrp_master_data.specs.declared.rows.FirmRow.{FirmRow}
 use Rattle.mrp_agent.specs.declared.edges.ParentEdge.{ParentEdge}
 use Rattle.mrp_net.specs.Plan.{no_rows}
 
@@ -27,8 +28,13 @@ pub record ParentCanAsk (plans : List PlanRows) (periods : ℕ) (e : ParentEdge)
 abbrev pub grossed : List ℕ → List ParentEdge → List PlanRows → List ℕ
 grossed demand edges plans = map (λ t. slice_index demand t + asked_by plans edges t) (range_with_len 0 (length demand))
 
+-- a firm planned order is released and due within so many periods
+pub record IsFirmWithin (periods : ℕ) (f : FirmRow) : Type 0 where
+  pub start : f.start < periods
+  pub due : f.due < periods
+
 -- what a pair's plan is drafted from
-pub record HasDraft (params : PairParams) (receipts demand : List ℕ) (edges : List ParentEdge)
+pub record HasDraft (terms : PairTerms) (receipts demand : List ℕ) (edges : List ParentEdge)
     (plans : List PlanRows) : Type 0 where
-  pub within : IsWithin params receipts (grossed demand edges plans)
+  pub within : IsWithinData (planned terms receipts (grossed demand edges plans))
   pub edges_are : All (ParentCanAsk plans (length demand)) edges

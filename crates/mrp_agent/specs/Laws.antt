@@ -1,6 +1,6 @@
 -- Laws of agents in a network: what they plan is its plan, and what they send is what its lanes carry.
 use Rattle.std.specs.Prelude.{◌≡◌, ℕ, ◌<◌, true, [], ◌∷◌, ◌++◌, length}
-use Rattle.mrp_netting.specs.Bound.{IsWithin}
+use Rattle.mrp_netting.specs.PlanningBound.{IsWithinData}
 use Rattle.mrp_master_data.specs.Table.{Table, IsTable}
 use Rattle.mrp_net.specs.Lanes.{lane_at}
 use Rattle.mrp_plant_view.specs.Seen.{IsView}
@@ -18,7 +18,7 @@ use Rattle.mrp_protocol.specs.LocalLaws.{IsPairAt, IsReadyAt}
 use Rattle.mrp_agent.specs.State.{AgentState, outgoing_at, plans_of, pair_owned}
 use Rattle.mrp_agent.specs.Sending.{ContinuesSent, NothingContinues, IsWithin64}
 use Rattle.mrp_agent.specs.Kept.{HasSmallOpenings}
-use Rattle.mrp_agent.specs.Drafts.{drafted, drafted_gross, drafted_incoming}
+use Rattle.mrp_agent.specs.Drafts.{drafted, drafted_data}
 use Rattle.mrp_agent.specs.InNetwork.{WorksIn}
 
 -- the plan that it keeps of a planned pair is the network's
@@ -34,7 +34,7 @@ AgentDraftsAreWithin =
     (N : Table) → IsSized N
     → (plant : ℕ) (s : State) (A : AgentState) → WorksIn N plant s A
     → (x : ℕ) → IsPairAt N plant x → IsReadyAt N plant s.taken s.planned x
-    → IsWithin (pair_owned A.view (pair_of x)).params (drafted_incoming A (pair_of x)) (drafted_gross A (pair_of x))
+    → IsWithinData (drafted_data A (pair_of x))
 
 -- and what it drafts by them is the network's plan of the pair
 abbrev pub AgentDraftsAreThePlan : Type 0

@@ -1,10 +1,12 @@
-//! How the plan of a pair is drafted from its scheduled receipts, the demand from outside and its parents' plans.
+//! How the plan of a pair is drafted from its scheduled receipts, its firm planned orders, the demand from outside and
+//! its parents' plans.
 
-ghost use Rattle.std.specs.Prelude.{◌≡◌, ◌<◌, ◌≤◌, ◌+◌, ◌*◌, ℕ, All, length, map, slice_index};
+ghost use Rattle.std.specs.Prelude.{◌≡◌, ◌<◌, ◌≤◌, ◌+◌, ◌*◌, ℕ, [], All, length, map, slice_index, slice_index_or};
 ghost use Rattle.mrp_qty.specs.declared.quantity.TheConstants.{MOST};
-ghost use Rattle.mrp_netting.specs.PlanningData.{plain, one};
+ghost use Rattle.mrp_netting.specs.PlanningData.{planned, one};
+ghost use Rattle.mrp_net.specs.Terms.{terms_of};
 ghost use Rattle.mrp_grouping.specs.Starts.{IsGrouped};
-ghost use Rattle.mrp_agent.specs.Asking.{ParentCanAsk, HasDraft, asked_by, asked_on, grossed};
+ghost use Rattle.mrp_agent.specs.Asking.{ParentCanAsk, HasDraft, IsFirmWithin, asked_by, asked_on, grossed};
 ghost use Rattle.mrp_agent.specs.Kept.{parent_edge};
 ghost use Rattle.mrp_agent.specs.Rows.{edges_at, part_at};
 ghost use Rattle.mrp_agent.specs.State.{plant_pair_at};
@@ -12,16 +14,17 @@ ghost use Rattle.mrp_agent.specs.State.{plant_pair_at};
 use crate::Agent;
 use crate::edges::ParentEdge;
 use mrp_grouping::Groups;
-use mrp_net::PairNo;
-use mrp_netting::{PairParams, PairPlan, PlanningData, plan_from};
+use mrp_net::{FirmRow, PairNo, plan_with_firm_orders};
+use mrp_netting::{PairParams, PairPlan};
 use mrp_plant_view::PlantFrame;
 use mrp_qty::Row;
 
-/// What the plan of a pair is drafted from, beside the plans of its parents: what it is planned by, its scheduled
-/// receipts and the demand from outside by period, and the edges to its parents.
+/// What the plan of a pair is drafted from, beside the plans of its parents: what it is planned by, its firm planned
+/// orders, its scheduled receipts and the demand from outside by period, and the edges to its parents.
 #[derive(Clone, Copy)]
 pub(crate) struct PairRows<'a> {
     params: PairParams,
+    firms: &'a [FirmRow],
     receipts: &'a [u64],
     demand: &'a [u64],
     edges: &'a [ParentEdge],
@@ -78,11 +81,13 @@ pub(crate) fn pair_rows<'a>(
     place: usize,
 ) -> PairRows<'a>
     requires place { place < length view.now.pairs }
+    requires firms { length view.now.firms ≡ length view.now.pairs }
     requires edges { IsGrouped (λ e. e.component) (length view.now.pairs) (map (parent_edge view.now) view.now.edges)
         edges.now.rows.items edges.now.starts.items }
     requires receipts { length receipts.now ≡ length view.now.pairs * view.now.horizon }
     requires demand { length demand.now ≡ length view.now.pairs * view.now.horizon }
     ensures params { result.params ≡ (plant_pair_at view.now place).params }
+    ensures firms { result.firms.now ≡ slice_index_or view.now.firms place [] }
     ensures receipts { result.receipts.now ≡ part_at view.now.horizon place receipts.now }
     ensures demand { result.demand.now ≡ part_at view.now.horizon place demand.now }
     ensures edges { result.edges.now ≡ edges_at view.now place }
@@ -90,6 +95,7 @@ pub(crate) fn pair_rows<'a>(
     let periods = view.horizon().get() as usize;
     PairRows {
         params: view.pairs()[place].params,
+        firms: view.firms().at(place),
         receipts: part_of(receipts, periods, place),
         demand: part_of(demand, periods, place),
         edges: edges.get(place),
@@ -105,25 +111,27 @@ fn part_of(amounts: &[u64], periods: usize, place: usize) -> &[u64]
     &amounts[begin..begin + periods]
 }
 
-/// Writes the plan of a pair from its scheduled receipts, the demand from outside, and the plans of its parents.
+/// Writes the plan of a pair from its scheduled receipts, its firm planned orders, the demand from outside, and the
+/// plans of its parents.
 pub(crate) fn draft_from(
     rows: &PairRows<'_>,
     plans: &[PairPlan],
     gross: &mut Row,
     into: &mut PairPlan,
 )
-    requires draft { HasDraft rows.now.params rows.now.receipts.now rows.now.demand.now rows.now.edges.now plans.now }
+    requires draft { HasDraft (terms_of (length rows.now.demand.now) rows.now.params rows.now.firms.now)
+        rows.now.receipts.now rows.now.demand.now rows.now.edges.now plans.now }
+    requires firms { All (IsFirmWithin (length rows.now.demand.now)) rows.now.firms.now }
     requires gross { length gross.old ≡ length rows.now.demand.now }
     requires into { length into.old.gross ≡ length rows.now.demand.now }
-    ensures plan { into.new ≡ one (plain rows.now.params rows.now.receipts.now
-        (grossed rows.now.demand.now rows.now.edges.now plans.now)) }
+    ensures plan { into.new ≡ one (planned (terms_of (length rows.now.demand.now) rows.now.params rows.now.firms.now)
+        rows.now.receipts.now (grossed rows.now.demand.now rows.now.edges.now plans.now)) }
     ensures gross { length gross.new ≡ length gross.old }
 {
     let _periods = gross.len();
     gross.copy_pieces(rows.demand);
     add_asked(rows.edges, plans, gross);
-    let given = PlanningData::plain(rows.params, rows.receipts);
-    plan_from(&given, gross, into);
+    plan_with_firm_orders(rows.params, rows.firms, rows.receipts, gross, into);
 }
 
 /// Adds to `gross` what the releases of a pair's parents ask of it.

@@ -8,14 +8,14 @@ use mrp_net::PairNo;
 impl Agent {
     ghost use Rattle.std.specs.Prelude.{◌≡◌, ◌↔◌, ◌+◌, ℕ, Bool, true, List, Contains, IsTrue, slice_set};
     ghost use Rattle.std.specs.Bool.{OnFalse, OnTrue};
-    ghost use Rattle.mrp_netting.specs.Bound.{IsWithin};
+    ghost use Rattle.mrp_netting.specs.PlanningBound.{IsWithinData};
     ghost use Rattle.mrp_master_data.specs.declared.numbers.PairNo.{PairNo};
     ghost use Rattle.mrp_record.specs.declared.record.Record.{Record};
     ghost use Rattle.mrp_readiness.specs.Progress.{IsFree, left_of};
     ghost use Rattle.mrp_plant_view.specs.Seen.{IsOwnPair};
     ghost use Rattle.mrp_protocol.specs.State.{changed};
-    ghost use Rattle.mrp_agent.specs.State.{pair_owned, pair_place, plans_of};
-    ghost use Rattle.mrp_agent.specs.Drafts.{CanDraft, drafted, drafted_gross, drafted_incoming, ready_numbers};
+    ghost use Rattle.mrp_agent.specs.State.{pair_place, plans_of};
+    ghost use Rattle.mrp_agent.specs.Drafts.{CanDraft, drafted, drafted_data, ready_numbers};
     ghost use Rattle.mrp_agent.specs.Marking.{IsMarked};
     ghost use Rattle.mrp_agent.specs.Reading.{OwnCanBePlanned};
     ghost use Rattle.mrp_agent.specs.Shows.{ShowsHistory};
@@ -25,7 +25,7 @@ impl Agent {
     pub fn plan(&mut self, x: PairNo) -> bool
         requires own { IsOwnPair self.old.view x }
         requires within { Contains (ready_numbers self.old) x
-            → IsWithin (pair_owned self.old.view x).params (drafted_incoming self.old x) (drafted_gross self.old x) }
+            → IsWithinData (drafted_data self.old x) }
         ensures view { self.new.view ≡ self.old.view }
         ensures can { IsTrue result ↔ Contains (ready_numbers self.old) x }
         ensures exact { (sent taken : ℕ → List Record) (planned : ℕ → Bool) → ShowsHistory self.old sent taken planned

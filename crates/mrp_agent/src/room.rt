@@ -1,9 +1,11 @@
 //! What the plan of a pair is drafted in.
 
 ghost use Rattle.std.specs.Prelude.{◌≡◌, IfOk, length};
-ghost use Rattle.mrp_netting.specs.PlanningData.{plain, one};
+ghost use Rattle.std.specs.Prelude.{All};
+ghost use Rattle.mrp_netting.specs.PlanningData.{planned, one};
 ghost use Rattle.mrp_netting.specs.Plan.{nothing_planned};
-ghost use Rattle.mrp_agent.specs.Asking.{HasDraft, grossed};
+ghost use Rattle.mrp_net.specs.Terms.{terms_of};
+ghost use Rattle.mrp_agent.specs.Asking.{HasDraft, IsFirmWithin, grossed};
 ghost use Rattle.mrp_agent.specs.Drafts.{CanDraft, drafted};
 
 use crate::Agent;
@@ -64,14 +66,15 @@ impl Room {
         &self.plan
     }
 
-    /// Drafts the plan of a pair from its scheduled receipts, the demand from outside, and the plans of its
-    /// parents.
+    /// Drafts the plan of a pair from its scheduled receipts, its firm planned orders, the demand from outside, and
+    /// the plans of its parents.
     pub(crate) fn draft_rows(&mut self, rows: &PairRows<'_>, plans: &[PairPlan])
-        requires draft { HasDraft rows.now.params rows.now.receipts.now rows.now.demand.now rows.now.edges.now
-            plans.now }
+        requires draft { HasDraft (terms_of (length rows.now.demand.now) rows.now.params rows.now.firms.now)
+            rows.now.receipts.now rows.now.demand.now rows.now.edges.now plans.now }
+        requires firms { All (IsFirmWithin (length rows.now.demand.now)) rows.now.firms.now }
         requires periods { length self.old.gross ≡ length rows.now.demand.now }
-        ensures { self.new ≡ one (plain rows.now.params rows.now.receipts.now
-            (grossed rows.now.demand.now rows.now.edges.now plans.now)) }
+        ensures { self.new ≡ one (planned (terms_of (length rows.now.demand.now) rows.now.params rows.now.firms.now)
+            rows.now.receipts.now (grossed rows.now.demand.now rows.now.edges.now plans.now)) }
     {
         draft_from(rows, plans, &mut self.gross, &mut self.plan);
     }

@@ -4,11 +4,11 @@ use Rattle.std.proofs.Math.Seq.{take-suc}
 use Rattle.std.specs.List.{AllPairs}
 use Rattle.std.proofs.lemmas.List.FromFn.{length-map-range_with_len}
 use Rattle.std.proofs.lemmas.List.Elements.{All-push, All-take, All-weaker}
-use Rattle.mrp_netting.proofs.PlainRows.{one-gross}
+use Rattle.mrp_netting.proofs.OneRows.{one-gross}
 use Rattle.mrp_master_data.specs.declared.numbers.PairNo.{PairNo}
 use Rattle.mrp_protocol.specs.LocalPlans.{amount_at, asked_within}
-use Rattle.mrp_agent.specs.Drafts.{CanDraft, drafted, drafted_gross, drafted_incoming, ready_numbers}
-use Rattle.mrp_agent.specs.State.{AgentState, pair_owned, plans_of}
+use Rattle.mrp_agent.specs.Drafts.{CanDraft, drafted, drafted_data, ready_numbers}
+use Rattle.mrp_agent.specs.State.{AgentState, plans_of}
 use Rattle.mrp_crew.specs.declared.work.Drafts.{Drafts}
 use Rattle.mrp_crew.specs.declared.work.Work.{Work}
 use Rattle.mrp_crew.specs.Rooms.{AreDrafts, WorkedFor}
@@ -18,7 +18,7 @@ use Rattle.mrp_crew.proofs.Fronts.{All-front, All-from_map, All-reverse, AllPair
 -- a draft is of the agent's periods
 pub drafted_periods : (A : AgentState) (x : PairNo) → length (drafted A x).gross ≡ A.view.horizon
 drafted_periods A x =
-    ap length (one-gross (pair_owned A.view x).params (drafted_incoming A x) (drafted_gross A x))
+    ap length (one-gross (drafted_data A x))
     ∙ length-map-range_with_len (λ t. amount_at A.view A.outside_demand x t + asked_within A.view (plans_of A) x t) 0 A.view.horizon
 
 -- what the workers bring back, in the order of the pairs

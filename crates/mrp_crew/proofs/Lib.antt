@@ -5,3 +5,4 @@ pub mod Keeping
 pub mod Drafting
 pub mod Joining
 pub mod ShutGates
+pub mod Crossing

@@ -4,6 +4,7 @@ use denote.Param.Send.{IsSend, IsSync, recorded_send, recorded_sync, struct_send
 use denote.Struct.Declared.{shape}
 use Rattle.std.proofs.Crossing.{Vec-send, Vec-sync, crosses}
 use Rattle.mrp_qty.proofs.horizon.Horizon.TheSendSync as horizon
+use Rattle.mrp_plant_view.proofs.firms.FirmOrders.TheSendSync as firms
 use Rattle.mrp_plant_view.proofs.view.IncomingLane.TheSendSync as incoming
 use Rattle.mrp_plant_view.proofs.view.OutgoingLane.TheSendSync as outgoing
 use Rattle.mrp_plant_view.proofs.view.PlantEdge.TheSendSync as edge
@@ -18,7 +19,7 @@ fields_send = struct_send (shape inside.the_type) (
     Vec-send _ pair.the_send,
     (
       Vec-send _ edge.the_send,
-      (search crosses, (search crosses, (Vec-send _ incoming.the_send, (Vec-send _ outgoing.the_send, tt)))),
+      (search crosses, (search crosses, (firms.the_send, (Vec-send _ incoming.the_send, (Vec-send _ outgoing.the_send, tt))))),
     ),
   ),
 )
@@ -30,7 +31,7 @@ fields_sync = struct_sync (shape inside.the_type) (
     Vec-sync _ pair.the_sync,
     (
       Vec-sync _ edge.the_sync,
-      (search crosses, (search crosses, (Vec-sync _ incoming.the_sync, (Vec-sync _ outgoing.the_sync, tt)))),
+      (search crosses, (search crosses, (firms.the_sync, (Vec-sync _ incoming.the_sync, (Vec-sync _ outgoing.the_sync, tt))))),
     ),
   ),
 )

@@ -1,5 +1,6 @@
 pub mod Calling
 pub mod Loading
+pub mod FirmSpans
 pub mod PairRows
 pub mod Pushing
 pub mod Once

@@ -8,10 +8,10 @@ use Rattle.mrp_net.specs.declared.lane.Shipment.{Shipment}
 use Rattle.mrp_plant_view.specs.declared.view.OutgoingRow.{OutgoingRow}
 use Rattle.mrp_plant_view.specs.Loads.{OutgoingLoad, load, row_load, loads_of, IsShipmentRange, AreParts}
 
-part_stays : {X : Type 0} (xs ys : List X) (i j : ℕ) → j ≤ length xs → slice_range (xs ++ ys) i j ≡ slice_range xs i j
+pub part_stays : {X : Type 0} (xs ys : List X) (i j : ℕ) → j ≤ length xs → slice_range (xs ++ ys) i j ≡ slice_range xs i j
 part_stays xs ys i j h = between_is (xs ++ ys) i j ∙ ap (drop i) (take-append-le j xs ys h) ∙ sym (between_is xs i j)
 
-last_part : {X : Type 0} (xs ys : List X) (i j : ℕ) → i ≡ length xs → j ≡ length xs + length ys → slice_range (xs ++ ys) i j ≡ ys
+pub last_part : {X : Type 0} (xs ys : List X) (i j : ℕ) → i ≡ length xs → j ≡ length xs + length ys → slice_range (xs ++ ys) i j ≡ ys
 last_part {X} xs ys i j begin end =
     between_is (xs ++ ys) i j
     ∙ ap (drop i) (take_all j (xs ++ ys) (omega (arith, length-append xs ys)))

@@ -15,8 +15,10 @@ use Rattle.mrp_plant_view.specs.declared.view.IncomingLane.{IncomingLane}
 use Rattle.mrp_plant_view.specs.declared.view.OutgoingLane.{OutgoingLane}
 use Rattle.mrp_plant_view.specs.declared.view.PlantEdge.{PlantEdge}
 use Rattle.mrp_plant_view.specs.declared.view.PlantPair.{PlantPair}
+use Rattle.mrp_master_data.specs.declared.rows.FirmRow.{FirmRow}
+use Rattle.mrp_net.specs.FirmOrders.{firms_of}
 use Rattle.mrp_net.specs.Sums.{row_of, demand, received}
-use Rattle.mrp_plant_view.specs.View.{PlantRows, plant_pairs, plant_edges, plant_amounts, edges_to, incoming_item, incoming_lane, incoming_lanes, outgoing_item}
+use Rattle.mrp_plant_view.specs.View.{PlantRows, plant_pairs, plant_edges, plant_amounts, plant_firms, edges_to, incoming_item, incoming_lane, incoming_lanes, outgoing_item}
 use Rattle.mrp_plant_view.specs.View.{outgoing_lane, outgoing_lanes, plant_rows}
 use Rattle.mrp_grouping.proofs.Grouping.{range-suc}
 
@@ -61,6 +63,14 @@ flat_pushed {X} {Y} f xs i x now next lt read was new =
     ∙ ap (λ (z : List Y). flat_map f (take i xs) ++ z) (sym (append-nil (f x)) ∙ ap (λ (z : X). flat_map f (z ∷ [])) read)
     ∙ sym (ap (flat_map f) (take_more xs i x lt) ∙ flat_map-append f (take i xs) (get_or xs i x ∷ []))
 
+pub map_pushed : {X Y : Type 0} (f : X → Y) (xs : List X) (i : ℕ) (x : X) (now next : List Y) → i < length xs → x ≡ get_or xs i x
+    → now ≡ map f (take i xs) → next ≡ now ++ f x ∷ [] → next ≡ map f (take (i + 1) xs)
+map_pushed {X} {Y} f xs i x now next lt read was new =
+    new
+    ∙ ap (λ (z : List Y). z ++ f x ∷ []) was
+    ∙ ap (λ (z : X). map f (take i xs) ++ f z ∷ []) read
+    ∙ sym (ap (map f) (take_more xs i x lt) ∙ map-append f (take i xs) (get_or xs i x ∷ []))
+
 -- and all of them
 pub taken_all : {X Y : Type 0} (f : List X → List Y) (xs : List X) (i : ℕ) (now : List Y) → length xs ≤ i → now ≡ f (take i xs) → now ≡ f xs
 taken_all f xs i now end was = was ∙ ap f (take_all i xs end)
@@ -84,28 +94,38 @@ pub is_outgoing : (N : Table) (l : ℕ) (lane : Lane) (items : List OutgoingLoad
 is_outgoing N l lane items same its = rw (same, its) refl
 
 -- all parts of the view
-abbrev rows : ℕ → List PlantPair → List PlantEdge → List ℕ → List ℕ → List IncomingLane → List OutgoingLane → PlantRows
-rows h pairs edges demands receipts ins outs =
-    record { horizon = h; pairs = pairs; edges = edges; demands = demands; receipts = receipts; incoming = ins; outgoing = outs }
+abbrev rows : ℕ → List PlantPair → List PlantEdge → List ℕ → List ℕ → List (List FirmRow) → List IncomingLane → List OutgoingLane → PlantRows
+rows h pairs edges demands receipts firms ins outs = record {
+  horizon = h;
+  pairs = pairs;
+  edges = edges;
+  demands = demands;
+  receipts = receipts;
+  firms = firms;
+  incoming = ins;
+  outgoing = outs;
+}
 
-pub rows_are : (N : Table) (plant h : ℕ) (pairs : List PlantPair) (edges : List PlantEdge) (demands receipts : List ℕ) (ins : List IncomingLane)
-    (outs : List OutgoingLane)
+pub rows_are : (N : Table) (plant h : ℕ) (pairs : List PlantPair) (edges : List PlantEdge) (demands receipts : List ℕ) (firms : List (List FirmRow))
+    (ins : List IncomingLane) (outs : List OutgoingLane)
     → h ≡ horizon N → pairs ≡ plant_pairs N plant → edges ≡ flat_map (λ p. edges_to N p.number.0) pairs
     → demands ≡ flat_map (λ p. row_of N (demand N p.number.0)) pairs → receipts ≡ flat_map (λ p. row_of N (received N p.number.0)) pairs
-    → ins ≡ incoming_lanes N plant → outs ≡ outgoing_lanes N plant
-    → rows h pairs edges demands receipts ins outs ≡ plant_rows N plant
-rows_are N plant h pairs edges demands receipts ins outs is_h is_pairs is_edges is_demands is_receipts is_ins is_outs =
+    → firms ≡ map (λ p. firms_of N p.number.0) pairs → ins ≡ incoming_lanes N plant → outs ≡ outgoing_lanes N plant
+    → rows h pairs edges demands receipts firms ins outs ≡ plant_rows N plant
+rows_are N plant h pairs edges demands receipts firms ins outs is_h is_pairs is_edges is_demands is_receipts is_firms is_ins is_outs =
     let all = plant_pairs N plant in
-    let edges_are : edges ≡ plant_edges N plant = is_edges ∙ ap (flat_map (λ (p : PlantPair). edges_to N p.number.0)) is_pairs in
-    let demands_are : demands ≡ plant_amounts N (demand N) plant = is_demands ∙ ap (flat_map (λ (p : PlantPair). row_of N (demand N p.number.0))) is_pairs in
-    let receipts_are : receipts ≡ plant_amounts N (received N) plant =
-    is_receipts ∙ ap (flat_map (λ (p : PlantPair). row_of N (received N p.number.0))) is_pairs in
-    ap (λ (z : ℕ). rows z pairs edges demands receipts ins outs) is_h
-    ∙ ap (λ (z : List PlantPair). rows (horizon N) z edges demands receipts ins outs) is_pairs
-    ∙ ap (λ (z : List PlantEdge). rows (horizon N) all z demands receipts ins outs) edges_are
-    ∙ ap (λ (z : List ℕ). rows (horizon N) all (plant_edges N plant) z receipts ins outs) demands_are
-    ∙ ap (λ (z : List ℕ). rows (horizon N) all (plant_edges N plant) (plant_amounts N (demand N) plant) z ins outs) receipts_are
-    ∙ ap (λ (z : List IncomingLane). rows (horizon N) all (plant_edges N plant) (plant_amounts N (demand N) plant) (plant_amounts N (received N) plant) z outs)
-    is_ins
-    ∙ ap (λ (z : List OutgoingLane). rows (horizon N) all (plant_edges N plant) (plant_amounts N (demand N) plant) (plant_amounts N (received N) plant)
-    (incoming_lanes N plant) z) is_outs
+    let own_edges = plant_edges N plant in
+    let own_demands = plant_amounts N (demand N) plant in
+    let own_receipts = plant_amounts N (received N) plant in
+    let edges_are : edges ≡ own_edges = is_edges ∙ ap (flat_map (λ (p : PlantPair). edges_to N p.number.0)) is_pairs in
+    let demands_are : demands ≡ own_demands = is_demands ∙ ap (flat_map (λ (p : PlantPair). row_of N (demand N p.number.0))) is_pairs in
+    let receipts_are : receipts ≡ own_receipts = is_receipts ∙ ap (flat_map (λ (p : PlantPair). row_of N (received N p.number.0))) is_pairs in
+    let firms_are : firms ≡ plant_firms N plant = is_firms ∙ ap (map (λ (p : PlantPair). firms_of N p.number.0)) is_pairs in
+    ap (λ (z : ℕ). rows z pairs edges demands receipts firms ins outs) is_h
+    ∙ ap (λ (z : List PlantPair). rows (horizon N) z edges demands receipts firms ins outs) is_pairs
+    ∙ ap (λ (z : List PlantEdge). rows (horizon N) all z demands receipts firms ins outs) edges_are
+    ∙ ap (λ (z : List ℕ). rows (horizon N) all own_edges z receipts firms ins outs) demands_are
+    ∙ ap (λ (z : List ℕ). rows (horizon N) all own_edges own_demands z firms ins outs) receipts_are
+    ∙ ap (λ (z : List (List FirmRow)). rows (horizon N) all own_edges own_demands own_receipts z ins outs) firms_are
+    ∙ ap (λ (z : List IncomingLane). rows (horizon N) all own_edges own_demands own_receipts (plant_firms N plant) z outs) is_ins
+    ∙ ap (λ (z : List OutgoingLane). rows (horizon N) all own_edges own_demands own_receipts (plant_firms N plant) (incoming_lanes N plant) z) is_outs

@@ -1,11 +1,13 @@
 -- What every view of an accepted table says.
 use Rattle.std.proofs.Common.{◌∙◌, arith}
 use Rattle.std.specs.List.{filter}
-use Rattle.std.proofs.lemmas.List.{map-id}
+use Rattle.std.proofs.lemmas.List.{length-map, map-id}
 use Rattle.mrp_plant_view.specs.declared.view.IncomingLane.{IncomingLane}
 use Rattle.mrp_plant_view.specs.declared.view.OutgoingLane.{OutgoingLane}
+use Rattle.mrp_net.specs.FirmOrders.{firms_of}
 use Rattle.mrp_net.specs.Sums.{demand, received}
-use Rattle.mrp_plant_view.specs.View.{comes_to, goes_from, lane_numbers, incoming_lane, outgoing_lane}
+use Rattle.mrp_plant_view.proofs.FirmSpans.{firms_are}
+use Rattle.mrp_plant_view.specs.View.{comes_to, goes_from, lane_numbers, incoming_lane, outgoing_lane, plant_pairs}
 use Rattle.mrp_plant_view.specs.Laws.{ViewsSayEnough, ViewsHaveLanesIn, ViewsHaveLanesOut}
 use Rattle.mrp_plant_view.proofs.OwnEdges.{numbers_rise, by_component}
 use Rattle.mrp_net.proofs.Routing.{map-map}
@@ -25,6 +27,8 @@ views_say_enough N is plant = record {
   by_component = by_component N plant;
   demands = amounts_length N (demand N) plant;
   receipts = amounts_length N (received N) plant;
+  firms_by_pair = length-map (plant_pairs N plant) (λ p. firms_of N p.number.0);
+  firms = firms_are N plant is;
   incoming_once = incoming_stand_once N plant;
   incoming = incoming_are N plant is;
   outgoing_once = outgoing_stand_once N plant;

@@ -1,3 +1,4 @@
+pub mod Firms
 pub mod Loads
 pub mod View
 pub mod Seen

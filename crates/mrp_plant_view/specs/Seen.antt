@@ -8,6 +8,7 @@ use Rattle.mrp_lot.specs.Lot.{IsRule}
 use Rattle.mrp_lot.specs.declared.rule.TheConstants.{LONGEST_LEAD}
 use Rattle.mrp_master_data.specs.declared.numbers.ItemNo.{ItemNo}
 use Rattle.mrp_master_data.specs.declared.numbers.PairNo.{PairNo}
+use Rattle.mrp_master_data.specs.declared.rows.FirmRow.{FirmRow}
 use Rattle.mrp_qty.specs.declared.limits.TheConstants.{MOST_PAIRS, MOST_PER}
 use Rattle.mrp_qty.specs.declared.limits.TheConstants.{MOST_SHARE}
 use Rattle.mrp_master_data.specs.Table.{IsAmount}
@@ -41,6 +42,11 @@ pub record IsPlantPair (p : PlantPair) : Type 0 where
   pub lead : p.params.lead ≤ LONGEST_LEAD
   pub on_hand : IsAmount p.params.on_hand
   pub safety : IsAmount p.params.safety
+
+-- a firm planned order is released no later than it is due, and due within the periods
+pub record IsPlantFirm (V : PlantRows) (f : FirmRow) : Type 0 where
+  pub start : f.start ≤ f.due
+  pub due : f.due < V.horizon
 
 -- an edge joins two pairs of the plant
 pub record IsPlantEdge (V : PlantRows) (e : PlantEdge) : Type 0 where
@@ -120,6 +126,8 @@ pub record IsView (V : PlantRows) : Type 0 where
   pub by_component : IsNonDecreasingBy (λ e. e.component.0) V.edges
   pub demands : length V.demands ≡ length V.pairs * V.horizon
   pub receipts : length V.receipts ≡ length V.pairs * V.horizon
+  pub firms_by_pair : length V.firms ≡ length V.pairs
+  pub firms : All (All (IsPlantFirm V)) V.firms
   pub incoming_once : (l : ℕ) → count_by (λ lane. lane.number.0 == l) V.incoming ≤ 1
   pub incoming : All (IsIncomingLane V) V.incoming
   pub outgoing_once : (l : ℕ) → count_by (λ lane. lane.number.0 == l) V.outgoing ≤ 1

@@ -2,6 +2,7 @@
 use Rattle.std.specs.Prelude.{ℕ, ◌<◌, ◌==◌, Bool, List, [], length, map, filter, Option, None, Some}
 use Rattle.std.specs.List.{AllPairs, flat_map, range_with_len}
 use Rattle.mrp_master_data.specs.declared.numbers.ItemNo.{ItemNo}
+use Rattle.mrp_master_data.specs.declared.rows.FirmRow.{FirmRow}
 use Rattle.mrp_master_data.specs.Table.{Table, horizon, pair_no}
 use Rattle.mrp_net.specs.declared.edge.Edge.{Edge}
 use Rattle.mrp_net.specs.declared.lane.Lane.{Lane}
@@ -16,6 +17,7 @@ use Rattle.mrp_plant_view.specs.declared.view.OutgoingLane.{OutgoingLane}
 use Rattle.mrp_plant_view.specs.declared.view.PlantEdge.{PlantEdge}
 use Rattle.mrp_plant_view.specs.declared.view.PlantPair.{PlantPair}
 use Rattle.mrp_net.specs.Edges.{demanders}
+use Rattle.mrp_net.specs.FirmOrders.{firms_of}
 use Rattle.mrp_net.specs.Lanes.{lanes, lane_at, lane_items, figure, opening, shipments, reset, pair_on, supplier_of}
 use Rattle.mrp_net.specs.EdgeLaws.{is_local}
 use Rattle.mrp_plant_view.specs.Loads.{OutgoingLoad}
@@ -23,13 +25,15 @@ use Rattle.mrp_net.specs.Sources.{source_on}
 use Rattle.mrp_net.specs.Sums.{pair_at, params_at, row_of, demand, received}
 
 -- The number of periods; the plant's pairs; the components of those that are made; what the demand
--- rows and the receipt rows of each pair add up to, pair by pair and period by period; and the lanes.
+-- rows and the receipt rows of each pair add up to, pair by pair and period by period; the firm planned orders of each
+-- pair; and the lanes.
 pub record PlantRows : Type 0 where
   pub horizon : ℕ
   pub pairs : List PlantPair
   pub edges : List PlantEdge
   pub demands : List ℕ
   pub receipts : List ℕ
+  pub firms : List (List FirmRow)
   pub incoming : List IncomingLane
   pub outgoing : List OutgoingLane
 
@@ -68,6 +72,10 @@ amount_of Receipts N = received N
 -- an amount of each of its pairs and each period, pair by pair
 abbrev pub plant_amounts : Table → (ℕ → ℕ → ℕ) → ℕ → List ℕ
 plant_amounts N amount plant = flat_map (λ p. row_of N (amount p.number.0)) (plant_pairs N plant)
+
+-- the firm planned orders of each of its pairs
+abbrev pub plant_firms : Table → ℕ → List (List FirmRow)
+plant_firms N plant = map (λ p. firms_of N p.number.0) (plant_pairs N plant)
 
 -- ---- its lanes
 
@@ -152,6 +160,7 @@ plant_rows N plant = record {
   edges = plant_edges N plant;
   demands = plant_amounts N (demand N) plant;
   receipts = plant_amounts N (received N) plant;
+  firms = plant_firms N plant;
   incoming = incoming_lanes N plant;
   outgoing = outgoing_lanes N plant;
 }

@@ -1,5 +1,6 @@
 //! What one plant sees of the network, but for the sums of its demand rows and receipt rows.
 
+use crate::firms::FirmOrders;
 use crate::view::{IncomingLane, OutgoingLane, PlantEdge, PlantPair};
 use mrp_net::PairNo;
 use mrp_qty::Horizon;
@@ -17,6 +18,7 @@ pub struct PlantFrame {
     pub(crate) edges: Vec<PlantEdge>,
     pub(crate) demands: Snapshot<Vec<u64>>,
     pub(crate) receipts: Snapshot<Vec<u64>>,
+    pub(crate) firms: FirmOrders,
     pub(crate) incoming: Vec<IncomingLane>,
     pub(crate) outgoing: Vec<OutgoingLane>,
 }
@@ -32,6 +34,7 @@ impl Model for PlantFrame {
       edges = v.edges.items;
       demands = v.demands.value.items;
       receipts = v.receipts.value.items;
+      firms = v.firms;
       incoming = v.incoming.items;
       outgoing = v.outgoing.items;
     } };
@@ -96,6 +99,13 @@ impl PlantFrame {
         ensures { result.now ≡ self.now.edges }
     {
         self.edges.as_slice()
+    }
+
+    /// The firm planned orders of its pairs, by the places of the pairs.
+    pub fn firms(&self) -> &FirmOrders
+        ensures { result.now ≡ self.now.firms }
+    {
+        &self.firms
     }
 
     /// The lanes that the plant receives, in lane order.

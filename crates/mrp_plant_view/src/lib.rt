@@ -6,13 +6,15 @@
 #![tactic(auto)]
 
 mod amounts;
+mod firms;
 mod frame;
 pub mod laws;
 mod view;
 mod viewing;
 
+pub use firms::FirmOrders;
 pub use frame::PlantFrame;
-pub use mrp_net::{ItemNo, LaneKind, LaneNo, PairNo, PlantNo, Shipment};
+pub use mrp_net::{FirmRow, ItemNo, LaneKind, LaneNo, PairNo, PlantNo, Shipment};
 pub use view::{
     Call, IncomingItem, IncomingItems, IncomingLane, OutgoingItem, OutgoingItems, OutgoingLane,
     PlantEdge, PlantPair, PlantView,

@@ -1,5 +1,6 @@
 //! What one plant sees of the network: its pairs, their rows, its lanes.
 
+use crate::firms::FirmOrders;
 use crate::frame::PlantFrame;
 use mrp_net::{ItemNo, LaneKind, LaneNo, PairNo, Shipment};
 use mrp_netting::PairParams;
@@ -201,7 +202,7 @@ pub struct OutgoingLane {
 }
 
 /// What one plant sees of a network: its own pairs, the components of those that are made, what their
-/// demand rows and receipt rows add up to, and the lanes that it receives or sends. It sees no row of
+/// demand rows and receipt rows add up to, their firm planned orders, and the lanes that it receives or sends. It sees no row of
 /// another plant beside these lanes, and every pair that it names is the plant's own.
 ///
 /// Demands and receipts are kept as sums for each pair and period, since a plan looks at nothing else
@@ -267,6 +268,13 @@ impl PlantView {
         ensures { result.now ≡ self.now.receipts }
     {
         self.receipts.as_slice()
+    }
+
+    /// The firm planned orders of its pairs, by the places of the pairs.
+    pub fn firms(&self) -> &FirmOrders
+        ensures { result.now ≡ self.now.firms }
+    {
+        self.frame.firms()
     }
 
     /// The lanes that the plant receives, in lane order.

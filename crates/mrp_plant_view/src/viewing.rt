@@ -6,12 +6,14 @@ ghost use Rattle.mrp_master_data.specs.Table.{IsPair};
 ghost use Rattle.mrp_net.specs.Suppliers.{IsEdge};
 ghost use Rattle.mrp_net.specs.Lanes.{lanes, lane_at, lane_items};
 ghost use Rattle.mrp_net.specs.EdgeLaws.{is_local};
+ghost use Rattle.mrp_net.specs.FirmOrders.{firms_of};
 ghost use Rattle.mrp_plant_view.specs.Loads.{bare};
 ghost use Rattle.mrp_plant_view.specs.View.{plant_pairs, plant_edge, edges_to};
 ghost use Rattle.mrp_plant_view.specs.View.{plant_rows, incoming_item, incoming_lanes};
 ghost use Rattle.mrp_plant_view.specs.View.{sent_on, called_on, call_on, outgoing_item, outgoing_lanes};
 
 use crate::amounts::{Amounts, plant_amounts};
+use crate::firms::FirmOrders;
 use crate::frame::PlantFrame;
 use crate::view::{
     Call, IncomingItem, IncomingItems, IncomingLane, OutgoingItem, OutgoingItems, OutgoingLane,
@@ -36,6 +38,7 @@ impl PlantView {
         let edges = plant_edges(alloc, network, pairs.as_slice())?;
         let demands = plant_amounts(alloc, network, pairs.as_slice(), Amounts::Demands)?;
         let receipts = plant_amounts(alloc, network, pairs.as_slice(), Amounts::Receipts)?;
+        let firms = plant_firms(alloc, network, pairs.as_slice())?;
         let incoming = incoming_lanes(alloc, network, plant)?;
         let outgoing = outgoing_lanes(alloc, network, plant)?;
         let frame = PlantFrame {
@@ -44,6 +47,7 @@ impl PlantView {
             edges,
             demands: Snapshot::of(&demands),
             receipts: Snapshot::of(&receipts),
+            firms,
             incoming,
             outgoing,
         };
@@ -114,6 +118,18 @@ fn plant_edges(
         add_edges(&mut edges, network, pair.number)?;
     }
     Ok(edges)
+}
+
+/// The firm planned orders of each of a plant's pairs.
+fn plant_firms(alloc: Global, network: &Network, pairs: &[PlantPair]) -> Result<FirmOrders, Memory>
+    requires { All (λ p. IsPair network.now p.number.0) pairs.now }
+    ensures { IfOk result (λ f. f ≡ map (λ p. firms_of network.now p.number.0) pairs.now) }
+{
+    let mut firms = FirmOrders::new(alloc);
+    for pair in pairs {
+        firms.push(network.firm_orders(pair.number))?;
+    }
+    Ok(firms)
 }
 
 /// An item of a lane, as its receiver sees it.

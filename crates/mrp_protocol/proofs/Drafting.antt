@@ -3,7 +3,7 @@ use Rattle.std.proofs.Common.{◌≡◌, ℕ, ◌*◌, ◌<◌, ◌==◌, Bool, 
 use Rattle.std.specs.List.{sum_by}
 use Rattle.std.proofs.lemmas.Bool.{eqb-true}
 use Rattle.mrp_netting.specs.PlanRows.{PlanRows}
-use Rattle.mrp_netting.specs.PlanningData.{plain, one}
+use Rattle.mrp_netting.specs.PlanningData.{PairTerms, planned as data_of_terms, one}
 use Rattle.mrp_qty.proofs.RangeLaws.{map-range-same}
 use Rattle.mrp_master_data.specs.Table.{Table, IsTable, horizon}
 use Rattle.mrp_net.specs.declared.lane.LaneKind.{LaneKind}
@@ -11,7 +11,7 @@ use Rattle.mrp_net.specs.declared.lane.LaneKind.TheVariants.{Despatch, Schedule}
 use Rattle.mrp_net.specs.LaneLaws.{is_despatch, is_schedule}
 use Rattle.mrp_net.specs.PlanLaws.{asked_by_bill}
 use Rattle.mrp_net.specs.Plan.{rows_at, plan_of, gross}
-use Rattle.mrp_net.specs.Sums.{pair_at, params_at, row_of, demand, received, incoming}
+use Rattle.mrp_net.specs.Sums.{pair_at, params_at, terms_at, row_of, demand, received, incoming}
 use Rattle.mrp_net.proofs.Covering.{sum_by-same}
 use Rattle.mrp_grouping.proofs.Kept.{sum_filter}
 use Rattle.mrp_plant_view.specs.declared.view.IncomingLane.{IncomingLane}
@@ -30,9 +30,9 @@ use Rattle.mrp_protocol.specs.Seen.{brought_in}
 use Rattle.mrp_protocol.specs.State.{IsReady}
 use Rattle.mrp_protocol.proofs.Bringing.{despatches_bring_incoming, schedules_bring_gross, same_where}
 use Rattle.mrp_protocol.proofs.Sending.{brought_is_seen}
-use Rattle.mrp_protocol.specs.LocalPlans.{pieces_in, is_of_kind, asked_within, booked_on, local_incoming, local_gross, local_plan}
+use Rattle.mrp_protocol.specs.LocalPlans.{pieces_in, is_of_kind, asked_within, booked_on, local_incoming, local_gross, local_row, local_plan}
 use Rattle.mrp_protocol.specs.LocalLaws.{IsPairAt}
-use Rattle.mrp_protocol.proofs.Seeing.{amount_is}
+use Rattle.mrp_protocol.proofs.Seeing.{amount_is, terms_are}
 
 -- ---- what has come over lanes
 
@@ -91,10 +91,10 @@ module _ (N : Table) (is : IsTable N) (plant : ℕ) (taken : ℕ → List Record
 -- rows of the same amounts have the same plan
 same_plan : (N : Table) (x : ℕ) (comes asked other_comes other_asked : ℕ → ℕ) → ((t : ℕ) → t < horizon N → comes t ≡ other_comes t)
     → ((t : ℕ) → t < horizon N → asked t ≡ other_asked t)
-    → one (plain (params_at N x) (row_of N comes) (row_of N asked)) ≡ one (plain (params_at N x) (row_of N other_comes) (row_of N other_asked))
+    → one (data_of_terms (terms_at N x) (row_of N comes) (row_of N asked)) ≡ one (data_of_terms (terms_at N x) (row_of N other_comes) (row_of N other_asked))
 same_plan N x comes asked other_comes other_asked same_comes same_asked =
-    ap (λ (row : List ℕ). one (plain (params_at N x) row (row_of N asked))) (map-range-same comes other_comes (horizon N) same_comes)
-    ∙ ap (λ (row : List ℕ). one (plain (params_at N x) (row_of N other_comes) row)) (map-range-same asked other_asked (horizon N) same_asked)
+    ap (λ (row : List ℕ). one (data_of_terms (terms_at N x) row (row_of N asked))) (map-range-same comes other_comes (horizon N) same_comes)
+    ∙ ap (λ (row : List ℕ). one (data_of_terms (terms_at N x) (row_of N other_comes) row)) (map-range-same asked other_asked (horizon N) same_asked)
 
 module _ (N : Table) (is : IsTable N) (plant : ℕ) (planned : ℕ → Bool) (taken : ℕ
     → List Record) (legal : AreLegal N plant taken) (x : ℕ) (at : IsPairAt N plant x)
@@ -124,5 +124,7 @@ module _ (N : Table) (is : IsTable N) (plant : ℕ) (planned : ℕ → Bool) (ta
     draft_plan free =
         let V = plant_rows N plant in
         let p = plant_pair N x in
-        same_plan N x (local_incoming V taken p) (local_gross V taken plans p) (incoming N x) (gross N (plan_of N) x) draft_incoming draft_gross
+        ap (λ (terms : PairTerms). one (data_of_terms terms (local_row V (local_incoming V taken p)) (local_row V (local_gross V taken plans p))))
+        (terms_are N plant x at)
+        ∙ same_plan N x (local_incoming V taken p) (local_gross V taken plans p) (incoming N x) (gross N (plan_of N) x) draft_incoming draft_gross
         ∙ sym ((one_plan N is free).fits.rows x at.pair)

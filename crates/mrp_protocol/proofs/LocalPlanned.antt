@@ -1,12 +1,12 @@
 -- Local plans are the plan of the network, and a plant sees which of its pairs can be planned.
 use Rattle.std.proofs.Common.{◌≡◌, ℕ, suc, zero, ◌<◌, Bool, true, List, get_or, sym, ap, ◌∙◌, subst, arith, slice_index}
-use Rattle.std.proofs.lemmas.List.FromFn.{length-map-range_with_len}
 use Rattle.mrp_netting.specs.PlanRows.{PlanRows}
-use Rattle.mrp_netting.specs.Bound.{IsWithin}
-use Rattle.mrp_netting.proofs.PlainRows.{one-gross, one-incoming}
-use Rattle.mrp_master_data.specs.Table.{Table, IsTable}
-use Rattle.mrp_net.specs.Plan.{plan_of}
-use Rattle.mrp_net.specs.Sums.{pair_at, params_at}
+use Rattle.mrp_netting.specs.PlanningBound.{IsWithinData}
+use Rattle.mrp_netting.specs.PlanningData.{PairTerms, planned as data_of_terms}
+use Rattle.mrp_qty.proofs.RangeLaws.{map-range-same}
+use Rattle.mrp_master_data.specs.Table.{Table, IsTable, horizon}
+use Rattle.mrp_net.specs.Plan.{plan_of, gross}
+use Rattle.mrp_net.specs.Sums.{pair_at, terms_at, row_of, incoming}
 use Rattle.mrp_net.proofs.Members.{All-in}
 use Rattle.mrp_plant_view.specs.declared.view.PlantEdge.{PlantEdge}
 use Rattle.mrp_plant_view.specs.View.{plant_pair, plant_pairs, plant_edges, plant_rows}
@@ -19,10 +19,10 @@ use Rattle.mrp_loops.proofs.Edges.{HasEdge-pairs}
 use Rattle.mrp_loops.proofs.Within.{plan_is_within}
 use Rattle.mrp_record.specs.declared.record.Record.{Record}
 use Rattle.mrp_protocol.specs.Local.{AreLegal}
-use Rattle.mrp_protocol.specs.LocalPlans.{local_incoming, local_gross, local_row, AwaitsNothing, IsPlannedLocally, IsLocal}
+use Rattle.mrp_protocol.specs.LocalPlans.{local_incoming, local_gross, AwaitsNothing, IsPlannedLocally, IsLocal}
 use Rattle.mrp_protocol.specs.LocalLaws.{IsPairAt, GetsThePlan, PlantPlansAreThePlan, DraftsAreThePlan, DraftsAreWithin, PlannableIsLocal}
 use Rattle.mrp_protocol.proofs.Drafting.{HasParents, draft_incoming, draft_gross, draft_plan}
-use Rattle.mrp_protocol.proofs.Seeing.{sees_pair, seen_edges, ready_over_network, ready_on_view}
+use Rattle.mrp_protocol.proofs.Seeing.{sees_pair, seen_edges, ready_over_network, ready_on_view, terms_are}
 
 -- ---- plans
 
@@ -82,15 +82,16 @@ pub drafts_are_within : DraftsAreWithin
 drafts_are_within N sized plant taken planned plans works x at ready =
     let V = plant_rows N plant in
     let p = plant_pair N x in
-    let comes : List ℕ = local_row V (local_incoming V taken p) in
-    let asked : List ℕ = local_row V (local_gross V taken plans p) in
-    let draft = (drafts_are_the_plan N sized.table sized.loop_free plant taken planned plans works x at ready).plan in
-    let periods = length-map-range_with_len (local_incoming V taken p) 0 V.horizon ∙ sym (length-map-range_with_len (local_gross V taken plans p) 0 V.horizon) in
-    let same_comes : (plan_at N x).incoming ≡ comes = sym (ap (λ (rows : PlanRows). rows.incoming) draft) ∙ one-incoming p.params comes asked periods in
-    let same_asked : (plan_at N x).gross ≡ asked = sym (ap (λ (rows : PlanRows). rows.gross) draft) ∙ one-gross p.params comes asked in
-    let within = (plan_is_within N sized sized.needs sized.are_needs x at.pair).together in
-    subst (λ (row : List ℕ). IsWithin (params_at N x) comes row) same_asked
-    (subst (λ (row : List ℕ). IsWithin (params_at N x) row (plan_at N x).gross) same_comes within)
+    let gets = drafts_are_the_plan N sized.table sized.loop_free plant taken planned plans works x at ready in
+    let comes : row_of N (local_incoming V taken p) ≡ row_of N (incoming N x) =
+    map-range-same (local_incoming V taken p) (incoming N x) (horizon N) gets.incoming in
+    let asked : row_of N (local_gross V taken plans p) ≡ row_of N (gross N (plan_of N) x) =
+    map-range-same (local_gross V taken plans p) (gross N (plan_of N) x) (horizon N) gets.gross in
+    subst (λ (terms : PairTerms). IsWithinData (data_of_terms terms (row_of N (local_incoming V taken p)) (row_of N (local_gross V taken plans p))))
+    (sym (terms_are N plant x at))
+    (subst (λ (row : List ℕ). IsWithinData (data_of_terms (terms_at N x) row (row_of N (local_gross V taken plans p)))) (sym comes)
+    (subst (λ (row : List ℕ). IsWithinData (data_of_terms (terms_at N x) (row_of N (incoming N x)) row)) (sym asked)
+    (plan_is_within N sized sized.needs sized.are_needs x at.pair).given))
 
 -- ---- which pairs can be planned
 

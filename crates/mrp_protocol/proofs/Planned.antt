@@ -6,7 +6,7 @@ use Rattle.std.proofs.lemmas.Bool.{cases_eq, eqb-true, false≢true}
 use Rattle.std.proofs.lemmas.List.{map-append}
 use Rattle.std.proofs.lemmas.List.Elements.{filter-append, Contains-get_or}
 use Rattle.mrp_netting.specs.PlanRows.{PlanRows}
-use Rattle.mrp_netting.specs.PlanningData.{plain, one}
+use Rattle.mrp_netting.specs.PlanningData.{planned as data_of_terms, one}
 use Rattle.mrp_master_data.specs.declared.numbers.ItemNo.{ItemNo}
 use Rattle.mrp_master_data.specs.declared.rows.BillRow.{BillRow}
 use Rattle.mrp_master_data.specs.Table.{Table, IsTable, IsPair, IsBillRow, horizon, plant_at}
@@ -14,7 +14,7 @@ use Rattle.mrp_net.specs.Edges.{bill_edge, source_edge}
 use Rattle.mrp_net.specs.PlanLaws.{asked_by_bill}
 use Rattle.mrp_net.specs.Plan.{release_at}
 use Rattle.mrp_net.specs.Plan.{rows_at, plan_of, gross}
-use Rattle.mrp_net.specs.Sums.{pair_at, params_at, row_of, incoming}
+use Rattle.mrp_net.specs.Sums.{pair_at, terms_at, row_of, incoming}
 use Rattle.mrp_net.proofs.Covering.{sum_by-same}
 use Rattle.mrp_net.proofs.Local.{plant_is}
 use Rattle.mrp_net.proofs.Members.{In, In-append_left, In-from_contains, In-map, All-in}
@@ -161,8 +161,8 @@ module _ (N : Table) (table : IsTable N) (free : IsLoopFree N) (plant : ℕ) (pl
       let asked : row_of N (gross_brought N taken plans x) ≡ row_of N (gross N (plan_of N) x) =
       same_row N (gross_brought N taken plans x) (gross N (plan_of N) x) (local_gross_is x pair here local.0 right) in
       local.1
-      ∙ ap (λ (row : List ℕ). one (plain (params_at N x) row (row_of N (gross_brought N taken plans x)))) ins
-      ∙ ap (λ (row : List ℕ). one (plain (params_at N x) (row_of N (incoming N x)) row)) asked
+      ∙ ap (λ (row : List ℕ). one (data_of_terms (terms_at N x) row (row_of N (gross_brought N taken plans x)))) ins
+      ∙ ap (λ (row : List ℕ). one (data_of_terms (terms_at N x) (row_of N (incoming N x)) row)) asked
       ∙ sym ((one_plan N table free).fits.rows x pair)
 
 pub local_plans_are_the_plan : LocalPlansAreThePlan

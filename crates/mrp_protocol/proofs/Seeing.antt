@@ -3,7 +3,7 @@ use Rattle.std.proofs.Common.{◌≡◌, ℕ, suc, zero, ◌+◌, ◌*◌, ◌<�
 use Rattle.std.proofs.Common.{arith, All, Contains, slice_index}
 use Rattle.std.specs.List.{filter, flat_map, position_or_len, range_with_len}
 use Rattle.std.proofs.lemmas.Bool.{cases_lt, eqb-true, eq-eqb, both_ways}
-use Rattle.std.proofs.lemmas.List.{get_or_append_left, get_or-append-add, map-id}
+use Rattle.std.proofs.lemmas.List.{get_or_append_left, get_or-append-add, get_or-map, map-id}
 use Rattle.std.proofs.lemmas.List.Elements.{All-contains, All-map, Contains-get_or}
 use Rattle.std.proofs.lemmas.List.FromFn.{get_or-map-range_with_len, length-map-range_with_len}
 use Rattle.std.proofs.lemmas.List.Sums.{passes_at_first, fails_before_first}
@@ -16,7 +16,10 @@ use Rattle.mrp_net.specs.declared.lane.Lane.{Lane}
 use Rattle.mrp_net.specs.Edges.{demanders}
 use Rattle.mrp_net.specs.Lanes.{lanes, lane_at, lane_items}
 use Rattle.mrp_net.specs.EdgeLaws.{is_local}
-use Rattle.mrp_net.specs.Sums.{pair_at, row_of}
+use Rattle.mrp_net.specs.Sums.{pair_at, params_at, terms_at, row_of}
+use Rattle.mrp_net.specs.FirmOrders.{firms_of}
+use Rattle.mrp_net.specs.Terms.{terms_of}
+use Rattle.mrp_master_data.specs.declared.rows.FirmRow.{FirmRow}
 use Rattle.mrp_net.proofs.Members.{In, In-from_contains, Contains-from_in, In-filter, filter_only, In-map, map_only, In-flat_map, flat_map_only, In-range}
 use Rattle.mrp_net.proofs.Members.{All-in}
 use Rattle.mrp_net.proofs.Routing.{map-map}
@@ -32,7 +35,7 @@ use Rattle.mrp_loops.proofs.Edges.{demanders_edge, demanders_only, HasEdge-from_
 use Rattle.mrp_record.specs.declared.record.Record.{Record}
 use Rattle.mrp_protocol.specs.State as state
 use Rattle.mrp_protocol.specs.State.{IsReady}
-use Rattle.mrp_protocol.specs.LocalPlans.{amount_at, HasCome, AwaitsNothing}
+use Rattle.mrp_protocol.specs.LocalPlans.{amount_at, firms_in, terms_in, HasCome, AwaitsNothing}
 use Rattle.mrp_protocol.specs.LocalLaws.{IsPairAt}
 
 -- ---- amounts
@@ -92,6 +95,22 @@ amount_is N plant x amount t at within =
     (λ p. length-map-range_with_len (amount p.number.0) 0 (horizon N)) k t d there within
     ∙ get_or-map-range_with_len (amount (get_or pairs k d).number.0) 0 (horizon N) t t 0 within (omega arith)
     ∙ ap (λ (z : ℕ). amount z t) number
+
+-- the firm planned orders of a pair are those of the table
+firms_are : (N : Table) (plant x : ℕ) → IsPairAt N plant x → firms_in (plant_rows N plant) (record { 0 = x }) ≡ firms_of N x
+firms_are N plant x at =
+    let pairs : List PlantPair = plant_pairs N plant in
+    let test = λ (p : PlantPair). p.number.0 == x in
+    let d : PlantPair = plant_pair N x in
+    let k : ℕ = position_or_len test pairs in
+    let there : k < length pairs = first_there test pairs d (Contains-from_in pairs d (sees_pair N plant x at)) (eq-eqb x x refl) in
+    let number : (get_or pairs k d).number.0 ≡ x = eqb-true (get_or pairs k d).number.0 x (passes_at_first test pairs d there) in
+    get_or-map (λ (p : PlantPair). firms_of N p.number.0) pairs k d [] there ∙ ap (firms_of N) number
+
+-- so planners say of it what the table does
+pub terms_are : (N : Table) (plant x : ℕ) → IsPairAt N plant x → terms_in (plant_rows N plant) (plant_pair N x) ≡ terms_at N x
+terms_are N plant x at =
+    ap (λ (orders : List FirmRow). terms_of (horizon N) (params_at N x) orders) (firms_are N plant x at)
 
 -- ---- parents
 

@@ -2,14 +2,14 @@
 use Rattle.std.specs.Prelude.{◌≡◌, ℕ, ◌+◌, ◌<◌, ◌==◌, ◌&&◌, if◌then◌else◌, Bool, true, List, length, sum_by}
 use Rattle.std.specs.List.{range_with_len}
 use Rattle.mrp_netting.specs.PlanRows.{PlanRows}
-use Rattle.mrp_netting.specs.PlanningData.{plain, one}
+use Rattle.mrp_netting.specs.PlanningData.{planned, one}
 use Rattle.mrp_master_data.specs.Table.{Table, IsTable, IsPair, horizon}
 use Rattle.mrp_net.specs.declared.lane.LaneKind.{LaneKind}
 use Rattle.mrp_net.specs.Lanes.{lanes, lane_at}
 use Rattle.mrp_net.specs.LaneLaws.{is_despatch, is_schedule}
 use Rattle.mrp_net.specs.PlanLaws.{asked_by_bill}
 use Rattle.mrp_net.specs.Plan.{rows_at, plan_of, gross}
-use Rattle.mrp_net.specs.Sums.{pair_at, params_at, row_of, demand, received, incoming}
+use Rattle.mrp_net.specs.Sums.{pair_at, terms_at, row_of, demand, received, incoming}
 use Rattle.mrp_loops.specs.Loop.{IsLoopFree}
 use Rattle.mrp_record.specs.declared.record.Record.{Record}
 use Rattle.mrp_record.specs.Entries.{contents}
@@ -33,7 +33,7 @@ brought N taken is_kind x period =
     sum_by (λ l. if arrives N is_kind (pair_at N x).plant.0 l then brought_by N taken x period l else 0)
     (range_with_len 0 (length (lanes N)))
 
--- what comes in for a pair: its receipt rows, and what despatch lanes have brought
+-- what comes in for a pair beside firm planned orders: its receipt rows, and what despatch lanes have brought
 abbrev pub incoming_brought : Table → (ℕ → List Record) → ℕ → ℕ → ℕ
 incoming_brought N taken x period = received N x period + brought N taken is_despatch x period
 
@@ -45,7 +45,7 @@ gross_brought N taken plans x period =
 -- its local plan, beside the plans of its parents
 abbrev pub plan_brought : Table → (ℕ → List Record) → List PlanRows → ℕ → PlanRows
 plan_brought N taken plans x =
-    one (plain (params_at N x) (row_of N (incoming_brought N taken x)) (row_of N (gross_brought N taken plans x)))
+    one (planned (terms_at N x) (row_of N (incoming_brought N taken x)) (row_of N (gross_brought N taken plans x)))
 
 -- what has been taken is a legal beginning on each lane to the plant
 abbrev pub AreLegal : Table → ℕ → (ℕ → List Record) → Type 0

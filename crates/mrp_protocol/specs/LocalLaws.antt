@@ -1,11 +1,11 @@
 -- Laws of local plans: they are the plan of the network, and what is sent by them is what its lanes carry.
 use Rattle.std.specs.Prelude.{◌≡◌, ◌↔◌, ℕ, ◌<◌, Bool, true, List, length, slice_get, Some, All, Contains}
 use Rattle.mrp_netting.specs.PlanRows.{PlanRows}
-use Rattle.mrp_netting.specs.Bound.{IsWithin}
+use Rattle.mrp_netting.specs.PlanningBound.{IsWithinData}
 use Rattle.mrp_master_data.specs.Table.{Table, IsTable, IsPair, horizon}
 use Rattle.mrp_net.specs.Lanes.{lane_at}
 use Rattle.mrp_net.specs.Plan.{plan_of, gross}
-use Rattle.mrp_net.specs.Sums.{pair_at, params_at, incoming}
+use Rattle.mrp_net.specs.Sums.{pair_at, incoming}
 use Rattle.mrp_plant_view.specs.declared.view.OutgoingLane.{OutgoingLane}
 use Rattle.mrp_plant_view.specs.View.{PlantRows, plant_pair, plant_rows}
 use Rattle.mrp_loops.specs.Loop.{IsLoopFree}
@@ -19,7 +19,7 @@ use Rattle.mrp_record.specs.Cursor.{OutFigures, Goods, goods_load}
 use Rattle.mrp_record.specs.CursorLaws.{Agrees, IsSmallGoods, IsBounded}
 use Rattle.mrp_record.specs.Shows.{ShowsSent}
 use Rattle.mrp_protocol.specs.Goods.{IsSendable, goods_of}
-use Rattle.mrp_protocol.specs.LocalPlans.{local_incoming, local_gross, local_row, local_plan}
+use Rattle.mrp_protocol.specs.LocalPlans.{local_incoming, local_gross, local_data, local_plan}
 use Rattle.mrp_protocol.specs.LocalPlans.{AwaitsNothing, CanBePlanned, IsLocal}
 
 -- a pair of the plant
@@ -65,9 +65,7 @@ DraftsAreThePlan =
 
 -- in a sized network the quantities of its rows are together within 10^15
 abbrev pub HasSmallRows : Table → PlantRows → (ℕ → List Record) → (ℕ → PlanRows) → ℕ → Type 0
-HasSmallRows N V taken plans x =
-    IsWithin (params_at N x) (local_row V (local_incoming V taken (plant_pair N x)))
-    (local_row V (local_gross V taken plans (plant_pair N x)))
+HasSmallRows N V taken plans x = IsWithinData (local_data V taken plans (plant_pair N x))
 
 abbrev pub DraftsAreWithin : Type 0
 DraftsAreWithin =

@@ -2,12 +2,14 @@
 -- records of each lane by the lane's number, `planned` and `plans` say which pairs are planned and how,
 -- by the pair's number.
 use Rattle.std.specs.Prelude.{◌≡◌, ℕ, ◌+◌, ◌*◌, ◌==◌, if◌then◌else◌, not, Bool, true, false}
-use Rattle.std.specs.Prelude.{List, map, filter, sum_by, slice_index, All, Contains}
+use Rattle.std.specs.Prelude.{List, [], map, filter, sum_by, slice_index, slice_index_or, All, Contains}
 use Rattle.std.specs.List.{position_or_len, range_with_len}
 use Rattle.mrp_netting.specs.PlanRows.{PlanRows}
-use Rattle.mrp_netting.specs.PlanningData.{plain, one}
+use Rattle.mrp_netting.specs.PlanningData.{PairData, PairTerms, planned, one}
 use Rattle.mrp_master_data.specs.declared.numbers.ItemNo.{ItemNo}
 use Rattle.mrp_master_data.specs.declared.numbers.PairNo.{PairNo}
+use Rattle.mrp_master_data.specs.declared.rows.FirmRow.{FirmRow}
+use Rattle.mrp_net.specs.Terms.{terms_of}
 use Rattle.mrp_net.specs.declared.lane.LaneKind.{LaneKind}
 use Rattle.mrp_net.specs.declared.lane.LaneKind.TheVariants.{Despatch, Schedule}
 use Rattle.mrp_net.specs.LaneLaws.{is_despatch}
@@ -53,7 +55,7 @@ abbrev pub asked_within : PlantRows → (ℕ → PlanRows) → PairNo → ℕ �
 asked_within V plans x period =
     sum_by (λ e. if e.component.0 == x.0 then e.per * slice_index (plans e.parent.0).release period else 0) V.edges
 
--- scheduled receipts: the receipt rows, and what has come on despatch lanes
+-- scheduled receipts beside firm planned orders: the receipt rows, and what has come on despatch lanes
 abbrev pub local_incoming : PlantRows → (ℕ → List Record) → PlantPair → ℕ → ℕ
 local_incoming V taken p period =
     amount_at V V.receipts p.number period + booked_on Despatch V taken p.item period
@@ -68,9 +70,20 @@ local_gross V taken plans p period =
 abbrev pub local_row : PlantRows → (ℕ → ℕ) → List ℕ
 local_row V amount = map amount (range_with_len 0 V.horizon)
 
+-- the firm planned orders of a pair, and what planners say of it
+abbrev pub firms_in : PlantRows → PairNo → List FirmRow
+firms_in V x = slice_index_or V.firms (place_in V x) []
+
+abbrev pub terms_in : PlantRows → PlantPair → PairTerms
+terms_in V p = terms_of V.horizon p.params (firms_in V p.number)
+
+-- what it is planned from, and its plan
+abbrev pub local_data : PlantRows → (ℕ → List Record) → (ℕ → PlanRows) → PlantPair → PairData
+local_data V taken plans p =
+    planned (terms_in V p) (local_row V (local_incoming V taken p)) (local_row V (local_gross V taken plans p))
+
 abbrev pub local_plan : PlantRows → (ℕ → List Record) → (ℕ → PlanRows) → PlantPair → PlanRows
-local_plan V taken plans p =
-    one (plain p.params (local_row V (local_incoming V taken p)) (local_row V (local_gross V taken plans p)))
+local_plan V taken plans p = one (local_data V taken plans p)
 
 -- ---- which pairs can be planned
 

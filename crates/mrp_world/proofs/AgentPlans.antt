@@ -3,7 +3,7 @@ use Rattle.std.proofs.Common.{◌≡◌, ◌↔◌, ℕ, Bool, true, false, List
 use Rattle.std.specs.Prelude.{IfSome, IfNone, IsTrue}
 use Rattle.std.specs.Bool.{OnTrue}
 use Rattle.std.proofs.lemmas.Bool.{false≢true}
-use Rattle.mrp_netting.specs.Bound.{IsWithin}
+use Rattle.mrp_netting.specs.PlanningBound.{IsWithinData}
 use Rattle.mrp_master_data.specs.declared.numbers.PairNo.{PairNo}
 use Rattle.mrp_plant_view.specs.declared.view.PlantPair.{PlantPair}
 use Rattle.mrp_plant_view.specs.Seen as seen
@@ -13,9 +13,9 @@ use Rattle.mrp_protocol.specs.State.{CanPlan, after_plan, changed}
 use Rattle.mrp_protocol.specs.LocalPlans.{CanBePlanned}
 use Rattle.mrp_protocol.proofs.LocalPlanned.{plannable_is_local}
 use Rattle.mrp_protocol.proofs.Seeing.{own_at, seen_there}
-use Rattle.mrp_agent.specs.Drafts.{drafted_gross, drafted_incoming}
+use Rattle.mrp_agent.specs.Drafts.{drafted_data}
 use Rattle.mrp_agent.specs.Shows.{ShowsHistory}
-use Rattle.mrp_agent.specs.State.{AgentState, pair_owned}
+use Rattle.mrp_agent.specs.State.{AgentState}
 use Rattle.mrp_agent.proofs.DraftLaws.{drafts_are_within}
 use Rattle.mrp_agent.specs.InNetwork.{ShowsAgent}
 use Rattle.mrp_world.specs.Moments.{Moment, IsAt, Has}
@@ -46,11 +46,11 @@ module _ (A : AgentState) (numbers : List PairNo) (exact : AreReady A numbers) w
         (subst (λ (V : PlantRows). CanBePlanned V m.state.taken m.state.planned (plant_pair m.network x.0)) (sym at.shown.view)
         ((plannable_is_local m.network at.sized.table p m.state x.0 own).0 can))
 
-    draft_at : Contains numbers x → IsWithin (pair_owned A.view x).params (drafted_incoming A x) (drafted_gross A x)
+    draft_at : Contains numbers x → IsWithinData (drafted_data A x)
     draft_at listed =
         drafts_are_within m.network at.sized p m.state A (works_in A m p at) x.0 own (listed_can_be listed).ready
 
-  pub draft_within : (x : PairNo) → Has ShowsAgent A x.0 → Contains numbers x → IsWithin (pair_owned A.view x).params (drafted_incoming A x) (drafted_gross A x)
+  pub draft_within : (x : PairNo) → Has ShowsAgent A x.0 → Contains numbers x → IsWithinData (drafted_data A x)
   draft_within x (m, p, at, own) listed = draft_at m p x at own listed
 
 pub has_own : (A : AgentState) (x : PairNo) → Has ShowsAgent A x.0 → seen.IsOwnPair A.view x
@@ -62,7 +62,7 @@ module _ (A : AgentState) (numbers ready : List PairNo) (same : numbers ≡ read
   exact_ready : AreReady A ready
   exact_ready = subst (AreReady A) same exact
 
-  pub plans_within : Has ShowsAgent A x.0 → Contains ready x → IsWithin (pair_owned A.view x).params (drafted_incoming A x) (drafted_gross A x)
+  pub plans_within : Has ShowsAgent A x.0 → Contains ready x → IsWithinData (drafted_data A x)
   plans_within has listed = draft_within A ready exact_ready x has listed
 
   pub planned_could : (b : Bool) → IsTrue b ↔ Contains ready x → b ≡ true
