@@ -1,21 +1,22 @@
--- Planned orders make the planned order releases, and those that are late are the late orders.
-use Rattle.std.proofs.Common.{◌≡◌, ℕ, ◌-◌, ◌<◌, ◌==◌, ◌&&◌, Bool, true, false, not, cond, ltb, List, [], ◌∷◌, length, map, slice_index, arith, ap, ◌∙◌, sym}
+-- Planned orders, with the firm planned ones, make the releases, and those that are late are the late orders.
+use Rattle.std.proofs.Common.{◌≡◌, ℕ, ◌+◌, ◌-◌, ◌<◌, ◌==◌, ◌&&◌, Bool, true, false, not, cond, ltb, List, [], ◌∷◌, length, map, slice_index, arith, ap, ◌∙◌, sym}
 use Rattle.std.proofs.Common.{refl, subst}
 use Rattle.std.specs.List.{filter, range_with_len, sum_by}
 use Rattle.std.proofs.lemmas.Bool.{and_from, and_left, and_right, cond_both, eqb-true, eq-eqb, le-ltb, lt-ltb, ltb-false, ltb-true, true≢false}
 use Rattle.std.proofs.lemmas.List.FromFn.{get_or-map-range_with_len, length-map-range_with_len}
 use Rattle.std.proofs.lemmas.List.Sums.{sum_by-cons}
 use Rattle.mrp_netting.specs.PlanRows.{PlanRows, is_late, late_order}
-use Rattle.mrp_netting.specs.One.{release_row, released}
-use Rattle.mrp_netting.specs.PlanningData.{plain, one}
+use Rattle.mrp_netting.specs.PlanningData.{planned_release, release_at, one}
 use Rattle.mrp_netting.specs.declared.params.Late.{Late}
-use Rattle.mrp_netting.specs.declared.params.PairParams.{PairParams}
-use Rattle.mrp_netting.proofs.PlainRows.{length-one-order, one-late, one-release}
-use Rattle.mrp_master_data.specs.Table.{Table, horizon}
-use Rattle.mrp_net.specs.Plan.{gross, pair_plan, rows_at}
-use Rattle.mrp_net.specs.Sums.{incoming, params_at, row_of}
+use Rattle.mrp_netting.proofs.OneRows.{length-one-order, one-late, one-release}
+use Rattle.mrp_netting.proofs.PlainLaws.{late-plain, release-plain}
+use Rattle.mrp_master_data.specs.Table.{Table, IsPair, horizon}
+use Rattle.mrp_net.specs.FirmOrders.{firm_start}
+use Rattle.mrp_net.specs.Plan.{gross, pair_data, pair_plan, rows_at}
+use Rattle.mrp_net.specs.PlanLaws.{Fits}
+use Rattle.mrp_net.specs.Sums.{params_at, row_of}
 use Rattle.mrp_plan.specs.Orders.{has_order, planned_order}
-use Rattle.mrp_plan.specs.OrderLaws.{LateOrdersAreOrders, OrdersMakeReleases, late_of}
+use Rattle.mrp_plan.specs.OrderLaws.{LateOrdersAreOrders, PlannedOrdersMakeReleases, late_of}
 use Rattle.mrp_plan.specs.declared.orders.PlannedOrder.{PlannedOrder}
 
 -- ---- whether a period has an order
@@ -39,8 +40,13 @@ abbrev quantity_of : PlannedOrder → ℕ
 quantity_of o = o.quantity
 
 -- what an order adds to the release of a period
-abbrev part_in : ℕ → List ℕ → ℕ → ℕ → ℕ
+abbrev pub part_in : ℕ → List ℕ → ℕ → ℕ → ℕ
 part_in lead order r t = cond ((t - lead) == r) (slice_index order t) 0
+
+pub none_ordered : (lead r : ℕ) (rows : PlanRows) (t : ℕ) → has_order rows t ≡ false → part_in lead rows.order r t ≡ 0
+none_ordered lead r rows t free =
+    let none : slice_index rows.order t ≡ 0 = nothing (slice_index rows.order t) free in
+    cond_both ((t - lead) == r) (slice_index rows.order t) 0 (λ n. n ≡ 0) (λ here. none) (λ other. refl)
 
 released_in : (lead r : ℕ) (rows : PlanRows) (ts : List ℕ)
     → sum_by quantity_of (filter (λ o. o.release == r) (map (planned_order lead rows) (filter (has_order rows) ts))) ≡ sum_by (part_in lead rows.order r) ts
@@ -62,36 +68,44 @@ released_in lead r rows (t ∷ ts) =
     let is : part t ≡ 0 = ap (λ b. cond b (slice_index rows.order t) 0) other in
     omega (arith, rest, whole, is)))
     (λ free.
-    let none : slice_index rows.order t ≡ 0 = nothing (slice_index rows.order t) free in
-    let is : part t ≡ 0 = cond_both ((t - lead) == r) (slice_index rows.order t) 0 (λ n. n ≡ 0) (λ here. none) (λ other. refl) in
+    let is : part t ≡ 0 = none_ordered lead r rows t free in
     omega (arith, rest, whole, is))
 
--- both given rows of a pair have the periods of the calendar
-same_periods : (N : Table) (table : List PlanRows) (x : ℕ) → length (row_of N (incoming N x)) ≡ length (row_of N (gross N table x))
-same_periods N table x = length-map-range_with_len (incoming N x) 0 (horizon N) ∙ sym (length-map-range_with_len (gross N table x) 0 (horizon N))
+-- what the plan of a pair releases: firm planned orders and planned orders
+one_release : (N : Table) (table : List PlanRows) (x r : ℕ) → r < horizon N
+    → slice_index (pair_plan N table x).release r
+    ≡ firm_start N x r + sum_by (part_in (params_at N x).lead (pair_plan N table x).order r) (range_with_len 0 (horizon N))
+one_release N table x r within =
+    let d = pair_data N table x in
+    let lead = d.params.lead in
+    let order = (one d).order in
+    let periods = length-map-range_with_len (gross N table x) 0 (horizon N) in
+    let size : length order ≡ horizon N = length-one-order d ∙ periods in
+    let released : planned_release d order r ≡ sum_by (part_in lead order r) (range_with_len 0 (horizon N)) =
+    release-plain d.params [] [] order r ∙ ap (λ m. sum_by (part_in lead order r) (range_with_len 0 m)) size in
+    let firmly : slice_index (row_of N (firm_start N x)) r ≡ firm_start N x r =
+    get_or-map-range_with_len (firm_start N x) 0 (horizon N) r r 0 within (omega arith) in
+    let read : slice_index (pair_plan N table x).release r ≡ slice_index (row_of N (firm_start N x)) r + planned_release d order r =
+    ap (λ (row : List ℕ). slice_index row r) (one-release d)
+    ∙ get_or-map-range_with_len (release_at d order) 0 (length d.gross) r r 0 (omega (arith, periods, within)) (omega arith) in
+    omega (arith, read, firmly, released)
 
--- the release row of the plan of one pair
-row_is : (pair : PairParams) (incoming gross : List ℕ) (r : ℕ) → length incoming ≡ length gross
-    → slice_index (one (plain pair incoming gross)).release r ≡ slice_index (release_row pair.lead (one (plain pair incoming gross)).order) r
-row_is pair incoming gross r len = ap (λ (row : List ℕ). slice_index row r) (one-release pair incoming gross len)
+-- so a plan that fits releases
+pub pair_release : (N : Table) (table : List PlanRows) → Fits N table → (x r : ℕ) → IsPair N x → r < horizon N
+    → slice_index (rows_at table x).release r
+    ≡ firm_start N x r + sum_by (part_in (params_at N x).lead (rows_at table x).order r) (range_with_len 0 (horizon N))
+pair_release N table fits x r in_table within =
+    let P : PlanRows → Type 0 = λ rows. slice_index rows.release r
+    ≡ firm_start N x r + sum_by (part_in (params_at N x).lead rows.order r) (range_with_len 0 (horizon N)) in
+    subst P (sym (fits.rows x in_table)) (one_release N table x r within)
 
-one_release : (pair : PairParams) (incoming gross : List ℕ) (n r : ℕ) → length incoming ≡ length gross → length gross ≡ n → r < n
-    → slice_index (one (plain pair incoming gross)).release r ≡ sum_by (part_in pair.lead (one (plain pair incoming gross)).order r) (range_with_len 0 n)
-one_release pair incoming gross n r len same lt =
-    let order = (one (plain pair incoming gross)).order in
-    let size : length order ≡ n = length-one-order pair incoming gross ∙ same in
-    row_is pair incoming gross r len
-    ∙ get_or-map-range_with_len (released pair.lead order (length order)) 0 (length order) r r 0 (omega (arith, size, lt)) (omega arith)
-    ∙ ap (λ m. sum_by (part_in pair.lead order r) (range_with_len 0 m)) size
-
-pub orders_make_releases : OrdersMakeReleases
-orders_make_releases N table fits x r in_table within =
-    let lead = (params_at N x).lead in
-    let is : PlanRows → Type 0 = λ rows. slice_index rows.release r ≡ sum_by (part_in lead rows.order r) (range_with_len 0 (horizon N)) in
-    let plan : is (pair_plan N table x) =
-    one_release (params_at N x) (row_of N (incoming N x)) (row_of N (gross N table x)) (horizon N) r (same_periods N table x)
-    (length-map-range_with_len (gross N table x) 0 (horizon N)) within in
-    released_in lead r (rows_at table x) (range_with_len 0 (horizon N)) ∙ sym (subst is (sym (fits.rows x in_table)) plan)
+pub planned_orders_make_releases : PlannedOrdersMakeReleases
+planned_orders_make_releases N table fits x r in_table within =
+    omega (
+      arith,
+      released_in (params_at N x).lead r (rows_at table x) (range_with_len 0 (horizon N)),
+      pair_release N table fits x r in_table within,
+    )
 
 -- ---- late orders
 
@@ -125,20 +139,13 @@ late_in lead rows (t ∷ ts) =
     (λ no_. rest ∙ sym (ap kept (late_no lead (slice_index rows.order t) t no_))))
     (λ free. rest ∙ sym (ap kept (late_free lead (slice_index rows.order t) t (nothing (slice_index rows.order t) free))))
 
--- the late orders of the plan of one pair
-one_late_in : (pair : PairParams) (incoming gross : List ℕ) (n : ℕ) → length incoming ≡ length gross → length gross ≡ n
-    → (one (plain pair incoming gross)).late ≡ map (late_order pair.lead (one (plain pair incoming gross)).order)
-    (filter (is_late pair.lead (one (plain pair incoming gross)).order) (range_with_len 0 n))
-one_late_in pair incoming gross n len same =
-    let order = (one (plain pair incoming gross)).order in
-    one-late pair incoming gross len
-    ∙ ap (λ m. map (late_order pair.lead order) (filter (is_late pair.lead order) (range_with_len 0 m))) (length-one-order pair incoming gross ∙ same)
-
 pub late_orders_are_orders : LateOrdersAreOrders
 late_orders_are_orders N table fits x in_table =
-    let lead = (params_at N x).lead in
+    let d = pair_data N table x in
+    let lead = d.params.lead in
     let is : PlanRows → Type 0 = λ rows. rows.late ≡ map (late_order lead rows.order) (filter (is_late lead rows.order) (range_with_len 0 (horizon N))) in
+    let size = length-one-order d ∙ length-map-range_with_len (gross N table x) 0 (horizon N) in
     let plan : is (pair_plan N table x) =
-    one_late_in (params_at N x) (row_of N (incoming N x)) (row_of N (gross N table x)) (horizon N) (same_periods N table x) (length-map-range_with_len (gross N table x) 0 (horizon N))
-    in
+    one-late d ∙ late-plain d.params (one d).order
+    ∙ ap (λ m. map (late_order lead (one d).order) (filter (is_late lead (one d).order) (range_with_len 0 m))) size in
     late_in lead (rows_at table x) (range_with_len 0 (horizon N)) ∙ sym (subst is (sym (fits.rows x in_table)) plan)

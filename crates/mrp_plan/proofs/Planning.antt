@@ -8,21 +8,24 @@ use Rattle.std.proofs.lemmas.List.Sums.{sum_by-cons}
 use Rattle.std.proofs.Math.Nat.{mul-le-mul_left}
 use Rattle.mrp_lot.specs.Lot.{rule_quantities}
 use Rattle.mrp_netting.specs.PlanRows.{PlanRows}
-use Rattle.mrp_netting.specs.PlanningData.{plain, one}
-use Rattle.mrp_netting.specs.Bound.{IsWithin}
-use Rattle.mrp_netting.proofs.PlainRows.{one-release_sum-le, length-one-release, one-gross as plain-gross, one-incoming as plain-incoming}
+use Rattle.mrp_netting.specs.PlanningData.{planned, one}
+use Rattle.mrp_netting.specs.PlanningBound.{IsWithinData}
+use Rattle.mrp_netting.proofs.DataRows.{releases_stay_bounded}
+use Rattle.mrp_netting.proofs.OneRows.{length-one-release, one-gross as of_data}
 use Rattle.mrp_qty.proofs.RangeLaws.{map-range-same}
 use Rattle.mrp_master_data.specs.Table.{Table, IsTable, horizon}
 use Rattle.mrp_net.specs.Edges.{demanders, edge_need}
-use Rattle.mrp_net.specs.Sums.{demand, demand_total, incoming, params_at, pair_at, row_of, no_pair}
-use Rattle.mrp_net.specs.Plan.{rows_at, no_rows, gross, pair_plan, asked}
+use Rattle.mrp_net.specs.FirmOrders.{firm_total}
+use Rattle.mrp_net.specs.Sums.{demand, incoming, terms_at, pair_at, row_of}
+use Rattle.mrp_net.specs.Plan.{rows_at, no_rows, gross, pair_data, pair_plan, asked}
 use Rattle.mrp_net.specs.PlanLaws.{Fits}
 use Rattle.mrp_net.specs.declared.edge.Edge.{Edge}
 use Rattle.mrp_loops.specs.Need.{AreNeeds, AreWithin}
 use Rattle.mrp_loops.specs.Planning.{IsPlanningOrder}
 use Rattle.mrp_plan.specs.Explosion.{asked_total}
 use Rattle.mrp_plan.specs.Progress.{CanBeDrafted, HavePeriods, IsPlannedTo}
-use Rattle.mrp_net.proofs.Periods.{incomings-le}
+use Rattle.mrp_loops.proofs.Within.{data_is_within}
+use Rattle.mrp_net.proofs.Firms.{firms_are_kept}
 use Rattle.mrp_net.proofs.Totals.{gross_sum-le}
 use Rattle.mrp_plan.proofs.Asked.{no_edge}
 use Rattle.mrp_loops.proofs.Orders.{places_apart, place_in_table, place_in_order, demander_before}
@@ -54,27 +57,22 @@ pair_plan-same N old new x same =
     ap (λ (s : ℕ). demand N x t + s)
     (sum_by-same_all (λ (e : Edge). edge_need e t (slice_index (rows_at new e.demander.0).release t))
     (λ (e : Edge). edge_need e t (slice_index (rows_at old e.demander.0).release t)) no_edge (demanders N x) (asks t)) in
-    ap (λ (row : List ℕ). one (plain (params_at N x) (row_of N (incoming N x)) row)) (map-range-same (gross N new x) (gross N old x) (horizon N) each)
+    ap (λ (row : List ℕ). one (planned (terms_at N x) (row_of N (incoming N x)) row)) (map-range-same (gross N new x) (gross N old x) (horizon N) each)
 
 -- the plan of a pair has a release for each period, and its gross requirements
 pub pair_plan-release : (N : Table) (table : List PlanRows) (x : ℕ) → length (pair_plan N table x).release ≡ horizon N
 pair_plan-release N table x =
-    length-one-release (params_at N x) (row_of N (incoming N x)) (row_of N (gross N table x))
-    ∙ length-map-range_with_len (gross N table x) 0 (horizon N)
+    length-one-release (pair_data N table x) ∙ length-map-range_with_len (gross N table x) 0 (horizon N)
 
 pub one-gross : (N : Table) (table : List PlanRows) (x : ℕ) → (pair_plan N table x).gross ≡ row_of N (gross N table x)
-one-gross N table x = plain-gross (params_at N x) (row_of N (incoming N x)) (row_of N (gross N table x))
+one-gross N table x = of_data (pair_data N table x)
 
-pub one-incoming : (N : Table) (table : List PlanRows) (x : ℕ) → (pair_plan N table x).incoming ≡ row_of N (incoming N x)
-one-incoming N table x =
-    plain-incoming (params_at N x) (row_of N (incoming N x)) (row_of N (gross N table x))
-    (length-map-range_with_len (incoming N x) 0 (horizon N) ∙ sym (length-map-range_with_len (gross N table x) 0 (horizon N)))
-
--- its releases together are within what safety, the rule and the gross requirements ask
-pub pair_plan-releases : (N : Table) (table : List PlanRows) (x : ℕ) → IsWithin (params_at N x) (row_of N (incoming N x)) (row_of N (gross N table x))
-    → sum (pair_plan N table x).release ≤ (pair_at N x).safety + rule_quantities (pair_at N x).rule + sum (row_of N (gross N table x))
-pair_plan-releases N table x is =
-    one-release_sum-le (params_at N x) (row_of N (incoming N x)) (row_of N (gross N table x)) is
+-- its releases together are within what safety, the rule, the gross requirements and firm planned orders ask
+pub pair_plan-releases : (N : Table) (table : List PlanRows) (x : ℕ) → IsTable N → IsWithinData (pair_data N table x)
+    → sum (pair_plan N table x).release
+    ≤ (pair_at N x).safety + rule_quantities (pair_at N x).rule + sum (row_of N (gross N table x)) + firm_total N x
+pair_plan-releases N table x is within =
+    omega (arith, releases_stay_bounded (pair_data N table x) within, (firms_are_kept N is x).started)
 
 -- what the demanders ask is within what they need
 pub asked_total-le : (N : Table) (needs order : List ℕ) (k : ℕ) (table : List PlanRows) → IsPlanningOrder N order → k < length order
@@ -105,22 +103,10 @@ demander_release N needs order k table is within planned i h =
 pub length-row_of : (N : Table) (amount : ℕ → ℕ) → length (row_of N amount) ≡ horizon N
 length-row_of N amount = length-map-range_with_len amount 0 (horizon N)
 
--- the rows of a pair that can be planned are within the bound
-pub is_within : (N : Table) (table : List PlanRows) (x : ℕ) (row : List ℕ) → CanBeDrafted N table x → length row ≡ horizon N
-    → sum row ≤ demand_total N x + asked_total table (demanders N x) → IsWithin (params_at N x) (row_of N (incoming N x)) row
-is_within N table x row can size total =
-    let own = can.is_table.read.pairs x no_pair can.in_table in
-    record {
-      rule = own.rule;
-      lead = own.lead;
-      periods = length-row_of N (incoming N x) ∙ sym size;
-      total = omega (arith, total, incomings-le N x, can.within);
-    }
-
--- so are those of its plan
-pub pair_within : (N : Table) (table : List PlanRows) (x : ℕ) → CanBeDrafted N table x
-    → IsWithin (params_at N x) (row_of N (incoming N x)) (row_of N (gross N table x))
-pair_within N table x can = is_within N table x (row_of N (gross N table x)) can (length-row_of N (gross N table x)) (gross_sum-le N table x can.is_table)
+-- what a pair that can be planned is planned from is within the bound
+pub pair_within : (N : Table) (table : List PlanRows) (x : ℕ) → CanBeDrafted N table x → IsWithinData (pair_data N table x)
+pair_within N table x can =
+    data_is_within N table x can.is_table can.in_table (omega (arith, gross_sum-le N table x can.is_table, can.within))
 
 -- demand rows and what the demanders ask are the gross requirements
 pub gross_row : (N : Table) (table : List PlanRows) (x : ℕ) (row : List ℕ) → length row ≡ length (row_of N (demand N x))
@@ -204,7 +190,7 @@ next_releases N needs order k table tables are_needs are_within is within planne
     let total = gross_sum-le N table x tables in
     omega (
       arith,
-      pair_plan-releases N table x (pair_within N table x can),
+      pair_plan-releases N table x tables (pair_within N table x can),
       total,
       are_needs.need x can.in_table,
       asked_total-le N needs order k table is within

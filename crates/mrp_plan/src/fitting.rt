@@ -2,8 +2,8 @@
 
 ghost use Rattle.std.specs.Prelude.{◌≡◌, ◌<◌, ◌≤◌, ◌+◌, ◌↔◌, IsTrue, length, map, All};
 ghost use Rattle.mrp_qty.specs.declared.quantity.TheConstants.{MOST};
-ghost use Rattle.mrp_master_data.specs.Table.{IsPair, horizon};
-ghost use Rattle.mrp_net.specs.Sums.{incoming, row_of};
+ghost use Rattle.mrp_master_data.specs.Table.{horizon};
+ghost use Rattle.mrp_net.specs.Sums.{row_of};
 ghost use Rattle.mrp_net.specs.Plan.{gross, pair_plan, rows_at, asked};
 ghost use Rattle.mrp_net.specs.PlanLaws.{Fits};
 ghost use Rattle.mrp_loops.specs.Need.{AreNeeds};
@@ -14,13 +14,13 @@ ghost use Rattle.mrp_plan.specs.Progress.{CanBeDrafted, HavePeriods, IsPlannedTo
 
 use crate::Plan;
 use mrp_loops::SizedNet;
-use mrp_net::{Edge, Network, PairNo, share_of};
-use mrp_netting::is_plan;
+use mrp_net::{Edge, FirmRows, Network, PairNo, share_of};
+use mrp_netting::is_plan_from;
 use mrp_qty::Row;
 
-/// Whether the plan obeys the rules at every pair of the network: its receipts and gross
-/// requirements are those of the network and of the demanders' releases, and its orders, releases,
-/// projected available and late orders follow from them.
+/// Whether the plan obeys the rules at every pair of the network: what comes in and its gross
+/// requirements are those of the network, of its firm planned orders and of the demanders' releases,
+/// and its orders, releases, projected available and late orders follow from them.
 ///
 /// The plan may be one of another network. Nothing is allocated, and it takes time linear in edges times
 /// periods (by construction; no clause says so).
@@ -78,28 +78,14 @@ fn fits_at(network: &Network, x: PairNo, plan: &Plan) -> bool
     ensures { IsTrue result ↔ (rows_at plan.now x.0 ≡ pair_plan network.now plan.now x.0) }
 {
     let own = plan.pair(x);
-    let _len = own.len();
-    if !has_incoming(network, x, own.incoming()) {
-        return false;
-    }
     if !has_gross(network, x, plan, own.gross()) {
         return false;
     }
-    is_plan(&network.pair(x).params(), own)
-}
-
-/// Whether the row is what comes in for the pair.
-fn has_incoming(network: &Network, x: PairNo, row: &Row) -> bool
-    requires pair { IsPair network.now x.0 }
-    requires periods { length row.now ≡ horizon network.now }
-    ensures { IsTrue result ↔ (row.now ≡ row_of network.now (incoming network.now x.0)) }
-{
-    for t in 0..row.len() {
-        if row.get(t).get() != network.incoming(x, t) {
-            return false;
-        }
-    }
-    true
+    let mut firm = FirmRows::new(network.horizon());
+    firm.write(network.firm_orders(x));
+    let params = network.pair(x).params();
+    let given = firm.planning_data(params, network.incoming_row(x));
+    is_plan_from(&given, own)
 }
 
 /// Whether the row is the gross requirements of the pair.

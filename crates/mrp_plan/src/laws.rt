@@ -1,6 +1,7 @@
-//! Laws of pegging and of planned orders, each the contract of a function that does nothing.
+//! Laws of pegging and of orders, each the contract of a function that does nothing.
 
-ghost use Rattle.mrp_plan.specs.OrderLaws.{LateOrdersAreOrders, OrdersMakeReleases};
+ghost use Rattle.mrp_plan.specs.OrderLaws.{OrdersMakeReleases, PlannedOrdersMakeReleases};
+ghost use Rattle.mrp_plan.specs.OrderLaws.{LateOrdersAreOrders, LateOrdersAreListed};
 ghost use Rattle.mrp_plan.specs.PegLaws.{TermsAddUp, TermsAreProducts, TermsHaveRows};
 
 /// In a plan that fits the terms of a pair in a period add up to its gross requirement there, in
@@ -16,9 +17,12 @@ pub fn terms_have_rows()
     ensures { TermsHaveRows }
 {}
 
-/// In a plan that fits the planned orders of a pair that are released in a period add up to its planned
-/// order release there, and those to which periods are missing are its late orders, in their order.
+/// In a plan that fits the orders of a pair that are released in a period, firm and planned, add up to its
+/// release there. Those to which periods are missing are its late orders, in their order; each of them is
+/// a planned order.
 pub fn orders_make_releases()
     ensures releases { OrdersMakeReleases }
+    ensures planned { PlannedOrdersMakeReleases }
     ensures late { LateOrdersAreOrders }
+    ensures listed { LateOrdersAreListed }
 {}

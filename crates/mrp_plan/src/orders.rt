@@ -1,8 +1,9 @@
-//! Planned orders: what is ordered of a pair, when it is due and when it is released.
+//! Orders of a pair, firm and planned: what is ordered, when it is due and when it is released.
 
 ghost use Rattle.std.specs.Prelude.{◌≡◌, ◌<◌, length, Option};
-ghost use Rattle.mrp_plan.specs.Orders.{order_in, is_released_by};
+ghost use Rattle.mrp_plan.specs.Orders.{order_in, is_released_by, firm_order, order_of_plan};
 
+use mrp_master_data::FirmRow;
 use mrp_netting::PairPlan;
 use mrp_qty::Qty;
 
@@ -28,6 +29,51 @@ impl PlannedOrder {
         match until {
             None => true,
             Some(period) => self.release as u64 <= period,
+        }
+    }
+}
+
+/// Who sets an order.
+#[derive(Clone, Copy, Debug, PartialEq, Eq)]
+pub enum OrderSort {
+    /// A firm planned order: planners set its quantity and its periods, and no plan moves it.
+    Firm,
+    /// A planned order of the plan.
+    Planned,
+}
+
+/// An order of a pair as it is listed: firm planned orders beside the planned ones.
+#[derive(Clone, Copy, Debug)]
+pub struct ListedOrder {
+    /// Who sets it.
+    pub sort: OrderSort,
+    /// What is ordered, when it is due and when it is released. A firm planned order is never late.
+    pub order: PlannedOrder,
+}
+
+impl ListedOrder {
+    /// A firm planned order of the table, which is released and due in the periods of its row.
+    pub fn firm(row: &FirmRow) -> ListedOrder
+        ensures { result ≡ firm_order row.now }
+    {
+        ListedOrder {
+            sort: OrderSort::Firm,
+            order: PlannedOrder {
+                quantity: row.quantity,
+                due: row.due,
+                release: row.start,
+                late: 0,
+            },
+        }
+    }
+
+    /// A planned order of the plan, which comes after the firm planned orders that are due with it.
+    pub fn planned(order: PlannedOrder) -> ListedOrder
+        ensures { result ≡ order_of_plan order }
+    {
+        ListedOrder {
+            sort: OrderSort::Planned,
+            order,
         }
     }
 }

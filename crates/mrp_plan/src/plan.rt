@@ -13,8 +13,8 @@ ghost use Rattle.mrp_plan.specs.Progress.{CanBeDrafted, IsPlannedTo};
 
 use crate::explosion::explode_all;
 use mrp_loops::SizedNet;
-use mrp_net::{Network, PairNo};
-use mrp_netting::{PairPlan, PlanningData, blank_plans, plan_from};
+use mrp_net::{Network, PairNo, plan_with_firm_orders};
+use mrp_netting::{PairPlan, blank_plans};
 use mrp_qty::{Memory, Row};
 use std::alloc::Global;
 use std::marker::Model;
@@ -107,9 +107,10 @@ fn plan_one(network: &Network, x: PairNo, plans: &mut [PairPlan], gross_row: &mu
     fill_demand(network, x, gross_row);
     explode_all(network.demanders(x), plans, gross_row);
     let params = network.pair(x).params();
-    let given = PlanningData::plain(params, network.incoming_row(x));
+    let orders = network.firm_orders(x);
+    let incoming = network.incoming_row(x);
     let plan = &mut plans[x.0];
-    plan_from(&given, gross_row, plan);
+    plan_with_firm_orders(params, orders, incoming, gross_row, plan);
 }
 
 /// Writes the demand rows of the pair.
