@@ -3,4 +3,5 @@ pub mod Needing
 pub mod Coming
 pub mod CoverFacts
 pub mod LineFacts
+pub mod Later
 pub mod SheetFacts

@@ -1,5 +1,6 @@
 -- The report is the rows of its sheet, and csv reads it back.
 use Rattle.std.proofs.Common.{◌≡◌, ℕ, List, All, refl, arith}
+use Rattle.std.specs.Prelude.{Option}
 use Rattle.std.specs.List.{flat_map}
 use Rattle.csv.specs.Reading.{strip_bom}
 use Rattle.mrp_netting.specs.PlanRows.{PlanRows}
@@ -17,7 +18,7 @@ use Rattle.mrp_advice.specs.declared.advice.Action.{Action}
 use Rattle.mrp_advice.specs.declared.advice.Action.TheVariants.{Expedite, Defer, Cancel}
 use Rattle.mrp_advice.specs.declared.advice.Advice.{Advice}
 use Rattle.mrp_advice.specs.declared.orders.OrderKind.{OrderKind}
-use Rattle.mrp_advice.specs.declared.orders.OrderKind.TheVariants.{Receipt, Ship}
+use Rattle.mrp_advice.specs.declared.orders.OrderKind.TheVariants.{Firm, Receipt, Ship}
 use Rattle.mrp_advice.specs.Advice.{pair_advice}
 use Rattle.mrp_advice.specs.AdviceLaws.{AdviceIsReadBack}
 use Rattle.mrp_advice.specs.AdviceRows.{action_word, advice_fields, advice_names, advice_row, advice_text, order_kind_word}
@@ -33,10 +34,12 @@ action_plain Cancel = refl
 kind_plain : (kind : OrderKind) → IsPlain (order_kind_word kind)
 kind_plain Receipt = refl
 kind_plain (Ship from) = refl
+kind_plain Firm = refl
 
 supplier_plain : (N : Table) → IsTable N → (kind : OrderKind) → IsPlain (sender_name N kind)
 supplier_plain N is Receipt = refl
 supplier_plain N is (Ship from) = plant_plain N is from.0
+supplier_plain N is Firm = refl
 
 advice_is_row : (N : Table) → IsTable N → (plant item : List ℕ) (dates : List (List ℕ)) (advice : Advice) → IsPlain plant → IsPlain item
     → ((t : ℕ) → IsPlain (date_in dates t)) → IsRow (advice_fields N plant item dates advice)
@@ -63,23 +66,24 @@ advice_names_are_row = record {
   front = λ rest. refl;
 }
 
-messages_are_sheet : (N : Table) (table : List PlanRows) → messages_text N table ≡ flat_map row (flat_map (pair_advice_sheet N table) (pairs_of N))
+messages_are_sheet : (until : Option ℕ) (N : Table) (table : List PlanRows)
+    → messages_text until N table ≡ flat_map row (flat_map (pair_advice_sheet until N table) (pairs_of N))
 unfolding messages_text pair_advice_text advice_row
-messages_are_sheet N table =
-    rows_each (pair_advice_text N table) (pair_advice_sheet N table)
-    (λ x. row_each (advice_fields N (plant_of N x) (item_of N x) (dates_of N.calendar)) (pair_advice N table x)) (pairs_of N)
+messages_are_sheet until N table =
+    rows_each (pair_advice_text until N table) (pair_advice_sheet until N table)
+    (λ x. row_each (advice_fields N (plant_of N x) (item_of N x) (dates_of N.calendar)) (pair_advice until N table x)) (pairs_of N)
 
-rows_are : (N : Table) → IsTable N → (table : List PlanRows) → All IsRow (flat_map (pair_advice_sheet N table) (pairs_of N))
-rows_are N is table =
-    all_each (pair_advice_sheet N table)
+rows_are : (until : Option ℕ) (N : Table) → IsTable N → (table : List PlanRows) → All IsRow (flat_map (pair_advice_sheet until N table) (pairs_of N))
+rows_are until N is table =
+    all_each (pair_advice_sheet until N table)
     (λ x. all_map (advice_fields N (plant_of N x) (item_of N x) (dates_of N.calendar))
     (λ advice. advice_is_row N is (plant_of N x) (item_of N x) (dates_of N.calendar) advice (plant_plain N is (pair_at N x).plant.0)
     (item_plain N is (pair_at N x).item.0) (dates_plain N.calendar))
-    (pair_advice N table x))
+    (pair_advice until N table x))
     (pairs_of N)
 
 pub advice_is_read : AdviceIsReadBack
 unfolding advice_text
-advice_is_read N is heading table =
-    headed_read heading advice_names advice_names_are_row (messages_text N table) (flat_map (pair_advice_sheet N table) (pairs_of N))
-    (messages_are_sheet N table) (rows_are N is table)
+advice_is_read N is heading until table =
+    headed_read heading advice_names advice_names_are_row (messages_text until N table) (flat_map (pair_advice_sheet until N table) (pairs_of N))
+    (messages_are_sheet until N table) (rows_are until N is table)

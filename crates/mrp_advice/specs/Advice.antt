@@ -1,6 +1,6 @@
 -- Exception messages for the open orders of a pair.
-use Rattle.std.specs.Prelude.{ℕ, ◌==◌, nat_lt, if◌then◌else◌, List, length, filter_map, slice_index_or, Option, Some}
-use Rattle.std.specs.Prelude.{None, option_map}
+use Rattle.std.specs.Prelude.{ℕ, ◌==◌, nat_lt, if◌then◌else◌, List, length, filter, filter_map, slice_index_or, Option}
+use Rattle.std.specs.Prelude.{Some, None, option_map}
 use Rattle.std.specs.List.{range_with_len}
 use Rattle.mrp_netting.specs.PlanRows.{PlanRows}
 use Rattle.mrp_master_data.specs.declared.rows.PairRow.{PairRow}
@@ -13,7 +13,7 @@ use Rattle.mrp_advice.specs.declared.advice.Advice.{Advice}
 use Rattle.mrp_advice.specs.declared.orders.OpenOrder.{OpenOrder}
 use Rattle.mrp_advice.specs.declared.orders.OrderKind.TheVariants.{Receipt}
 use Rattle.mrp_advice.specs.Needed.{needed}
-use Rattle.mrp_advice.specs.OpenOrders.{open_orders}
+use Rattle.mrp_advice.specs.OpenOrders.{comes_by, open_orders}
 
 -- what to do with an order that is due in one period and needed in another or in none; nothing where they are the same
 abbrev pub action_for : ℕ → Option ℕ → Option Action
@@ -41,6 +41,10 @@ advice_at pair gross orders i = advice_for (open_order_at orders i) (needed pair
 abbrev pub messages : PairRow → List ℕ → List OpenOrder → List Advice
 messages pair gross orders = filter_map (advice_at pair gross orders) (range_with_len 0 (length orders))
 
+-- those for the orders that come by then
+abbrev pub messages_by : Option ℕ → PairRow → List ℕ → List OpenOrder → List Advice
+messages_by until pair gross orders = filter (λ a. comes_by until a.order) (messages pair gross orders)
+
 -- those of a pair of the table, by the gross requirements of a plan
-abbrev pub pair_advice : Table → List PlanRows → ℕ → List Advice
-pair_advice N table x = messages (pair_at N x) (rows_at table x).gross (open_orders N x)
+abbrev pub pair_advice : Option ℕ → Table → List PlanRows → ℕ → List Advice
+pair_advice until N table x = messages_by until (pair_at N x) (rows_at table x).gross (open_orders N x)

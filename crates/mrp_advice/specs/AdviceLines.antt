@@ -1,5 +1,6 @@
 -- The rows of one pair's messages, open order by open order.
-use Rattle.std.specs.Prelude.{◌≡◌, ℕ, ◌+◌, ◌<◌, ◌≤◌, List, [], length, sum, sum_by, All, Option, Some, None, IfSome}
+use Rattle.std.specs.Prelude.{◌≡◌, ℕ, ◌+◌, ◌<◌, ◌≤◌, if◌then◌else◌, List, [], length, sum, sum_by, All, Option, Some}
+use Rattle.std.specs.Prelude.{None, IfSome}
 use Rattle.std.specs.List.{flat_map}
 use Rattle.mrp_qty.specs.declared.quantity.TheConstants.{MOST}
 use Rattle.mrp_master_data.specs.declared.rows.PairRow.{PairRow}
@@ -9,34 +10,37 @@ use Rattle.mrp_csv_out.specs.Names.{item_of, plant_of}
 use Rattle.mrp_advice.specs.declared.advice.Advice.{Advice}
 use Rattle.mrp_advice.specs.declared.orders.OpenOrder.{OpenOrder}
 use Rattle.mrp_advice.specs.declared.orders.OrderKind.{OrderKind}
-use Rattle.mrp_advice.specs.declared.orders.OrderKind.TheVariants.{Receipt, Ship}
+use Rattle.mrp_advice.specs.declared.orders.OrderKind.TheVariants.{Firm, Receipt, Ship}
 use Rattle.mrp_advice.specs.declared.advice_report.AdviceLine.{AdviceLine}
-use Rattle.mrp_advice.specs.Advice.{messages}
+use Rattle.mrp_advice.specs.Advice.{messages_by}
 use Rattle.mrp_advice.specs.AdviceRows.{advice_row}
+use Rattle.mrp_advice.specs.OpenOrders.{comes_by}
 
 -- what the rows of a pair's messages have in common
-pub record IsAdviceLine (N : Table) (x : ℕ) (line : AdviceLine) : Type 0 where
+pub record IsAdviceLine (N : Table) (x : ℕ) (until : Option ℕ) (line : AdviceLine) : Type 0 where
   pub network : line.network.now ≡ N
   pub plant : line.plant.now ≡ plant_of N x
   pub item : line.item.now ≡ item_of N x
   pub dates : line.dates.now ≡ dates_of N.calendar
+  pub by_then : line.until ≡ until
 
--- the row of a message, and that of an open order where it has one
+-- the row of a message, and that of an open order where it has a message and comes by then
 abbrev pub advice_line_row : AdviceLine → Advice → List ℕ
 advice_line_row line advice = advice_row line.network.now line.plant.now line.item.now line.dates.now advice
 
 abbrev pub message_text : AdviceLine → Option Advice → List ℕ
 message_text line None = []
-message_text line (Some advice) = advice_line_row line advice
+message_text line (Some advice) = if comes_by line.until advice.order then advice_line_row line advice else []
 
--- those of all messages of a pair
+-- those of all messages of a pair for orders that come by then
 abbrev pub advice_line_text : AdviceLine → PairRow → List ℕ → List OpenOrder → List ℕ
-advice_line_text line pair gross orders = flat_map (advice_line_row line) (messages pair gross orders)
+advice_line_text line pair gross orders = flat_map (advice_line_row line) (messages_by line.until pair gross orders)
 
 -- a shipment comes from a plant of the table
 abbrev pub HasSender : Table → OrderKind → Type 0
 HasSender N Receipt = Unit {0}
 HasSender N (Ship from) = from.0 < length N.plants
+HasSender N Firm = Unit {0}
 
 -- an open order of a table is due in its horizon
 pub record IsOpenOrder (N : Table) (o : OpenOrder) : Type 0 where

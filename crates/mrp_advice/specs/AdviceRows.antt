@@ -1,5 +1,5 @@
 -- The report of exception messages for open orders.
-use Rattle.std.specs.Prelude.{ℕ, List, [], ◌∷◌, ◌++◌, decimal, codes as text_bytes}
+use Rattle.std.specs.Prelude.{ℕ, List, [], ◌∷◌, ◌++◌, decimal, codes as text_bytes, Option}
 use Rattle.std.specs.List.{flat_map}
 use Rattle.mrp_netting.specs.PlanRows.{PlanRows}
 use Rattle.mrp_master_data.specs.Said.{plant_name}
@@ -14,7 +14,7 @@ use Rattle.mrp_advice.specs.declared.advice.Action.{Action}
 use Rattle.mrp_advice.specs.declared.advice.Action.TheVariants.{Expedite, Defer, Cancel}
 use Rattle.mrp_advice.specs.declared.advice.Advice.{Advice}
 use Rattle.mrp_advice.specs.declared.orders.OrderKind.{OrderKind}
-use Rattle.mrp_advice.specs.declared.orders.OrderKind.TheVariants.{Receipt, Ship}
+use Rattle.mrp_advice.specs.declared.orders.OrderKind.TheVariants.{Firm, Receipt, Ship}
 use Rattle.mrp_advice.specs.Advice.{pair_advice}
 use Rattle.mrp_csv_out.specs.Fields.{date_if_any, number_if_any}
 
@@ -35,11 +35,13 @@ action_word Cancel = text_bytes "cancel"
 abbrev pub order_kind_word : OrderKind → List ℕ
 order_kind_word Receipt = text_bytes "receipt"
 order_kind_word (Ship from) = text_bytes "ship"
+order_kind_word Firm = text_bytes "firm"
 
--- the sender of a shipment; a receipt has none
+-- the sender of a shipment; a receipt and a firm planned order have none
 abbrev pub sender_name : Table → OrderKind → List ℕ
 sender_name N Receipt = []
 sender_name N (Ship from) = plant_name N from.0
+sender_name N Firm = []
 
 -- the fields of the row of a message: what to do, what the order is, when it is due, and when it is needed, which is
 -- empty where it is needed in no period
@@ -54,15 +56,15 @@ advice_fields N plant item dates advice =
 unfoldable pub advice_row : Table → List ℕ → List ℕ → List (List ℕ) → Advice → List ℕ
 advice_row N plant item dates advice = row (advice_fields N plant item dates advice)
 
--- the rows of a pair's messages, in the order of its open orders
-unfoldable pub pair_advice_text : Table → List PlanRows → ℕ → List ℕ
-pair_advice_text N table x = flat_map (advice_row N (plant_of N x) (item_of N x) (dates_of N.calendar))
-    (pair_advice N table x)
+-- the rows of a pair's messages for open orders that come by then, in the order of these
+unfoldable pub pair_advice_text : Option ℕ → Table → List PlanRows → ℕ → List ℕ
+pair_advice_text until N table x = flat_map (advice_row N (plant_of N x) (item_of N x) (dates_of N.calendar))
+    (pair_advice until N table x)
 
 -- the messages of each pair, in table order
-unfoldable pub messages_text : Table → List PlanRows → List ℕ
-messages_text N table = flat_map (pair_advice_text N table) (pairs_of N)
+unfoldable pub messages_text : Option ℕ → Table → List PlanRows → List ℕ
+messages_text until N table = flat_map (pair_advice_text until N table) (pairs_of N)
 
 -- the report: the names of its columns, where they are asked for, and the messages
-unfoldable pub advice_text : Heading → Table → List PlanRows → List ℕ
-advice_text heading N table = header_row heading advice_names ++ messages_text N table
+unfoldable pub advice_text : Heading → Option ℕ → Table → List PlanRows → List ℕ
+advice_text heading until N table = header_row heading advice_names ++ messages_text until N table

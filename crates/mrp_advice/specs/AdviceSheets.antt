@@ -1,5 +1,5 @@
 -- The report as a sheet: what a reader of comma-separated values has to find in it.
-use Rattle.std.specs.Prelude.{ℕ, List, ◌++◌, map}
+use Rattle.std.specs.Prelude.{ℕ, List, ◌++◌, map, Option}
 use Rattle.std.specs.List.{flat_map}
 use Rattle.mrp_netting.specs.PlanRows.{PlanRows}
 use Rattle.mrp_master_data.specs.Table.{Table}
@@ -10,11 +10,12 @@ use Rattle.mrp_csv_out.specs.Sheets.{Sheet, header_sheet}
 use Rattle.mrp_advice.specs.Advice.{pair_advice}
 use Rattle.mrp_advice.specs.AdviceRows.{advice_fields, advice_names}
 
--- the messages of a pair, in the order of its open orders
-abbrev pub pair_advice_sheet : Table → List PlanRows → ℕ → Sheet
-pair_advice_sheet N table x = map (advice_fields N (plant_of N x) (item_of N x) (dates_of N.calendar))
-    (pair_advice N table x)
+-- the messages of a pair for open orders that come by then, in the order of these
+abbrev pub pair_advice_sheet : Option ℕ → Table → List PlanRows → ℕ → Sheet
+pair_advice_sheet until N table x = map (advice_fields N (plant_of N x) (item_of N x) (dates_of N.calendar))
+    (pair_advice until N table x)
 
 -- those of each pair, in table order, below the names of their columns, where these are asked for
-abbrev pub advice_sheet : Heading → Table → List PlanRows → Sheet
-advice_sheet heading N table = header_sheet heading advice_names ++ flat_map (pair_advice_sheet N table) (pairs_of N)
+abbrev pub advice_sheet : Heading → Option ℕ → Table → List PlanRows → Sheet
+advice_sheet heading until N table = header_sheet heading advice_names
+    ++ flat_map (pair_advice_sheet until N table) (pairs_of N)

@@ -1,18 +1,23 @@
--- The open orders of a pair: the receipts and the shipments of the table, which are still to come in.
-use Rattle.std.specs.Prelude.{ℕ, ◌==◌, ◌&&◌, List, ◌++◌, map, filter}
+-- The open orders of a pair: the receipts and the shipments of the table, which are still to come in, and its firm
+-- planned orders.
+use Rattle.std.specs.Prelude.{ℕ, ◌==◌, ◌&&◌, nat_le, Bool, true, List, ◌++◌, map, filter, Option, Some, None}
 use Rattle.std.specs.List.{flat_map, range_with_len}
+use Rattle.mrp_master_data.specs.declared.rows.FirmRow.{FirmRow}
 use Rattle.mrp_master_data.specs.declared.rows.ReceiptRow.{ReceiptRow}
 use Rattle.mrp_master_data.specs.declared.rows.ShipRow.{ShipRow}
 use Rattle.mrp_master_data.specs.Table.{Table, horizon}
 use Rattle.mrp_advice.specs.declared.orders.OpenOrder.{OpenOrder}
-use Rattle.mrp_advice.specs.declared.orders.OrderKind.TheVariants.{Receipt, Ship}
+use Rattle.mrp_advice.specs.declared.orders.OrderKind.TheVariants.{Firm, Receipt, Ship}
 
--- a receipt and a shipment as open orders
+-- a receipt, a shipment and a firm planned order as open orders; a firm planned order comes when it is due
 abbrev pub receipt_order : ReceiptRow → OpenOrder
 receipt_order r = record { kind = Receipt; pair = r.pair; period = r.period; quantity = r.quantity }
 
 abbrev pub ship_order : ShipRow → OpenOrder
 ship_order s = record { kind = Ship s.from; pair = s.pair; period = s.period; quantity = s.quantity }
+
+abbrev pub firm_order : FirmRow → OpenOrder
+firm_order f = record { kind = Firm; pair = f.pair; period = f.due; quantity = f.quantity }
 
 -- the receipts of a pair that are due in a period, in table order
 abbrev pub receipts_in : Table → ℕ → ℕ → List OpenOrder
@@ -22,9 +27,13 @@ receipts_in N x t = map receipt_order (filter (λ r. (r.pair.0 == x) && (r.perio
 abbrev pub ships_in : Table → ℕ → ℕ → List OpenOrder
 ships_in N x t = map ship_order (filter (λ s. (s.pair.0 == x) && (s.period == t)) N.ships)
 
--- the open orders of a pair in a period: its receipts, and then the shipments to it
+-- the firm planned orders of a pair that are due in a period, in table order, whenever they are released
+abbrev pub firms_in : Table → ℕ → ℕ → List OpenOrder
+firms_in N x t = map firm_order (filter (λ f. (f.pair.0 == x) && (f.due == t)) N.firms)
+
+-- the open orders of a pair in a period: its receipts, the shipments to it, and then its firm planned orders
 abbrev pub orders_in : Table → ℕ → ℕ → List OpenOrder
-orders_in N x t = receipts_in N x t ++ ships_in N x t
+orders_in N x t = receipts_in N x t ++ ships_in N x t ++ firms_in N x t
 
 -- the open orders of a pair, period after period
 abbrev pub open_orders : Table → ℕ → List OpenOrder
@@ -32,4 +41,9 @@ open_orders N x = flat_map (orders_in N x) (range_with_len 0 (horizon N))
 
 -- all open orders, as the table has them
 abbrev pub all_orders : Table → List OpenOrder
-all_orders N = map receipt_order N.receipts ++ map ship_order N.ships
+all_orders N = map receipt_order N.receipts ++ map ship_order N.ships ++ map firm_order N.firms
+
+-- the order comes in that period or before it; without a period every order does
+abbrev pub comes_by : Option ℕ → OpenOrder → Bool
+comes_by None order = true
+comes_by (Some until) order = nat_le order.period until

@@ -40,35 +40,41 @@ use std::io::Write;
 /// dates, a quantity of 13 digits, the commas and the line feed.
 const LONGEST_ROW: usize = 131;
 
-/// What the advice rows are of: a plan, its network, the open orders of all pairs, and the text of each
-/// period's date.
+/// What the advice rows are of: a plan, its network, the open orders of all pairs, the text of each
+/// period's date, and the last period of an order that has a row.
 #[derive(Clone, Copy)]
 struct AdviceReport<'a> {
     network: &'a Network,
     plan: &'a Plan,
     orders: &'a Groups<OpenOrder>,
     dates: &'a [[u8; 10]],
+    until: Option<u64>,
 }
 
 /// What the rows of a pair's messages have in common: the network, the names of the pair's plant and
-/// item, and the text of each period's date.
+/// item, the text of each period's date, and the last period of an order that has a row.
 #[derive(Clone, Copy)]
 pub(crate) struct AdviceLine<'a> {
     pub(crate) network: &'a Network,
     pub(crate) plant: &'a str,
     pub(crate) item: &'a str,
     pub(crate) dates: &'a [[u8; 10]],
+    pub(crate) until: Option<u64>,
 }
 
 /// Writes a row for each open order that isn't due in the period in which it is needed, pairs in table
-/// order and the open orders of a pair by rising period, in one period receipts before shipments and each
-/// in table order: `advice`, what to do (`expedite`, `defer` or `cancel`), `receipt` or `ship`, plant and
-/// item, the sender of a shipment, the period in which the order is due and its first day, its quantity in
-/// pieces, and the period in which it is needed and its first day, which are empty where it is to be
-/// cancelled. The names of the columns stand above them where `heading` says so.
+/// order and the open orders of a pair by rising period, in one period receipts before shipments before
+/// firm planned orders and each in table order: `advice`, what to do (`expedite`, `defer` or `cancel`),
+/// `receipt`, `ship` or `firm`, plant and item, the sender of a shipment, the period in which the order is
+/// due and its first day, its quantity in pieces, and the period in which it is needed and its first day,
+/// which are empty where it is to be cancelled. The names of the columns stand above them where `heading`
+/// says so.
 ///
 /// An order is needed in the first period in which what is on hand and the open orders before it are less
 /// than safety stock and the gross requirements of the plan up to that period, that one included.
+///
+/// With `until`, a period from 0, an open order that is due after it has no row, and nothing else changes. A
+/// period past the horizon leaves nothing out.
 ///
 /// # Errors
 ///
@@ -79,12 +85,13 @@ pub fn advice_rows<W: Write>(
     alloc: Global,
     net: &SizedNet<'_>,
     plan: &Plan,
+    until: Option<u64>,
     heading: Heading,
     out: &mut W,
 ) -> Result<(), ReportFault>
     requires fits { Fits net.now.network plan.now }
     ensures text { SendsReport (W.contents out.old) (W.contents out.new) result
-        (advice_text heading net.now.network plan.now) }
+        (advice_text heading until net.now.network plan.now) }
     ensures untouched { result ≡ Err ReportFault.Memory → out.new ≡ out.old }
 {
     let network = net.network();
@@ -95,6 +102,7 @@ pub fn advice_rows<W: Write>(
         plan,
         orders: &orders,
         dates: dates.as_slice(),
+        until,
     };
     let text = advice_text(alloc, &report, heading)?;
     send(text.as_slice(), out)
@@ -111,7 +119,8 @@ fn advice_text(
     requires orders { AreOpenOrders report.now.network.now report.now.orders.now.rows.items
         report.now.orders.now.starts.items }
     requires dates { report.now.dates.now ≡ dates_of report.now.network.now.calendar }
-    ensures text { IfOk result (λ text. text.items ≡ advice_text heading report.now.network.now report.now.plan.now) }
+    ensures text { IfOk result (λ text. text.items
+        ≡ advice_text heading report.now.until report.now.network.now report.now.plan.now) }
     ensures fault { IfErr result (λ fault. fault ≡ ReportFault.Memory) }
 {
     // Room to begin with, which grows where there are more messages than pairs.
@@ -149,7 +158,7 @@ fn put_all_messages(
         report.now.orders.now.starts.items }
     requires dates { report.now.dates.now ≡ dates_of report.now.network.now.calendar }
     ensures rows { OnOk result (written rows.new ≡ written rows.old
-        ++ messages_text report.now.network.now report.now.plan.now) }
+        ++ messages_text report.now.until report.now.network.now report.now.plan.now) }
     ensures between { OnOk result (IsBetweenRows rows.new) }
     ensures fault { IfErr result (λ fault. fault ≡ ReportFault.Memory) }
 {
@@ -173,7 +182,7 @@ fn put_pair_messages(
     requires dates { report.now.dates.now ≡ dates_of report.now.network.now.calendar }
     requires pair { IsPair report.now.network.now x.0 }
     ensures rows { OnOk result (written rows.new ≡ written rows.old
-        ++ pair_advice_text report.now.network.now report.now.plan.now x.0) }
+        ++ pair_advice_text report.now.until report.now.network.now report.now.plan.now x.0) }
     ensures between { OnOk result (IsBetweenRows rows.new) }
     ensures fault { IfErr result (λ fault. fault ≡ ReportFault.Memory) }
 {
@@ -187,7 +196,7 @@ fn put_pair_messages(
 fn line_of<'a>(report: &AdviceReport<'a>, x: PairNo) -> AdviceLine<'a>
     requires dates { report.now.dates.now ≡ dates_of report.now.network.now.calendar }
     requires pair { IsPair report.now.network.now x.0 }
-    ensures { IsAdviceLine report.now.network.now x.0 result }
+    ensures { IsAdviceLine report.now.network.now x.0 report.now.until result }
 {
     let (plant, item) = report.network.pair_name(x);
     AdviceLine {
@@ -195,10 +204,11 @@ fn line_of<'a>(report: &AdviceReport<'a>, x: PairNo) -> AdviceLine<'a>
         plant,
         item,
         dates: report.dates,
+        until: report.until,
     }
 }
 
-/// Adds the rows of a pair's open orders that have a message.
+/// Adds the rows of a pair's open orders that have a message and come by the last period.
 fn put_messages<'a>(
     rows: &mut Writer<Vec<u8>>,
     line: &'a AdviceLine<'a>,
@@ -225,7 +235,7 @@ fn put_messages<'a>(
     Ok(())
 }
 
-/// Adds the row of the next open order of a pair, where it has a message.
+/// Adds the row of the next open order of a pair, where it has a message and comes by the last period.
 fn put_next<'a>(
     rows: &mut Writer<Vec<u8>>,
     line: &'a AdviceLine<'a>,
@@ -252,7 +262,7 @@ fn put_next<'a>(
     put_message(rows, line, advice)
 }
 
-/// Adds the row of a message, where there is one.
+/// Adds the row of a message, where there is one and its order comes by the last period.
 fn put_message<'a>(
     rows: &mut Writer<Vec<u8>>,
     line: &'a AdviceLine<'a>,
@@ -266,8 +276,8 @@ fn put_message<'a>(
     ensures fault { IfErr result (λ fault. fault ≡ ReportFault.Memory) }
 {
     match advice {
-        None => Ok(()),
-        Some(advice) => put_advice(rows, line, advice),
+        Some(advice) if advice.order.comes_by(line.until) => put_advice(rows, line, advice),
+        _ => Ok(()),
     }
 }
 
@@ -324,16 +334,17 @@ fn kind_word<'a>(kind: OrderKind) -> &'a [u8]
     match kind {
         OrderKind::Receipt => b"receipt",
         OrderKind::Ship(_) => b"ship",
+        OrderKind::Firm => b"firm",
     }
 }
 
-/// The name of a shipment's sender, which a receipt has not.
+/// The name of a shipment's sender. Receipts and firm planned orders have none.
 fn supplier_name(network: &Network, kind: OrderKind) -> &[u8]
     requires { HasSender network.now kind }
     ensures { result.now ≡ sender_name network.now kind }
 {
     match kind {
-        OrderKind::Receipt => b"",
+        OrderKind::Receipt | OrderKind::Firm => b"",
         OrderKind::Ship(from) => network.plant_name(from).as_bytes(),
     }
 }

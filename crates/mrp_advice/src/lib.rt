@@ -1,4 +1,4 @@
-//! Exception messages for open orders: which to expedite, to defer and to cancel.
+//! Exception messages for open orders, firm planned orders among them: which to expedite, to defer and to cancel.
 //!
 //! A message changes no plan: the plan takes each open order in the period that its row says. A row of the
 //! report ends with a line feed, and the names of the columns may stand above. The room for the report is taken
@@ -18,7 +18,8 @@ mod orders;
 
 pub use advice::{Action, Advice};
 pub use advice_laws::{
-    advice_is_read_back, needs_rise, open_orders_come_in, timely_orders_suffice,
+    advice_is_read_back, later_messages_are_dropped, needs_rise, open_orders_come_in,
+    timely_orders_suffice,
 };
 pub use advice_report::advice_rows;
 pub use mrp_csv_out::{Heading, ReportFault};

@@ -1,5 +1,5 @@
 -- Each report is the rows of its sheet.
-use Rattle.std.proofs.Common.{◌≡◌, ◌-◌, ◌++◌, ◌∙◌, ℕ, List, Option, length, map, All, refl, sym, ap, arith}
+use Rattle.std.proofs.Common.{◌≡◌, ◌-◌, ◌∷◌, ◌++◌, ◌∙◌, ℕ, List, [], Option, decimal, length, map, All, refl, sym, ap, arith}
 use Rattle.std.specs.Prelude.{slice_index}
 use Rattle.std.specs.List.{flat_map, range_with_len}
 use Rattle.std.proofs.lemmas.List.Elements.{All-append}
@@ -14,9 +14,11 @@ use Rattle.mrp_net.specs.Sums.{pair_at}
 use Rattle.mrp_net.specs.declared.lane.Lane.{Lane}
 use Rattle.mrp_net.specs.declared.lane.LaneKind.{LaneKind}
 use Rattle.mrp_net.specs.declared.lane.LaneKind.TheVariants.{Despatch, Schedule}
-use Rattle.mrp_plan.specs.Orders.{orders_by}
+use Rattle.mrp_plan.specs.Orders.{listed_by}
 use Rattle.mrp_plan.specs.Peg.{peg_terms}
-use Rattle.mrp_plan.specs.declared.orders.PlannedOrder.{PlannedOrder}
+use Rattle.mrp_plan.specs.declared.orders.ListedOrder.{ListedOrder}
+use Rattle.mrp_plan.specs.declared.orders.OrderSort.{OrderSort}
+use Rattle.mrp_plan.specs.declared.orders.OrderSort.TheVariants.{Firm, Planned}
 use Rattle.mrp_plan.specs.declared.terms.PegTerm.{PegTerm}
 use Rattle.mrp_plan.specs.declared.terms.PegSource.{PegSource}
 use Rattle.mrp_plan.specs.declared.terms.PegSource.TheVariants.{Demand, Bill, Plant}
@@ -26,7 +28,7 @@ use Rattle.mrp_report.specs.Headings.{code_names, lane_names, order_names, peg_n
 use Rattle.mrp_report.specs.Lanes.{figure_fields, figure_row, lane_kind_word, lane_text}
 use Rattle.mrp_report.specs.Laws.{CodesAreReadBack, FiguresAreReadBack, LateOrdersAreReadBack, OrdersAreReadBack, PegsAreReadBack, PlanIsReadBack}
 use Rattle.mrp_report.specs.Laws.{PlanWithLateOrdersIsReadBack, TermsAreReadBack}
-use Rattle.mrp_report.specs.Orders.{order_fields, planned_order_row, order_text, orders_text, pair_orders_text, spelled_supply}
+use Rattle.mrp_report.specs.Orders.{order_fields, order_word, listed_order_row, order_text, orders_text, pair_orders_text, spelled_supply}
 use Rattle.mrp_report.specs.Pegs.{pair_pegs_text, pegs_fields, pegs_row, pegs_text, period_pegs_text}
 use Rattle.mrp_report.specs.Report.{late_fields, late_text, pair_text, plan_fields, plan_text}
 use Rattle.mrp_report.specs.Codes.{code_fields, code_row, code_text}
@@ -276,19 +278,31 @@ lane_is_read N is heading figures =
     headed_read heading lane_names lane_names_are_row (lane_text N figures) (lane_sheet N figures) (lane_is_sheet N figures)
     (all_map (λ figure. figure_fields N (lane_at N figure.lane.0) figure) (λ figure. figure_is_row N is (lane_at N figure.lane.0) figure) figures)
 
--- ---- planned orders
+-- ---- orders, firm and planned
 
-order_is_row : (plant item supply : List ℕ) (dates : List (List ℕ)) (order : PlannedOrder) → IsPlain plant → IsPlain item → IsPlain supply
-    → ((t : ℕ) → IsPlain (date_in dates t)) → IsRow (order_fields plant item supply dates order)
+word_plain : (sort : OrderSort) → IsPlain (order_word sort)
+word_plain Firm = refl
+word_plain Planned = refl
+
+-- neither begins as a byte order mark does
+word_front : (sort : OrderSort) (field : List ℕ) (fields : List (List ℕ)) (rest : List ℕ)
+    → strip_bom (row (order_word sort ∷ field ∷ fields) ++ rest) ≡ row (order_word sort ∷ field ∷ fields) ++ rest
 unfolding row strip_bom
-order_is_row plant item supply dates order p i s d = record {
+word_front Firm field fields rest = refl
+word_front Planned field fields rest = refl
+
+order_is_row : (plant item supply : List ℕ) (dates : List (List ℕ)) (listed : ListedOrder) → IsPlain plant → IsPlain item → IsPlain supply
+    → ((t : ℕ) → IsPlain (date_in dates t)) → IsRow (order_fields plant item supply dates listed)
+unfolding row strip_bom
+order_is_row plant item supply dates listed p i s d = record {
   plain =
-      let are : ArePlain (order_fields plant item supply dates order) =
-      more refl (more p (more i (more s (number order.quantity (number order.release (more (d order.release)
-      (number order.due (more (d order.due) (number order.late none))))))))) in
+      let are : ArePlain (order_fields plant item supply dates listed) =
+      more (word_plain listed.sort) (more p (more i (more s (number listed.order.quantity (number listed.order.release (more (d listed.order.release)
+      (number listed.order.due (more (d listed.order.due) (number listed.order.late none))))))))) in
       are.all;
   many = omega arith;
-  front = λ rest. refl;
+  front = λ rest. word_front listed.sort plant (item ∷ supply ∷ decimal listed.order.quantity ∷ decimal listed.order.release ∷ date_in dates listed.order.release
+      ∷ decimal listed.order.due ∷ date_in dates listed.order.due ∷ decimal listed.order.late ∷ []) rest;
 }
 
 order_names_are_row : IsRow order_names
@@ -304,18 +318,18 @@ order_names_are_row = record {
 
 planned_are_sheet : (until : Option ℕ) (N : Table) (table : List PlanRows)
     → orders_text until N table ≡ flat_map row (flat_map (pair_orders_sheet until N table) (pairs_of N))
-unfolding orders_text pair_orders_text planned_order_row
+unfolding orders_text pair_orders_text listed_order_row
 planned_are_sheet until N table =
     rows_each (pair_orders_text until N table) (pair_orders_sheet until N table)
-    (λ x. row_each (order_fields (plant_of N x) (item_of N x) (spelled_supply N x) (dates_of N.calendar)) (orders_by until N table x)) (pairs_of N)
+    (λ x. row_each (order_fields (plant_of N x) (item_of N x) (spelled_supply N x) (dates_of N.calendar)) (listed_by until N table x)) (pairs_of N)
 
 planned_rows_are : (until : Option ℕ) (N : Table) → IsTable N → (table : List PlanRows) → All IsRow (flat_map (pair_orders_sheet until N table) (pairs_of N))
 planned_rows_are until N is table =
     all_each (pair_orders_sheet until N table)
     (λ x. all_map (order_fields (plant_of N x) (item_of N x) (spelled_supply N x) (dates_of N.calendar))
-    (λ order. order_is_row (plant_of N x) (item_of N x) (spelled_supply N x) (dates_of N.calendar) order (plant_plain N is (pair_at N x).plant.0)
+    (λ listed. order_is_row (plant_of N x) (item_of N x) (spelled_supply N x) (dates_of N.calendar) listed (plant_plain N is (pair_at N x).plant.0)
     (item_plain N is (pair_at N x).item.0) (supply_plain N is x) (dates_plain N.calendar))
-    (orders_by until N table x))
+    (listed_by until N table x))
     (pairs_of N)
 
 pub order_is_read : OrdersAreReadBack

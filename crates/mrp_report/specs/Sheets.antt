@@ -6,7 +6,7 @@ use Rattle.mrp_master_data.specs.Table.{Table, horizon}
 use Rattle.mrp_commands.specs.declared.choice.Heading.{Heading}
 use Rattle.mrp_net.specs.Lanes.{lane_at}
 use Rattle.mrp_net.specs.Plan.{rows_at}
-use Rattle.mrp_plan.specs.Orders.{orders_by}
+use Rattle.mrp_plan.specs.Orders.{listed_by}
 use Rattle.mrp_plan.specs.Peg.{peg_terms}
 use Rattle.mrp_plan.specs.declared.terms.PegTerm.{PegTerm}
 use Rattle.mrp_book.specs.declared.figure.LaneFigure.{LaneFigure}
@@ -57,11 +57,11 @@ code_sheet N codes = map (λ x. code_fields (plant_of N x) (item_of N x) (slice_
 abbrev pub lane_sheet : Table → List LaneFigure → Sheet
 lane_sheet N figures = map (λ figure. figure_fields N (lane_at N figure.lane.0) figure) figures
 
--- the planned orders of each pair that are released by then, in table order and in rising due period
+-- the orders of each pair, firm and planned, that are released by then, in table order and in rising due period
 abbrev pub pair_orders_sheet : Option ℕ → Table → List PlanRows → ℕ → Sheet
 pair_orders_sheet until N table x =
     map (order_fields (plant_of N x) (item_of N x) (spelled_supply N x) (dates_of N.calendar))
-    (orders_by until N table x)
+    (listed_by until N table x)
 
 abbrev pub order_sheet : Heading → Option ℕ → Table → List PlanRows → Sheet
 order_sheet heading until N table = header_sheet heading order_names

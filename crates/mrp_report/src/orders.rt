@@ -1,13 +1,15 @@
-//! The order rows: each planned order, with where its pair comes from and when it is released and due.
+//! The order rows: each order, firm and planned, with where its pair comes from and when it is released and due.
 
-ghost use Rattle.std.specs.Prelude.{◌≡◌, ◌<◌, ◌++◌, Err, OnOk, IfOk, IfErr, length};
-ghost use Rattle.mrp_master_data.specs.Table.{IsPair};
+ghost use Rattle.std.specs.Prelude.{◌≡◌, ◌<◌, ◌++◌, All, Err, OnOk, IfOk, IfErr, length};
+ghost use Rattle.std.specs.List.{flat_map};
+ghost use Rattle.mrp_master_data.specs.Table.{IsFirmRow, IsPair};
 ghost use Rattle.mrp_net.specs.PlanLaws.{Fits};
 ghost use Rattle.mrp_csv_out.specs.Dates.{dates_of};
 ghost use Rattle.mrp_csv_out.specs.Headings.{header_row};
 ghost use Rattle.mrp_report.specs.Headings.{order_names};
-ghost use Rattle.mrp_report.specs.Orders.{order_text, orders_text, pair_orders_text, spelled_supply};
-ghost use Rattle.mrp_report.specs.OrderLines.{IsOrderLine, due_text, order_line_row, order_line_text};
+ghost use Rattle.mrp_report.specs.Orders.{order_text, order_word, orders_text, pair_orders_text, spelled_supply};
+ghost use Rattle.mrp_report.specs.OrderLines.{HasDates, IsOrderLine, due_text, firm_text, order_line_row};
+ghost use Rattle.mrp_report.specs.OrderLines.{order_line_text, planned_text, released_text};
 ghost use Rattle.mrp_csv_out.specs.Writing.{IsBetweenRows, written};
 ghost use Rattle.mrp_csv_out.specs.Sent.{SendsReport};
 
@@ -17,9 +19,9 @@ use itoa::Buffer;
 use mrp_commands::Heading;
 use mrp_csv_out::{ReportFault, date_of, date_texts, put_names, put_row, room_for, send, text_of};
 use mrp_loops::SizedNet;
-use mrp_net::{Network, PairNo};
+use mrp_net::{FirmRow, Network, PairNo};
 use mrp_netting::PairPlan;
-use mrp_plan::{Plan, PlannedOrder, planned_order};
+use mrp_plan::{ListedOrder, OrderSort, Plan, planned_order};
 use std::alloc::Global;
 use std::io::Write;
 
@@ -41,20 +43,21 @@ struct OrderReport<'a> {
 }
 
 /// What the rows of a pair's orders have in common: the names of its plant and item, where it comes
-/// from, the text of each period's date, its lead time and the last period of a release.
+/// from, the text of each period's date, its firm planned orders, its lead time and the last period of a release.
 #[derive(Clone, Copy)]
 pub(crate) struct OrderLine<'a> {
     pub(crate) plant: &'a str,
     pub(crate) item: &'a str,
     pub(crate) supply: &'a [u8],
     pub(crate) dates: &'a [[u8; 10]],
+    pub(crate) firms: &'a [FirmRow],
     pub(crate) lead: u64,
     pub(crate) until: Option<u64>,
 }
 
-/// Writes a row for each planned order that is released in period `until` or before it, without it for
-/// each, pairs in table order and due periods in rising order: `order`, plant, item, where the pair
-/// comes from, the quantity in pieces, the period of the release and its first day, the period in which
+/// Writes a row for each order that is released in period `until` or before it, without it for each, pairs in table
+/// order and due periods in rising order, and in one period the firm planned orders in table order before the planned
+/// one: `firm` or `order`, plant, item, where the pair comes from, the quantity in pieces, the period of the release and its first day, the period in which
 /// it is due and its first day, and how many periods are missing, 0 where none is. The names of the
 /// columns stand above them where `heading` says so.
 ///
@@ -170,7 +173,8 @@ fn line_of<'a>(report: &OrderReport<'a>, x: PairNo, supply: &'a [u8]) -> OrderLi
     requires dates { report.now.dates.now ≡ dates_of report.now.network.now.calendar }
     requires pair { IsPair report.now.network.now x.0 }
     requires supply { supply.now ≡ spelled_supply report.now.network.now x.0 }
-    ensures { IsOrderLine report.now.network.now x.0 report.now.until result }
+    ensures line { IsOrderLine report.now.network.now x.0 report.now.until result }
+    ensures firms { All (IsFirmRow report.now.network.now) result.firms.now }
 {
     let (plant, item) = report.network.pair_name(x);
     OrderLine {
@@ -178,19 +182,21 @@ fn line_of<'a>(report: &OrderReport<'a>, x: PairNo, supply: &'a [u8]) -> OrderLi
         item,
         supply,
         dates: report.dates,
+        firms: report.network.firm_orders(x),
         lead: report.network.pair(x).lead,
         until: report.until,
     }
 }
 
 /// Adds the rows of a plan's orders, due period by due period.
-fn put_orders(
+fn put_orders<'a>(
     rows: &mut Writer<Vec<u8>>,
-    line: &OrderLine<'_>,
+    line: &'a OrderLine<'a>,
     plan: &PairPlan,
 ) -> Result<(), ReportFault>
     requires between { IsBetweenRows rows.old }
     requires periods { length plan.now.order ≡ length line.now.dates.now }
+    requires firms { All (HasDates line.now) line.now.firms.now }
     ensures rows { OnOk result (written rows.new ≡ written rows.old ++ order_line_text line.now plan.now) }
     ensures between { OnOk result (IsBetweenRows rows.new) }
     ensures fault { IfErr result (λ fault. fault ≡ ReportFault.Memory) }
@@ -201,39 +207,128 @@ fn put_orders(
     Ok(())
 }
 
-/// Adds the row of the order that is due in period `t`, if there is one and it is released by then.
-fn put_due(
+/// Adds the rows of the orders that are due in period `t` and are released by then, first those of firm planned orders.
+fn put_due<'a>(
     rows: &mut Writer<Vec<u8>>,
-    line: &OrderLine<'_>,
+    line: &'a OrderLine<'a>,
     plan: &PairPlan,
     t: usize,
 ) -> Result<(), ReportFault>
     requires between { IsBetweenRows rows.old }
     requires period { t < length plan.now.order }
     requires date { t < length line.now.dates.now }
+    requires firms { All (HasDates line.now) line.now.firms.now }
     ensures rows { OnOk result (written rows.new ≡ written rows.old ++ due_text line.now plan.now t) }
     ensures between { OnOk result (IsBetweenRows rows.new) }
     ensures fault { IfErr result (λ fault. fault ≡ ReportFault.Memory) }
 {
+    put_firms_due(rows, line, t)?;
+    put_planned_due(rows, line, plan, t)
+}
+
+/// Adds the rows of the firm planned orders that are due in period `t` and are released by then, in table order.
+fn put_firms_due<'a>(
+    rows: &mut Writer<Vec<u8>>,
+    line: &'a OrderLine<'a>,
+    t: usize,
+) -> Result<(), ReportFault>
+    requires between { IsBetweenRows rows.old }
+    requires firms { All (HasDates line.now) line.now.firms.now }
+    ensures rows { OnOk result (written rows.new ≡ written rows.old
+        ++ flat_map (firm_text line.now t) line.now.firms.now) }
+    ensures between { OnOk result (IsBetweenRows rows.new) }
+    ensures fault { IfErr result (λ fault. fault ≡ ReportFault.Memory) }
+{
+    'orders: for firm in line.firms {
+        put_firm_due(rows, line, firm, t)?;
+    }
+    Ok(())
+}
+
+/// Adds the row of a firm planned order, if it is due in period `t` and is released by then.
+fn put_firm_due<'a>(
+    rows: &mut Writer<Vec<u8>>,
+    line: &'a OrderLine<'a>,
+    firm: &FirmRow,
+    t: usize,
+) -> Result<(), ReportFault>
+    requires between { IsBetweenRows rows.old }
+    requires dates { HasDates line.now firm.now }
+    ensures rows { OnOk result (written rows.new ≡ written rows.old ++ firm_text line.now t firm.now) }
+    ensures between { OnOk result (IsBetweenRows rows.new) }
+    ensures fault { IfErr result (λ fault. fault ≡ ReportFault.Memory) }
+{
+    if firm.due == t {
+        put_released(rows, line, ListedOrder::firm(firm))
+    } else {
+        Ok(())
+    }
+}
+
+/// Adds the row of the planned order that is due in period `t`, if there is one and it is released by then.
+fn put_planned_due<'a>(
+    rows: &mut Writer<Vec<u8>>,
+    line: &'a OrderLine<'a>,
+    plan: &PairPlan,
+    t: usize,
+) -> Result<(), ReportFault>
+    requires between { IsBetweenRows rows.old }
+    requires period { t < length plan.now.order }
+    requires date { t < length line.now.dates.now }
+    ensures rows { OnOk result (written rows.new ≡ written rows.old ++ planned_text line.now plan.now t) }
+    ensures between { OnOk result (IsBetweenRows rows.new) }
+    ensures fault { IfErr result (λ fault. fault ≡ ReportFault.Memory) }
+{
     match planned_order(plan, line.lead, t) {
-        Some(order) if order.is_released_by(line.until) => put_order(rows, line, order),
-        _ => Ok(()),
+        Some(order) => put_released(rows, line, ListedOrder::planned(order)),
+        None => Ok(()),
+    }
+}
+
+/// Adds the row of an order, if it is released by then.
+fn put_released<'a>(
+    rows: &mut Writer<Vec<u8>>,
+    line: &'a OrderLine<'a>,
+    listed: ListedOrder,
+) -> Result<(), ReportFault>
+    requires between { IsBetweenRows rows.old }
+    requires release { listed.order.release < length line.now.dates.now }
+    requires due { listed.order.due < length line.now.dates.now }
+    ensures row { OnOk result (written rows.new ≡ written rows.old ++ released_text line.now listed) }
+    ensures between { OnOk result (IsBetweenRows rows.new) }
+    ensures fault { IfErr result (λ fault. fault ≡ ReportFault.Memory) }
+{
+    if listed.order.is_released_by(line.until) {
+        put_order(rows, line, listed)
+    } else {
+        Ok(())
+    }
+}
+
+/// What a row calls an order that planners set, and one of the plan.
+fn order_word<'a>(sort: OrderSort) -> &'a [u8]
+    ensures { result.now ≡ order_word sort }
+{
+    match sort {
+        OrderSort::Firm => b"firm",
+        OrderSort::Planned => b"order",
     }
 }
 
 /// Adds the row of an order.
-fn put_order(
+fn put_order<'a>(
     rows: &mut Writer<Vec<u8>>,
-    line: &OrderLine<'_>,
-    order: PlannedOrder,
+    line: &'a OrderLine<'a>,
+    listed: ListedOrder,
 ) -> Result<(), ReportFault>
     requires between { IsBetweenRows rows.old }
-    requires release { order.release < length line.now.dates.now }
-    requires due { order.due < length line.now.dates.now }
-    ensures row { OnOk result (written rows.new ≡ written rows.old ++ order_line_row line.now order) }
+    requires release { listed.order.release < length line.now.dates.now }
+    requires due { listed.order.due < length line.now.dates.now }
+    ensures row { OnOk result (written rows.new ≡ written rows.old ++ order_line_row line.now listed) }
     ensures between { OnOk result (IsBetweenRows rows.new) }
     ensures fault { IfErr result (λ fault. fault ≡ ReportFault.Memory) }
 {
+    let order = listed.order;
     let mut quantity = Buffer::new();
     let mut release = Buffer::new();
     let mut due = Buffer::new();
@@ -241,7 +336,7 @@ fn put_order(
     put_row(
         rows,
         &[
-            b"order",
+            order_word(listed.sort),
             line.plant.as_bytes(),
             line.item.as_bytes(),
             line.supply,

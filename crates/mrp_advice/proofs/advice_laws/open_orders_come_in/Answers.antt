@@ -6,3 +6,6 @@ returns-clause-kept c = proved.orders_are_kept
 
 pub returns-clause-sums : goal.returns-clause-sums
 returns-clause-sums c = proved.orders_come_in
+
+pub returns-clause-plan : goal.returns-clause-plan
+returns-clause-plan c = proved.orders_are_planned

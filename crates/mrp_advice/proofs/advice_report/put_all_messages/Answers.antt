@@ -6,8 +6,8 @@ use Rattle.mrp_advice.proofs.advice_report.put_all_messages.Goals as goal
 pub pairs-preserved : goal.pairs-preserved
 pairs-preserved c = record {
   between = c.in_ok-put_pair_messages.ensures.between;
-  so_far = rows-more (pair_advice_text c.args.report.now.network.now c.args.report.now.plan.now) _ _ _ c.pairs.x c.pairs.invariant.so_far
-      c.in_ok-put_pair_messages.ensures.rows;
+  so_far = rows-more (pair_advice_text c.args.report.now.until c.args.report.now.network.now c.args.report.now.plan.now) _ _ _ c.pairs.x
+      c.pairs.invariant.so_far c.in_ok-put_pair_messages.ensures.rows;
 }
 
 pub returns-clause-rows : goal.returns-clause-rows

@@ -8,5 +8,5 @@ use Rattle.mrp_advice.proofs.advice_report.put_all_messages.Given as goal
 abbrev pub invariant-pairs : goal.invariant-pairs
 invariant-pairs l = record {
   between : IsBetweenRows l.rows;
-  so_far : written l.rows ≡ written l.initial.rows ++ flat_map (pair_advice_text l.report.network.now l.report.plan.now) (range_with_len 0 l.x);
+  so_far : written l.rows ≡ written l.initial.rows ++ flat_map (pair_advice_text l.report.until l.report.network.now l.report.plan.now) (range_with_len 0 l.x);
 }
