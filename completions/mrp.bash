@@ -15,7 +15,7 @@ _mrp() {
             orders) words="--until --header --help" ;;
             schedule) words="--from --to --header --help" ;;
             pegs) words="--header --help" ;;
-            advice) words="--header --help" ;;
+            advice) words="--until --header --help" ;;
             help) words="plan check peg cums orders schedule pegs advice" ;;
             *) words="--help" ;;
         esac

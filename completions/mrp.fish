@@ -24,4 +24,5 @@ complete -c mrp -n '__fish_seen_subcommand_from schedule' -l from -x -d 'The sup
 complete -c mrp -n '__fish_seen_subcommand_from schedule' -l to -x -d 'The customer plant'
 complete -c mrp -n '__fish_seen_subcommand_from schedule' -l header -d 'Write the names of the columns above the rows'
 complete -c mrp -n '__fish_seen_subcommand_from pegs' -l header -d 'Write the names of the columns above the rows'
+complete -c mrp -n '__fish_seen_subcommand_from advice' -l until -x -d 'The last period in which an open order comes, 0 to 103'
 complete -c mrp -n '__fish_seen_subcommand_from advice' -l header -d 'Write the names of the columns above the rows'

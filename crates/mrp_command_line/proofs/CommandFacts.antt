@@ -170,10 +170,6 @@ schedule_whole words e = header_whole schedule_leaf words refl refl (λ v known.
 pegs_whole : (words : List Text) → level_fault pegs_leaf [] nothing_held words false [] ≡ [] → HasFlag (codes "header") (rows_after pegs_leaf.rules [] words)
 pegs_whole words e = header_whole pegs_leaf words refl refl (λ v known. only _ known) e
 
-advice_whole : (words : List Text) → level_fault advice_leaf [] nothing_held words false [] ≡ []
-    → HasFlag (codes "header") (rows_after advice_leaf.rules [] words)
-advice_whole words e = header_whole advice_leaf words refl refl (λ v known. only _ known) e
-
 -- a number that may be left out
 free_number_whole : (rows : List Row) → MayHaveNumber (codes "until") rows → MayBeWithin 0 LAST_PERIOD (number_value (codes "until") rows)
     → HasFlag (codes "header") rows → HasOrderValues rows
@@ -183,27 +179,38 @@ may_be : (least most : ℕ) (number : Option ℕ) → LiesWithin least most numb
 may_be least most None within = tt
 may_be least most (Some n) within = within
 
-orders_whole : (words : List Text) → level_fault orders_leaf [] nothing_held words false [] ≡ [] → HasOrderValues (rows_after orders_leaf.rules [] words)
-orders_whole words e = go (has_row (codes "until") rows) refl
+-- a command whose arguments are the last period, and the flag for the names of the columns
+limited_whole : (s : Shape) (words : List Text) → list_all is_plain_rule s.rules ≡ true
+    → list_any (λ a. bytes_eq a.id (codes "header") && has_some a.defaults) s.rules ≡ true
+    → ((v : Text) → value_known s.rules (codes "header") v ≡ true → accepts false Truth v ≡ true)
+    → ((v : Text) → value_known s.rules (codes "until") v ≡ true → accepts false (Unsigned 0 LAST_PERIOD) v ≡ true)
+    → level_fault s [] nothing_held words false [] ≡ [] → HasOrderValues (rows_after s.rules [] words)
+limited_whole s words plain filled flag period e = go (has_row (codes "until") rows) refl
   where
     rows : List Row
-    rows = rows_after orders_leaf.rules [] words
+    rows = rows_after s.rules [] words
 
     header : HasFlag (codes "header") rows
-    header = header_whole orders_leaf words refl refl (λ v known. only _ known) e
+    header = header_whole s words plain filled flag e
 
-    ok : rows_pass orders_leaf.rules rows ≡ true
-    ok = let p = level_passes orders_leaf [] words false [] e in rows_good orders_leaf [] words refl p.words_pass p.last_passes
+    ok : rows_pass s.rules rows ≡ true
+    ok = let p = level_passes s [] words false [] e in rows_good s [] words plain p.words_pass p.last_passes
 
     go : (there : Bool) → has_row (codes "until") rows ≡ there → HasOrderValues rows
     go true there =
-        let until = value_found orders_leaf.rules (codes "until") rows there ok in
-        let number = number_whole (codes "until") rows 0 LAST_PERIOD until.0 until.1 (only _ until.2) in
+        let until = value_found s.rules (codes "until") rows there ok in
+        let number = number_whole (codes "until") rows 0 LAST_PERIOD until.0 until.1 (period until.0 until.2) in
         free_number_whole rows (inl number.0) (may_be 0 LAST_PERIOD (number_value (codes "until") rows) number.1) header
     go false there =
         let none = no_value (codes "until") rows there in
         free_number_whole rows (inr none) (subst (MayBeWithin 0 LAST_PERIOD)
         (sym (ap (option_map (λ text. digits_value 10 (without_leading_plus text))) none.0)) tt) header
+
+orders_whole : (words : List Text) → level_fault orders_leaf [] nothing_held words false [] ≡ [] → HasOrderValues (rows_after orders_leaf.rules [] words)
+orders_whole words e = limited_whole orders_leaf words refl refl (λ v known. only _ known) (λ v known. only _ known) e
+
+advice_whole : (words : List Text) → level_fault advice_leaf [] nothing_held words false [] ≡ [] → HasOrderValues (rows_after advice_leaf.rules [] words)
+advice_whole words e = limited_whole advice_leaf words refl refl (λ v known. only _ known) (λ v known. only _ known) e
 
 three : (a b d r : Bool) → (not a || (not b || (not d || r))) ≡ false → (a ≡ true) × (b ≡ true) × (d ≡ true)
 three true true true r e = (refl, refl, refl)

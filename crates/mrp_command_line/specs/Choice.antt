@@ -65,7 +65,8 @@ IsCommand name rows (Schedule from to heading) =
     × (text_at (codes "to") rows ≡ word_text to)
     × IsHeadedBy rows heading
 IsCommand name rows (Pegs heading) = (name ≡ codes "pegs") × IsHeadedBy rows heading
-IsCommand name rows (Advice heading) = (name ≡ codes "advice") × IsHeadedBy rows heading
+IsCommand name rows (Advice until heading) =
+    (name ≡ codes "advice") × (number_value (codes "until") rows ≡ until) × IsHeadedBy rows heading
 
 -- the same, where there is a subcommand
 abbrev pub IsMeantBy : Option (Text × List Row) → Choice → Type 0

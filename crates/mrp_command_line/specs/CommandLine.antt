@@ -54,7 +54,7 @@ single = flag (codes "single")
 abbrev pub header : Rule
 header = flag (codes "header")
 
--- the last period of a release
+-- the last period of a release, or in which an open order comes
 abbrev pub until : Rule
 until = free_number_option (codes "until") 0 LAST_PERIOD
 
@@ -102,9 +102,9 @@ schedule_words = with_rule (with_rule (with_rule (new_app (codes "schedule")) fr
 abbrev pub pegs_words : App
 pegs_words = with_rule (new_app (codes "pegs")) header
 
--- `advice [--header]`
+-- `advice [--until PERIOD] [--header]`
 abbrev pub advice_words : App
-advice_words = with_rule (new_app (codes "advice")) header
+advice_words = with_rule (with_rule (new_app (codes "advice")) until) header
 
 -- a program of that name, which has a version and has to be given a subcommand
 abbrev pub program_words : Text → App

@@ -51,6 +51,7 @@ pub record HasPegValues (rows : List Row) : Type 0 where
   pub period_within : LiesWithin 0 LAST_PERIOD (number_value (codes "period") rows)
   pub header : HasFlag (codes "header") rows
 
+-- of planned orders, and of open ones
 pub record HasOrderValues (rows : List Row) : Type 0 where
   pub until : MayHaveNumber (codes "until") rows
   pub until_within : MayBeWithin 0 LAST_PERIOD (number_value (codes "until") rows)
@@ -61,7 +62,7 @@ abbrev pub IsWholeReport : Text → List Row → Type 0
 IsWholeReport name rows = ((name ≡ codes "orders") × HasOrderValues rows)
     ⊎ (((name ≡ codes "schedule") × HasFlag (codes "header") rows)
     ⊎ (((name ≡ codes "pegs") × HasFlag (codes "header") rows)
-    ⊎ ((name ≡ codes "advice") × HasFlag (codes "header") rows)))
+    ⊎ ((name ≡ codes "advice") × HasOrderValues rows)))
 
 -- the command is one of the eight, with its values
 abbrev pub HasCommandValues : Text → List Row → Type 0

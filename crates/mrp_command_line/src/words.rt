@@ -7,7 +7,7 @@ ghost use Rattle.clap.specs.declared.builder.value_parser.ValueParser.TheVariant
 ghost use Rattle.mrp_commands.specs.Range.{IsInRange};
 ghost use Rattle.mrp_command_line.specs.Choice.{IsChosenBy, IsCommand, IsHeadedBy, IsMeantBy, IsMemory};
 ghost use Rattle.mrp_command_line.specs.Choice.{IsRefusalOf, flag_at, number_value, text_at, word_text, texts_of};
-ghost use Rattle.mrp_command_line.specs.CommandLine.{IsRuled, IsWorded, mrp, orders_words, peg_words, plan_words};
+ghost use Rattle.mrp_command_line.specs.CommandLine.{IsRuled, IsWorded, mrp, peg_words, plan_words};
 ghost use Rattle.mrp_command_line.specs.CommandLine.{program_words, schedule_words};
 ghost use Rattle.mrp_command_line.specs.CommandLine as rule;
 ghost use Rattle.mrp_commands.specs.declared.choice.TheConstants.{MOST_CAPACITY};
@@ -48,7 +48,8 @@ demand,PLANT,ITEM,PERIOD,QUANTITY,,,\n  \
 receipt,PLANT,ITEM,PERIOD,QUANTITY,,,\n  \
 ship,FROM,TO,ITEM,PERIOD,QUANTITY,,\n  \
 cum,FROM,TO,ITEM,FIGURE,,,\n  \
-reset,FROM,TO,ITEM,PERIOD,,,\n\n\
+reset,FROM,TO,ITEM,PERIOD,,,\n  \
+firm,PLANT,ITEM,START,DUE,QUANTITY,,\n\n\
 SUPPLY is make, buy, from:PLANT, or from: with two to four plants and their\n\
 shares in thousandths, as from:B:600:C:400. RULE is lot, fixed:Q, periods:K or\n\
 min:M:K. Periods count from 0.\n\n\
@@ -100,10 +101,12 @@ const ORDERS: &str = "Write the planned orders, with their releases and how they
 const ORDERS_LONG: &str =
     "Writes the planned orders of each pair, those alone that are released in PERIOD\n\
 or before it where it is given. SUPPLY is that of the pair's row of the table,\n\
-and LATE how many periods are missing.\n\n  \
+and LATE how many periods are missing. The row of a firm order begins with firm.\n\n  \
 order,PLANT,ITEM,SUPPLY,QUANTITY,RELEASE,RELEASE_DATE,DUE,DUE_DATE,LATE";
 
 const ORDERS_EXAMPLE: &str = "Example: mrp orders --until 0 < bicycle.csv";
+
+const ORDERS_UNTIL: &str = "The last period of a release, 0 to 103; without it all orders";
 
 const SCHEDULE: &str = "Write the delivery schedules between plants";
 
@@ -128,12 +131,15 @@ const PEGS_EXAMPLE: &str = "Example: mrp pegs --header < bicycle.csv";
 const ADVICE: &str = "Write which open orders to expedite, to defer and to cancel";
 
 const ADVICE_LONG: &str =
-    "Writes the open orders, receipts and shipments, that are needed in another\n\
-period than they come in: ACTION is expedite, defer, or cancel, the last where\n\
-what is there and comes before is enough in all periods. It changes no plan.\n\n  \
+    "Writes the open orders, receipts, shipments and firm orders, that are needed in\n\
+another period than they come in: ACTION is expedite, defer, or cancel, the last\n\
+where what is there and comes before is enough in all periods. It changes no\n\
+plan. --until leaves out the orders that come after PERIOD, and no other.\n\n  \
 advice,ACTION,KIND,PLANT,ITEM,SUPPLIER,PERIOD,DATE,QUANTITY,NEEDED,NEEDED_DATE";
 
-const ADVICE_EXAMPLE: &str = "Example: mrp advice < firm.csv";
+const ADVICE_EXAMPLE: &str = "Example: mrp advice --until 3 < firm.csv";
+
+const ADVICE_UNTIL: &str = "The last period in which an open order comes, 0 to 103; without it all";
 
 /// Reads the words of a command line, of which the first is the program's name: the choice is the
 /// subcommand that `clap` reads in them, with its values. It is made only of words in which `clap`
@@ -172,11 +178,26 @@ fn program<'a>(alloc: Global) -> Result<Command<'a>, AllocError>
     let line = with(line, peg_command(alloc));
     let cums = headed_command(alloc, "cums", CUMS, CUMS_LONG, CUMS_EXAMPLE);
     let line = with(line, cums);
-    let line = with(line, orders_command(alloc));
+    let orders = limited_command(
+        alloc,
+        "orders",
+        ORDERS,
+        ORDERS_LONG,
+        ORDERS_EXAMPLE,
+        ORDERS_UNTIL,
+    );
+    let line = with(line, orders);
     let line = with(line, schedule_command(alloc));
     let pegs = headed_command(alloc, "pegs", PEGS, PEGS_LONG, PEGS_EXAMPLE);
     let line = with(line, pegs);
-    let advice = headed_command(alloc, "advice", ADVICE, ADVICE_LONG, ADVICE_EXAMPLE);
+    let advice = limited_command(
+        alloc,
+        "advice",
+        ADVICE,
+        ADVICE_LONG,
+        ADVICE_EXAMPLE,
+        ADVICE_UNTIL,
+    );
     with(line, advice)
 }
 
@@ -320,26 +341,34 @@ fn single_flag<'a>(alloc: Global) -> Arg<'a>
         .help("Plan all plants on one thread")
 }
 
-/// `orders`.
-fn orders_command<'a>(alloc: Global) -> Result<Command<'a>, AllocError>
-    ensures { IfOk result (IsWorded orders_words) }
+/// The command that is called `name`, with what help says of it and of its `--until`, and with `--until` and
+/// `--header`.
+fn limited_command<'a>(
+    alloc: Global,
+    name: &'a str,
+    about: &'a str,
+    long_about: &'a str,
+    example: &'a str,
+    until: &'a str,
+) -> Result<Command<'a>, AllocError>
+    ensures { IfOk result (IsWorded (with_rule (with_rule (new_app name.entry.now) rule.until) rule.header)) }
 {
-    let orders = explained(alloc, "orders", ORDERS, ORDERS_LONG, ORDERS_EXAMPLE);
-    let Ok(with_until) = orders.arg(until_option(alloc)) else {
+    let limited = explained(alloc, name, about, long_about, example);
+    let Ok(with_until) = limited.arg(until_option(alloc, until)) else {
         return Err(AllocError);
     };
     with_until.arg(header_flag(alloc))
 }
 
-/// `--until`.
-fn until_option<'a>(alloc: Global) -> Arg<'a>
+/// `--until`, which has this help.
+fn until_option<'a>(alloc: Global, help: &'a str) -> Arg<'a>
     ensures { IsRuled rule.until result }
 {
     Arg::new(alloc, "until")
         .long("until")
         .value_name("PERIOD")
         .value_parser(numbers(0, LAST_PERIOD))
-        .help("The last period of a release, 0 to 103; without it all orders")
+        .help(help)
 }
 
 /// `schedule`.
@@ -472,9 +501,7 @@ fn reporting<'a>(name: &str, values: &ArgMatches<'a>) -> Choice<'a>
             heading: heading(values),
         }
     } else {
-        Choice::Advice {
-            heading: heading(values),
-        }
+        advising(values)
     }
 }
 
@@ -511,10 +538,20 @@ fn ordering<'a>(values: &ArgMatches<'a>) -> Choice<'a>
     ensures range { IsInRange result }
     ensures choice { IsCommand (codes "orders") (rows_of (found_of values.now)) result }
 {
-    Choice::Orders {
-        until: free_number(values, "until"),
-        heading: heading(values),
-    }
+    let until = free_number(values, "until");
+    let heading = heading(values);
+    Choice::Orders { until, heading }
+}
+
+/// The values of `advice`.
+fn advising<'a>(values: &ArgMatches<'a>) -> Choice<'a>
+    requires { HasOrderValues (rows_of (found_of values.now)) }
+    ensures range { IsInRange result }
+    ensures choice { IsCommand (codes "advice") (rows_of (found_of values.now)) result }
+{
+    let until = free_number(values, "until");
+    let heading = heading(values);
+    Choice::Advice { until, heading }
 }
 
 /// The values of `schedule`.

@@ -15,4 +15,4 @@ IsInRange (Cums heading) = Unit {0}
 IsInRange (Orders until heading) = IfSome until (λ period. period ≤ LAST_PERIOD)
 IsInRange (Schedule from to heading) = Unit {0}
 IsInRange (Pegs heading) = Unit {0}
-IsInRange (Advice heading) = Unit {0}
+IsInRange (Advice until heading) = IfSome until (λ period. period ≤ LAST_PERIOD)

@@ -75,6 +75,9 @@ pub enum Choice<'a> {
     },
     /// Write which open orders to expedite, to defer and to cancel.
     Advice {
+        /// The last period in which an open order comes, 0 to [`LAST_PERIOD`]: later ones are left out. Without
+        /// it none is.
+        until: Option<u64>,
         /// Whether the names of the columns stand above them.
         heading: Heading,
     },

@@ -12,7 +12,7 @@ returns c =
     let checked = c.with-line-2.ensures (with_subcommand (program_words (codes "mrp")) plan_words.top) check_words planned c.headed_command-check.ensures in
     let pegged = c.with-line-3.ensures up_to_check peg_words checked c.peg_command.ensures in
     let figured = c.with-line-4.ensures up_to_peg cums_words pegged c.headed_command-cums.ensures in
-    let ordered = c.with-line-5.ensures up_to_cums orders_words figured c.orders_command.ensures in
+    let ordered = c.with-line-5.ensures up_to_cums orders_words figured c.limited_command-orders.ensures in
     let scheduled = c.with-line-6.ensures up_to_orders schedule_words ordered c.schedule_command.ensures in
     let traced = c.with-line-7.ensures up_to_schedule pegs_words scheduled c.headed_command-pegs.ensures in
-    c.with.ensures up_to_pegs advice_words traced c.headed_command-advice.ensures
+    c.with.ensures up_to_pegs advice_words traced c.limited_command-advice.ensures
