@@ -53,6 +53,11 @@ uint32_t mrp_check(const uint8_t *table, size_t table_size, bool header,
 uint32_t mrp_cums(const uint8_t *table, size_t table_size, bool header,
                   uint8_t *buffer, size_t buffer_size, size_t *size);
 
+/* Which open orders to expedite, to defer and to cancel, as mrp advice: where `limited` those alone that come in period
+ * `until`, counted from 0, or before it. */
+uint32_t mrp_advice(const uint8_t *table, size_t table_size, bool limited, uint64_t until, bool header,
+                    uint8_t *buffer, size_t buffer_size, size_t *size);
+
 #ifdef __cplusplus
 }
 #endif

@@ -1,4 +1,4 @@
-/* Answers as mrp does, by the library: report plan|orders|schedule|check|cums [--header] < table
+/* Answers as mrp does, by the library: report plan|orders|schedule|check|cums|advice [--header] < table
  *
  * The report goes to standard output, the line of a fault to standard error, and the status is that of the call, 2 for other
  * words, or 3 where standard input can't be read or standard output not be written.
@@ -57,6 +57,8 @@ static uint32_t call(const char *name, bool header, struct bytes table, struct b
         return mrp_check(table.at, table.size, header, buffer.at, buffer.size, size);
     if (!strcmp(name, "cums"))
         return mrp_cums(table.at, table.size, header, buffer.at, buffer.size, size);
+    if (!strcmp(name, "advice"))
+        return mrp_advice(table.at, table.size, false, 0, header, buffer.at, buffer.size, size);
     fprintf(stderr, "report: no report is called %s\n", name);
     exit(2);
 }

@@ -119,7 +119,7 @@ one_answer (Cums heading) N a b table x y = one_headed heading _ (IsCumReport N)
 one_answer (Orders until heading) N a b table x y = one_of_plan N (order_text heading until N) a b x.0 x.1 y.1
 one_answer (Schedule from to heading) N a b table x y = one_schedule (name_of from) (name_of to) heading N a b table x y
 one_answer (Pegs heading) N a b table x y = one_headed heading _ (IsPegsReport N) a b (λ c d p q. one_of_plan N (pegs_text N) c d p.0 p.1 q.1) x y
-one_answer (Advice heading) N a b table x y = one_of_plan N (advice_text heading N) a b x.0 x.1 y.1
+one_answer (Advice until heading) N a b table x y = one_of_plan N (advice_text heading until N) a b x.0 x.1 y.1
 
 pub one_report : ReportsAreOne
 one_report choice bytes a b x y =
@@ -136,7 +136,7 @@ answer_sized (Cums heading) N text is = is.1.0
 answer_sized (Orders until heading) N text is = is.0
 answer_sized (Schedule from to heading) N text is = is.4.0
 answer_sized (Pegs heading) N text is = is.1.0
-answer_sized (Advice heading) N text is = is.0
+answer_sized (Advice until heading) N text is = is.0
 
 -- a report about a pair and a period is of a pair and a period that are there
 pair_known : (choice : Choice) (N : Table) (text : List ℕ) → IsAnswer choice N text → LacksPair (question_of choice) N → ⊥
@@ -148,7 +148,7 @@ pair_known (Cums heading) N text is unknown = unknown
 pair_known (Orders until heading) N text is unknown = unknown
 pair_known (Schedule from to heading) N text is unknown = unknown
 pair_known (Pegs heading) N text is unknown = unknown
-pair_known (Advice heading) N text is unknown = unknown
+pair_known (Advice until heading) N text is unknown = unknown
 
 period_known : (choice : Choice) (N : Table) (text : List ℕ) → IsAnswer choice N text → LacksPeriod (question_of choice) N → ⊥
 period_known (Plan workers capacity true) N text is unknown = unknown
@@ -159,7 +159,7 @@ period_known (Cums heading) N text is unknown = unknown
 period_known (Orders until heading) N text is unknown = unknown
 period_known (Schedule from to heading) N text is unknown = unknown
 period_known (Pegs heading) N text is unknown = unknown
-period_known (Advice heading) N text is unknown = unknown
+period_known (Advice until heading) N text is unknown = unknown
 
 -- one about plants is of plants that are there
 name_known : (N : Table) (name : Option (List ℕ)) (f : Option PlantNo) → IsChosenPlant N name f → IsNoPlant N name → ⊥
@@ -177,7 +177,7 @@ plant_known (Cums heading) N text is unknown = unknown
 plant_known (Orders until heading) N text is unknown = unknown
 plant_known (Schedule from to heading) N text is unknown = ⊎_elim (name_known N (name_of from) is.0 is.2) (name_known N (name_of to) is.1 is.3) unknown
 plant_known (Pegs heading) N text is unknown = unknown
-plant_known (Advice heading) N text is unknown = unknown
+plant_known (Advice until heading) N text is unknown = unknown
 
 -- so a table of which there is a report isn't refused
 answer_passes : (choice : Choice) (N : Table) (text : List ℕ) (f : TextFault) → IsAnswer choice N text → RefusesTable (question_of choice) N f → status_of f ≡ 3

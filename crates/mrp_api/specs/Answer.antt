@@ -30,7 +30,7 @@ IsAnswer (Cums heading) = λ N. IsHeaded heading lane_names (IsCumReport N)
 IsAnswer (Orders until heading) = IsOrderReport until heading
 IsAnswer (Schedule from to heading) = IsScheduleReport (name_of from) (name_of to) heading
 IsAnswer (Pegs heading) = λ N. IsHeaded heading pegs_names (IsPegsReport N)
-IsAnswer (Advice heading) = IsAdviceReport heading
+IsAnswer (Advice until heading) = IsAdviceReport until heading
 
 -- what a choice asks of a table
 abbrev pub question_of : Choice → Question
@@ -42,7 +42,7 @@ question_of (Cums heading) = AskWhole
 question_of (Orders until heading) = AskWhole
 question_of (Schedule from to heading) = AskPlants (name_of from) (name_of to)
 question_of (Pegs heading) = AskWhole
-question_of (Advice heading) = AskWhole
+question_of (Advice until heading) = AskWhole
 
 -- the faults after which nothing of the report is written: of a plan those that are met before its first byte,
 -- of every other report all but a failed write
@@ -54,7 +54,7 @@ IsBeforeReport (Cums heading) fault = fault ≢ WriteFault
 IsBeforeReport (Orders until heading) fault = fault ≢ WriteFault
 IsBeforeReport (Schedule from to heading) fault = fault ≢ WriteFault
 IsBeforeReport (Pegs heading) fault = fault ≢ WriteFault
-IsBeforeReport (Advice heading) fault = fault ≢ WriteFault
+IsBeforeReport (Advice until heading) fault = fault ≢ WriteFault
 
 -- no shut gate
 abbrev pub IsNoShutGate : TextFault → Type 0

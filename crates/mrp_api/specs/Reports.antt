@@ -74,9 +74,10 @@ IsScheduleReport from to heading N text =
 abbrev pub IsPegsReport : Table → List ℕ → Type 0
 IsPegsReport N text = IsSized N × OfPlan N (λ plans. text ≡ pegs_text N plans)
 
--- the advice rows of the plan of the network, with the names of their columns above them where they are asked for
-abbrev pub IsAdviceReport : Heading → Table → List ℕ → Type 0
-IsAdviceReport heading N text = IsSized N × OfPlan N (λ plans. text ≡ advice_text heading N plans)
+-- the advice rows of the plan of the network: those of the open orders that come by then, with the names of their
+-- columns above them where they are asked for
+abbrev pub IsAdviceReport : Option ℕ → Heading → Table → List ℕ → Type 0
+IsAdviceReport until heading N text = IsSized N × OfPlan N (λ plans. text ≡ advice_text heading until N plans)
 
 -- rows of a report, with the names of its columns above them where they are asked for
 abbrev pub IsHeaded : Heading → List (List ℕ) → (List ℕ → Type 0) → List ℕ → Type 0

@@ -181,7 +181,7 @@ pub fn cums_text<R: Read + Drop, W: Write>(
     report_text(alloc, reader, writer, Choice::Cums { heading })
 }
 
-/// Reads a table and writes its planned orders: a row for each that is released in period `until` or
+/// Reads a table and writes its orders, firm and planned: a row for each that is released in period `until` or
 /// before it, without it for each, with the names of the columns above them where `heading` says so.
 ///
 /// The network is planned as a whole, as for pegs: orders follow from the one plan, and no lane is looked at.
@@ -261,9 +261,10 @@ pub fn pegs_text<R: Read + Drop, W: Write>(
     report_text(alloc, reader, writer, Choice::Pegs { heading })
 }
 
-/// Reads a table and writes which of its open orders, receipts and shipments, to expedite, to defer and to
-/// cancel, since they are needed in another period than they come in, or in none of the plan, with the names of
-/// the columns above the rows where `heading` says so.
+/// Reads a table and writes which of its open orders, receipts, shipments and firm planned orders, to expedite, to
+/// defer and to cancel, since they are needed in another period than they come in, or in none of the plan: a row for
+/// each that comes in period `until` or before it, without it for each, with the names of the columns above them where
+/// `heading` says so.
 ///
 /// # Errors
 ///
@@ -273,14 +274,15 @@ pub fn advice_text<R: Read + Drop, W: Write>(
     alloc: Global,
     reader: R,
     writer: &mut W,
+    until: Option<u64>,
     heading: Heading,
 ) -> Result<(), TextFault>
     ensures text { Writes (W.contents writer.old) (W.contents writer.new) result
-        (λ text. OfTable (R.remaining reader) (λ N. IsAdviceReport heading N text)) }
+        (λ text. OfTable (R.remaining reader) (λ N. IsAdviceReport until heading N text)) }
     ensures refusal { IfErr result (Refuses (R.remaining reader) AskWhole) }
     ensures untouched { IfErr result (λ fault. fault ≢ TextFault.WriteFault → writer.new ≡ writer.old) }
 {
-    report_text(alloc, reader, writer, Choice::Advice { heading })
+    report_text(alloc, reader, writer, Choice::Advice { until, heading })
 }
 
 /// Reads a table and writes the report that one thread is asked for: what each text function but [`plan_text`] does.

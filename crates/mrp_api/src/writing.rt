@@ -82,7 +82,7 @@ fn report<W: Write>(
             report_schedule(alloc, net, writer, from, to, heading)
         }
         Choice::Pegs { heading } => report_all_pegs(alloc, net, writer, heading),
-        Choice::Advice { heading } => report_advice(alloc, net, writer, heading),
+        Choice::Advice { until, heading } => report_advice(alloc, net, writer, until, heading),
     }
 }
 
@@ -300,20 +300,21 @@ fn report_all_pegs<W: Write>(
     Ok(())
 }
 
-/// Writes the advice rows of all open orders.
+/// Writes the advice rows of those open orders that come in period `until` or before it, without it of all.
 fn report_advice<W: Write>(
     alloc: Global,
     net: &SizedNet<'_>,
     writer: &mut W,
+    until: Option<u64>,
     heading: Heading,
 ) -> Result<(), TextFault>
     requires { IsSized net.now.network }
     ensures text { Writes (W.contents writer.old) (W.contents writer.new) result
-        (IsAdviceReport heading net.now.network) }
+        (IsAdviceReport until heading net.now.network) }
     ensures fault { IfErr result IsLate }
     ensures untouched { IfErr result (λ fault. fault ≢ TextFault.WriteFault → writer.new ≡ writer.old) }
 {
     let plan = plan_all(alloc, net)?;
-    advice_rows(alloc, net, &plan, heading, writer)?;
+    advice_rows(alloc, net, &plan, until, heading, writer)?;
     Ok(())
 }

@@ -25,7 +25,7 @@ ghost use Rattle.mrp_c_api.specs.Answers.{Answers, AnswersNamed};
 ghost use Rattle.mrp_c_api.specs.Options.{heading_of, limit_of};
 ghost use Rattle.mrp_report.specs.Headings.{code_names, lane_names};
 ghost use Rattle.mrp_api.specs.Refusals.{AskWhole};
-ghost use Rattle.mrp_api.specs.Reports.{IsCodeReport, IsCumReport, IsHeaded, IsOrderReport};
+ghost use Rattle.mrp_api.specs.Reports.{IsAdviceReport, IsCodeReport, IsCumReport, IsHeaded, IsOrderReport};
 ghost use Rattle.mrp_api.specs.Text.{IsPlanReport};
 
 use crate::buffer::{answer, refuse_name};
@@ -159,4 +159,32 @@ pub extern "C" fn mrp_cums(
 {
     let heading = heading(header);
     answer(alloc, table, Choice::Cums { heading }, buffer, size)
+}
+
+/// Writes which open orders of a table to expedite, to defer and to cancel: where `limited` is true of those alone that
+/// come in period `until` or before it.
+///
+/// `until` counts periods from 0, and is read only where `limited` is true; from the last period on no open order is
+/// left out. Where `header` is true the names of the columns stand above the rows. The text is that of `mrp advice`.
+///
+/// # Errors
+///
+/// Status 1 where the table is refused, and 3 where memory was refused; the text is the line of the fault.
+#[unsafe(no_mangle)]
+pub extern "C" fn mrp_advice(
+    alloc: Global,
+    table: &[u8],
+    limited: bool,
+    until: u64,
+    header: bool,
+    buffer: &mut [u8],
+    size: &mut usize,
+) -> u32
+    ensures { Answers table.now AskWhole (IsAdviceReport (limit_of limited until) (heading_of header))
+        result buffer.old buffer.new size.new }
+{
+    let until = limit(limited, until);
+    let heading = heading(header);
+    let choice = Choice::Advice { until, heading };
+    answer(alloc, table, choice, buffer, size)
 }

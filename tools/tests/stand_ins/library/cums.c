@@ -2,6 +2,7 @@
 #include <stdbool.h>
 #include <stddef.h>
 #include <stdint.h>
+#include <stdio.h>
 #include <string.h>
 uint32_t mrp_cums(const uint8_t *table, size_t table_size, bool header, uint8_t *buffer, size_t buffer_size, size_t *size)
 {
@@ -27,4 +28,10 @@ uint32_t mrp_schedule(void)
 uint32_t mrp_check(void)
 {
     return 0;
+}
+
+uint32_t mrp_advice(const uint8_t *table, size_t table_size, bool limited, uint64_t until, bool header, uint8_t *buffer, size_t buffer_size, size_t *size)
+{
+    *size = snprintf((char *)buffer, buffer_size, "mrp: until %d %d, %d\n", limited, (int)until, header);
+    return 1;
 }

@@ -10,7 +10,7 @@ returns-in_err-advice_rows-clause-text g c =
     let p = err_from_is_err_and c.from_residual-in_err-advice_rows.result c.from_residual-in_err-advice_rows.ensures.1 in
     let N = c.args.net.now.network in
     rw p.1
-    (report-fails _ _ (advice_text c.args.heading N c.in_ok-plan.plan) c.in_err-advice_rows.field-0.0 p.0 (IsAdviceReport c.args.heading N)
+    (report-fails _ _ (advice_text c.args.heading c.args.until N c.in_ok-plan.plan) c.in_err-advice_rows.field-0.0 p.0 (IsAdviceReport c.args.until c.args.heading N)
     (c.requires, (c.in_ok-plan.plan, c.in_ok-plan.ensures.fits, refl)) c.in_err-advice_rows.ensures.text
     (λ same. ap g.W.Write.contents (c.in_err-advice_rows.ensures.untouched (ap Err same))) p.2)
 
