@@ -1,2 +1,3 @@
 mod WorkedFacts
+mod FirmOrderFacts
 mod PumpsFacts

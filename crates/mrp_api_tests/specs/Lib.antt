@@ -1,3 +1,4 @@
 pub mod Worked
+pub mod FirmOrders
 pub mod Pumps
 pub mod PumpsReports

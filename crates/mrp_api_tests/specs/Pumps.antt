@@ -171,6 +171,7 @@ pumps = record {
       ∷ record { from = record { 0 = 1 }; pair = record { 0 = 8 }; period = 5 }
       ∷ record { from = record { 0 = 1 }; pair = record { 0 = 9 }; period = 5 }
       ∷ [];
+  firms = [];
 }
 
 -- its rows, field by field

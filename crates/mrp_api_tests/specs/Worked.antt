@@ -41,6 +41,7 @@ bicycle = record {
   ships = [];
   cums = [];
   resets = [];
+  firms = [];
 }
 
 -- its rows, field by field
@@ -102,6 +103,7 @@ firm_of_two = record {
   ships = record { from = record { 0 = 1 }; pair = record { 0 = 0 }; period = 2; quantity = 8 } ∷ [];
   cums = record { from = record { 0 = 1 }; pair = record { 0 = 0 }; figure = 100 } ∷ [];
   resets = [];
+  firms = [];
 }
 
 abbrev pub FirmOfTwoIsWritten : Type 0

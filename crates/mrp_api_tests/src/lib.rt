@@ -10,9 +10,10 @@
 mod worked;
 
 pub use worked::{
-    bicycle_is_planned, bicycle_is_written, firm_of_two_is_planned, firm_of_two_is_written,
-    pumps_are_advised, pumps_are_counted, pumps_are_ordered, pumps_are_planned,
-    pumps_are_scheduled, pumps_are_written,
+    bicycle_is_planned, bicycle_is_written, firm_and_planned_is_ordered,
+    firm_and_planned_is_planned, firm_and_planned_is_written, firm_call_is_scheduled,
+    firm_of_two_is_planned, firm_of_two_is_written, pumps_are_advised, pumps_are_counted,
+    pumps_are_ordered, pumps_are_planned, pumps_are_scheduled, pumps_are_written,
 };
 
 #[cfg(test)]

@@ -1,6 +1,8 @@
 //! Tables that were worked by hand, computed by the definitions alone. Each law is the contract of a function that
 //! does nothing.
 
+ghost use Rattle.mrp_api_tests.specs.FirmOrders.{FirmAndPlannedIsOrdered, FirmAndPlannedIsPlanned};
+ghost use Rattle.mrp_api_tests.specs.FirmOrders.{FirmAndPlannedIsWritten, FirmCallIsScheduled};
 ghost use Rattle.mrp_api_tests.specs.Pumps.{PumpsArePlanned, PumpsAreWritten};
 ghost use Rattle.mrp_api_tests.specs.PumpsReports.{PumpsAreAdvised, PumpsAreCounted, PumpsAreOrdered, PumpsAreScheduled};
 ghost use Rattle.mrp_api_tests.specs.Worked.{BicycleIsPlanned, BicycleIsWritten, FirmOfTwoIsPlanned, FirmOfTwoIsWritten};
@@ -38,7 +40,7 @@ pub fn pumps_are_planned()
     ensures { PumpsArePlanned }
 {}
 
-/// Their planned orders, to the byte, with where each comes from and what is late.
+/// Their orders, to the byte, with where each comes from and what is late.
 pub fn pumps_are_ordered()
     ensures { PumpsAreOrdered }
 {}
@@ -56,4 +58,26 @@ pub fn pumps_are_advised()
 /// Their cumulative figures, to the byte, with which every run between the plants ends.
 pub fn pumps_are_counted()
     ensures { PumpsAreCounted }
+{}
+
+/// The rows that are written of a plant with a firm planned order, field by field.
+pub fn firm_and_planned_is_written()
+    ensures { FirmAndPlannedIsWritten }
+{}
+
+/// Its plan report, to the byte: the firm order comes in where it is due, the rest of what is wanted is ordered beside
+/// it, and it takes its components in the period of its release.
+pub fn firm_and_planned_is_planned()
+    ensures { FirmAndPlannedIsPlanned }
+{}
+
+/// Its orders, to the byte: the firm one before the planned one of the same period.
+pub fn firm_and_planned_is_ordered()
+    ensures { FirmAndPlannedIsOrdered }
+{}
+
+/// The delivery schedule of a plant whose customer has a firm planned order, to the byte: it is a call like others, and
+/// the cumulative figures have it.
+pub fn firm_call_is_scheduled()
+    ensures { FirmCallIsScheduled }
 {}

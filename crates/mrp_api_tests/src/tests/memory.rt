@@ -79,7 +79,7 @@ fn pegs_or_is_refused(alloc: Global) -> Result<bool, Fail> {
 /// Whether the advice is written, or memory was refused.
 fn advice_or_is_refused(alloc: Global) -> Result<bool, Fail> {
     let mut advice = Vec::with_capacity(alloc, ROOM)?;
-    let answer = advice_text(alloc, EARLY.as_bytes(), &mut advice, Heading::Names);
+    let answer = advice_text(alloc, EARLY.as_bytes(), &mut advice, None, Heading::Names);
     Ok(is_written_or_refused(&answer, advice.as_slice(), EARLY_ADVICE))
 }
 

@@ -286,6 +286,7 @@ fn choice_of(asked: Asked) -> Choice<'static>
             heading: Heading::Names,
         },
         Asked::Advice => Choice::Advice {
+            until: None,
             heading: Heading::Names,
         },
     }
