@@ -173,9 +173,24 @@ class Reset(NamedTuple):
     period: PERIOD
 
 
+class Firm(NamedTuple):
+    """A firm planned order, which is released in one period and comes in another. No plan moves it."""
+
+    plant: NAME
+    item: NAME
+    start: PERIOD
+    due: PERIOD
+    quantity: NUMBER
+
+    @property
+    def pair(self):
+        """The pair that it comes in for."""
+        return self.plant, self.item
+
+
 # The kinds of rows, by the names of their lists in a table.
 LISTS = {"runs": Run, "plants": Plant, "pairs": Pair, "bills": Bill, "demands": Demand}
-LISTS |= {"receipts": Receipt, "ships": Ship, "cums": Cum, "resets": Reset}
+LISTS |= {"receipts": Receipt, "ships": Ship, "cums": Cum, "resets": Reset, "firms": Firm}
 KINDS = tuple(LISTS.values())
 
 
@@ -218,6 +233,11 @@ class Order(NamedTuple):
     due: NUMBER
     due_date: DATE
     late: NUMBER
+
+
+# (in the place of `order` its rows have the word `firm`)
+FirmOrder = NamedTuple("FirmOrder", Order.__annotations__.items())
+FirmOrder.__doc__ = "A firm planned order, with the columns of a planned one. It is never late."
 
 
 class Schedule(NamedTuple):
@@ -280,10 +300,10 @@ class Peg(NamedTuple):
 
 
 class Advice(NamedTuple):
-    """A message for an open order that comes in `period`. One to cancel is never needed; a receipt has no supplier."""
+    """A message for an open order that comes in `period`. One to cancel is never needed; only a shipment has a supplier."""
 
     action: one_of("expedite", "defer", "cancel")
-    kind: one_of("receipt", "ship")
+    kind: one_of("receipt", "ship", "firm")
     plant: NAME
     item: NAME
     supplier: NAME.or_empty()
@@ -308,8 +328,8 @@ class Hit(NamedTuple):
 
 
 # The rows of reports by their words; and of each report whose columns --header names, the kind of its rows.
-ROWS = {"plan": Plan, "late": Late, "order": Order, "schedule": Schedule, "code": Code, "lane": Lane, "peg": Term}
-ROWS |= {"pegs": Peg, "advice": Advice, "hit": Hit}
+ROWS = {"plan": Plan, "late": Late, "order": Order, "firm": FirmOrder, "schedule": Schedule, "code": Code, "lane": Lane}
+ROWS |= {"peg": Term, "pegs": Peg, "advice": Advice, "hit": Hit}
 REPORTS = {"check": Code, "peg": Term, "cums": Lane, "orders": Order, "schedule": Schedule}
 REPORTS |= {"pegs": Peg, "advice": Advice, "hit": Hit}
 
@@ -600,7 +620,7 @@ class Names:
         return plants.get(plant, plant), items.get(item, item)
 
     def of(self, kind, plant, item, period):
-        """Returns what stood beside the rows of a pair in a period, demand, receipt or ship."""
+        """Returns what stood beside the rows of a kind, of a pair in a period: demand, receipt, ship or firm."""
         return self.rows.get((kind, plant, item, period), [])
 
 
@@ -616,7 +636,8 @@ class Library:
 
         self.ctypes, self.calls, library = ctypes, {}, ctypes.CDLL(path)
         name, flag, size = [ctypes.c_char_p, ctypes.c_size_t], ctypes.c_bool, ctypes.c_size_t
-        options = {"plan": [], "orders": [flag, ctypes.c_uint64, flag], "schedule": [*name, *name, flag]}
+        limited = [flag, ctypes.c_uint64, flag]
+        options = {"plan": [], "orders": limited, "advice": limited, "schedule": [*name, *name, flag]}
         options |= {"check": [flag], "cums": [flag]}
         for it, types in options.items():
             call = self.calls[it] = library[f"mrp_{it}"]
@@ -627,7 +648,8 @@ class Library:
         """Returns the status and the text of a call."""
         plants = [(it or "").encode() for it in (supplier, customer)]
         names = [it for plant in plants for it in (plant, len(plant))]
-        options = {"plan": [], "orders": [until is not None, until or 0, False], "schedule": [*names, False]}
+        limited = [until is not None, until or 0, False]
+        options = {"plan": [], "orders": limited, "advice": limited, "schedule": [*names, False]}
         options, ctypes = options.get(name, [False]), self.ctypes
         size = ctypes.c_size_t(4 * len(table) + 4096)
         while True:
@@ -684,7 +706,9 @@ def plan(table):
 
 
 def orders(table, until=None):
-    """Returns the planned orders, each as an Order: with `until` those that are released up to that period."""
+    """Returns the planned orders, each as an Order, and the firm ones, each as a FirmOrder: with `until` those that are
+    released up to that period.
+    """
     return report(library() or program(), "orders", table, until=until)
 
 
@@ -708,6 +732,8 @@ def pegs(table):
     return report(program(), "pegs", table)
 
 
-def advice(table):
-    """Returns which open orders to expedite, to defer and to cancel, each as an Advice. The program answers."""
-    return report(program(), "advice", table)
+def advice(table, until=None):
+    """Returns which open orders to expedite, to defer and to cancel, each as an Advice: with `until` those that come up to
+    that period.
+    """
+    return report(library() or program(), "advice", table, until=until)

@@ -89,13 +89,13 @@ def each_name_is_tested(program):
     around = ("pair,{},Z,buy,lot,0,0,0", "pair,A,{},buy,lot,0,0,0", "bill,{},X,Y,1,,,", "bill,A,{},Y,1,,,", "bill,A,X,{},1,,,")
     around += ("demand,{},X,0,1,,,", "demand,A,{},0,1,,,", "receipt,{},X,0,1,,,", "receipt,A,{},0,1,,,")
     around += ("ship,{},A,Y,0,1,,", "ship,B,{},Y,0,1,,", "ship,B,A,{},0,1,,", "cum,{},A,Y,1,,,", "cum,B,{},Y,1,,,", "cum,B,A,{},1,,,")
-    around += ("reset,{},A,Y,1,,,", "reset,B,{},Y,1,,,", "reset,B,A,{},1,,,")
+    around += ("reset,{},A,Y,1,,,", "reset,B,{},Y,1,,,", "reset,B,A,{},1,,,", "firm,{},X,0,0,1,,", "firm,A,{},0,0,1,,")
     for name in ("", "A/B", "A:B", "A B", "X!", "?", "@A", "A[", "A`B", "{A", '"A,B"', "Ü", "NAME-OF-21-CHARACTERS"):
         refused(program, f"run,2026-01-05,7,4,,,,\nplant,{name},,,,,,\n", "row 2: BadName", ("check",))
         for row in around:
             refused(program, f"{HEAD}{row.replace('{}', name)}\n", "row 7: BadName", ("check",))
     plants, items = ("Plant-of-20.letters1", "Plant-of-20.letters2"), ("ITEM_OF_MORE_LETTERS", "ITEM_OF_20_LETTERS.Z")
-    table = HEAD + "bill,A,X,Y,1,,,\ndemand,A,X,0,1,,,\nreceipt,A,X,0,1,,,\nship,B,A,Y,0,1,,\ncum,B,A,Y,1,,,\nreset,B,A,Y,1,,,\n"
+    table = HEAD + "bill,A,X,Y,1,,,\ndemand,A,X,0,1,,,\nreceipt,A,X,0,1,,,\nship,B,A,Y,0,1,,\ncum,B,A,Y,1,,,\nreset,B,A,Y,1,,,\nfirm,A,X,0,1,1,,\n"
     for short, long in zip("ABXY", (*plants, *reversed(items))):
         table = re.sub(rf"(?<=[,:]){short}(?=,)", long, table)
     expect(program, "check", table, "accepted\n")
@@ -118,6 +118,7 @@ def rows_that_are_no_text(program):
     """In the first row and in a later one."""
     refused(program, b"run,2026-01-05,7,4,,,,\nplant,\xff,,,,,,\n", "row 2: NotUtf8")
     refused(program, b"\xff,2026-01-05,7,4,,,,\n", "row 1: NotUtf8")
+    refused(program, HEAD.encode() + b"firm,A,X,0,\xff,0,,\n", "row 7: NotUtf8")
 
 
 def tables_of_other_programs(program):
@@ -133,7 +134,7 @@ def tables_of_other_programs(program):
 
 def tables_cut_within_a_row(program):
     """A firm of two plants, cut behind each of its characters that neither ends a row nor stands before the end of one."""
-    rows = "demand,A,X,2,30,,,\nship,B,A,X,2,8,,\ncum,B,A,X,100,,,\n"
+    rows = "demand,A,X,2,30,,,\nship,B,A,X,2,8,,\ncum,B,A,X,100,,,\nreset,B,A,X,2,,,\nfirm,A,X,0,1,12,,\n"
     firm = "run,2026-01-05,7,4,,,,\nplant,A,,,,,,\nplant,B,,,,,,\npair,A,X,from:B,lot,1,0,0\npair,B,X,buy,lot,0,0,0\n" + rows
     for count in range(1, len(firm)):
         if "\n" not in firm[count - 1 : count + 1]:
@@ -158,7 +159,9 @@ TWO_PLANTS = "run,2026-01-05,7,1,,,,\nplant,A,,,,,,\nplant,B,,,,,,\npair,A,X,fro
 
 
 def kinds_have_their_limits(program):
-    """So many rows of a kind are read, and one more is refused; a million open orders make as many messages."""
+    """So many rows of a kind are read, and one more is refused; a million open orders make as many messages, and a million
+    firm orders as many rows of orders.
+    """
     plants = "run,2026-01-05,7,4,,,,\n" + numbered(64, "plant,P", ",,,,,,")
     pairs = ONE_PLANT + numbered(20_000, "pair,A,X", ",make,lot,0,0,0")
     some = ONE_PLANT + numbered(1000, "pair,A,X", ",make,lot,0,0,0")
@@ -171,11 +174,29 @@ def kinds_have_their_limits(program):
         refused(program, most + more, f"row {row}: TooMany", ("check",))
     amounts = {"demand,A,X,0,1,,,\n": "", "receipt,A,X,0,1,,,\n": "advice,cancel,receipt,A,X,,0,2026-01-05,1,,\n"}
     amounts["ship,B,A,X,0,1,,\n"] = "advice,cancel,ship,A,X,B,0,2026-01-05,1,,\n"
+    amounts["firm,A,X,0,0,1,,\n"] = "advice,cancel,firm,A,X,,0,2026-01-05,1,,\n"
     for row, message in amounts.items():
         expect(program, "check", TWO_PLANTS + row * 1_000_000, "code,A,X,0\ncode,B,X,1\n")
         expect(program, "advice", TWO_PLANTS + row * 1_000_000, message * 1_000_000)
         refused(program, TWO_PLANTS + row * 1_000_001, "row 1000006: TooMany", ("check",))
     expect(program, "check", TWO_PLANTS + "".join(it * 1_000_000 for it in amounts), "code,A,X,0\ncode,B,X,1\n")
+    firm, order = "firm,A,X,from:B,1,0,2026-01-05,0,2026-01-05,0\n", "order,B,X,buy,1000000,0,2026-01-05,0,2026-01-05,0\n"
+    expect(program, "orders", TWO_PLANTS + "firm,A,X,0,0,1,,\n" * 1_000_000, firm * 1_000_000 + order)
+
+
+def firm_orders_have_the_bound_of_quantities(program):
+    """10^15 pieces, of orders of 10^12 alone: they count as what a pair has, and as what it may need. And those of a parent count
+    in the need of its component.
+    """
+    order, pairs = "firm,A,X,0,0,1000000000000,,\n", ONE_PLANT + "pair,A,X,make,lot,0,0,0\npair,A,Y,buy,lot,0,0,0\n"
+    expect(program, "check", pairs + 500 * order, "code,A,X,0\ncode,A,Y,0\n")
+    refused(program, pairs + 500 * order + "firm,A,X,0,0,1,,\n", "NeedTooLarge A/X", ("check", "plan", "plan --single", "orders"))
+    refused(program, pairs + 1000 * order, "NeedTooLarge A/X", ("check", "advice"))
+    refused(program, pairs + 1000 * order + "firm,A,X,0,0,1,,\n", "SupplyTooLarge A/X", ("check", "plan", "plan --single", "orders"))
+    bill = pairs + "bill,A,X,Y,2,,,\n"
+    # (of supplies the first pair in table order is named, of needs one that is asked before those that it asks)
+    expect(program, "peg A Y 0", bill + 500 * order, "peg,bill,A,X,500000000000000,2,1000000000000000\n")
+    refused(program, bill + 500 * order + "firm,A,Y,0,0,1,,\n", "NeedTooLarge A/Y", ("check", "pegs"))
 
 
 def faults_are_named_in_large_tables(program):
@@ -249,13 +270,14 @@ def long_names_make_long_reports(program):
 
 def pegs_are_those_of_each_pair_and_period(program):
     """The pegging of the whole plan is what each question is answered, with the pair and the period before it."""
-    with mrp.open_table(f"{TOP}/examples/three_plants.csv") as lines:
-        firm = mrp.Table.read(lines)
-    wanted = ""
-    for it, period in itertools.product(firm.pairs, range(firm.run.periods)):
-        terms = answer(program, f"peg {it.plant} {it.item} {period}", bytes(firm))
-        wanted += "".join(f"pegs,{it.plant},{it.item},{period},{term.removeprefix('peg,')}\n" for term in terms.splitlines())
-    expect(program, "pegs", bytes(firm), wanted)
+    for name in ("three_plants", "firm_orders"):
+        with mrp.open_table(f"{TOP}/examples/{name}.csv") as lines:
+            firm = mrp.Table.read(lines)
+        wanted = ""
+        for it, period in itertools.product(firm.pairs, range(firm.run.periods)):
+            terms = answer(program, f"peg {it.plant} {it.item} {period}", bytes(firm))
+            wanted += "".join(f"pegs,{it.plant},{it.item},{period},{term.removeprefix('peg,')}\n" for term in terms.splitlines())
+        expect(program, "pegs", bytes(firm), wanted)
 
 
 def each_of_20000_pairs_has_an_open_order(program):
@@ -277,6 +299,7 @@ MADE = (
     tables_cut_within_a_row,
     plans_are_sent_by_sixteen_pairs,
     kinds_have_their_limits,
+    firm_orders_have_the_bound_of_quantities,
     faults_are_named_in_large_tables,
     a_part_goes_into_all_others,
     each_of_20000_pairs_has_a_late_order,

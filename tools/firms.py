@@ -22,6 +22,7 @@ def table(chance, plants=12, pairs=30):
     run = mrp.Run(chance.choice(("2026-01-05", "1970-01-01", "2028-02-28")), chance.randint(1, 31), periods)
     rows = [run, *map(mrp.Plant, names), *firm.pair_rows(), *firm.bill_rows()]
     rows += [*firm.period_rows(mrp.Demand, kept), *firm.period_rows(mrp.Receipt, kept), *firm.lane_rows()]
+    rows += [*firm.firm_rows([(it.receiver, it.item) for it in rows if isinstance(it, mrp.Reset)])]
     return bytes(mrp.Table(rows))
 
 
@@ -89,6 +90,20 @@ class Draft:
         figures = 0, 8, 100, 999 * self.quantities[0]
         cums = [mrp.Cum(*it, self.chance.choice(figures)) for it in lanes if self.chance.random() < 0.4]
         return [*ships, *cums, *(mrp.Reset(*it, self.chance.randrange(self.periods)) for it in lanes if it in anew)]
+
+    def firm_rows(self, anew):
+        """Yields firm orders, but in some firms none: some up to the end of the horizon or in its last period alone, several
+        of one pair and period, and equal ones. Pairs of several sources, and those whose figures start anew, have more.
+        """
+        often, last = [*anew, *(it for it in self.kept if len(self.sources[it]) > 1)], self.periods - 1
+        for _ in range(self.chance.choice((0, 0, 1, 2, len(self.kept)))):
+            pair = self.chance.choice(self.chance.choice((self.kept, often or self.kept)))
+            start, due = sorted(self.chance.randrange(self.periods) for _ in "12")
+            start, due = self.chance.choice(((start, due), (start, due), (0, due), (start, last), (last, last)))
+            row = mrp.Firm(*pair, start, due, self.chance.choice(self.quantities))
+            yield from [row] * self.chance.choice((1, 1, 2))
+            if self.chance.random() < 0.3:
+                yield row._replace(start=self.chance.randint(0, due), quantity=self.chance.choice(self.quantities))
 
 
 def damaged(chance, text):

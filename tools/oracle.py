@@ -29,6 +29,7 @@ COLUMNS = {
     "ship": ("name", "name", "name", "period", "quantity"),
     "cum": ("name", "name", "name", "figure"),
     "reset": ("name", "name", "name", "period"),
+    "firm": ("name", "name", "period", "period", "quantity"),
 }
 KINDS = list(COLUMNS)
 RANGES = {
@@ -40,7 +41,7 @@ RANGES = {
     "quantity": (1, 10**12),
     "figure": (0, 10**15),
 }
-MOST = {"plant": 64, "pair": 20_000, "bill": 200_000, "demand": 10**6, "receipt": 10**6, "ship": 10**6, "cum": 10**6}
+MOST = {"plant": 64, "pair": 20_000, "bill": 200_000, **dict.fromkeys(("demand", "receipt", "ship", "cum", "firm"), 10**6)}
 LIMIT = 10**15
 # The names of the columns, as --header writes them above a report.
 HEADERS = {
@@ -91,6 +92,14 @@ class Edge(NamedTuple):
 
     def part(self, release):
         return release * self.high // 1000 - release * self.low // 1000
+
+
+class FirmOrder(NamedTuple):
+    """A firm planned order."""
+
+    start: int
+    due: int
+    quantity: int
 
 
 class Plan(NamedTuple):
@@ -173,7 +182,7 @@ class Firm:
     def __init__(self, table):
         self.periods, self.kind, self.counts, self.said = 0, None, {}, set()
         self.plants, self.pairs, self.bills, self.cums, self.ships, self.resets = [], {}, {}, {}, [], {}
-        self.demand, self.incoming, self.open_orders = {}, {}, {}
+        self.demand, self.incoming, self.open_orders, self.firm_orders = {}, {}, {}, {}
         count = 0
         for count, fields in enumerate(rows(table), 1):
             fault = self.spelling_fault(fields) or self.fault([it.decode() for it in fields])
@@ -213,6 +222,8 @@ class Firm:
         ranges = {**RANGES, "period": (0, self.periods - 1)}
         if any(number(it, *ranges[column]) is None for column, it in values if column in ranges):
             return "BadNumber"
+        if texts[0] == "firm" and int(texts[4]) < int(texts[3]):
+            return "BadNumber"
         if texts[0] == "pair" and not rule_of(texts[4]):
             return "BadRule"
         return "BadSupply" if texts[0] == "pair" and sources_of(texts[3]) is None else None
@@ -241,8 +252,9 @@ class Firm:
             return "SelfSource"
         if self.counts.get(kind, 0) == MOST.get(kind):
             return "TooMany"
-        arrivals = [it[1] for it in self.ships if it[0] == tuple(texts[1:4])]
-        return "ResetOrder" if kind == "reset" and arrivals != sorted(arrivals) else None
+        # (of a million rows none but these looks at all shipments)
+        arrivals = [it[1] for it in self.ships if it[0] == tuple(texts[1:4])] if kind == "reset" else []
+        return None if arrivals == sorted(arrivals) else "ResetOrder"
 
     @staticmethod
     def key(texts):
@@ -263,7 +275,7 @@ class Firm:
         elif kind == "pair":
             self.pairs[first, second] = Pair(count, third, sources_of(third), rule_of(more[0]), *map(int, more[1:4]))
             self.demand[first, second], self.incoming[first, second] = [0] * self.periods, [0] * self.periods
-            self.open_orders[first, second] = []
+            self.open_orders[first, second], self.firm_orders[first, second] = [], []
         elif kind == "bill":
             self.bills[first, second, third] = int(more[0])
         elif kind == "demand":
@@ -279,6 +291,11 @@ class Firm:
             self.cums[first, second, third] = int(more[0])
         elif kind == "reset":
             self.resets[first, second, third] = int(more[0])
+        elif kind == "firm":
+            order = FirmOrder(int(third), int(more[0]), int(more[1]))
+            self.firm_orders[first, second].append(order)
+            self.incoming[first, second][order.due] += order.quantity
+            self.open_orders[first, second].append((order.due, kind, "", order.quantity))
 
     def find_edges(self):
         """Finds the demanders of each pair, in table order."""
@@ -319,7 +336,8 @@ class Firm:
         for pair in sorted(self.pairs, key=self.codes.get):
             row = self.pairs[pair]
             asked = sum(it.per * need[it.pair] for it in self.demanders[pair])
-            need[pair] = sum(self.demand[pair]) + asked + row.safety + (0 if row.rule[0] == "periods" else sum(row.rule[1:]))
+            firm = sum(it.quantity for it in self.firm_orders[pair])
+            need[pair] = sum(self.demand[pair]) + asked + row.safety + firm + (0 if row.rule[0] == "periods" else sum(row.rule[1:]))
             if supply[pair] + need[pair] > LIMIT:
                 raise Refused("mrp: NeedTooLarge " + "/".join(pair))
 
@@ -329,12 +347,14 @@ class Firm:
         for pair in sorted(self.pairs, key=self.codes.get):
             edges = [(it, plans[it.pair].release) for it in self.demanders[pair]]
             gross = [self.demand[pair][t] + sum(it.per * it.part(release[t]) for it, release in edges) for t in range(self.periods)]
-            plans[pair] = self.plan_of(self.pairs[pair], gross, self.incoming[pair])
+            plans[pair] = self.plan_of(self.pairs[pair], gross, self.incoming[pair], self.firm_orders[pair])
         return plans
 
-    def plan_of(self, row, gross, incoming):
-        """Plans one pair."""
+    def plan_of(self, row, gross, incoming, firm_orders):
+        """Plans one pair. Its firm orders are in what comes in already."""
         order, release, available, before = [], [0] * self.periods, [], row.on_hand
+        for it in firm_orders:
+            release[it.start] += it.quantity
         for t in range(self.periods):
             net = row.safety + gross[t] - before - incoming[t]
             order.append(self.lot(row, t, net, gross, incoming) if net > 0 else 0)
@@ -369,13 +389,15 @@ class Firm:
                     yield "late", *pair, t, quantity, self.pairs[pair].lead - t
 
     def order_report(self, until=103):
-        """Yields the fields of the order rows: of each planned order receipt that is released in that period or before it."""
+        """Yields the fields of the firm and the order rows: of each order that is released in that period or before it."""
         for pair, plan in self.plans.items():
             row = self.pairs[pair]
             for due, quantity in enumerate(plan.order):
-                release = max(0, due - row.lead)
-                if quantity and release <= int(until):
-                    yield "order", *pair, row.supply, quantity, release, self.day(release), due, self.day(due), max(0, row.lead - due)
+                found = [("firm", it.quantity, it.start, 0) for it in self.firm_orders[pair] if it.due == due]
+                found += [("order", quantity, max(0, due - row.lead), max(0, row.lead - due))] if quantity else []
+                for word, ordered, release, late in found:
+                    if release <= int(until):
+                        yield word, *pair, row.supply, ordered, release, self.day(release), due, self.day(due), late
 
     def code_report(self):
         for pair in self.pairs:
@@ -452,16 +474,18 @@ class Firm:
                 found.append((t, 1, "call", quantity, opening + sum(calls[: t + 1]) - closed * (t >= anew)))
         return [("opening", "", "", transit, opening), *((kind, t, self.day(t), *it) for t, _, kind, *it in sorted(found))]
 
-    def advice_report(self):
-        """Yields the fields of the advice rows: an open order is needed where what comes before it no longer covers requirements and safety stock."""
+    def advice_report(self, until=103):
+        """Yields the fields of the advice rows, of open orders that come in that period or before it: one is needed where what comes
+        before it, whenever that is, no longer covers requirements and safety stock.
+        """
         for pair, plan in self.plans.items():
             row, required = self.pairs[pair], [*accumulate(plan.gross)]
             covered = row.on_hand - row.safety
-            # (receipts stand before shipments in the table)
+            # (receipts stand before shipments in the table, and these before firm orders)
             for period, kind, supplier, quantity in sorted(self.open_orders[pair], key=lambda it: it[0]):
                 needed = bisect_right(required, covered)
                 covered += quantity
-                if needed != period:
+                if needed != period and period <= int(until):
                     action = "cancel" if needed == self.periods else "expedite" if needed < period else "defer"
                     when = ("", "") if action == "cancel" else (needed, self.day(needed))
                     yield "advice", action, kind, *pair, supplier, period, self.day(period), quantity, *when
@@ -481,7 +505,9 @@ class Oracle:
             self.firm, self.refused = None, str(line)
 
     def answer(self, command, *asked, header=False):
-        """Returns the answer to a command; peg is asked with a pair and a period, orders with a period or none, schedule with a supplier and a customer or none."""
+        """Returns the answer to a command; peg is asked with a pair and a period, orders and advice with a period or none, schedule
+        with a supplier and a customer or none.
+        """
         if self.refused:
             return refusal(self.refused)
         try:

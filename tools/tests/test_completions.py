@@ -26,7 +26,9 @@ def test_completes_in_bash(room):
     assert room.run(line.format(path, "p", 1)) == "plan peg pegs\n"
     assert room.run(line.format(path, "schedule --", 2)) == "--from --to --header --help\n"
     assert room.run(line.format(path, "schedule --to S", 3)) == "\n"
+    assert room.run(line.format(path, "advice --", 2)) == "--until --header --help\n"
     assert room.run(line.format(path, "advice --h", 2)) == "--header --help\n"
+    assert room.run(line.format(path, "advice --until 1", 3)) == "\n"
     assert room.run(line.format(path, "plan --s", 2)) == "--single\n"
     assert room.run(line.format(path, "--v", 1)) == "--version\n"
     assert room.run(line.format(path, "he", 1)) == "help\n"
@@ -44,6 +46,7 @@ def test_completes_in_zsh(room):
         "mrp --": ["--help", "--version"],
         "mrp help o": ["orders"],
         "mrp check --": ["--header", "--help"],
+        "mrp advice --": ["--header", "--help", "--until"],
     }
     for line, words in (*shown.items(), ("mrp schedule --", ["--from", "--header", "--help", "--to"])):
         assert shown_by_zsh(room, line) == words, line
@@ -91,6 +94,10 @@ def test_completes_in_fish(room):
         f'HOME={room.folder} fish -c \'source {TOP}/completions/mrp.fish; complete -C "mrp schedule --"; complete -C "mrp schedule --to "\''
     )
     assert [it.split("\t")[0] for it in said.splitlines()] == ["--from", "--header", "--help", "--to"]
+    said = room.run(
+        f'HOME={room.folder} fish -c \'source {TOP}/completions/mrp.fish; complete -C "mrp advice --"; complete -C "mrp advice --until "\''
+    )
+    assert [it.split("\t")[0] for it in said.splitlines()] == ["--header", "--help", "--until"]
     said = room.run(
         f'HOME={room.folder} fish -c \'source {TOP}/completions/mrp.fish; complete -C "mrp help o"; complete -C "mrp he"\''
     )

@@ -205,7 +205,9 @@ def test_program_says_why_words_are_refused(room, program):
         "pegs --to P1",
         "pegs --header=1",
         "advice P1",
-        "advice --until 1",
+        "advice --until",
+        "advice --until 104",
+        "advice --until -1",
         "advice --from P1",
     )
     for words in refused:
@@ -219,7 +221,7 @@ def test_program_says_why_words_are_refused(room, program):
         "cums",
         "orders --until 103 --header",
     )
-    taken += ("schedule --from P1 --to=P1 --header", "pegs --header", "advice --header")
+    taken += ("schedule --from P1 --to=P1 --header", "pegs --header", "advice --header", "advice --until 0 --header")
     for words in taken:
         room.run(f"mrp {words} < examples/bicycle.csv")
     assert room.run("mrp peg P1 WHEEL 103 < examples/bicycle.csv", status=1) == "mrp: no period\n"

@@ -1,7 +1,11 @@
-"""The plan of one pair in tools/oracle.py, and its command."""
+"""The second planner, tools/oracle.py: the plan of one pair, the plans and reports of a firm, and the command."""
+import csv
 import itertools
+import random
 import re
 
+import firms
+import mrp
 import oracle
 import pytest
 
@@ -76,20 +80,35 @@ def period_rows(kind, row):
             yield f"{kind},A,X,{t},{min(left, 10**12)},,,"
 
 
+def firm_rows(starts, dues):
+    """Yields firm orders with these starts and dues: what starts first is due first."""
+    left = [*dues]
+    for start, quantity in enumerate(starts):
+        while quantity:
+            due = next(t for t, it in enumerate(left) if it)
+            some = min(quantity, left[due], 10**12)
+            yield f"firm,A,X,{start},{due},{some},,"
+            quantity, left[due] = quantity - some, left[due] - some
+
+
 def table_of(given):
-    """Returns a table of one pair that has this planning data without firm orders and policy."""
+    """Returns a table of one pair that has this planning data without policy."""
     pair = f"pair,A,X,buy,{':'.join(map(str, given.rule))},{given.lead},{given.on_hand},{given.safety}"
     rows = [f"run,2026-01-05,7,{len(given.gross)},,,,", "plant,A,,,,,,", pair, *period_rows("demand", given.gross)]
     rows += itertools.chain(period_rows("receipt", given.receipts), period_rows("receipt", given.arrivals))
+    rows += firm_rows(given.firm_start, given.firm_due)
     return "".join(f"{it}\n" for it in rows).encode()
 
 
 def test_plain_pairs():
-    """Without firm orders and policy the plan is that of a table with one pair."""
-    plain = [it for it in oracle.pair_cases(3000, 1) if not any(it[4:9]) and not any(it.firm_start)]
-    assert len(plain) > 300
-    for given in plain:
-        plan, firm = oracle.PairPlan(given), oracle.Firm(table_of(given))
+    """Without policy the plan is that of a table with one pair."""
+    judged = [(it, oracle.Oracle(table_of(it))) for it in oracle.pair_cases(6000, 1) if not any(it[4:9])]
+    # (a table's bound counts firm orders twice: they are there, and they may be needed)
+    assert all(any(it.firm_start) and max(it.firm_start) > 10**11 for it, judge in judged if judge.refused)
+    plain = [(it, judge.firm) for it, judge in judged if not judge.refused]
+    assert min(sum(any(it.firm_start) == has for it, _ in plain) for has in (False, True)) > 300
+    for given, firm in plain:
+        plan = oracle.PairPlan(given)
         rows = given.gross, plan.incoming, plan.order, plan.release, plan.available
         late = [tuple(it[3:]) for it in firm.plan_report() if it[0] == "late"]
         assert (rows, plan.late) == (tuple(firm.plans["A", "X"]), late), oracle.data_text(given)
@@ -171,3 +190,115 @@ def test_command(room):
     rows += "".join(rf"{it}(,\d+)+\n" for it in ("gross", "incoming", "order", "release", "available"))
     form = rf"pair,(lot|fixed:\d+|periods:\d+|min:\d+:\d+)(,\d+){{8}}\n{rows}(late,\d+,\d+,\d+\n)*"
     assert all(re.fullmatch(form, it) for it in cases)
+
+
+# The plans and reports of a firm.
+
+
+def some_firms():
+    """Yields tables of firms that aren't refused, as they are read, with what the second planner answers."""
+    for seed in range(120):
+        text = firms.table(random.Random(seed), 6, 14)
+        judge = oracle.Oracle(text)
+        if not judge.refused:
+            yield mrp.Table(csv.reader(text.decode().splitlines())), judge
+
+
+def row_of(periods, quantities):
+    """Returns the sums by period of some pairs of a period and a quantity."""
+    row = [0] * periods
+    for period, quantity in quantities:
+        row[period] += quantity
+    return row
+
+
+def asked(table, plans, pair, t):
+    """Returns the gross requirement of a pair in a period."""
+    plant, item = pair
+    found = sum(it.quantity for it in table.demands if (it.plant, it.item, it.period) == (plant, item, t))
+    for it in table.bills:
+        if (it.plant, it.component) == pair:
+            found += it.per * plans[plant, it.parent].release[t]
+    for it in table.pairs:
+        if it.item == item and it.supply not in ("make", "buy"):
+            whole, low = plans[it.plant, item].release[t], 0
+            for source, share in mrp.sources(it.supply):
+                part = whole * (low + share) // 1000 - whole * low // 1000
+                found, low = found + part * (source == plant), low + share
+    return found
+
+
+def test_plans_of_firms():
+    """Each pair's gross requirement is what its demands and the releases of its demanders say, and its plan that of its own
+    planning data, by definitions that keep no sums.
+    """
+    kinds = set()
+    for table, judge in some_firms():
+        periods, plans = table.run.periods, judge.firm.plans
+        for it in table.pairs:
+            pair, (rule, *numbers) = (it.plant, it.item), it.rule.split(":")
+            firm = [order for order in table.firms if order.pair == pair]
+            kinds |= {(it.supply[:4], len(firm) > 1)}
+            given = oracle.PairData(
+                rule=(rule, *map(int, numbers)),
+                **dict(zip(("lead", "on_hand", "safety"), it[4:])),
+                **dict.fromkeys(("fence", "sooner", "cover", "least", "multiple"), 0),
+                receipts=row_of(periods, ((row.period, row.quantity) for row in table.receipts if row.pair == pair)),
+                arrivals=row_of(periods, ((row.period, row.quantity) for row in table.ships if row.pair == pair)),
+                firm_start=row_of(periods, ((row.start, row.quantity) for row in firm)),
+                firm_due=row_of(periods, ((row.due, row.quantity) for row in firm)),
+                gross=[asked(table, plans, pair, t) for t in range(periods)],
+            )
+            plan = oracle.PairPlan(given)
+            assert (given.gross, plan.incoming, plan.order, plan.release, plan.available) == tuple(plans[pair]), pair
+    assert kinds == {*itertools.product(("make", "buy", "from"), (False, True))}
+
+
+def rows_of(judge, command, *words):
+    return [*mrp.rows_of(judge.answer(command, *words).out)]
+
+
+def test_orders_of_firms():
+    """Firm and planned orders that are released in a period sum to the plan's release, those that are due to what is
+    ordered and to what firm orders bring; up to a period stand those that are released up to it, in the same order.
+    """
+    words = set()
+    for table, judge in some_firms():
+        found, plans = rows_of(judge, "orders"), judge.firm.plans
+        words |= {type(it) for it in found}
+        for pair, plan in plans.items():
+            own = [it for it in found if (it.plant, it.item) == pair]
+            assert row_of(table.run.periods, ((it.release, it.quantity) for it in own)) == plan.release
+            planned = [(it.due, it.quantity) for it in own if isinstance(it, mrp.Order)]
+            assert row_of(table.run.periods, planned) == plan.order
+            firm = [(it.start, it.due, it.quantity) for it in table.firms if it.pair == pair]
+            shown = [(it.release, it.due, it.quantity) for it in own if isinstance(it, mrp.FirmOrder)]
+            assert sorted(firm, key=lambda it: it[1]) == shown
+        for until in (0, 1, 103):
+            assert rows_of(judge, "orders", until) == [it for it in found if it.release <= until]
+    assert words == {mrp.Order, mrp.FirmOrder}
+
+
+def test_messages_of_firms():
+    """Up to a period stand those for orders that come up to it. Once all are obeyed, what is required is there in time, or no
+    order comes later.
+    """
+    kinds = set()
+    for table, judge in some_firms():
+        found = rows_of(judge, "advice")
+        kinds |= {(it.action, it.kind) for it in found}
+        for until in (0, 1, 103):
+            assert rows_of(judge, "advice", until) == [it for it in found if it.period <= until]
+        for row in table.pairs:
+            pair = row.plant, row.item
+            orders = [(it.period, it.quantity) for it in (*table.receipts, *table.ships) if it.pair == pair]
+            orders += [(it.due, it.quantity) for it in table.firms if it.pair == pair]
+            for it in (it for it in found if (it.plant, it.item) == pair):
+                orders.remove((it.period, it.quantity))
+                orders += [(it.needed, it.quantity)] if it.needed is not None else []
+            gross = judge.firm.plans[pair].gross
+            for t in range(table.run.periods):
+                there = row.on_hand + sum(quantity for period, quantity in orders if period <= t)
+                lacks = there < row.safety + sum(gross[: t + 1])
+                assert not lacks or all(period <= t for period, _ in orders), (pair, t)
+    assert kinds == {*itertools.product(("expedite", "defer", "cancel"), ("receipt", "ship", "firm"))}

@@ -3,7 +3,7 @@ import csv
 import datetime
 
 import cases
-from support import COMMANDS, module_of, reads_each_report, some_tables, wants
+from support import COMMANDS, module_of, reads_each_report, some_tables, TOP, wants
 
 
 def test_python_reads_each_report(program):
@@ -32,7 +32,7 @@ def test_python_writes_tables(room):
         for it in (0, first, datetime.date(2026, 1, 11), datetime.datetime(2026, 1, 12, 8), datetime.date(2026, 1, 4))
     ]
     rows += [mrp.Bill("A", "X", "Y", 2), mrp.Receipt(*one, 1, 2), mrp.Ship("B", *one, first, 8), mrp.Cum("B", *one, 9)]
-    rows += [mrp.Reset("B", *one, datetime.date(2026, 2, 1))]
+    rows += [mrp.Reset("B", *one, datetime.date(2026, 2, 1)), mrp.Firm(*one, first, datetime.date(2026, 1, 20), 12)]
     assert bytes(mrp.Table(rows)).decode() == WRITTEN
     assert (
         bytes(
@@ -65,12 +65,49 @@ receipt,A,X,1,2,,,
 ship,B,A,X,0,8,,
 cum,B,A,X,9,,,
 reset,B,A,X,3,,,
+firm,A,X,0,2,12,,
 """
 RUN_AS_TEXT = """\
 run,2026-01-05,7,4,,,,
 plant,"a,""b",,,,,,
 demand,A,X,2,1,,,
 """
+
+
+def test_python_asks_for_what_comes_up_to_a_period(room):
+    """By a program that says its words: up to the last period that there can be."""
+    room.write("says", '#!/bin/sh\necho "$*" >&2\nexit 1\n')
+    by = module_of("mrp.py", "python").Program(f"{room.folder}/says")
+    for name in ("orders", "advice"):
+        for until, words in ((None, ""), (0, " --until=0"), (103, " --until=103"), (10**6, " --until=103")):
+            assert by.ask(name, b"", until=until) == (1, f"{name}{words}\n".encode())
+
+
+def test_python_asks_the_library_for_messages(room):
+    """By a library that says its options: all of them up to the last period that there can be."""
+    wants("cc")
+    room.stand_in("one.c", "library/cums.c")
+    room.run("cc -Iinclude -shared -fPIC one.c -o one.so")
+    by = module_of("mrp.py", "python").Library(f"{room.folder}/one.so")
+    for until, limited in ((None, "0 0"), (0, "1 0"), (7, "1 7"), (10**6, "1 1000000")):
+        assert by.ask("advice", b"", until=until) == (1, f"mrp: until {limited}, 0\n".encode())
+
+
+def test_python_has_orders_and_messages(program, monkeypatch):
+    """Of the example with firm orders, up to a period and all, as its stored reports have them."""
+    mrp = module_of("mrp.py", "python")
+    monkeypatch.setenv("MRP", program)
+    monkeypatch.delenv("MRP_LIBRARY", raising=False)
+    with mrp.open_table(f"{TOP}/examples/firm_orders.csv") as lines:
+        table = mrp.Table.read(lines)
+    assert [(it.pair, it.start, it.due) for it in table.firms] == [(("WORKS", "PUMP"), 1, 3), (("DEPOT", "PUMP"), 0, 1)]
+    orders = [(type(it), it.item, it.quantity) for it in mrp.orders(table, until=0)]
+    assert orders == [(mrp.Order, "HOUSING", 50), (mrp.FirmOrder, "PUMP", 30)]
+    assert [type(it) for it in mrp.orders(table)].count(mrp.FirmOrder) == 2
+    messages = [(it.action, it.kind, it.supplier, it.period, it.needed) for it in mrp.advice(table)]
+    assert messages == [("defer", "firm", None, 3, 4), ("expedite", "receipt", None, 2, 1)]
+    assert mrp.advice(table, until=2) == mrp.advice(table)[1:]
+    assert mrp.advice(table, until=1) == []
 
 
 def test_python_finds_who_answers(room):

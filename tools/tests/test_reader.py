@@ -46,7 +46,8 @@ def test_columns_are_those_of_the_program(run, report):
     assert written.splitlines()[0] == mrp.header(mrp.REPORTS[report])
 
 
-@pytest.mark.parametrize("word", [it for it in mrp.ROWS if it != "hit"])
+# (a firm order has the columns of an order)
+@pytest.mark.parametrize("word", [it for it in mrp.ROWS if it not in ("firm", "hit")])
 def test_columns_are_those_of_the_help(word):
     help_text = text_of("crates/mrp_command_line/src/words.rt")
     found = re.findall(rf"\b{word},([A-Z_,]+)", help_text)
@@ -64,7 +65,7 @@ def test_kinds_are_those_of_the_help():
 @pytest.mark.parametrize("path", TYPES)
 def test_columns_are_those_of_the_database(path):
     number, day = TYPES[path]
-    found = re.findall(r"CREATE TABLE (\w+) \(([^)]*)\)", text_of(f"examples/erp/{path}"))
+    found = re.findall(r"CREATE TABLE (?:IF NOT EXISTS )?(\w+) \(([^)]*)\)", text_of(f"examples/erp/{path}"))
     assert [name for name, _ in found] == list(SQL)
     for name, text in found:
         columns = dict(it.strip().rsplit(" ", 1) for it in text.split(","))
@@ -90,6 +91,8 @@ receipt,A,Y,0,6,,,
 ship,B,A,Y,1,7,,
 cum,B,A,Y,500,,,
 reset,B,A,Y,2,,,
+firm,A,X,1,3,20,,
+firm,A,Y,0,0,5,,
 """
 
 
@@ -115,18 +118,21 @@ def test_table_is_read_by_names(tmp_path, text):
     assert (table.receipts[0].pair, table.ships[0].pair) == (("A", "Y"), ("A", "Y"))
     assert (table.ships[0].sender, table.ships[0].quantity) == ("B", 7)
     assert (table.cums[0].figure, table.resets[0].period) == (500, 2)
+    assert table.firms == [("A", "X", 1, 3, 20), ("A", "Y", 0, 0, 5)]
+    assert (table.firms[0].pair, table.firms[0].start, table.firms[0].due) == (("A", "X"), 1, 3)
     assert bytes(table).decode() == ROWS
 
 
 @pytest.mark.parametrize("text", written_otherwise())
 def test_some_kinds_are_read_alone(text):
-    rows = [*mrp.table_rows(io.StringIO(text.removeprefix("\ufeff"), newline=""), mrp.Demand, mrp.Ship)]
-    assert rows == [mrp.Demand("A", "X", 2, 30), mrp.Demand("A", "X", 3, 31), mrp.Ship("B", "A", "Y", 1, 7)]
+    rows = [*mrp.table_rows(io.StringIO(text.removeprefix("\ufeff"), newline=""), mrp.Demand, mrp.Ship, mrp.Firm)]
+    wanted = [mrp.Demand("A", "X", 2, 30), mrp.Demand("A", "X", 3, 31), mrp.Ship("B", "A", "Y", 1, 7)]
+    assert rows == [*wanted, mrp.Firm("A", "X", 1, 3, 20), mrp.Firm("A", "Y", 0, 0, 5)]
 
 
 def test_rows_of_no_kind_are_refused():
     lines = [*ROWS.splitlines(keepends=True), "demands,A,X,2,30,,,\n"]
-    with pytest.raises(mrp.Refused, match="row 13: no kind of row is 'demands'"):
+    with pytest.raises(mrp.Refused, match="row 15: no kind of row is 'demands'"):
         mrp.Table.read(lines)
     with pytest.raises(mrp.Refused, match="no kind of row is 'demands'"):
         list(mrp.table_rows(lines, mrp.Run))
@@ -137,10 +143,14 @@ def test_rows_of_no_kind_are_refused():
 def test_dates_in_a_table_are_periods():
     """Where a period is meant, of rows that are read and of those that are written."""
     day = datetime.date(2027, 1, 10)
-    rows = [mrp.Run("2026-12-21", "7", 4), mrp.Demand("A", "X", day, 5), ("reset", "B", "A", "Y", day), ("other", day)]
+    rows = [mrp.Run("2026-12-21", "7", 4), mrp.Demand("A", "X", day, 5), ("reset", "B", "A", "Y", day)]
+    rows += [mrp.Firm("A", "X", datetime.date(2026, 12, 31), day, 5), ("firm", "A", "Y", 0, day, 6), ("other", day)]
     table = mrp.Table(rows)
     assert (table.demands, table.resets) == ([("A", "X", 2, 5)], [("B", "A", "Y", 2)])
-    assert bytes(table) == b"run,2026-12-21,7,4,,,,\ndemand,A,X,2,5,,,\nreset,B,A,Y,2,,,\nother,2027-01-10,,,,,,\n"
+    assert table.firms == [("A", "X", 1, 2, 5), ("A", "Y", 0, 2, 6)]
+    written = "run,2026-12-21,7,4,,,,\ndemand,A,X,2,5,,,\nreset,B,A,Y,2,,,\n"
+    written += "firm,A,X,1,2,5,,\nfirm,A,Y,0,2,6,,\nother,2027-01-10,,,,,,\n"
+    assert bytes(table).decode() == written
 
 
 # Dates.
@@ -183,6 +193,7 @@ LINES = """\
 plan,A,X,3,2026-01-26,1,2,3,4,5
 late,A,X,0,10,2
 order,A,X,from:B:500:C:500,5,0,2026-01-05,1,2026-01-12,0
+firm,A,X,make,5,0,2026-01-05,1,2026-01-12,0
 schedule,opening,B,A,Y,,,10,510
 schedule,call,B,A,Y,0,2026-01-05,30,540
 schedule,reset,B,A,Y,2,2026-01-19,,540
@@ -192,6 +203,7 @@ peg,bill,A,X,1,2,3
 pegs,A,Y,3,demand,A,Y,1,2,3
 advice,expedite,ship,A,Y,B,1,2026-01-12,7,0,2026-01-05
 advice,cancel,receipt,A,Y,,1,2026-01-12,7,,
+advice,defer,firm,A,Y,,1,2026-01-12,7,3,2026-01-26
 hit,A,X,1,2026-01-12,7,2,A,Y
 """
 
@@ -212,7 +224,7 @@ def test_rows_of_each_kind_are_tried():
 
 
 def test_fields_of_reports_have_types():
-    opening, call = (mrp.report_row(f"{it}\n", 1) for it in LINES.splitlines()[3:5])
+    opening, call = (mrp.report_row(f"{it}\n", 1) for it in LINES.splitlines()[4:6])
     assert opening == ("opening", "B", "A", "Y", None, None, 10, 510)
     assert call == ("call", "B", "A", "Y", 0, datetime.date(2026, 1, 5), 30, 540)
     with pytest.raises(mrp.Refused, match="2026-02-30 is no day"):
@@ -224,6 +236,10 @@ def test_fields_of_reports_have_types():
 def test_columns_are_read_in_the_order_of_their_names():
     read = mrp.columns(mrp.Order, "late", "item", "due_date")
     assert read("order,A,X,make,5,0,2026-01-05,1,2026-01-12,0\n", 1) == ("0", "X", "2026-01-12")
+    read_firm = mrp.columns(mrp.FirmOrder, "release", "quantity")
+    assert read_firm("firm,A,X,make,5,0,2026-01-05,1,2026-01-12,0\n", 1) == ("0", "5")
+    with pytest.raises(mrp.Refused, match="row 3 is no row of a report"):
+        read("firm,A,X,make,5,0,2026-01-05,1,2026-01-12,0\n", 3)
     with pytest.raises(mrp.Refused, match="row 3 is no row of a report: 'order,A,X'"):
         read("order,A,X\n", 3)
 
