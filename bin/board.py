@@ -9,12 +9,19 @@ import mrp
 MOST_ROWS, MOST_SEEN, MOST_ORDERS, MOST_LINES = 1000, 100, 4, 20
 # The days of a month: what is released in it is unfolded, and what is late by as much is marked most.
 MONTH = 31
+# What open orders are called that aren't in transit.
+KINDS = {"receipt": "receipt", "firm": "firm order"}
 RULES = {"lot": "lot for lot", "fixed": "lots of {}", "periods": "for {} {}s", "min": "at least {}, by {}"}
 IN_TIME = (
     f'<p id="delays">{reports.LABELS[2]} counts late orders as if they came when they are due; '
     f"{reports.WITH_DELAYS.lower()} counts each one from when it comes, and is red where it is below zero. "
     "Late orders are marked where they are due, and requirements by how late a demand in them is at worst.</p>"
 )
+
+
+def is_firm(order):
+    """Tells whether an order to release is a firm one."""
+    return isinstance(order, reports.FirmOrder)
 
 
 def grouped(rows, *columns):
@@ -101,6 +108,11 @@ class Board:
         """Returns what the sheets say of a demand or of an open order."""
         return "".join(f"<br><small>{html.escape(it)}</small>" for it in self.names.of(kind, plant, item, period))
 
+    def firm_mark(self, order):
+        """Returns the mark of a firm order, which isn't to be placed again, with what the sheets say of it."""
+        notes = reports.notes_of_firm(self.names, order) if is_firm(order) else ()
+        return ", <b>firm</b>" * is_firm(order) + "".join(f"<br><small>{html.escape(it)}</small>" for it in notes)
+
     def supply(self, text):
         """Returns how an item is supplied: make, buy, or from which plants."""
         sources = mrp.sources(text)
@@ -122,7 +134,8 @@ class Board:
         counts = [(len(self.outline.pairs), "pair"), (len(self.dates), self.unit), (len(rows[mrp.Late]), "late order")]
         counts += [(len(rows[mrp.Hit]), "demand"), (len(rows[mrp.Order]), "order")]
         counts += [(self.messages.count(), "open order")]
-        ends = ["", "", "", " hit", " to release", " to be moved"]
+        firm = sum(map(is_firm, rows[mrp.Order]))
+        ends = ["", "", "", " hit", " to release" + f", {firm:,} of them firm" * bool(firm), " to be moved"]
         return ", ".join(reports.counted(*it) + end for it, end in zip(counts, ends) if it[0] or not end)
 
     def releases(self):
@@ -137,10 +150,11 @@ class Board:
 
     def release(self, plant, orders):
         """Returns the row of an item that is released, the latest first of several orders: they open below their sum."""
-        first, due = orders[0], [f"{it.quantity:,} due {self.day(it.due_date)}" for it in orders]
+        first, due = orders[0], [f"{it.quantity:,} due {self.day(it.due_date)}{self.firm_mark(it)}" for it in orders]
         lines = [line + (f", {self.lateness(it.late)[0]}" if it.late else "") for line, it in zip(due, orders)]
-        several = folded([f"{self.day(first.due_date)}, {len(orders):,} orders", *lines])
-        dated = several if len(orders) > 1 else self.day(first.due_date), str(first.due_date)
+        firm = sum(map(is_firm, orders))
+        several = f"{self.day(first.due_date)}, {len(orders):,} orders" + f", {firm:,} of them <b>firm</b>" * bool(firm)
+        dated = folded([several, *lines]) if len(orders) > 1 else self.day(first.due_date) + self.firm_mark(first), str(first.due_date)
         whole = sum(it.quantity for it in orders)
         return [self.item(plant, first.item), whole, self.lateness(first.late), dated, self.supply(first.supply)]
 
@@ -170,8 +184,12 @@ class Board:
             whole = f"{sum(it.quantity for it in orders):,} in {len(orders):,} orders, the first due {days[0]}"
             lines = [folded([whole, *lines])]
         found = [it for it in self.messages.rows(pair) if it.action == "expedite"]
-        instead = [f"or expedite {it.quantity:,} of {self.day(it.date)}" for it in found]
+        instead = [f"or expedite {self.open_order(it)}" for it in found]
         return "<br>".join([*lines, *instead]) if len(instead) <= MOST_ORDERS else "<br>".join([*lines, folded(instead)])
+
+    def open_order(self, message):
+        """Returns the open order that a message is for."""
+        return f"{message.quantity:,}{' firm' * (message.kind == 'firm')} of {self.day(message.date)}"
 
     def others(self, hits):
         """Returns how many demands wait for a pair, and for which other ones they wait longer."""
@@ -189,7 +207,7 @@ class Board:
         for it in self.messages.rows():
             comes = self.day(it.date) + self.notes(it.kind, it.plant, it.item, it.period)
             needed = self.dated(it.needed_date) if it.needed_date else ("never", "never")
-            kind = f"in transit from {self.plant(it.supplier)}" if it.supplier else "receipt"
+            kind = f"in transit from {self.plant(it.supplier)}" if it.supplier else KINDS[it.kind]
             rows.append([f"<b>{it.action}</b>", self.plant(it.plant), self.item(it.plant, it.item), it.quantity, (comes, str(it.date)), needed, kind])
         heads = ["Message", "Plant", "Item", "Quantity", "Comes", "Needed", "Kind"]
         table = sortable(heads, rows, " stack", self.messages.count()) if rows else ""
@@ -276,13 +294,13 @@ class Board:
     def to_do(self, record):
         """Returns what is to be done about a pair: its orders to release, else its late orders, and its messages."""
         pair = record.plant, record.item
-        orders = [(f"{it.quantity:,} to release,", it.due_date, it.late) for it in self.released.get(pair, [])]
+        orders = [(f"{it.quantity:,}{' firm' * is_firm(it)} to release,", it.due_date, it.late) for it in self.released.get(pair, [])]
         orders = orders or [(f"{it.quantity:,}", reports.day(record.dates, it.period), it.by) for it in self.late.get(pair, [])]
         lines = [f"{what} due {self.day(day)}" + (f", {self.lateness(late)[0]} late" if late else "") for what, day, late in orders]
         messages = self.messages.rows(pair)
         for it in messages:
             needed = f", needed {self.day(it.needed_date)}" if it.needed_date else ""
-            lines.append(f"{it.action} {it.quantity:,} of {self.day(it.date)}{needed}")
+            lines.append(f"{it.action} {self.open_order(it)}{needed}")
         more = self.messages.counts[pair] - len(messages)
         lines += [f"and {reports.counted(more, 'open order')} more to be moved"] if more else []
         return "<br>".join(lines)
@@ -308,13 +326,17 @@ class Board:
             return f'<tr{kind}><th class="name">{label}</th>{"".join(cells)}</tr>'
 
         stock = ' class="stock"'
-        hit = {it.period: it.late_at_worst for it in self.hit.get((record.plant, record.item), [])}
-        lines = [line(reports.LABELS[0], record.gross, late=hit), line(reports.LABELS[1], record.incoming), line(reports.LABELS[2], record.available, stock)]
+        pair = record.plant, record.item
+        hit = {it.period: it.late_at_worst for it in self.hit.get(pair, [])}
+        firm = [line(f"<small>{reports.OF_WHICH_FIRM}</small>", it) for it in self.outline.firm.figures(pair, len(record.dates))]
+        # (what is due of firm orders stands below scheduled receipts, and what is released of them below releases)
+        lines = [line(reports.LABELS[0], record.gross, late=hit), line(reports.LABELS[1], record.incoming), *firm[:1]]
+        lines.append(line(reports.LABELS[2], record.available, stock))
         if late:
             # (below projected available)
             lines.append(line(reports.WITH_DELAYS, record.with_delays(late), stock))
         due = {it.period: it.by for it in late}
-        return "\n".join([*lines, line(reports.LABELS[3], record.order, late=due), line(reports.LABELS[4], record.release)])
+        return "\n".join([*lines, line(reports.LABELS[3], record.order, late=due), line(reports.LABELS[4], record.release), *firm[1:]])
 
     def article(self, record):
         """Returns the record of a pair as a part of the page."""

@@ -35,6 +35,11 @@ LANE = {
 CUSTOMER = "customername soldto shipto client kunde kunden kundenname abnehmer cliente"
 FIGURE = "cum cumulativequantity cumquantity fortschrittszahl cumul acumulado"
 CUM = "eingangsfortschrittszahl fortschrittszahlempfangen empfangenefortschrittszahl"
+# The days on which an order starts and on which it is done.
+START = "startdate starts orderstart orderstartdate basicstart basicstartdate release releasedate begin begindate beginn startdatum starttermin"
+START += " eckstarttermin freigabe freigabetermin debut datededebut lancement datedelancement inicio fechainicio fechadeinicio"
+FINISH = f"{DATES} finish finishdate orderfinish orderfinishdate basicfinish basicfinishdate end enddate ende enddatum endtermin eckendtermin"
+FINISH += " faellig echeance datedecheance fin datedefin fechafin fechadefin fechavencimiento"
 WANTED = {"Plant": PLANT, "Item": ITEM, "Due": NEEDED, "Quantity": f"orderquantity openquantity bedarfsmenge bestellmenge offenemenge {PIECES}"}
 # How lead times are headed in front of their unit, and the days of each unit.
 LEAD = "lead leadtime transit transittime vorlauf vorlaufzeit wiederbeschaffungszeit lieferzeit planlieferzeit durchlaufzeit"
@@ -96,6 +101,7 @@ SHEETS = {
     },
     "forecasts.csv": {**WANTED, "Quantity": f"forecast forecastquantity prognose prognosemenge vorhersage prevision quantiteprevue pronostico {PIECES}"},
     "receipts.csv": {**WANTED, "Due": f"arrives {EXPECTED}"},
+    "firm_orders.csv": {"Plant": PLANT, "Item": ITEM, "Start": START, "Due": FINISH, "Quantity": WANTED["Quantity"]},
     "shipments.csv": {**LANE, "Arrives": f"due {EXPECTED}", "Quantity": PIECES},
     "cums.csv": {**LANE, "Cum received": f"cumulativereceived received figure empfangen {CUM} recu cumulrecu recibido acumuladorecibido"},
     "resets.csv": {**LANE, "Date": "day resetdate datum tag jour fecha dia"},

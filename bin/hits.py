@@ -1,6 +1,7 @@
 """Which demands late orders hit: what waits for what, from each late order up to the demands. For bin/hit and bin/page.
 
 What waits for what is what the table says: a receipt waits for nothing, be it of an order whose components stand among the demands.
+A firm order waits for what it takes in the period of its start, as a release does.
 """
 import graphlib
 import subprocess
@@ -46,18 +47,29 @@ def firm_and_hits(table):
 
 
 class Orders:
-    """The planned orders of each pair, four figures each: due, quantity, release, and periods late. And the pairs that
-    have late ones."""
+    """The planned orders and the firm orders of each pair, four figures each: due, quantity, release, and periods late.
+    And the pairs that have late ones, and the most periods from start to due of the firm orders of each pair."""
 
-    READ = staticmethod(mrp.columns(mrp.Order, "plant", "item", "due", "quantity", "release", "late"))
+    COLUMNS = "plant", "item", "due", "quantity", "release", "late"
+    READ = staticmethod(mrp.columns(mrp.Order, *COLUMNS))
+    READ_FIRM = staticmethod(mrp.columns(reports.FirmOrder, *COLUMNS))
 
     def __init__(self, lines):
-        self.of, self.late = {}, set()
+        self.of, self.late, self.firm = {}, set(), {}
         for number, line in enumerate(lines, 1):
+            if line.startswith(b"firm,"):
+                self.take_firm(*self.READ_FIRM(line.decode(), number))
+                continue
             plant, item, *figures = self.READ(line.decode(), number)
             self.of.setdefault((plant, item), array("q")).extend(map(int, figures))
             if figures[-1] != "0":
                 self.late.add((plant, item))
+
+    def take_firm(self, plant, item, *figures):
+        """Takes over a firm order, which is never late by itself."""
+        due, quantity, start, _ = map(int, figures)
+        self.of.setdefault((plant, item), array("q")).extend((due, quantity, start, 0))
+        self.firm[plant, item] = max(due - start, self.firm.get((plant, item), 0))
 
     def rows(self, pair):
         figures = iter(self.of.get(pair, ()))
@@ -65,7 +77,7 @@ class Orders:
 
 
 class Firm:
-    """What a table says of its pairs, their planned orders, and their gross requirements as far as these can wait for a late order.
+    """What a table says of its pairs, their orders, and their gross requirements as far as these can wait for a late order.
 
     `takes` has of each pair what goes into it: the components and the suppliers' pairs, each with the periods, as bits, in which a release takes of it.
     """
@@ -97,9 +109,10 @@ class Firm:
         self.places = {pair: place for place, pair in enumerate(self.pairs)}
         self.order = [*graphlib.TopologicalSorter(self.takes).static_order()]
         for pair in self.order:
-            # (nothing waits longer than the lead times from a late order up to it)
+            # (nothing waits longer than the lead times from a late order up to it, and the times of firm orders)
             below = max((self.ends[it] for it in self.takes[pair]), default=0)
-            self.ends[pair] = self.leads[pair] + below if below or pair in self.orders.late else 0
+            longest = max(self.leads[pair], self.orders.firm.get(pair, 0) if below else 0)
+            self.ends[pair] = longest + below if below or pair in self.orders.late else 0
 
     def take(self, row):
         """Takes over a row of the table."""
@@ -150,7 +163,7 @@ class Firm:
         """Returns how many periods the requirements of a pair wait at worst, by period, and the place of the pair whose late order makes it so.
 
         A requirement waits until as many pieces have come as it and those before it ask for. It waits for the order that bin/why has below it: the last
-        one due by then; where a split source let that one come before, for the last one that comes later.
+        one due by then; where a split source or a firm order's dates let that one come before, for the last one that comes later.
         """
         came, coming = self.comes_in[pair], []
         for due, quantity, release, late in self.orders.rows(pair):

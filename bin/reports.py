@@ -25,6 +25,8 @@ TOOL = (f"{FOLDER}/" if FOLDER in ("bin", "tools") else "") + os.path.basename(s
 LABELS = ("Gross requirements", "Scheduled receipts", "Projected available")
 LABELS += ("Planned order receipts", "Planned order releases")
 WITH_DELAYS = "Available with delays"
+# How the line of what is firm is labelled, below scheduled receipts and below planned order releases.
+OF_WHICH_FIRM = "of which firm orders"
 # How many names that are like one are told.
 MOST_NEAREST = 3
 
@@ -53,6 +55,36 @@ class Record(NamedTuple):
             for period in range(it.period, min(it.period + it.by, len(left))):
                 left[period] -= it.quantity
         return left
+
+
+# A firm order among the planned orders of `mrp orders`: a row of the same columns, with its own word.
+FirmOrder = mrp.ROWS["firm"]
+
+
+class FirmOrders:
+    """The firm orders of each pair, from the rows of `mrp orders`: how many pieces are due and released, by period."""
+
+    READ = staticmethod(mrp.columns(FirmOrder, "plant", "item", "quantity", "release", "due"))
+
+    def __init__(self):
+        self.of = {}
+
+    def take(self, line, number):
+        """Takes a row over, and returns its pair and the period in which it is released."""
+        plant, item, *figures = self.READ(line, number)
+        quantity, release, due = map(int, figures)
+        for sums, period in zip(self.of.setdefault((plant, item), ({}, {})), (due, release)):
+            sums[period] = sums.get(period, 0) + quantity
+        return (plant, item), release
+
+    def figures(self, pair, periods):
+        """Returns what is due of a pair's firm orders and what is released, each by period; or nothing where it has none."""
+        return [[sums.get(period, 0) for period in range(periods)] for sums in self.of.get(pair, ())]
+
+
+def notes_of_firm(names, row):
+    """Returns what the sheets say of a firm order: of those of its pair that are due in its period and have its quantity."""
+    return [it for it in names.of("firm", row.plant, row.item, row.due) if it.startswith(f"{row.quantity} of ")]
 
 
 # The names of columns, as --header writes them above a report.

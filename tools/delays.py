@@ -18,18 +18,27 @@ class Waits:
         waits = {it: self.until(it[:2], it[2]) - it[2] for it in asked}
         return {it: periods for it, periods in waits.items() if periods}
 
-    def comes(self, pair, due):
-        """Returns when an order comes: a lead time after all that its release takes is there."""
+    def orders(self, pair):
+        """Yields when each order of a pair comes, and its pieces: after all that its release takes is there, a planned one
+        a lead time, a firm one as long as it is from its start until it is due.
+        """
         lead = self.firm.pairs[pair].lead
-        release = max(0, due - lead)
+        for due, quantity in enumerate(self.firm.plans[pair].order):
+            if quantity:
+                yield lead + self.taken(pair, max(0, due - lead)), quantity
+        for it in self.firm.firm_orders[pair]:
+            yield it.due - it.start + self.taken(pair, it.start), it.quantity
+
+    def taken(self, pair, release):
+        """Returns when all that a release takes is there."""
         edges = ((it, edge) for it, edges in self.firm.demanders.items() for edge in edges if edge.pair == pair)
-        return lead + max([release, *(self.until(it, release) for it, edge in edges if edge.part(self.firm.plans[pair].release[release]))])
+        return max([release, *(self.until(it, release) for it, edge in edges if edge.part(self.firm.plans[pair].release[release]))])
 
     def until(self, pair, period):
         """Returns when all that is required up to a period is there."""
         if (pair, period) not in self.known:
             plan, until = self.firm.plans[pair], period
-            orders = [(self.comes(pair, due), quantity) for due, quantity in enumerate(plan.order) if quantity]
+            orders = [*self.orders(pair)]
             while self.there(pair, orders, until) < sum(plan.gross[: period + 1]):
                 until += 1
             self.known[pair, period] = until
@@ -37,7 +46,23 @@ class Waits:
 
     def there(self, pair, orders, period):
         """Returns how many pieces have been there up to a period."""
-        return self.firm.pairs[pair].on_hand + sum(self.firm.plans[pair].incoming[: period + 1]) + sum(it for comes, it in orders if comes <= period)
+        came = sum(open_orders(self.firm, pair)[: period + 1])
+        return self.firm.pairs[pair].on_hand + came + sum(it for comes, it in orders if comes <= period)
+
+
+def open_orders(firm, pair):
+    """Returns what comes in of a pair in each period without its firm orders."""
+    found = [*firm.plans[pair].incoming]
+    for it in firm.firm_orders[pair]:
+        found[it.due] -= it.quantity
+    return found
+
+
+def lots(firm, pair, release):
+    """Yields how many periods what is released in a period takes, and its pieces."""
+    firmly = [it for it in firm.firm_orders[pair] if it.start == release]
+    yield firm.pairs[pair].lead, firm.plans[pair].release[release] - sum(it.quantity for it in firmly)
+    yield from ((it.due - it.start, it.quantity) for it in firmly)
 
 
 def played(firm, chance):
@@ -47,24 +72,27 @@ def played(firm, chance):
     """
     pairs = sorted(firm.pairs, key=lambda it: -firm.codes[it])
     stock, coming, waiting = {it: firm.pairs[it].on_hand for it in pairs}, {}, {it: [] for it in pairs}
-    missing, met = {}, {}
-    for now in range(firm.periods + sum(it.lead for it in firm.pairs.values()) + 1):
+    missing, met, arrives = {}, {}, {it: open_orders(firm, it) for it in pairs}
+    longest = (max([row.lead, *(it.due - it.start for it in firm.firm_orders[pair])]) for pair, row in firm.pairs.items())
+    for now in range(firm.periods + sum(longest) + 1):
         for pair in pairs if now < firm.periods else ():
-            stock[pair] += firm.plans[pair].incoming[now]
+            stock[pair] += arrives[pair][now]
             asked = [(None, firm.demand[pair][now])] + [(it.pair, it.per * it.part(firm.plans[it.pair].release[now])) for it in firm.demanders[pair]]
             waiting[pair] += [[now, chance.random(), *it] for it in asked if it[1]]
             for by, quantity in asked:
                 missing[by, now] = missing.get((by, now), 0) + quantity
         for pair in pairs:
             if now < firm.periods and not missing.get((pair, now)):
-                coming.setdefault((pair, now + firm.pairs[pair].lead), []).append(firm.plans[pair].release[now])
+                for periods, pieces in lots(firm, pair, now):
+                    coming.setdefault((pair, now + periods), []).append(pieces)
             stock[pair] += sum(coming.get((pair, now), ()))
             for it in sorted(waiting[pair], key=lambda it: it[:2]):
                 asked, _, by, quantity = it
                 served = min(stock[pair], quantity)
                 stock[pair], it[3], missing[by, asked] = stock[pair] - served, quantity - served, missing[by, asked] - served
                 if by and served and not missing[by, asked]:
-                    coming.setdefault((by, now + firm.pairs[by].lead), []).append(firm.plans[by].release[asked])
+                    for periods, pieces in lots(firm, by, asked):
+                        coming.setdefault((by, now + periods), []).append(pieces)
                 elif not by and it[3] == 0:
                     met[*pair, asked] = now
             waiting[pair] = [it for it in waiting[pair] if it[3]]

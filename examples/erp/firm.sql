@@ -6,6 +6,8 @@ CREATE TABLE bills (plant TEXT, parent TEXT, component TEXT, per INTEGER);
 CREATE TABLE stock (plant TEXT, item TEXT, bin TEXT, quantity INTEGER);
 CREATE TABLE forecasts (plant TEXT, item TEXT, due TEXT, quantity INTEGER);
 CREATE TABLE open_orders (plant TEXT, item TEXT, due TEXT, quantity INTEGER);
+-- (orders whose parts aren't issued yet, and whose dates stand; there is none this morning)
+CREATE TABLE firm_orders (plant TEXT, item TEXT, start TEXT, due TEXT, quantity INTEGER);
 CREATE TABLE shipments (supplier TEXT, customer TEXT, item TEXT, shipped TEXT, arrives TEXT, received TEXT, quantity INTEGER);
 
 INSERT INTO calendar VALUES ('2026-01-05', 7, 6);

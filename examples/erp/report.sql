@@ -31,6 +31,7 @@ CREATE TABLE advice_rows ("row" TEXT, action TEXT, kind TEXT, plant TEXT, item T
 .import pegs.csv pegs_rows
 .import advice.csv advice_rows
 CREATE INDEX late_orders ON order_rows (plant, item) WHERE late > 0;
+CREATE INDEX firm_orders_due ON order_rows (plant, item) WHERE "row" = 'firm';
 
 -- a plan without rows is none, and so is another report without the names of its columns: this stops here
 CREATE TEMP TABLE found (
@@ -51,7 +52,8 @@ DELETE FROM schedule_rows WHERE "row" = 'row';
 DELETE FROM pegs_rows WHERE "row" = 'row';
 DELETE FROM advice_rows WHERE "row" = 'row';
 
--- the record of each pair, period by period; with delays a late order counts from when it comes
+-- the record of each pair, period by period; with delays a late order counts from when it comes. Scheduled receipts and planned order
+-- releases have firm orders too, and what comes in of these stands in the last column
 DROP VIEW IF EXISTS record;
 CREATE VIEW record AS
 SELECT plant, item, period, date AS first_day, gross AS gross_requirements, incoming AS scheduled_receipts, available AS projected_available,
@@ -61,17 +63,28 @@ SELECT plant, item, period, date AS first_day, gross AS gross_requirements, inco
         WHERE order_rows.plant = plan_rows.plant AND order_rows.item = plan_rows.item AND late > 0
             AND plan_rows.period BETWEEN due AND due + late - 1
     ) AS available_with_delays,
-    "order" AS planned_order_receipts, release AS planned_order_releases
+    "order" AS planned_order_receipts, release AS planned_order_releases,
+    (
+        SELECT coalesce(sum(quantity), 0)
+        FROM order_rows
+        WHERE order_rows.plant = plan_rows.plant AND order_rows.item = plan_rows.item AND order_rows."row" = 'firm' AND due = plan_rows.period
+    ) AS firm_orders
 FROM plan_rows;
 
--- planned orders, and those to be released now
+-- planned orders, firm ones, and those of both kinds to be released now
 DROP VIEW IF EXISTS planned_order;
 CREATE VIEW planned_order AS
 SELECT plant, item, supply, quantity, release AS release_period, release_date, due AS due_period, due_date, late AS periods_late
-FROM order_rows;
+FROM order_rows
+WHERE "row" = 'order';
+DROP VIEW IF EXISTS firm_order;
+CREATE VIEW firm_order AS
+SELECT plant, item, supply, quantity, release AS release_period, release_date, due AS due_period, due_date
+FROM order_rows
+WHERE "row" = 'firm';
 DROP VIEW IF EXISTS to_release;
 CREATE VIEW to_release AS
-SELECT plant, item, supply, quantity, due_date, periods_late FROM planned_order WHERE release_period = 0;
+SELECT plant, item, supply, quantity, due_date, late AS periods_late, "row" AS kind FROM order_rows WHERE release = 0;
 
 -- late orders: when they are due, and when they come if they are released now
 DROP VIEW IF EXISTS late;
@@ -100,7 +113,7 @@ DROP VIEW IF EXISTS pegging;
 CREATE VIEW pegging AS
 SELECT plant, item, period, source, by_plant, by_item, release, per, quantity FROM pegs_rows;
 
--- open orders to expedite, to defer and to cancel; one to cancel isn't needed
+-- open orders and firm ones to expedite, to defer and to cancel; one to cancel isn't needed before the horizon ends
 DROP VIEW IF EXISTS exception_message;
 CREATE VIEW exception_message AS
 SELECT action, kind, plant, item, nullif(supplier, '') AS supplier, quantity, date AS comes, nullif(needed_date, '') AS needed FROM advice_rows;

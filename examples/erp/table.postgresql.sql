@@ -1,7 +1,8 @@
 -- Writes the table of mrp from PostgreSQL: psql -qd firm -f table.postgresql.sql
--- What was due before the first day counts in period 0, and what is due after the last period is left out; a shipment that arrives
--- then counts in the cumulative figure. Lead times are in periods. A date is 2026-12-16: where it is none the period is empty, and
--- where stock is of no item the row is a receipt of now. mrp refuses both.
+-- What was due before the first day counts in period 0, and so does the start of a firm order. What is due after the last period is
+-- left out, a firm order too, and then nothing asks for what it takes; a shipment that arrives then counts in the cumulative figure.
+-- Lead times are in periods. A date is 2026-12-16: where it is none the period is empty, and where stock is of no item the row is a
+-- receipt of now. mrp refuses both, and a firm order that is due in a period before its start.
 \set ON_ERROR_STOP on
 SET datestyle = ISO, YMD;
 CREATE TEMP VIEW wanted AS
@@ -15,6 +16,11 @@ CREATE TEMP VIEW under_way AS
 SELECT supplier, customer, item, CASE WHEN arrives::text ~ '^\d{4}-\d\d-\d\d' THEN greatest(0, (arrives::date - first_day::date) / days) END AS period, quantity
 FROM shipments, calendar
 WHERE received IS NULL;
+
+CREATE TEMP VIEW firm AS
+SELECT plant, item, CASE WHEN start::text ~ '^\d{4}-\d\d-\d\d' THEN greatest(0, (start::date - first_day::date) / days) END AS start,
+    CASE WHEN due::text ~ '^\d{4}-\d\d-\d\d' THEN greatest(0, (due::date - first_day::date) / days) END AS due, quantity
+FROM firm_orders, calendar;
 
 -- what the rows of shipments don't have: received, or to arrive after the last period
 CREATE TEMP VIEW shipped_before AS
@@ -53,6 +59,10 @@ COPY (
         SELECT 8, 'cum', supplier, customer, item, sum(quantity)::text, NULL, NULL, NULL
         FROM shipped_before
         GROUP BY supplier, customer, item
+        UNION ALL
+        SELECT 9, 'firm', plant, item, start::text, due::text, quantity::text, NULL, NULL
+        FROM firm, calendar
+        WHERE coalesce(due, 0) < periods
     ) AS rows
-    ORDER BY place, b, c, d, e
+    ORDER BY place, b, c, d, e, f
 ) TO STDOUT (FORMAT csv);

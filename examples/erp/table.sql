@@ -1,7 +1,8 @@
 -- Writes the table of mrp: sqlite3 -list -separator , firm.db < table.sql
--- What was due before the first day counts in period 0, and what is due after the last period is left out; a shipment that arrives
--- then counts in the cumulative figure. Lead times are in periods. A date is 2026-12-16: where it is none the period is empty, and
--- where stock is of no item the row is a receipt of now. mrp refuses both.
+-- What was due before the first day counts in period 0, and so does the start of a firm order. What is due after the last period is
+-- left out, a firm order too, and then nothing asks for what it takes; a shipment that arrives then counts in the cumulative figure.
+-- Lead times are in periods. A date is 2026-12-16: where it is none the period is empty, and where stock is of no item the row is a
+-- receipt of now. mrp refuses both, and a firm order that is due in a period before its start.
 CREATE TEMP VIEW wanted AS
 SELECT 'demand' AS kind, plant, item,
     CASE WHEN date(due, '+0 days') = substr(due, 1, 10) THEN max(0, CAST((julianday(due) - julianday(first_day)) / days AS INTEGER)) END AS period,
@@ -19,6 +20,13 @@ SELECT supplier, customer, item,
     quantity, shipments.rowid AS row
 FROM shipments, calendar
 WHERE received IS NULL;
+
+CREATE TEMP VIEW firm AS
+SELECT plant, item,
+    CASE WHEN date(start, '+0 days') = substr(start, 1, 10) THEN max(0, CAST((julianday(start) - julianday(first_day)) / days AS INTEGER)) END AS start,
+    CASE WHEN date(due, '+0 days') = substr(due, 1, 10) THEN max(0, CAST((julianday(due) - julianday(first_day)) / days AS INTEGER)) END AS due,
+    quantity, firm_orders.rowid AS row
+FROM firm_orders, calendar;
 
 -- what the rows of shipments don't have: received, or to arrive after the last period
 CREATE TEMP VIEW shipped_before AS
@@ -56,5 +64,9 @@ FROM (
     SELECT 8, min(row), 'cum', supplier, customer, item, sum(quantity), '', '', ''
     FROM shipped_before
     GROUP BY supplier, customer, item
+    UNION ALL
+    SELECT 9, row, 'firm', plant, item, coalesce(start, ''), coalesce(due, ''), quantity, '', ''
+    FROM firm, calendar
+    WHERE coalesce(due, 0) < periods
 )
 ORDER BY place, row;

@@ -159,6 +159,25 @@ A E
     )
 
 
+def test_compare_takes_firm_orders_as_open_ones(room):
+    """A planned order that is a firm one now, when it can come, is no change, and no firm one that is a receipt then; one
+    that is firm for another period went. Rows of orders behind a plan are read.
+    """
+    orders, none = {"P": (0, 0, 9, 0, 0), "Q": (0, 7, 0, 0, 0), "R": (0, 0, 0, 5, 0)}, (0,) * 5
+    room.write("old.csv", plan_rows("2026-01-05", 7, orders, [("Q", 1, 2)]))
+    comes = {"P": (0, 0, 9, 0, 0), "Q": (0, 0, 0, 7, 0), "R": (0, 0, 5, 0, 0)}
+    row = "firm,A,{},buy,{},0,2026-01-05,{},{},0\n".format
+    firm = row("P", 9, 2, "2026-01-19") + row("Q", 7, 3, "2026-01-26") + row("R", 5, 2, "2026-01-19")
+    plan = plan_rows("2026-01-05", 7, dict.fromkeys("PQR", none), incoming=comes)
+    room.write("new.csv", plan + firm)
+    said = room.run("bin/compare old.csv new.csv")
+    assert said.startswith("A R\n  2026-01-26  went    5\n1 change in 1 pair;")
+    # (a week later they are receipts, in the same periods)
+    week = {it: figures[1:] + (0,) for it, figures in comes.items()}
+    room.write("later.csv", plan_rows("2026-01-12", 7, dict.fromkeys("PQR", none), incoming=week))
+    assert room.run("bin/compare --all new.csv later.csv").startswith("0 changes in 0 pairs;")
+
+
 def test_compare_has_nothing_of_the_end(room):
     """Of firms that did for a week what the first plan said: nothing changed, but for what --all finds at the end."""
     count, at_the_end = 0, 0

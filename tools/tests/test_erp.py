@@ -31,6 +31,123 @@ UNKNOWN_ROWS = (
 )
 
 
+# Firm orders: one twice, one that should have been started and is due on the last day, and one that is due the day
+# after; then such as mrp refuses, without a start, without a day on which they are due, and due before their start.
+FIRM = """INSERT INTO firm_orders VALUES
+    ('SOUTH', 'FRAME', '2026-01-08', '2026-01-21', 7), ('SOUTH', 'FRAME', '2026-01-08', '2026-01-21', 7),
+    ('EAST', 'BIKE', '2025-12-30', '2026-02-15', 3), ('NORTH', 'WHEEL', '2026-01-30', '2026-02-16', 50)"""
+FIRM_ROWS = "firm,SOUTH,FRAME,0,2,7,,\nfirm,SOUTH,FRAME,0,2,7,,\nfirm,EAST,BIKE,0,5,3,,\n"
+WRONG_FIRM = """INSERT INTO firm_orders VALUES ('NORTH', 'BIKE', NULL, '2026-01-20', 1),
+    ('NORTH', 'BIKE', '2026-01-20', '20.01.2026', 2), ('NORTH', 'RIM', '2026-01-26', '2026-01-12', 4)"""
+WRONG_FIRM_ROWS = "firm,NORTH,BIKE,,2,1,,\nfirm,NORTH,BIKE,2,,2,,\nfirm,NORTH,RIM,3,1,4,,\n"
+
+
+def test_firm_orders_end_the_table(room):
+    """They stand after all other kinds, with the periods of their days."""
+    wants("sqlite3")
+    table = "sqlite3 -bail -list -separator , firm.db < examples/erp/table.sql"
+    added = "tail -n +$(($(wc -l < examples/three_plants.csv) + 1))"
+    room.run(f'sqlite3 firm.db < examples/erp/firm.sql; sqlite3 firm.db "{FIRM}"; {table} > table.csv')
+    assert room.run("head -n $(wc -l < examples/three_plants.csv) table.csv | diff - examples/three_plants.csv") == ""
+    assert room.run(f"{added} table.csv") == FIRM_ROWS
+    assert room.run(f'sqlite3 firm.db "{WRONG_FIRM}"; {table} | {added}') == FIRM_ROWS + WRONG_FIRM_ROWS
+
+
+# A firm order that comes a period too soon, in the reports of a table of five periods: 5 of P are on hand, and 30 and 10
+# are wanted in periods 3 and 4. P takes two periods and two pieces of C, which is bought in one. By hand: the plan is that
+# of an order of 20 that comes in 2, of which 5 are missing in 3 and 10 in 4; C is asked for by releases 20, 5 and 10.
+FIRM_REPORTS = {
+    "plan": """\
+plan,A,P,0,2026-01-05,0,0,0,20,5
+plan,A,P,1,2026-01-12,0,0,0,5,5
+plan,A,P,2,2026-01-19,0,20,0,10,25
+plan,A,P,3,2026-01-26,30,0,5,0,0
+plan,A,P,4,2026-02-02,10,0,10,0,0
+plan,A,C,0,2026-01-05,40,0,40,50,0
+plan,A,C,1,2026-01-12,10,0,10,20,0
+plan,A,C,2,2026-01-19,20,0,20,0,0
+plan,A,C,3,2026-01-26,0,0,0,0,0
+plan,A,C,4,2026-02-02,0,0,0,0,0
+late,A,C,0,40,1
+""",
+    "cums": "",
+    "orders": """\
+row,plant,item,supply,quantity,release,release_date,due,due_date,late
+firm,A,P,make,20,0,2026-01-05,2,2026-01-19,0
+order,A,P,make,5,1,2026-01-12,3,2026-01-26,0
+order,A,P,make,10,2,2026-01-19,4,2026-02-02,0
+order,A,C,buy,40,0,2026-01-05,0,2026-01-05,1
+order,A,C,buy,10,0,2026-01-05,1,2026-01-12,0
+order,A,C,buy,20,1,2026-01-12,2,2026-01-19,0
+""",
+    "schedule": "row,kind,supplier,customer,item,period,date,quantity,cumulative\n",
+    "pegs": """\
+row,plant,item,period,source,by_plant,by_item,release,per,quantity
+pegs,A,P,3,demand,A,P,30,1,30
+pegs,A,P,4,demand,A,P,10,1,10
+pegs,A,C,0,bill,A,P,20,2,40
+pegs,A,C,1,bill,A,P,5,2,10
+pegs,A,C,2,bill,A,P,10,2,20
+""",
+    "advice": """\
+row,action,kind,plant,item,supplier,period,date,quantity,needed,needed_date
+advice,defer,firm,A,P,,2,2026-01-19,20,3,2026-01-26
+""",
+}
+# (the C that should have been ordered a week ago are missing until period 1)
+FIRM_VIEWS = {
+    "planned_order": """\
+A|P|make|5|1|2026-01-12|3|2026-01-26|0
+A|P|make|10|2|2026-01-19|4|2026-02-02|0
+A|C|buy|40|0|2026-01-05|0|2026-01-05|1
+A|C|buy|10|0|2026-01-05|1|2026-01-12|0
+A|C|buy|20|1|2026-01-12|2|2026-01-19|0
+""",
+    "firm_order": "A|P|make|20|0|2026-01-05|2|2026-01-19\n",
+    "to_release": "A|P|make|20|2026-01-19|0|firm\nA|C|buy|40|2026-01-05|1|order\nA|C|buy|10|2026-01-12|0|order\n",
+    "late": "A|C|0|2026-01-05|40|1|1\n",
+    "exception_message": "defer|firm|A|P||20|2026-01-19|2026-01-26\n",
+    "record WHERE period < 3": """\
+A|P|0|2026-01-05|0|0|5|5|0|20|0
+A|P|1|2026-01-12|0|0|5|5|0|5|0
+A|P|2|2026-01-19|0|20|25|25|0|10|20
+A|C|0|2026-01-05|40|0|0|-40|40|50|0
+A|C|1|2026-01-12|10|0|0|0|10|20|0
+A|C|2|2026-01-19|20|0|0|0|20|0|0
+""",
+}
+
+
+def test_views_tell_firm_orders_from_planned_ones(room):
+    wants("sqlite3")
+    for name, text in FIRM_REPORTS.items():
+        room.write(f"{name}.csv", text)
+    room.run("sqlite3 firm.db < examples/erp/report.sql")
+    for name, rows in FIRM_VIEWS.items():
+        assert room.run(f"sqlite3 firm.db 'SELECT * FROM {name}'") == rows, name
+
+
+def test_postgresql_tells_firm_orders_too(room):
+    """Also in a database that an earlier version made, whose views didn't."""
+    read = "psql -qd firm -f examples/erp/report.postgresql.sql 2>&1"
+    with postgresql(room):
+        room.run("createdb firm && psql -qd firm -f examples/erp/firm.sql")
+        wanted = "".join(sorted((FIRM_ROWS + WRONG_FIRM_ROWS).splitlines(keepends=True)))
+        table = "psql -qd firm -f examples/erp/table.postgresql.sql"
+        room.run(f'psql -qd firm -c "{FIRM}" -c "{WRONG_FIRM}"; {table} > table.csv')
+        assert room.run("grep -v ^firm, table.csv | sort | diff - <(sort examples/three_plants.csv)") == ""
+        assert room.run("tail -n 6 table.csv | sort") == wanted
+        for name, text in FIRM_REPORTS.items():
+            room.write(f"{name}.csv", text)
+        earlier = "DROP VIEW firm_order, to_release, record; DROP INDEX firm_orders_due; CREATE VIEW to_release AS "
+        earlier += "SELECT plant, item, supply, quantity, due_date, periods_late "
+        earlier += "FROM planned_order WHERE release_period = 0"
+        for before in ("SELECT", earlier):
+            assert room.run(f"psql -qd firm -Atc '{before}'; {read}").strip() == ""
+            for name, rows in FIRM_VIEWS.items():
+                assert room.run(f"psql -d firm -Atc 'SELECT * FROM {name}'") == rows, name
+
+
 def test_no_row_of_the_database_is_lost(room):
     """A row without a date, or with a date that is none, reaches the table without a period, and mrp refuses it; so
     does stock of no item.
@@ -108,6 +225,7 @@ def test_bad_table_keeps_plan_and_database(room):
 VIEWS = (
     "record",
     "planned_order",
+    "firm_order",
     "to_release",
     "late",
     "in_transit",

@@ -1,4 +1,6 @@
 """bin/orders and bin/schedule: what leaves the house, in the firm's own names."""
+import re
+
 import named
 
 # The sheets of the example without receipts, with a vendor and the vendor's part number for what is bought or taken.
@@ -11,11 +13,13 @@ DEPOT,100/250-A,"Pump, 2.5 kW",from:WORKS,lot,7,3,1,,P-100
 """
 SHIPMENTS = "From,To,Item,Arrives,Quantity,Delivery note\nWORKS,DEPOT,100/250-A,2026-12-02,2,LS 77\n"
 # By hand. The depot has 3 and gets 2, and 6 are wanted in period 3: 2 are ordered up to its safety stock of 1, a period
-# before. The works have 12, 5 are wanted now, and 15 and the depot's 2 in period 2: 14 are ordered up to 4, a period
-# before. These take 14 motors of 8, of which 2 are kept: a lot of 20, due in period 1, with a lead time of 2.
+# before. The works have 12, 5 are wanted now, and 15 and the depot's 2 in period 2: 14 are wanted up to 4, a period before.
+# 10 of them are a firm order, and 4 are ordered. These take 14 motors of 8, of which 2 are kept: a lot of 20, due in period
+# 1, with a lead time of 2.
 ORDERS = """\
 row,plant,item,supply,quantity,release,release_date,due,due_date,late
-order,WORKS,100_250-A,make,14,1,2026-12-07,2,2026-12-14,0
+firm,WORKS,100_250-A,make,10,1,2026-12-07,2,2026-12-14,0
+order,WORKS,100_250-A,make,4,1,2026-12-07,2,2026-12-14,0
 order,WORKS,MOTOR,buy,20,0,2026-11-30,1,2026-12-07,1
 order,DEPOT,100_250-A,from:WORKS,2,2,2026-12-14,3,2026-12-21,0
 """
@@ -28,7 +32,9 @@ schedule,reset,WORKS,DEPOT,100_250-A,4,2026-12-28,,144
 """
 OWN_ORDERS = """\
 row,plant,item,supply,quantity,release,release_date,due,due_date,late,description,vendor,vendor_item,notes
-order,WORKS,100/250-A,make,14,1,2026-12-07,2,2026-12-14,0,"Pump, 2.5 kW",,,"8 of 2026-12-16: Order 4720, Customer \
+firm,WORKS,100/250-A,make,10,1,2026-12-07,2,2026-12-14,0,"Pump, 2.5 kW",,,"10 of 2026-12-16: Start 2026-12-07, Order \
+FA-20; 8 of 2026-12-16: Order 4720, Customer Grundmann; 7 of 2026-12-18: Order 4722, Customer Weber"
+order,WORKS,100/250-A,make,4,1,2026-12-07,2,2026-12-14,0,"Pump, 2.5 kW",,,"8 of 2026-12-16: Order 4720, Customer \
 Grundmann; 7 of 2026-12-18: Order 4722, Customer Weber"
 order,WORKS,MOTOR,buy,20,0,2026-11-30,1,2026-12-07,1,Motor 2.5 kW,Lumen,LM 2.5-K,
 order,DEPOT,100/250-A,from:WORKS,2,2,2026-12-14,3,2026-12-21,0,"Pump, 2.5 kW",WORKS,P-100,"6 of 2026-12-22: Order \
@@ -68,14 +74,19 @@ def test_orders_have_the_firms_names(room):
     firm(room)
     assert room.run("bin/orders --names names.csv < table.csv") == OWN_ORDERS
     wanted = [f"{it},,,," for it in ORDERS.splitlines()[1:]]
-    assert room.run("bin/orders < table.csv").splitlines()[1:] == [*wanted[:2], wanted[2].replace(",,,,", ",,WORKS,,")]
+    assert room.run("bin/orders < table.csv").splitlines()[1:] == [*wanted[:3], wanted[3].replace(",,,,", ",,WORKS,,")]
     # (a further pump in period 4 is the next order's, and what comes before it this one's)
     room.run("sed -i '/^4731/s/2027-03-01/2026-12-28/' firm/demands.csv")
     room.run("bin/sheets --names names.csv --out table.csv firm 2> said && grep -q 'Order 4731' names.csv")
     later = "order,WORKS,100_250-A,make,9,3,2026-12-21,4,2026-12-28,0\n"
-    room.write("orders.csv", ORDERS.replace("14,0\n", f"14,0\n{later}", 1))
+    first = "order,WORKS,100_250-A,make,4,1,2026-12-07,2,2026-12-14,0\n"
+    room.write("orders.csv", ORDERS.replace(first, first + later))
     rows = room.run("bin/orders --names names.csv --until 1 < table.csv").splitlines()
-    assert rows == OWN_ORDERS.splitlines()[:3]
+    assert rows == OWN_ORDERS.splitlines()[:4]
+    # (and a firm order is no end of another's)
+    room.write("orders.csv", ORDERS.replace(first, first + later.replace("order,", "firm,")))
+    rows = room.run("bin/orders --names names.csv --until 1 < table.csv").splitlines()
+    assert [it[:-1].endswith("9 of 2026-12-28: Order 4731, Customer Weber") for it in rows[1:3]] == [True, True]
 
 
 def test_schedule_has_the_firms_names(room):
@@ -91,11 +102,11 @@ def test_schedule_has_the_firms_names(room):
 def test_orders_and_schedules_up_to_a_day(room):
     """A day says its period; one outside the plan is refused, and the file of --out is as it was."""
     firm(room)
-    head, pumps, motors, depot = OWN_ORDERS.splitlines(keepends=True)
-    both = pumps + motors
+    head, firm_pumps, pumps, motors, depot = OWN_ORDERS.splitlines(keepends=True)
+    both = firm_pumps + pumps + motors
     for until, rows in (("0", motors), ("2026-12-06", motors), ("2026-12-07", both), ("13.12.2026", both)):
         assert room.run(f"bin/orders --until {until} --names names.csv < table.csv") == head + rows
-    assert room.run("bin/orders --until 103 --names names.csv < table.csv") == head + pumps + motors + depot
+    assert room.run("bin/orders --until 103 --names names.csv < table.csv") == head + both + depot
     lines = OWN_SCHEDULE.splitlines(keepends=True)
     for until, count in (("0", 2), ("2026-12-13", 2), ("2026-12-14", 3), ("2026-12-28", 4)):
         assert room.run(f"bin/schedule --until {until} --names names.csv < table.csv") == "".join(lines[:count])
@@ -154,6 +165,30 @@ def test_sums_by_vendor_and_by_customer(room):
     assert "sum,FOUNDRY,HOUSING,,,3,83,2026-12-07\nsum,FOUNDRY,IMPELLER,,,5,160,2026-12-07\n" in said
     assert "total,FOUNDRY,,,,8,243,2026-12-07\n" in said
     assert "order,DEPOT,IMPELLER,from:WORKS:700:FOUNDRY:300,1,0," in room.run("bin/orders < examples/pumps.csv")
+
+
+def test_firm_orders_are_among_the_sums(room):
+    """Of what isn't made: a firm order of motors beside the planned one."""
+    firm(room)
+    motors = "firm,WORKS,MOTOR,buy,6,1,2026-12-07,1,2026-12-07,0\n"
+    room.write("orders.csv", ORDERS.replace("order,WORKS,MOTOR", f"{motors}order,WORKS,MOTOR"))
+    said = room.run("bin/orders --sums vendor --names names.csv < table.csv").splitlines()
+    assert said[1:3] == ["sum,Lumen,MOTOR,Motor 2.5 kW,LM 2.5-K,2,26,2026-11-30", "total,Lumen,,,,2,26,2026-11-30"]
+    rows = room.run("bin/orders --until 0 < table.csv").splitlines()
+    assert [it.split(",")[:5] for it in rows[1:]] == [["order", "WORKS", "MOTOR", "buy", "20"]]
+
+
+def test_numbers_of_firm_orders(room):
+    """A firm order has what the sheets say of orders of its period with as many pieces."""
+    firm(room)
+    rows = "FA-21,WORKS,100/250-A,2026-12-08,2026-12-17,3\nFA-22,WORKS,100/250-A,2026-12-08,2026-12-18,3\n"
+    room.write("firm/firm_orders.csv", f"Order no.,Plant,Item,Start,Due,Quantity\nFA-20,WORKS,100/250-A,2026-12-07,2026-12-16,10\n{rows}")
+    room.run("bin/sheets --names names.csv --out table.csv firm 2> said")
+    assert room.run("grep ^firm table.csv") == "".join(f"firm,WORKS,100_250-A,1,2,{it},,\n" for it in (10, 3, 3))
+    three = "firm,WORKS,100_250-A,make,3,1,2026-12-07,2,2026-12-14,0\n"
+    room.write("orders.csv", ORDERS.replace("order,WORKS,100", f"{three}{three}order,WORKS,100", 1).replace("make,4", "make,1"))
+    notes = [it.split('"')[-2] for it in room.run("bin/orders --names names.csv < table.csv").splitlines()[1:4]]
+    assert [re.findall("Order no. (FA-[0-9]+)", it) for it in notes] == [["FA-20"], ["FA-21", "FA-22"], ["FA-21", "FA-22"]]
 
 
 def test_refused_tables_and_programs_that_fail(room):

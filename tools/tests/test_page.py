@@ -4,6 +4,7 @@ import re
 
 import reports
 from support import DELAYED_PLAN, listed, plan_rows, Tags, wants, WITH_DELAYS
+from test_record import FIRM, FIRM_ORDERS, FIRM_PLAN
 
 
 def test_page_has_late_orders_when_they_come(room):
@@ -112,6 +113,57 @@ def test_page_says_what_is_to_be_done(room):
     rows = [it[1:] for it in listed(text, "deliveries") if it[0] == "HOUSING"]
     called = [["7 Dec W50", "25", "1,000"], ["21 Dec W52", "44", "1,044"], ["4 Jan W01", "14", "141,044 closed"]]
     assert rows == [["in transit", "15", "975"], *called]
+
+
+def figures_of(text, label):
+    """Returns the figures of each line of the records that has a label."""
+    lines = re.findall(f'<tr><th class="name">{label}</th>(.*?)</tr>', text)
+    return [re.findall("<td[^>]*>(.*?)</td>", it) for it in lines]
+
+
+def test_page_marks_firm_orders(room):
+    """To release beside planned ones, and in records in lines of their own, when they are due and when they start."""
+    advice = "advice,defer,firm,A,P,,3,2026-01-26,20,4,2026-02-02\nadvice,expedite,firm,A,C,,1,2026-01-12,6,0,2026-01-05\n"
+    room.write("reports.csv", FIRM_PLAN + FIRM_ORDERS + "firm,A,P,make,3,1,2026-01-12,4,2026-02-02,0\n" + advice)
+    text = room.run("bin/page < reports.csv")
+    Tags(text)
+    assert "2 pairs, 5 weeks, 1 late order, 3 orders to release, 1 of them firm, 2 open orders to be moved" in text
+    assert listed(text, "release")[1] == ["P", "20", "", "26 Jan W05, firm", "make"]
+    assert '<time datetime="2026-01-26">26 Jan <small>W05</small></time>, <b>firm</b></td>' in text
+    assert figures_of(text, "<small>of which firm orders</small>") == [["", "", "", "20", "3"], ["20", "3", "", "", ""]]
+    assert "<p>20 firm to release, due <time" in text
+    assert [it[0:2] + it[3:5] + it[6:] for it in listed(text, "moves")] == [
+        ["expedite", "A", "6", "12 Jan W03", "firm order"],
+        ["defer", "A", "20", "26 Jan W05", "firm order"],
+    ]
+    assert "or expedite 6 firm of <time" in text
+    assert "<br>defer 20 firm of <time" in text
+
+
+def test_page_has_firm_orders_of_an_item_in_its_row(room):
+    """The sum of both sorts, that opens, with what the sheets say of the firm ones; of the plan alone nothing is firm."""
+    row = "{},A,P,make,{},0,2026-01-05,{},{},{}\n".format
+    orders = row("firm", 20, 3, "2026-01-26", 0) + row("order", 5, 1, "2026-01-12", 1) + row("firm", 2, 4, "2026-02-02", 0)
+    room.write("reports.csv", FIRM_PLAN + orders)
+    said = 'firm,A,P,3,2026-01-28,20,,,"Start 2026-01-05, Order <F-1>"'
+    room.write("names.csv", "\n".join([",".join(reports.Names.COLUMNS), said, ""]))
+    text = room.run("bin/page --names names.csv < reports.csv")
+    Tags(text)
+    ((item, whole, late, opens, supply),) = listed(text, "release")
+    assert (item, whole, late, supply) == ("P", "27", "1 week", "make")
+    first = "12 Jan W03, 3 orders, 2 of them firm5 due 12 Jan W03, 1 week20 due 26 Jan W05, firm"
+    assert opens == f"{first}20 of 2026-01-28: Start 2026-01-05, Order &lt;F-1&gt;2 due 2 Feb W06, firm"
+    assert "firm" not in room.run("bin/page < examples/three_plants.plan.csv")
+
+
+def test_page_of_a_table_has_its_firm_orders(room, program):
+    """Those that start later too; and the demand that waits for what one takes."""
+    room.write("table.csv", FIRM + "firm,A,P,1,4,3,,\n")
+    text = room.run("bin/page < table.csv")
+    Tags(text)
+    assert figures_of(text, "<small>of which firm orders</small>") == [["", "", "", "20", "3"], ["20", "3", "", "", ""]]
+    assert [it[0] for it in listed(text, "release")] == ["C", "P"]
+    assert listed(text, "late")[0][4:] == ["1", "30 A P of 26 Jan W05, 1 week"]
 
 
 def test_page_has_an_item_once(room):

@@ -1,5 +1,60 @@
 """bin/record."""
+import reports
 from support import DELAYED, DELAYED_PLAN, WITH_DELAYS
+
+# P takes two weeks and has 5; 30 are wanted in period 3 and 10 in period 4, and 20 are firm, from period 0 to 3.
+# So 5 and 10 are planned. Each takes two C: 40 in period 0, and C takes a week, so these come late. All of it by hand.
+FIRM = """\
+run,2026-01-05,7,5,,,,
+plant,A,,,,,,
+pair,A,P,make,lot,2,5,0
+pair,A,C,buy,lot,1,0,0
+bill,A,P,C,2,,,
+demand,A,P,3,30,,,
+demand,A,P,4,10,,,
+firm,A,P,0,3,20,,
+"""
+FIRM_PLAN = """\
+plan,A,P,0,2026-01-05,0,0,0,20,5
+plan,A,P,1,2026-01-12,0,0,0,5,5
+plan,A,P,2,2026-01-19,0,0,0,10,5
+plan,A,P,3,2026-01-26,30,20,5,0,0
+plan,A,P,4,2026-02-02,10,0,10,0,0
+plan,A,C,0,2026-01-05,40,0,40,50,0
+plan,A,C,1,2026-01-12,10,0,10,20,0
+plan,A,C,2,2026-01-19,20,0,20,0,0
+plan,A,C,3,2026-01-26,0,0,0,0,0
+plan,A,C,4,2026-02-02,0,0,0,0,0
+late,A,C,0,40,1
+"""
+FIRM_ORDERS = """\
+firm,A,P,make,20,0,2026-01-05,3,2026-01-26,0
+order,A,P,make,5,1,2026-01-12,3,2026-01-26,0
+order,A,P,make,10,2,2026-01-19,4,2026-02-02,0
+order,A,C,buy,40,0,2026-01-05,0,2026-01-05,1
+order,A,C,buy,10,0,2026-01-05,1,2026-01-12,0
+order,A,C,buy,20,1,2026-01-12,2,2026-01-19,0
+"""
+FIRM_PEGS = """\
+pegs,A,P,3,demand,A,P,30,1,30
+pegs,A,P,4,demand,A,P,10,1,10
+pegs,A,C,0,bill,A,P,20,2,40
+pegs,A,C,1,bill,A,P,5,2,10
+pegs,A,C,2,bill,A,P,10,2,20
+"""
+FIRM_RECORD = """\
+A P: 5 on hand before 2026-01-05
+
+Period                           0           1           2           3           4
+First day               2026-01-05  2026-01-12  2026-01-19  2026-01-26  2026-02-02
+Gross requirements                                                  30          10
+Scheduled receipts                                                  20
+  of which firm orders                                              20
+Projected available              5           5           5           0           0
+Planned order receipts                                               5          10
+Planned order releases          20           5          10
+  of which firm orders          20
+"""
 
 
 def test_record_is_as_planners_know_it(room):
@@ -58,3 +113,47 @@ def test_record_names_the_nearest(room):
     assert said == "bin/record: the report has no pair SOUTH TUB (SOUTH TUBE?)\n"
     said = room.run("bin/record WEST WHEEL < examples/three_plants.plan.csv", status=1)
     assert said == "bin/record: the report has no pair WEST WHEEL (NORTH WHEEL, SOUTH WHEEL, EAST WHEEL?)\n"
+
+
+def test_firm_orders_are_worked_by_hand(room, program):
+    """The reports from which the tests of firm orders begin are those of their table."""
+    room.write("table.csv", FIRM)
+    for word, wanted in (("plan", FIRM_PLAN), ("orders", FIRM_ORDERS), ("pegs", FIRM_PEGS)):
+        assert room.run(f"mrp {word} < table.csv") == wanted
+
+
+def test_record_tells_firm_orders_apart(room):
+    """By the report of orders behind the plan, with names of columns or without; of a pair that has some, alone."""
+    room.write("plan.csv", FIRM_PLAN)
+    room.write("orders.csv", FIRM_ORDERS)
+    assert room.run("cat plan.csv orders.csv | bin/record A P") == FIRM_RECORD
+    room.write("headed.csv", "row,plant,item,supply,quantity,release,release_date,due,due_date,late\n" + FIRM_ORDERS)
+    assert room.run("cat plan.csv headed.csv | bin/record A P") == FIRM_RECORD
+    assert room.run("cat plan.csv orders.csv | bin/record A C") == room.run("bin/record A C < plan.csv")
+    without = [it for it in FIRM_RECORD.splitlines() if "firm" not in it]
+    assert room.run("bin/record A P < plan.csv").splitlines() == without
+    room.run("sed -i 's/^firm,A,P,make,20/firm,A,P,make,x/' orders.csv")
+    said = room.run("cat plan.csv orders.csv | bin/record A P", status=1)
+    assert said.startswith("bin/record: row 12 is no row of a report: 'firm,A,P,make,x,")
+
+
+def test_record_has_delays_below_firm_orders(room):
+    """A late order of a pair with firm orders: its line stands below projected available."""
+    room.write("plan.csv", FIRM_PLAN + "late,A,P,3,5,4\n" + FIRM_ORDERS)
+    lines = room.run("bin/record A P < plan.csv").splitlines()
+    place = lines.index("  of which firm orders                                              20")
+    assert [it.split("  ")[0] for it in lines[place + 1 : place + 3]] == ["Projected available", "Available with delays"]
+    assert lines[place + 2].split()[3:] == ["5", "5", "5", "!-5", "!-5"]
+
+
+def test_record_sums_firm_orders_of_a_period(room):
+    """Equal ones all count, and what the sheets say of them stands below."""
+    room.write("plan.csv", FIRM_PLAN + FIRM_ORDERS.replace("make,20,0,", "make,12,0,", 1))
+    room.run("echo firm,A,P,make,4,1,2026-01-12,3,2026-01-26,0 | tee -a plan.csv >> plan.csv")
+    rows = ["firm,A,P,3,2026-01-28,12,,,\"Start 2026-01-05, Order F-1\"", "firm,A,P,3,2026-01-29,4,,,Start 2026-01-12"]
+    room.write("names.csv", "\n".join([",".join(reports.Names.COLUMNS), *rows, ""]))
+    lines = room.run("bin/record --names names.csv A P < plan.csv").splitlines()
+    firm = [it.split()[4:] for it in lines if it.startswith("  of which firm orders")]
+    assert firm == [["20"], ["12", "8"]]
+    said = ["  period 3: 12 of 2026-01-28: Start 2026-01-05, Order F-1", "  period 3: 4 of 2026-01-29: Start 2026-01-12"]
+    assert lines[-4:] == ["", "Firm orders", *said]

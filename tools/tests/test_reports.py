@@ -1,9 +1,13 @@
 """bin/reports.py, by which the tools read reports."""
+import datetime
 import itertools
 import os
 
 import cases
+import mrp
+import pytest
 import reports
+from test_record import FIRM_ORDERS
 
 
 def test_stored_reports_are_read_by_name(room):
@@ -46,3 +50,26 @@ def test_rows_are_found_in_large_reports(room):
         assert [(it.period, it.quantity) for it in found.rows(pair, first, end)] == wanted, (pair, first, end)
     room.write("pegs.csv", "")
     assert [*reports.Sorted(f"{room.folder}/pegs.csv", "period", places).rows(("A", "X"))] == []
+
+
+def test_firm_orders_have_a_row_of_their_own():
+    """With the columns of planned orders, and apart from them."""
+    rows = [*reports.parts(it.encode() for it in FIRM_ORDERS.splitlines(keepends=True))]
+    assert [type(it) for it in rows] == [reports.FirmOrder, *[mrp.Order] * 5]
+    assert reports.FirmOrder._fields == mrp.Order._fields
+    days = datetime.date(2026, 1, 5), datetime.date(2026, 1, 26)
+    assert rows[0] == ("A", "P", "make", 20, 0, days[0], 3, days[1], 0)
+    assert mrp.line_of(rows[0]) == FIRM_ORDERS.splitlines()[0]
+
+
+def test_firm_orders_are_summed_by_period():
+    """By what is due, and by what is released; a pair without any has no figures."""
+    found = reports.FirmOrders()
+    line = "firm,A,{},buy,{},{},2026-01-05,{},2026-01-12,0\n".format
+    for number, it in enumerate((("X", 5, 0, 3), ("Y", 1, 2, 2), ("X", 10**12, 0, 1), ("X", 7, 1, 3)), 1):
+        assert found.take(line(*it), number) == (("A", it[0]), it[2])
+    assert found.figures(("A", "X"), 4) == [[0, 10**12, 0, 12], [10**12 + 5, 7, 0, 0]]
+    assert found.figures(("A", "Y"), 4) == [[0, 0, 1, 0], [0, 0, 1, 0]]
+    assert found.figures(("B", "X"), 4) == []
+    with pytest.raises(reports.Refused, match="row 9 is no row of a report"):
+        found.take(line("X", "05", 0, 3), 9)

@@ -45,6 +45,11 @@ SHEETS = {
     ),
     "cum": ("cums", ("From", "Sender"), ("To", "Receiver"), ("Item", "Part"), ("Cum received", "Figure")),
     "reset": ("resets", ("From", "From plant"), ("To", "To plant"), ("Item", "Part"), ("Date", "Reset date")),
+    "firm": (
+        "firm_orders",
+        *(("Plant", "Site"), ("Item", "Material"), ("Start", "Start date", "Basic start date")),
+        *(("Due", "Finish date", "End date"), ("Quantity", "Order quantity")),
+    ),
 }
 
 
@@ -88,7 +93,11 @@ def cell_of(chance, kind, head, text, first, days):
     """
     if head == "Lead time in days" and text != "0":
         return str(int(text) * days - chance.randrange(days))
-    if head in ("Due", "Need date", "ETA", "Delivery date", "Arrives", "Date", "Reset date"):
+    if kind == "firm" and head in ("Start", "Start date", "Basic start date", "Due", "Finish date", "End date"):
+        # (no order starts behind the day on which it is due: so on the first day of a period or before, and is due on the last)
+        day = -chance.choice((0, 1, 400)) if "tart" in head and text == "0" else 0 if "tart" in head else days - 1
+        text = str(first + datetime.timedelta(int(text) * days + day))
+    elif head in ("Due", "Need date", "ETA", "Delivery date", "Arrives", "Date", "Reset date"):
         overdue = chance.randrange(400) if text == "0" and kind != "reset" else 0
         text = str(first + datetime.timedelta(int(text) * days + chance.randrange(days) - overdue))
     if text[4:5] == "-" and text[7:8] == "-" and text[:4].isdigit():
@@ -126,10 +135,20 @@ def test_sheets_give_the_table_back(room, firms_tried=40):
     """Random firms, turned into sheets and back."""
     for seed in range(firms_tried):
         chance = random.Random(seed)
-        table = firms.table(chance)
+        table = with_firm_orders(chance, firms.table(chance))
         write_sheets(room, "firm", sheets_of(chance, table))
         status, written, said = table_of_sheets(room, "--dates", "m/d/y", "firm")
         assert (status, written.decode(), said if status else "") == (0, table.decode(), ""), seed
+
+
+def with_firm_orders(chance, table):
+    """Returns a table with some firm orders more."""
+    rows = [it.split(",") for it in table.decode().splitlines()]
+    pairs, periods = [it[1:3] for it in rows if it[0] == "pair"], int(rows[0][3])
+    for _ in range(chance.choice((0, 1, 5))):
+        start, due = sorted(chance.randrange(periods) for _ in "12")
+        table += f"firm,{','.join(chance.choice(pairs))},{start},{due},{chance.choice((1, 30, 10**12))},,\n".encode()
+    return table
 
 
 def test_sheets_are_refused_whole(room, program, trials=60):
@@ -349,6 +368,7 @@ IN_OTHER_WORDS = (
     "Werk,Teil,Liefertermin,Menge",
     "Von,Nach,Material,Ankunft,Stückzahl",
     "Lieferwerk,Empfänger,Teilenummer,Eingangsfortschrittszahl",
+    "Werk,Material,Eckstarttermin,Eckendtermin,Menge",
     "Premier jour,Jours,Périodes",
     "Usine,Code article,Approvisionnement,Taille de lot,Délai (jours),En stock,Stock de sécurité",
     "Usine,Ensemble,Composant,Quantité",
@@ -356,6 +376,7 @@ IN_OTHER_WORDS = (
     "Usine,Produit,Date de livraison,Quantité",
     "De,Vers,Article,Arrivée,Quantité",
     "Fournisseur,Client,Article,Reçu",
+    "Usine,Article,Date de début,Date de fin,Quantité",
     "Primer día,Días,Periodos",
     "Planta,Artículo,Aprovisionamiento,Tamaño de lote,Plazo de entrega en días,Existencias,Stock de seguridad",
     "Centro,Conjunto,Componente,Cantidad",
@@ -363,6 +384,7 @@ IN_OTHER_WORDS = (
     "Planta,Producto,Llegada,Cantidad",
     "Desde,Destino,Artículo,Fecha de llegada,Cantidad",
     "Origen,Destinatario,Producto,Recibido",
+    "Planta,Artículo,Fecha de inicio,Fecha de fin,Cantidad",
 )
 
 
@@ -377,10 +399,11 @@ def test_sheets_are_headed_in_other_languages(room):
         "receipts.csv": "Plant,Item,Due,Quantity\nP1,WHEEL,2026-01-12,5\n",
         "shipments.csv": "From,To,Item,Arrives,Quantity\nP1,P2,BIKE,2026-01-13,2\n",
         "cums.csv": "From,To,Item,Cum received\nP1,P2,BIKE,40\n",
+        "firm_orders.csv": "Plant,Item,Start,Due,Quantity\nP1,BIKE,2026-01-05,2026-01-13,3\n",
     }
     write_sheets(room, "firm", sheets)
     table = table_of_sheets(room, "firm")
-    assert (table[0], table[1].count(b"\n")) == (0, 11)
+    assert (table[0], table[1].count(b"\n")) == (0, 12)
     for first in range(0, len(IN_OTHER_WORDS), len(sheets)):
         heads = dict(zip(("firm.csv", "items.csv", *[*sheets][2:]), IN_OTHER_WORDS[first:]))
         for form in (str, lambda it: unicodedata.normalize("NFD", it), module_of("headed.py", "bin").plain, str.upper):
@@ -522,6 +545,30 @@ def test_sheets_count_shipments_beyond_the_end(room):
     assert "shipments.csv: 3 rows beyond 2026-02-01 left out (rows 3, 4, 5), but for cumulative figures\n" in said
 
 
+def test_sheets_take_firm_orders(room):
+    """From start to due, in the order of the sheet, behind all other rows. What starts or is due before the first day does so
+    in period 0, and is told with how late it is; what is due beyond the end is left out.
+    """
+    days = ("2026-01-12,2026-01-27,5", "2026-01-05,2026-01-11,1", "2025-12-31,2026-01-12,2", "2025-12-20,2026-01-03,3")
+    days += ("2026-02-02,2026-02-02,4", "2026-01-12,2026-01-27,5", "2026-01-12,2026-01-27,0")
+    rows = "".join(f"FA-{place},P1,BIKE,{it}\n" for place, it in enumerate(days))
+    write_sheets(room, "firm", {**BICYCLE, "firm_orders.csv": f"Order,Plant,Item,Start,Due,Quantity\n{rows}"})
+    status, written, said = table_of_sheets(room, "--names", "names.csv", "firm")
+    with open(f"{TOP}/examples/bicycle.csv", encoding="utf-8") as file:
+        wanted = file.read() + "".join(f"firm,P1,BIKE,{it},,\n" for it in ("1,3,5", "0,0,1", "0,1,2", "0,0,3", "1,3,5"))
+    assert (status, written.decode()) == (0, wanted)
+    told = """\
+firm_orders.csv: 1 row of 0 left out (row 8)
+firm_orders.csv: 2 overdue rows in period 0, 1 row beyond 2026-02-01 left out (row 6)
+firm_orders.csv row 4: 2 of P1 BIKE, its start 5 days late (Order FA-2)
+firm_orders.csv row 5: 3 of P1 BIKE, 2 days late (Order FA-3)
+"""
+    assert said == told
+    names = room.run("grep ^firm names.csv").splitlines()
+    assert names[2] == 'firm,P1,BIKE,1,2026-01-12,2,,,"Start 2025-12-31, Order FA-2"'
+    assert [it.rpartition(" ")[2] for it in names] == [f'FA-{it}"' for it in (0, 1, 2, 3, 5)]
+
+
 def test_files_of_tools_are_kept_where_they_fail(room):
     """By --out a file is written beside, and takes its place at the end."""
     room.run(
@@ -581,6 +628,7 @@ resets.csv row 2: 2027-01-01 isn't the first day of a period; figures start agai
         said = file.read()
         assert 'pair,DEPOT,100_250-A,,,,100/250-A,"Pump, 2.5 kW",\n' in said
         assert 'demand,WORKS,100_250-A,2,2026-12-16,8,,,"Order 4720, Customer Grundmann"\n' in said
+        assert 'firm,WORKS,100_250-A,2,2026-12-16,10,,,"Start 2026-12-07, Order FA-20"\n' in said
 
 
 def test_tools_show_the_names_of_sheets(room):
@@ -625,14 +673,18 @@ def test_tools_show_the_names_of_sheets(room):
     room.needs_program()
     room.run("bin/sheets --names names.csv examples/sheets > table.csv 2> said")
     wanted = """\
-WORKS 100/250-A (Pump, 2.5 kW): 14 released in period 1, due in period 2 (2026-12-14)
-  17 required in period 2
-    15 demand
-      8 of 2026-12-16: Order 4720, Customer Grundmann
-      7 of 2026-12-18: Order 4722, Customer Weber
-    2 for DEPOT 100/250-A (Pump, 2.5 kW): 2 released in period 2, due in period 3 (2026-12-21)
-      6 required in period 3
-        6 demand
-          6 of 2026-12-22: Order 4725, Customer Spares
+WORKS 100/250-A (Pump, 2.5 kW): 14 released in period 1
+  10, due in period 2 (2026-12-14), firm
+    10 of 2026-12-16: Start 2026-12-07, Order FA-20
+    17 required in period 2
+      15 demand
+        8 of 2026-12-16: Order 4720, Customer Grundmann
+        7 of 2026-12-18: Order 4722, Customer Weber
+      2 for DEPOT 100/250-A (Pump, 2.5 kW): 2 released in period 2, due in period 3 (2026-12-21)
+        6 required in period 3
+          6 demand
+            6 of 2026-12-22: Order 4725, Customer Spares
+  4, due in period 2 (2026-12-14)
+    17 required in period 2 (above)
 """
     assert room.run("bin/why --names names.csv WORKS 100/250-A 1 < table.csv") == wanted

@@ -239,8 +239,9 @@ def test_a_receipt_of_what_is_made_is_told(tmp_path):
     """But not where something that goes into it is asked for, and not of what is bought."""
     found = {**BICYCLE, "receipts.csv": "Order,Plant,Item,Due,Quantity\nFA-7,P1,BIKE,2026-01-12,4\n,P1,BIKE,2026-01-19,4\nB-2,P1,WHEEL,2026-01-12,4\n"}
     table = TABLE + "receipt,P1,BIKE,1,4,,,\nreceipt,P1,BIKE,2,4,,,\nreceipt,P1,WHEEL,1,4,,,\n"
-    said = "receipts.csv row 2: P1 BIKE is made; what the order still takes (Order FA-7) belongs in demands.csv\n"
-    said += "receipts.csv row 3: P1 BIKE is made; what the order still takes belongs in demands.csv\n"
+    cure = "belongs in demands.csv, or the whole order in firm_orders.csv if it has no parts yet\n"
+    said = f"receipts.csv row 2: P1 BIKE is made; what the order still takes (Order FA-7) {cure}"
+    said += f"receipts.csv row 3: P1 BIKE is made; what the order still takes {cure}"
     assert sheets(tmp_path, found) == (0, table, said)
     assert sheets(tmp_path, found, "--strict") == (1, "", said + STRICT)
     found["demands.csv"] += "P1,WHEEL,2026-01-05,8\n"
@@ -248,6 +249,76 @@ def test_a_receipt_of_what_is_made_is_told(tmp_path):
     found = {**BICYCLE, "receipts.csv": "Plant,Item,Due,Quantity\n" + "P1,BIKE,2026-01-12,4\n" * 25}
     lines = sheets(tmp_path, found)[2].splitlines()
     assert (len(lines), lines[-1]) == (21, "receipts.csv: of items that are made: 5 more")
+
+
+HEADS = "Order,Plant,Item,Start,Due,Quantity\n"
+BEYOND = "firm_orders.csv: 1 row beyond 2026-02-01 left out (row 2)\n"
+
+
+def test_a_firm_order_that_starts_behind_its_due_date_is_a_slip(tmp_path):
+    """In the same period too; and what no cell says, or a sum, as in other sheets."""
+    for row, told in (
+        ("F,P1,BIKE,2026-01-19,2026-01-12,4", "row 2, Start: 2026-01-19 is after 2026-01-12, when the order is due"),
+        ("F,P1,BIKE,2026-01-14,2026-01-13,4", "row 2, Start: 2026-01-14 is after 2026-01-13, when the order is due"),
+        ("F,P1,BIKE,2026-02-09,2026-02-08,4", "row 2, Start: 2026-02-09 is after 2026-02-08, when the order is due"),
+        ("F,P1,BIKE,,2026-01-12,4", "row 2, Start: nothing stands here"),
+        ("F,P1,BELL,2026-01-12,2026-01-12,4", "row 2, Item: P1 has no item 'BELL' (BIKE?)"),
+        ("F,P1,BIKE,2026-01-12,2026-01-12,1.5", f"row 2, Quantity: '1.5' is no whole number; {SMALLER}"),
+        ("Total,,,,,4", "row 2: Plant, Item, Start and Due are empty; delete the row if it is a sum"),
+    ):
+        found = {**BICYCLE, "firm_orders.csv": f"{HEADS}{row}\n"}
+        assert sheets(tmp_path, found) == (1, "", f"firm_orders.csv {told}\n{REFUSED}")
+
+
+def test_a_firm_order_beyond_the_end_names_what_it_takes(tmp_path):
+    """The components of what is made and the part of each plant that it is taken from, on the day when it starts; of what is
+    bought nothing, nor of what starts beyond the end too.
+    """
+    front = "firm_orders.csv row 2: 4 of P1 BIKE, due beyond 2026-02-01, left out; in their place write as demands of"
+    for start, said in (
+        ("2026-01-26", f"{front} 2026-01-26: 8 of P1 WHEEL\n"),
+        ("2025-11-30", f"{front} 2026-01-05: 8 of P1 WHEEL\n"),
+        ("2026-02-02", ""),
+    ):
+        found = {**BICYCLE, "firm_orders.csv": f"{HEADS}F-1,P1,BIKE,{start},2026-02-02,4\n"}
+        assert sheets(tmp_path, found) == (0, TABLE, BEYOND + said)
+        assert sheets(tmp_path, found, "--strict") == ((1, "", said + STRICT) if said else (0, TABLE, BEYOND))
+    found = {**BICYCLE, "firm_orders.csv": f"{HEADS}F-1,P1,WHEEL,2026-01-26,2026-02-02,4\n"}
+    assert sheets(tmp_path, found, "--strict") == (0, TABLE, BEYOND)
+    # (7 of two plants by 600 and 400, as a release of 7 is cut)
+    items = BICYCLE["items.csv"] + "P2,WHEEL,buy,lot,1,0,0\nP3,WHEEL,from:P1:600:P2:400,lot,1,0,0\n"
+    found = {**BICYCLE, "items.csv": items, "shipments.csv": BOTH["shipments.csv"], "demands.csv": BICYCLE["demands.csv"] + "P3,WHEEL,2026-01-26,1\n"}
+    found["firm_orders.csv"] = f"{HEADS}F-1,P3,WHEEL,2026-01-19,2026-03-02,7\n"
+    said = "firm_orders.csv row 2: 7 of P3 WHEEL, due beyond 2026-02-01, left out; in their place write as demands of 2026-01-19: "
+    assert sheets(tmp_path, found)[2] == f"{BEYOND}{said}4 of P1 WHEEL, 3 of P2 WHEEL\n"
+
+
+def test_what_many_components_a_firm_order_takes_is_told_in_lines(tmp_path):
+    parts = "ABCDEFG"
+    items = BICYCLE["items.csv"] + "".join(f"P1,{it},buy,lot,1,0,0\n" for it in parts)
+    bills = BICYCLE["bills.csv"] + "".join(f"P1,BIKE,{it},{place}\n" for place, it in enumerate(parts, 3))
+    rows = "F-1,P1,BIKE,2026-01-26,2026-02-02,2\n" * 7
+    said = sheets(tmp_path, {**BICYCLE, "items.csv": items, "bills.csv": bills, "firm_orders.csv": HEADS + rows})[2].splitlines()
+    assert [it.rpartition(": ")[2] for it in said[1:4]] == [
+        "4 of P1 WHEEL, 6 of P1 A, 8 of P1 B",
+        "10 of P1 C, 12 of P1 D, 14 of P1 E",
+        "16 of P1 F, 18 of P1 G",
+    ]
+    assert said[2].startswith("firm_orders.csv row 2: 2 of P1 BIKE, and of 2026-01-26: ")
+    assert (len(said), said[-1]) == (22, "firm_orders.csv: due beyond the end: 1 more")
+
+
+def test_what_firm_orders_take_is_asked_for(tmp_path):
+    """An item that is firm has no warning for want of a demand, nor what goes into it; it is no demand of a component."""
+    items = BICYCLE["items.csv"] + "P1,BELL,make,lot,1,0,0\nP1,SPRING,buy,lot,1,0,0\n"
+    found = {**BICYCLE, "items.csv": items, "bills.csv": BICYCLE["bills.csv"] + "P1,BELL,SPRING,1\n"}
+    assert "items.csv row 4: P1 BELL has no demand, and nothing takes it\n" in sheets(tmp_path, found)[2]
+    found["firm_orders.csv"] = f"{HEADS}F-1,P1,BELL,2026-01-12,2026-01-19,4\n"
+    assert sheets(tmp_path, found)[2] == ""
+    # (the springs are firm, and a receipt of bells is told all the same)
+    found["firm_orders.csv"] = f"{HEADS}F-1,P1,SPRING,2026-01-12,2026-01-19,4\n"
+    found["receipts.csv"] = "Plant,Item,Due,Quantity\nP1,BELL,2026-01-12,4\n"
+    assert "receipts.csv row 2: P1 BELL is made; " in sheets(tmp_path, found)[2]
 
 
 def test_a_vendor_that_is_a_plant_has_no_warning(tmp_path):
@@ -366,6 +437,13 @@ def test_counts_refuses_a_table_without_a_kind(tmp_path, kind):
     assert counts(tmp_path, three_plants())[:2] == (0, "")
 
 
+def test_counts_sees_firm_orders_that_are_gone(tmp_path):
+    table = three_plants() + "firm,NORTH,BIKE,1,2,4,,\n"
+    counts(tmp_path, table)
+    assert (tmp_path / "counts.csv").read_text() == f"{KEPT}firm,1\n"
+    assert counts(tmp_path, three_plants())[:2] == (1, f"firm: 1 row before, none now\n{AS_IT_WAS}")
+
+
 def test_counts_sees_stock_and_safety_stock_that_are_gone(tmp_path):
     counts(tmp_path, three_plants())
     less = re.sub("(?m)^(pair,.*,)[0-9]+(,[0-9]+)$", r"\g<1>0\2", three_plants())
@@ -454,6 +532,7 @@ def files(folder):
         ("shipments.csv", f"ship: 1 row before, none now\n{AS_IT_WAS}"),
         ("cums.csv", f"cum: 1 row before, none now\n{AS_IT_WAS}"),
         ("resets.csv", f"reset: 1 row before, none now\n{AS_IT_WAS}"),
+        ("firm_orders.csv", f"firm: 1 row before, none now\n{AS_IT_WAS}"),
     ],
 )
 def test_a_night_from_sheets_refuses_an_empty_sheet(tmp_path, sheet, said):
@@ -548,4 +627,4 @@ def test_renew_says_in_a_line_that_it_has_no_table(tmp_path):
 def test_hit_says_what_it_does_not_know(tmp_path):
     status, out, _ = run(tmp_path, "bin/hit", "--help")
     assert status == 0
-    assert "A firm order written as a receipt, with demands for what it takes, breaks the chain:" in out
+    assert "A firm order written as a receipt, with demands for what it takes, breaks the chain:" in " ".join(out.split())

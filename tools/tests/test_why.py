@@ -1,5 +1,7 @@
 """bin/why."""
+import reports
 from support import reports_from_files, TOP
+from test_record import FIRM, FIRM_ORDERS, FIRM_PEGS
 
 
 def test_why_has_each_requirement_once(room, program):
@@ -61,6 +63,81 @@ A X: 19 released in period 0
       6 demand
 """
     )
+
+
+def from_files(room, table, orders, pegs):
+    """Writes a table with firm orders, and its reports by hand for the program words/files."""
+    room.stand_in("words/files", "from_files")
+    for name, text in (("table", table), ("orders", orders), ("pegs", pegs)):
+        room.write(f"{name}.csv", text)
+
+
+def test_why_marks_firm_orders(room):
+    """Above what they take, and asked for by the period of their start; each order is for what comes up to the next planned one."""
+    from_files(room, FIRM, FIRM_ORDERS, FIRM_PEGS)
+    why = "MRP=words/files bin/why"
+    wanted = """\
+A C: 50 released in period 0
+  40, due in period 0 (2026-01-05), 1 period late
+    40 required in period 0
+      40 for A P, 2 each: 20 released in period 0, due in period 3 (2026-01-26), firm
+        30 required in period 3
+          30 demand
+  10, due in period 1 (2026-01-12)
+    10 required in period 1
+      10 for A P, 2 each: 5 released in period 1, due in period 3 (2026-01-26)
+        30 required in period 3 (above)
+"""
+    assert room.run(f"{why} A C 0 < table.csv") == wanted
+    assert room.run(f"{why} A P 2026-01-11 < table.csv").startswith("A P: 20 released in period 0, due in period 3 (2026-01-26), firm\n")
+    said = room.run(f"{why} A P 3 < table.csv", status=1)
+    assert said == "bin/why: no order of A P is released in period 3; releases are in 0, 1, 2\n"
+    # (5 on hand and a firm 12 and 13 are for all of periods 2 and 3: the next planned order is due in period 4)
+    table = FIRM.replace("demand,A,P,3,30", "demand,A,P,2,10,,,\ndemand,A,P,3,20").replace("P,0,3,20", "P,0,2,12") + "firm,A,P,1,3,13,,\n"
+    orders = FIRM_ORDERS.replace("20,0,2026-01-05,3,2026-01-26", "12,0,2026-01-05,2,2026-01-19")
+    orders = orders.replace("order,A,P,make,5,", "firm,A,P,make,13,")
+    pegs = "pegs,A,P,2,demand,A,P,10,1,10\npegs,A,P,3,demand,A,P,20,1,20\npegs,A,P,4,demand,A,P,10,1,10\n"
+    from_files(room, table, orders, pegs)
+    for period, front, rows in (
+        (0, "12 released in period 0, due in period 2 (2026-01-19)", ((10, 2), (20, 3))),
+        (1, "13 released in period 1, due in period 3 (2026-01-26)", ((20, 3),)),
+    ):
+        below = "".join(f"  {quantity} required in period {it}\n    {quantity} demand\n" for quantity, it in rows)
+        assert room.run(f"{why} A P {period} < table.csv") == f"A P: {front}, firm\n{below}"
+
+
+def test_why_has_safety_stock_behind_firm_orders(room):
+    """By hand. 5 of 9 are missing in period 0: 3 and 1 are firm there, and 1 is in the planned order, which comes late."""
+    head = "run,2026-01-05,7,4,,,,\nplant,A,,,,,,\npair,A,X,buy,lot,2,4,9\n"
+    rows = "demand,A,X,0,5,,,\nfirm,A,X,0,0,3,,\nfirm,A,X,0,0,1,,\nfirm,A,X,0,2,4,,\n"
+    orders = "firm,A,X,buy,3,0,2026-01-05,0,2026-01-05,0\nfirm,A,X,buy,1,0,2026-01-05,0,2026-01-05,0\n"
+    orders += "order,A,X,buy,6,0,2026-01-05,0,2026-01-05,2\nfirm,A,X,buy,4,0,2026-01-05,2,2026-01-19,0\n"
+    from_files(room, head + rows, orders, "pegs,A,X,0,demand,A,X,5,1,5\n")
+    assert room.run("MRP=words/files bin/why A X 0 < table.csv") == """\
+A X: 14 released in period 0
+  3, due in period 0 (2026-01-05), firm
+    3 for safety stock
+    5 required in period 0
+      5 demand
+  1, due in period 0 (2026-01-05), firm
+    1 for safety stock
+    5 required in period 0 (above)
+  6, due in period 0 (2026-01-05), 2 periods late
+    1 for safety stock
+    5 required in period 0 (above)
+  4, due in period 2 (2026-01-19), firm
+"""
+
+
+def test_why_shows_what_sheets_say_of_firm_orders(room):
+    """Of those of the period with as many pieces."""
+    from_files(room, FIRM, FIRM_ORDERS, FIRM_PEGS)
+    rows = ["firm,A,P,3,2026-01-28,20,,,\"Start 2026-01-05, Order F-1\"", "firm,A,P,3,2026-01-29,4,,,Order F-2"]
+    room.write("names.csv", "\n".join([",".join(reports.Names.COLUMNS), *rows, ""]))
+    said = room.run("MRP=words/files bin/why --names names.csv A C 0 < table.csv")
+    line = "      40 for A P, 2 each: 20 released in period 0, due in period 3 (2026-01-26), firm\n"
+    assert f"{line}        20 of 2026-01-28: Start 2026-01-05, Order F-1\n        30 required in period 3\n" in said
+    assert "F-2" not in said
 
 
 def three_plants():
