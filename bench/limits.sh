@@ -21,13 +21,14 @@ table=$folder/table.csv
 # The rows of a table: `run` and plants, pairs, and as many rows of each other kind as asked, of one pair that is
 # taken from another. Each has quantity 1.
 rows() {
-    awk -v plants="$1" -v pairs="$2" -v demands="$3" -v receipts="$4" -v ships="$5" 'BEGIN {
+    awk -v plants="$1" -v pairs="$2" -v demands="$3" -v receipts="$4" -v ships="$5" -v firms="${6:-0}" 'BEGIN {
         print "run,2026-01-05,7,104,,,,"
         for (i = 0; i < plants; i++) print "plant,P" i ",,,,,,"
         for (i = 0; i < pairs; i++) print "pair,P" i % 2 ",I" int(i / 2) "," (i ? "buy" : "from:P1") ",lot,0,0,0"
         for (i = 0; i < demands; i++) print "demand,P0,I0," i % 104 ",1,,,"
         for (i = 0; i < receipts; i++) print "receipt,P0,I0," i % 104 ",1,,,"
         for (i = 0; i < ships; i++) print "ship,P1,P0,I0," i % 104 ",1,,"
+        for (i = 0; i < firms; i++) print "firm,P0,I0," i % 104 "," i % 104 ",1,,"
     }'
 }
 
@@ -140,6 +141,9 @@ try everything cums "149760 of 149760" '$2 == "despatch" ? $7 == 1013 : $6 == 10
 rows 2 20000 1000000 1000000 1000000 >"$table"
 try "million of each" plan "208 of 2080000" '$3 == "I0" && $8 == 0 && $9 == 0'
 try "million of each" cums "2 of 2" '$7 == 1000000'
+rows 2 2 0 0 0 1000000 >"$table"
+try "million firm" plan "208 of 208" '$9 == ($4 < 40 ? 9616 : 9615) && ($2 == "P0" ? $7 == $9 && $8 == 0 : $8 == $9)'
+try "million firm" orders "1000104 of 1000104" '$1 == "firm" || $2 == "P1"'
 quantities 1 >"$table"
 try quantities plan "1 of 209" '$1 == "late" && $3 == "X" && $5 == 1000000000000 && $6 == 1'
 quantities 1000000 >"$table"
@@ -156,4 +160,6 @@ rows 2 2 0 1000001 0 >"$table"
 try "1,000,001 receipts" check "mrp: row 1000006: TooMany"
 rows 2 2 0 0 1000001 >"$table"
 try "1,000,001 ships" check "mrp: row 1000006: TooMany"
+rows 2 2 0 0 0 1000001 >"$table"
+try "1,000,001 firm" check "mrp: row 1000006: TooMany"
 exit "$wrong"
