@@ -206,6 +206,16 @@ def unsigned(text, form, part):
     return found[1].replace(group, "")
 
 
+def quoted(part):
+    """Returns a part of a note, with quotes where a comma, a quote or a line end would part it: `parts_of` reads it back."""
+    return '"{}"'.format(part.replace('"', '""')) if re.search('[,"\r\n]', part) else part
+
+
+def parts_of(note):
+    """Returns the parts of a note, between which commas stand."""
+    return next(csv.reader(io.StringIO(note, newline=""), skipinitialspace=True), [])
+
+
 def is_zero(text, form=None):
     """Returns whether a number is 0, in the form that --numbers says."""
     return text == "0" or bool(form and re.fullmatch(f"0[{form[5]}]0+", text))
@@ -275,21 +285,23 @@ class Row:
             self.slip(column, f"{text!r} is neither yes nor no; write x, or nothing")
         return word in YES
 
-    def rest(self):
-        """Returns what the other columns say: descriptions, and the others, each behind its heading."""
+    def rest(self, part=str):
+        """Returns what the other columns say: descriptions, and the others, each behind its heading and as a function writes it."""
         taken, parts = {*self.sheet.places.values()}, ([], [])
         for place, (head, text) in enumerate(zip(self.sheet.heads, self.cells)):
             if text and place not in taken:
                 described = key(head) in DESCRIBED
-                parts[not described].append(text if described else f"{head} {text}".strip())
+                parts[not described].append(text if described else part(f"{head} {text}".strip()))
         return tuple(", ".join(it) for it in parts)
 
 
 class Sheet:
-    """A sheet of a folder. Where it can't be read it has no columns and no rows, and slips."""
+    """A sheet of a folder, of columns that are named or those of its name. Where it can't be read it has no columns and no
+    rows, and slips."""
 
-    def __init__(self, folder, name, slips):
-        self.name, self.slips, self.places, self.heads, self.records, self.is_whole = name, slips, {}, [], iter(()), False
+    def __init__(self, folder, name, slips, columns=None):
+        self.name, self.slips, self.columns, self.mark = name, slips, columns or SHEETS[name], ","
+        self.places, self.heads, self.records, self.is_whole = {}, [], iter(()), False
         if os.path.exists(f"{folder}/{name}"):
             with open(f"{folder}/{name}", "rb") as file:
                 self.open(file.read())
@@ -308,14 +320,14 @@ class Sheet:
         except UnicodeDecodeError as fault:
             self.slip(found[: fault.start].count(b"\n") + 1, ": its text isn't UTF-8; save the sheet as CSV UTF-8")
             return
-        known = set().union(*itertools.starmap(keys, SHEETS[self.name].items()))
+        known = set().union(*itertools.starmap(keys, self.columns.items()))
         heads = {mark: next(csv.reader(io.StringIO(text[:100_000], newline=""), delimiter=mark), []) for mark in ",;\t"}
-        mark = max(heads, key=lambda it: (sum(key(head) in known for head in heads[it]), len(heads[it])))
-        self.heads = [it.strip() for it in heads[mark]]
+        self.mark = max(heads, key=lambda it: (sum(key(head) in known for head in heads[it]), len(heads[it])))
+        self.heads = [it.strip() for it in heads[self.mark]]
         if not any(self.heads):
             self.slip(0, ": it has no headings")
-        elif all([self.find(*it) for it in SHEETS[self.name].items()]):
-            self.records, self.is_whole = csv.reader(io.StringIO(text, newline=""), delimiter=mark, strict=True), True
+        elif all([self.find(*it) for it in self.columns.items()]):
+            self.records, self.is_whole = csv.reader(io.StringIO(text, newline=""), delimiter=self.mark, strict=True), True
             self.next(1)
         else:
             self.places = {}

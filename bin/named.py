@@ -37,7 +37,7 @@ class Items:
         """Returns the vendor of an item, and the vendor's part number, as far as its row in items.csv names them."""
         if pair not in self.found:
             # (of two such columns the first counts)
-            parts = reversed(self.names.notes.get(pair, "").split(", "))
+            parts = reversed(headed.parts_of(self.names.notes.get(pair, "")))
             found = dict(filter(None, map(headed_words, parts)))
             self.found[pair] = found.get("vendor", ""), found.get("vendor_item", "")
         return self.found[pair]
@@ -49,12 +49,13 @@ class Items:
 
 
 class Report:
-    """A report of the table on standard input: its rows, and what the table says of plants and periods."""
+    """A report of a table, or of the one on standard input: its rows, and what the table says of plants and periods."""
 
-    def __init__(self, folder, command):
-        self.table, self.path = f"{folder}/table.csv", f"{folder}/report.csv"
-        with open(self.table, "wb") as copy:
-            shutil.copyfileobj(sys.stdin.buffer, copy)
+    def __init__(self, folder, command, table=None):
+        self.table, self.path = table or f"{folder}/table.csv", f"{folder}/report.csv"
+        if not table:
+            with open(self.table, "wb") as copy:
+                shutil.copyfileobj(sys.stdin.buffer, copy)
         with open(self.path, "wb") as file:
             reports.ask(f"{command} --header", self.table, file)
 

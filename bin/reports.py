@@ -27,8 +27,8 @@ LABELS += ("Planned order receipts", "Planned order releases")
 WITH_DELAYS = "Available with delays"
 # How the line of what is firm is labelled, below scheduled receipts and below planned order releases.
 OF_WHICH_FIRM = "of which firm orders"
-# How many names that are like one are told.
-MOST_NEAREST = 3
+# How many names that are like one are told, and how much of a line.
+MOST_NEAREST, WIDTH = 3, 240
 
 
 class Record(NamedTuple):
@@ -217,6 +217,13 @@ def add_names(parser):
     parser.add_argument("--names", metavar="FILE", type=names, default=Names(), help=text)
 
 
+def add_forms(parser):
+    """Adds the options of a tool that reads sheets: how their dates and numbers are written."""
+    parser.add_argument("--dates", choices=("d/m/y", "m/d/y"), help="what stands first in a date with slashes")
+    text = "how numbers are written, with signs for thousands and decimals: 1.234,5 or 1,234.5"
+    parser.add_argument("--numbers", metavar="FORM", choices=headed.FORMS, help=text)
+
+
 def add_out(parser):
     """Adds the option of a tool that writes one file."""
     text = "write this file, in whose place it comes once all went well, and not standard output"
@@ -243,6 +250,21 @@ def output(path):
 def counted(number, word):
     """Returns a number with its word, as 1 period and 2 periods."""
     return f"{number:,} {word}" if number == 1 else f"{number:,} {word}s"
+
+
+def say(lines):
+    """Writes lines to standard error, without what a terminal can't show."""
+    for it in lines:
+        print("".join(letter if letter.isprintable() else "?" for letter in it[:WIDTH]), file=sys.stderr)
+
+
+def no_slips(slips):
+    """Refuses sheets that have slips, and tells the first of these."""
+    lines = slips.lines()
+    say(lines[: headed.MOST_SLIPS])
+    if lines:
+        more = f", the first {headed.MOST_SLIPS} of them above" if len(lines) > headed.MOST_SLIPS else ""
+        raise Refused(f"{counted(len(lines), 'slip')}{more}; nothing is written")
 
 
 def count(text):

@@ -1,4 +1,5 @@
 """bin/orders and bin/schedule: what leaves the house, in the firm's own names."""
+import csv
 import re
 
 import named
@@ -198,6 +199,19 @@ def test_refused_tables_and_programs_that_fail(room):
         for tool in ("orders", "schedule"):
             assert room.run(f"MRP=words/other bin/{tool} --out out.csv < examples/pumps.csv", status=1) == said
             assert room.run("ls out.csv 2>&1 || true") == "ls: cannot access 'out.csv': No such file or directory\n"
+
+
+def test_vendors_with_commas_are_whole(room):
+    """Names and part numbers that have commas and quotes, beside other columns."""
+    firm(room)
+    motors = ORDERS.splitlines()[3]
+    for vendor, number in (("Weber, Sons & Co", "LM 2.5-K"), ('Lumen "Nord", Kiel', "8,5"), ("Lumen", '2"'), ('"A"', ",")):
+        cells = ",".join('"' + it.replace('"', '""') + '"' for it in (vendor, number, "Smith, Ann"))
+        items = ITEMS.replace("Lumen,LM 2.5-K", cells).replace("Vendor part no.", "Vendor part no.,Buyer")
+        room.write("firm/items.csv", items)
+        room.run("bin/sheets --names names.csv --out table.csv firm 2> said")
+        rows = [*csv.reader(room.run("bin/orders --names names.csv < table.csv").splitlines())]
+        assert rows[3] == [*motors.split(","), "Motor 2.5 kW", vendor, number, ""]
 
 
 def test_headings_of_vendors():
