@@ -15,6 +15,7 @@ TOOLS = [
     "bin/counts",
     "bin/orders",
     "bin/schedule",
+    "bin/book",
     "bin/install",
     "bin/release",
 ]
@@ -65,6 +66,7 @@ def test_words_of_tools(room):
     ]
     bad += ["bin/orders A", "bin/orders --until x", "bin/orders --until 2026-02-30", "bin/orders --sums plant"]
     bad += ["bin/schedule A", "bin/schedule --until -1", "bin/schedule --from", "bin/schedule --sums item"]
+    bad += ["bin/book", "bin/book orders.csv", "bin/book --firm --receipts a b", "bin/book --number '' a b"]
     bad += ["bin/renew", "bin/renew plan.csv", "tools/try", "tools/torture x", "tools/torture --seed 0"]
     bad += [
         "tools/edits none",
@@ -126,6 +128,7 @@ def test_bad_input(room):
         "orders --out none/orders.csv < examples/pumps.csv",
         "schedule --from WORK < examples/pumps.csv",
         "schedule --to WORK < examples/pumps.csv",
+        "book examples/pumps.orders.csv none",
         "install /proc/none",
     )
     for command in (*(f"bin/{it}" for it in commands), "tools/torture --program none"):
