@@ -2,8 +2,11 @@
 import csv
 import datetime
 import os
+import random
 import shutil
+from collections import Counter
 
+import firms
 import oracle
 import pytest
 from support import module_of, TOP
@@ -212,6 +215,27 @@ def test_sheets_that_are_not_there_yet(desk):
     assert not [it for it in report(desk) if it.startswith("order,")]
 
 
+def test_the_vendor_of_a_row_counts(desk):
+    """In a sheet with such a column, before that of items.csv."""
+    desk.run("sed -i '1s/$/,Vendor/; s/8,2$/8,2,Lumen/' firm/items.csv")
+    for vendor, wanted in (("Kiel", "Kiel"), ("", "Lumen")):
+        desk.write("orders.csv", f"{HEADS},vendor\n{MOTORS},{vendor}\n")
+        desk.run("bin/book --number P- --out booked orders.csv firm")
+        assert desk.run("tail -n 1 booked/receipts.csv") == f"WORKS,MOTOR,P-1,{wanted},2026-12-07,20,2026-12-14\n"
+
+
+def test_sheets_that_would_say_something_else_are_refused(desk, monkeypatch):
+    """By their table, before they are put: here a row is lost on the way."""
+    rows(desk, PUMPS)
+    book = module_of("book", "bin")
+    monkeypatch.setattr(book.Kept, "bytes", lambda it: it.found)
+    monkeypatch.setenv("MRP", desk.variables["MRP"])
+    monkeypatch.setattr("sys.argv", ["bin/book", f"{desk.folder}/orders.csv", f"{desk.folder}/firm"])
+    with pytest.raises(book.reports.Refused, match="the sheets wouldn't say these orders alone; nothing is written"):
+        book.main()
+    assert read(desk, "firm_orders.csv") == FIRM_ORDERS
+
+
 def test_both_sheets_or_none(tmp_path, monkeypatch):
     """Where the second one can't be put in its place, the first one is as it was, or gone again."""
     book = module_of("book", "bin")
@@ -233,6 +257,36 @@ def test_both_sheets_or_none(tmp_path, monkeypatch):
             book.put(kept, str(folder))
     assert sorted(it.name for it in tmp_path.rglob("*")) == ["new", "receipts.csv"]
     assert (tmp_path / "receipts.csv").read_text() == NO_RECEIPTS
+
+
+KINDS = "run", "plant", "pair", "bill", "demand", "receipt", "ship", "cum", "reset", "firm"
+
+
+def planned(rows):
+    """Returns the planned orders of the rows of a table, which may be refused, by the second planner."""
+    table = "".join(f"{it}\n" for it in sorted(rows, key=lambda it: KINDS.index(it.split(",")[0])))
+    return [it for it in oracle.Oracle(table.encode()).answer("orders").out.decode().splitlines() if it.startswith("order")]
+
+
+def booked(order):
+    """Returns the row of a table that a planned order becomes."""
+    _, plant, item, supply, quantity, release, _, due, *_ = order.split(",")
+    return f"receipt,{plant},{item},{due},{quantity},,," if supply == "buy" else f"firm,{plant},{item},{release},{due},{quantity},,"
+
+
+def test_no_order_that_is_booked_moves_another():
+    """In random firms, of which one order, some, or all are booked as they are, the late ones too."""
+    tried = 0
+    for seed in range(120):
+        chance = random.Random(seed)
+        rows = firms.table(chance, 5, 10).decode().splitlines()
+        # (a row has no more than 10**12 pieces)
+        orders = [it for it in planned(rows) if int(it.split(",")[4]) <= 10**12]
+        for chosen in ([chance.choice(orders)], [it for it in orders if chance.random() < 0.5], orders) if orders else ():
+            left = planned([*rows, *map(booked, chosen)])
+            assert Counter(left) == Counter(planned(rows)) - Counter(chosen), seed
+            tried += bool(chosen)
+    assert tried > 200
 
 
 def test_calls_of_a_plant_stay_by_the_second_planner():
