@@ -97,12 +97,13 @@ def test_one_row_leaves_the_others(desk):
 
 
 def test_changed_quantity_and_due_date(desk):
-    """Fewer are planned again; sooner by a period it starts sooner too, and then may be late. Parts of an order are two rows."""
-    rows(desk, PUMPS.replace("make,4", "make,3").replace("2026-12-14", "2026-12-19"), DEPOT.replace("2026-12-21", "2026-12-07"))
+    """Fewer or more; sooner by a period it starts sooner too, and then may be late. Parts of an order are two rows."""
+    sooner = DEPOT.replace("2026-12-21", "2026-12-07").replace("WORKS,2", "WORKS,5")
+    rows(desk, PUMPS.replace("make,4", "make,3").replace("2026-12-14", "2026-12-19"), sooner)
     desk.run("bin/book orders.csv firm")
     assert read(desk, "firm_orders.csv").splitlines()[2:] == [
         "FA-21,WORKS,100/250-A,2026-12-07,2026-12-19,3",
-        "FA-22,DEPOT,100/250-A,2026-11-30,2026-12-07,2",
+        "FA-22,DEPOT,100/250-A,2026-11-30,2026-12-07,5",
     ]
     desk.run("cp examples/sheets/firm_orders.csv firm")
     rows(desk, DEPOT.replace("2026-12-21", "2026-12-04"), PUMPS.replace("make,4", "make,1"), PUMPS.replace("make,4", "make,3"))
