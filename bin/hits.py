@@ -8,7 +8,7 @@ import subprocess
 import sys
 from array import array
 from bisect import bisect_left
-from itertools import accumulate
+from itertools import accumulate, takewhile
 
 import reports
 import mrp
@@ -28,48 +28,40 @@ def report(words, table):
 def hits(table):
     """Returns the demands that late orders of the table at a path hit, each an mrp.Hit: the worst first, then by period,
     then in table order."""
-    return firm_and_hits(table)[1]
+    return firm_of(table, report("plan", table)).worst_first()
 
 
-def hits_and_others(table):
-    """Returns the hits of the table at a path, and of each pair with late orders that stands in no hit those that wait for it too, but longer for another."""
-    firm, found = firm_and_hits(table)
-    return found, firm.others(found)
-
-
-def firm_and_hits(table):
+def firm_of(table, plan):
+    """Returns the Firm of the table at a path, and of the lines of its plan."""
     orders = Orders(report("orders", table))
     with mrp.open_table(table) as lines:
         firm = Firm(lines, orders)
-    firm.take_pegs(report("pegs", table))
-    found = sorted(firm.hits(), key=lambda it: (-it.late_at_worst, it.period, firm.places[it.plant, it.item]))
-    return firm, found
+    firm.take_plan(plan)
+    return firm
 
 
 class Orders:
     """The planned orders and the firm orders of each pair, four figures each: due, quantity, release, and periods late.
-    And the pairs that have late ones, and the most periods from start to due of the firm orders of each pair."""
+    And the pairs that have late ones, the figures of the firm orders of each pair alone, and the lines of firm orders and of
+    planned ones that are released now."""
 
     COLUMNS = "plant", "item", "due", "quantity", "release", "late"
     READ = staticmethod(mrp.columns(mrp.Order, *COLUMNS))
     READ_FIRM = staticmethod(mrp.columns(reports.FirmOrder, *COLUMNS))
 
     def __init__(self, lines):
-        self.of, self.late, self.firm = {}, set(), {}
+        self.of, self.late, self.firm, self.shown = {}, set(), {}, []
         for number, line in enumerate(lines, 1):
-            if line.startswith(b"firm,"):
-                self.take_firm(*self.READ_FIRM(line.decode(), number))
-                continue
-            plant, item, *figures = self.READ(line.decode(), number)
-            self.of.setdefault((plant, item), array("q")).extend(map(int, figures))
-            if figures[-1] != "0":
+            is_firm = line.startswith(b"firm,")
+            plant, item, *texts = (self.READ_FIRM if is_firm else self.READ)(line.decode(), number)
+            due, quantity, release, late = figures = [*map(int, texts)]
+            self.of.setdefault((plant, item), array("q")).extend(figures)
+            if is_firm:
+                self.firm.setdefault((plant, item), []).append((due, quantity, release))
+            if is_firm or release == 0:
+                self.shown.append(line)
+            if late:
                 self.late.add((plant, item))
-
-    def take_firm(self, plant, item, *figures):
-        """Takes over a firm order, which is never late by itself."""
-        due, quantity, start, _ = map(int, figures)
-        self.of.setdefault((plant, item), array("q")).extend((due, quantity, start, 0))
-        self.firm[plant, item] = max(due - start, self.firm.get((plant, item), 0))
 
     def rows(self, pair):
         figures = iter(self.of.get(pair, ()))
@@ -77,75 +69,83 @@ class Orders:
 
 
 class Firm:
-    """What a table says of its pairs, their orders, and their gross requirements as far as these can wait for a late order.
+    """What a table says of its pairs, their orders, and their plan as far as their requirements can wait for a late order.
 
-    `takes` has of each pair what goes into it: the components and the suppliers' pairs, each with the periods, as bits, in which a release takes of it.
+    `takes` has of each pair what goes into it, the components and the suppliers' pairs, each with how many pieces go into one,
+    and between which thousandths of a release its part lies; `taken` those of them that can wait, each with the periods, as bits,
+    in which a release takes of it.
     """
+
+    # What stands behind the pairs and the bills of a table.
+    BEHIND = tuple(f"{it.__name__.lower()}," for it in (mrp.Demand, mrp.Receipt, mrp.Ship, mrp.Cum, mrp.Reset, mrp.Firm))
 
     def __init__(self, lines, orders):
         """Takes the lines of the table, and its Orders."""
-        self.orders, self.leads, self.comes_in, self.takes, self.ends = orders, {}, {}, {}, {}
-        for row in mrp.table_rows(self.needed(lines), mrp.Run, mrp.Pair, mrp.Bill, mrp.Receipt, mrp.Ship):
+        self.orders, self.rows, self.takes, self.ends = orders, {}, {}, {}
+        front = takewhile(lambda it: not it.startswith(self.BEHIND), lines)
+        for row in mrp.table_rows(front, mrp.Run, mrp.Pair, mrp.Bill):
             self.take(row)
         self.settle()
-        self.gross, self.demand = ({pair: array("q", [0]) * min(end, self.periods) for pair, end in self.ends.items() if end} for _ in "12")
-
-    def needed(self, lines):
-        """Yields the lines of a table, but for receipts and shipments of what can't wait: there may be a million."""
-        for line in lines:
-            if line.startswith(("receipt,", "ship,")) and '"' not in line:
-                # (these stand behind all pairs and bills)
-                self.settle()
-                word, *names, _ = line.split(",", 4)
-                if not self.ends.get(tuple(names[:2] if word == "receipt" else names[1:])):
-                    continue
-            yield line
-
-    def settle(self):
-        """Finds which pairs can wait, and for how many periods, once all pairs and bills are there."""
-        if self.ends:
-            return
-        self.pairs = [*self.leads]
-        self.places = {pair: place for place, pair in enumerate(self.pairs)}
-        self.order = [*graphlib.TopologicalSorter(self.takes).static_order()]
-        for pair in self.order:
-            # (nothing waits longer than the lead times from a late order up to it, and the times of firm orders)
-            below = max((self.ends[it] for it in self.takes[pair]), default=0)
-            longest = max(self.leads[pair], self.orders.firm.get(pair, 0) if below else 0)
-            self.ends[pair] = longest + below if below or pair in self.orders.late else 0
+        lists = ({pair: array("q", [0]) * min(end, self.periods) for pair, end in self.ends.items() if end} for _ in "123")
+        self.gross, self.incoming, self.demand = lists
 
     def take(self, row):
         """Takes over a row of the table."""
-        if isinstance(row, (mrp.Receipt, mrp.Ship)):
-            comes = self.comes_in[row.pair]
-            comes[row.period] = comes.get(row.period, 0) + row.quantity
-        elif isinstance(row, mrp.Bill):
-            self.takes[row.plant, row.parent][row.plant, row.component] = 0
+        if isinstance(row, mrp.Bill):
+            self.takes[row.plant, row.parent][row.plant, row.component] = row.per, 0, 1000
         elif isinstance(row, mrp.Pair):
-            pair = row.plant, row.item
-            self.leads[pair], self.comes_in[pair] = row.lead, {0: row.on_hand}
-            self.takes[pair] = {(plant, row.item): 0 for plant, _ in mrp.sources(row.supply)}
+            self.rows[pair := (row.plant, row.item)], self.takes[pair], low = row, {}, 0
+            for plant, share in mrp.sources(row.supply):
+                self.takes[pair][plant, row.item] = 1, low, low + share
+                low += share
         else:
             self.calendar, self.periods = mrp.calendar_of(row), row.periods
 
-    PEG = staticmethod(mrp.columns(mrp.Peg, "plant", "item", "period", "source", "by_plant", "by_item", "quantity"))
+    def settle(self):
+        """Finds which pairs can wait, and for how many periods."""
+        self.pairs = [*self.rows]
+        self.places = {pair: place for place, pair in enumerate(self.pairs)}
+        self.order = [*graphlib.TopologicalSorter(self.takes).static_order()]
+        self.taken = {pair: {} for pair in self.pairs}
+        for pair in self.order:
+            # (nothing waits longer than the lead times from a late order up to it, and the times of firm orders)
+            self.taken[pair] = {it: 0 for it in self.takes[pair] if self.ends[it]}
+            below = max((self.ends[it] for it in self.taken[pair]), default=0)
+            firm = [due - start for due, _, start in self.orders.firm.get(pair, ())] if below else []
+            longest = max(self.rows[pair].lead, *firm, 0)
+            self.ends[pair] = longest + below if below or pair in self.orders.late else 0
 
-    def take_pegs(self, lines):
-        """Takes over the report of pegging, and passes over what can't wait."""
-        passed = None
+    PLAN = staticmethod(mrp.columns(mrp.Plan, "plant", "item", "period", "gross", "incoming", "release"))
+
+    def take_plan(self, lines):
+        """Takes over the plan rows, and passes over what can't wait."""
+        passed = b"late,"
         for number, line in enumerate(lines, 1):
-            if passed and line.startswith(passed):
+            if line.startswith(passed):
                 continue
-            plant, item, period, source, by_plant, by_item, quantity = self.PEG(line.decode(), number)
-            pair, period = (plant, item), int(period)
+            plant, item, *figures = self.PLAN(line.decode(), number)
+            pair, (period, gross, incoming, release) = (plant, item), map(int, figures)
             if period >= self.ends[pair]:
-                passed = f"pegs,{plant},{item},".encode()
+                passed = f"plan,{plant},{item},".encode(), b"late,"
                 continue
-            self.gross[pair][period] += int(quantity)
-            if source == "demand":
-                self.demand[pair][period] = int(quantity)
-            else:
-                self.takes[by_plant, by_item][pair] |= 1 << period
+            self.gross[pair][period], self.incoming[pair][period] = gross, incoming
+            self.demand[pair][period] += gross
+            if release and self.taken[pair]:
+                self.take_release(pair, period, release)
+
+    def take_release(self, pair, period, release):
+        """Takes over what a release takes of what can wait, which is no demand of customers there."""
+        taken = self.taken[pair]
+        for it in taken:
+            per, low, high = self.takes[pair][it]
+            part = release * high // 1000 - release * low // 1000
+            if part and period < self.ends[it]:
+                taken[it] |= 1 << period
+                self.demand[it][period] -= per * part
+
+    def worst_first(self):
+        """Returns the demands that wait, the worst first, then by period, then in table order."""
+        return sorted(self.hits(), key=lambda it: (-it.late_at_worst, it.period, self.places[it.plant, it.item]))
 
     def hits(self):
         """Yields the demands that wait, from components and suppliers up."""
@@ -165,7 +165,7 @@ class Firm:
         A requirement waits until as many pieces have come as it and those before it ask for. It waits for the order that bin/why has below it: the last
         one due by then; where a split source or a firm order's dates let that one come before, for the last one that comes later.
         """
-        came, coming = self.comes_in[pair], []
+        came, coming = self.came_in(pair), []
         for due, quantity, release, late in self.orders.rows(pair):
             if due < self.ends[pair]:
                 held, place = self.held(pair, release, waits)
@@ -181,6 +181,15 @@ class Firm:
                 due_by_then = coming[: bisect_left(coming, (period + 1,))]
                 found[1][period] = next(place for _, comes, place in reversed(due_by_then) if comes >= until)
         return found
+
+    def came_in(self, pair):
+        """Returns what is there of a pair, and what open orders bring that aren't firm, by period."""
+        came = {period: it for period, it in enumerate(self.incoming[pair]) if it}
+        came[0] = came.get(0, 0) + self.rows[pair].on_hand
+        for due, quantity, _ in self.orders.firm.get(pair, ()):
+            if due < self.ends[pair]:
+                came[due] -= quantity
+        return came
 
     def others(self, hits):
         """Returns of each pair with late orders that stands in no hit the hits whose demands wait for it too; of the first pairs, where many are late."""
@@ -209,7 +218,7 @@ class Firm:
         for due, _, release, by in self.orders.rows(pair):
             if due < self.ends[pair]:
                 bits = late.get(pair, 0) if by else 0
-                for it, periods in self.takes[pair].items():
+                for it, periods in self.taken[pair].items():
                     bits |= behind[it][release] if periods >> release & 1 else 0
                 comes = due + by + self.held(pair, release, self.waiting)[0]
                 for period in range(due, min(comes, len(found))):
@@ -218,5 +227,5 @@ class Firm:
 
     def held(self, pair, release, waits):
         """Returns how long a release of a pair waits at worst for what it takes, and the place of the pair whose late order makes it so."""
-        taken = [waits[it] for it, periods in self.takes[pair].items() if periods >> release & 1]
+        taken = [waits[it] for it, periods in self.taken[pair].items() if periods >> release & 1]
         return max(((periods[release], places[release]) for periods, places in taken), key=lambda it: (it[0], -it[1]), default=(0, 0))

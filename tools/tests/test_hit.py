@@ -10,7 +10,7 @@ import mrp
 import oracle
 import reports
 from support import DELAYED, reports_from_files
-from test_record import FIRM, FIRM_ORDERS, FIRM_PEGS
+from test_record import FIRM, FIRM_ORDERS, FIRM_PEGS, FIRM_PLAN
 
 # By hand, with the orders of DELAYED_PLAN. X has 10 for the 11 of period 1 and the 16 of period 2, until the 3 and the
 # 5 come in period 3. Y has 9 for the 5 of period 1, though the order for its safety stock is late, and for the 12 of
@@ -24,9 +24,9 @@ def test_hit_is_worked_by_hand(room):
         DELAYED,
         "\ufeff" + DELAYED.replace("pair,A,X", 'pair,"A","X"').replace("demand", '"demand"').replace("\n", "\r\n"),
     ):
-        reports_from_files(room, table, "orders", "pegs")
+        reports_from_files(room, table, "orders", "plan")
         assert room.run("rm -f asked; MRP=words/files bin/hit < table.csv") == DELAYED_HITS
-        assert room.run("cat asked") == "orders\npegs\n"
+        assert room.run("cat asked") == "orders\nplan\n"
     assert (
         room.run("MRP=words/files bin/hit --header < table.csv")
         == f"row,plant,item,period,date,quantity,late_at_worst,by_plant,by_item\n{DELAYED_HITS}"
@@ -99,27 +99,35 @@ def test_hit_goes_up_a_long_chain(room):
     rows = [f"pair,P,I{it},{'make' if it < last else 'buy'},lot,104,0,0" for it in pairs] + [
         f"bill,P,I{it - 1},I{it},1,,," for it in pairs[1:]
     ]
-    room.write("table.csv", "\n".join(["run,2026-01-05,7,104,,,,", "plant,P,,,,,,", *rows, "demand,P,I0,3,7,,,"]))
+    room.write("table.csv", "\n".join(["run,2026-01-05,7,4,,,,", "plant,P,,,,,,", *rows, "demand,P,I0,3,7,,,"]))
     room.write(
         "orders.csv",
         "".join(
             f"order,P,I{it},make,7,0,2026-01-05,{0 if it else 3},2026-01-05,{104 if it else 101}\n" for it in pairs
         ),
     )
-    room.write(
-        "pegs.csv",
-        "pegs,P,I0,3,demand,P,I0,7,1,7\n" + "".join(f"pegs,P,I{it},0,bill,P,I{it - 1},7,1,7\n" for it in pairs[1:]),
-    )
+    first, other = [(0, 7), (0, 0), (0, 0), (7, 0)], [(7, 7), (0, 0), (0, 0), (0, 0)]
+    room.write("plan.csv", "".join(plan_of("P", f"I{it}", other if it else first) for it in pairs))
     assert (
         room.run("ulimit -v 400000; MRP=words/files bin/hit < table.csv")
         == f"hit,P,I0,3,2026-01-26,7,{104 * 20_000 - 3},P,I{last}\n"
     )
 
 
-def write_firm(room, table, orders, pegs):
+def plan_of(plant, item, figures):
+    """Returns the plan rows of a pair in weeks: gross requirements and releases by period, and what comes in where it is given. What is
+    planned and available is 0, for bin/hit has the orders."""
+    lines = ""
+    for period, (gross, release, *incoming) in enumerate(figures):
+        day = datetime.date(2026, 1, 5) + datetime.timedelta(days=7 * period)
+        lines += f"plan,{plant},{item},{period},{day},{gross},{sum(incoming)},0,{release},0\n"
+    return lines
+
+
+def write_firm(room, table, orders, plan, pegs=""):
     """Writes a table with firm orders, and its reports by hand for the program words/files."""
     room.stand_in("words/files", "from_files")
-    for name, text in (("table", table), ("orders", orders), ("pegs", pegs)):
+    for name, text in (("table", table), ("orders", orders), ("plan", plan), ("pegs", pegs)):
         room.write(f"{name}.csv", text)
 
 
@@ -128,18 +136,20 @@ def test_firm_orders_wait_for_what_they_take(room):
     the 30 of period 3 wait a period, and bin/why leads from C to them. Of C that is on hand, or that the order takes when
     it is there, nothing is late, however long the order takes.
     """
-    write_firm(room, FIRM, FIRM_ORDERS, FIRM_PEGS)
+    write_firm(room, FIRM, FIRM_ORDERS, FIRM_PLAN, FIRM_PEGS)
     assert room.run("MRP=words/files bin/hit < table.csv") == "hit,A,P,3,2026-01-26,30,1,A,C\n"
     said = room.run("MRP=words/files bin/why A C 0 < table.csv")
     assert "20 released in period 0, due in period 3 (2026-01-26), firm\n        30 required in period 3\n" in said
     orders = FIRM_ORDERS.replace("order,A,C,buy,40,0,2026-01-05,0,2026-01-05,1\n", "")
-    write_firm(room, FIRM.replace("A,C,buy,lot,1,0", "A,C,buy,lot,1,40"), orders, FIRM_PEGS)
+    plan = FIRM_PLAN.replace("40,0,40,50,0", "40,0,0,10,0")
+    write_firm(room, FIRM.replace("A,C,buy,lot,1,0", "A,C,buy,lot,1,40"), orders, plan)
     assert room.run("MRP=words/files bin/hit < table.csv") == ""
     # (40 C are late, for a demand of their own, and the firm order starts a period later)
     table = FIRM.replace("firm,A,P,0", "firm,A,P,1").replace("demand,A,P,3", "demand,A,C,0,40,,,\ndemand,A,P,3")
-    pegs = FIRM_PEGS.replace("0,bill,A,P,20,2,40", "0,demand,A,C,40,1,40").replace("1,bill,A,P,5,2,10", "1,bill,A,P,25,2,50")
+    plan = plan_of("A", "P", [(0, 0), (0, 25), (0, 10), (30, 0, 20), (10, 0)])
+    plan += plan_of("A", "C", [(40, 90), (50, 20), (20, 0), (0, 0), (0, 0)])
     orders = FIRM_ORDERS.replace("20,0,2026-01-05,3", "20,1,2026-01-12,3").replace("buy,10,0", "buy,50,0")
-    write_firm(room, table, orders, pegs)
+    write_firm(room, table, orders, plan)
     assert room.run("MRP=words/files bin/hit < table.csv") == "hit,A,C,0,2026-01-05,40,1,A,C\n"
 
 
@@ -150,9 +160,9 @@ def test_firm_orders_may_take_longer_than_lead_times(room):
     table = FIRM.replace("7,5,,", "7,8,,").replace("P,3,30", "P,5,25").replace("P,4,10", "P,6,9").replace("0,3,20", "0,5,20")
     orders = "firm,A,P,make,20,0,2026-01-05,5,2026-02-09,0\norder,A,P,make,9,4,2026-02-02,6,2026-02-16,0\n"
     orders += "order,A,C,buy,40,0,2026-01-05,0,2026-01-05,1\norder,A,C,buy,18,3,2026-01-26,4,2026-02-02,0\n"
-    pegs = "pegs,A,P,5,demand,A,P,25,1,25\npegs,A,P,6,demand,A,P,9,1,9\n"
-    pegs += "pegs,A,C,0,bill,A,P,20,2,40\npegs,A,C,4,bill,A,P,9,2,18\n"
-    write_firm(room, table, orders, pegs)
+    plan = plan_of("A", "P", [(0, 20), (0, 0), (0, 0), (0, 0), (0, 9), (25, 0, 20), (9, 0), (0, 0)])
+    plan += plan_of("A", "C", [(40, 40), (0, 0), (0, 0), (0, 18), (18, 0), (0, 0), (0, 0), (0, 0)])
+    write_firm(room, table, orders, plan)
     assert room.run("MRP=words/files bin/hit < table.csv") == "hit,A,P,5,2026-02-09,25,1,A,C\n"
 
 
@@ -164,8 +174,9 @@ def test_hit_follows_firm_orders_through_plants(room):
     table += "demand,W,X,1,20,,,\ndemand,W,X,2,25,,,\nship,B,W,X,1,10,,\ncum,B,W,X,500,,,\nfirm,W,X,0,1,30,,\n"
     orders = "firm,W,X,from:B,30,0,2026-01-05,1,2026-01-12,0\norder,W,X,from:B,5,1,2026-01-12,2,2026-01-19,0\n"
     orders += "order,B,X,buy,30,0,2026-01-05,0,2026-01-05,1\norder,B,X,buy,5,0,2026-01-05,1,2026-01-12,0\n"
-    pegs = "pegs,W,X,1,demand,W,X,20,1,20\npegs,W,X,2,demand,W,X,25,1,25\npegs,B,X,0,plant,W,X,30,1,30\npegs,B,X,1,plant,W,X,5,1,5\n"
-    write_firm(room, table, orders, pegs)
+    plan = plan_of("W", "X", [(0, 30), (20, 5, 10, 30), (25, 0), (0, 0)])
+    plan += plan_of("B", "X", [(30, 35), (5, 0), (0, 0), (0, 0)])
+    write_firm(room, table, orders, plan)
     assert room.run("MRP=words/files bin/hit < table.csv") == "hit,W,X,1,2026-01-12,20,1,B,X\n"
 
 
@@ -173,13 +184,13 @@ def firm_of_hits(table, late=None):
     """Returns the firm of a table for its hits, by the reports of tools/oracle.py; with the late orders of one pair
     alone where it is given.
     """
-    answers = [oracle.Oracle(table).answer(it).out.splitlines(keepends=True) for it in ("orders", "pegs")]
+    answers = [oracle.Oracle(table).answer(it).out.splitlines(keepends=True) for it in ("orders", "plan")]
     orders = hits.Orders(answers[0])
     for pair in orders.late - {late} if late else ():
         orders.of[pair][3::4] = array.array("q", [0] * (len(orders.of[pair]) // 4))
     orders.late = {late} if late else orders.late
     firm = hits.Firm(table.decode().splitlines(keepends=True), orders)
-    firm.take_pegs(answers[1])
+    firm.take_plan(answers[1])
     return firm
 
 
