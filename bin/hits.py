@@ -121,12 +121,12 @@ class Firm:
         """Takes over the plan rows, and passes over what can't wait."""
         passed = b"late,"
         for number, line in enumerate(lines, 1):
-            if line.startswith(passed):
+            if line.startswith(passed) or line.startswith(b"late,"):
                 continue
             plant, item, *figures = self.PLAN(line.decode(), number)
             pair, (period, gross, incoming, release) = (plant, item), map(int, figures)
             if period >= self.ends[pair]:
-                passed = f"plan,{plant},{item},".encode(), b"late,"
+                passed = f"plan,{plant},{item},".encode()
                 continue
             self.gross[pair][period], self.incoming[pair][period] = gross, incoming
             self.demand[pair][period] += gross
