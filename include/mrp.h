@@ -34,7 +34,7 @@ extern "C" {
 /* The plan, as mrp plan: a row for each pair and period, then a row for each late order. */
 uint32_t mrp_plan(const uint8_t *table, size_t table_size, uint8_t *buffer, size_t buffer_size, size_t *size);
 
-/* The planned orders, as mrp orders: where `limited` those alone that are released in period `until`, counted from 0,
+/* The planned and firm orders, as mrp orders: where `limited` those alone that are released in period `until`, counted from 0,
  * or before it. */
 uint32_t mrp_orders(const uint8_t *table, size_t table_size, bool limited, uint64_t until, bool header,
                     uint8_t *buffer, size_t buffer_size, size_t *size);

@@ -53,7 +53,7 @@ pub extern "C" fn mrp_plan(alloc: Global, table: &[u8], buffer: &mut [u8], size:
     answer(alloc, table, choice, buffer, size)
 }
 
-/// Writes the planned orders of a table: where `limited` is true those alone that are released in period `until` or
+/// Writes the planned and firm orders of a table: where `limited` is true those alone that are released in period `until` or
 /// before it.
 ///
 /// `until` counts periods from 0, and is read only where `limited` is true; from the last period on no order is left

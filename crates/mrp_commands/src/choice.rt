@@ -51,7 +51,7 @@ pub enum Choice<'a> {
         /// Whether the names of the columns stand above them.
         heading: Heading,
     },
-    /// Write the planned orders.
+    /// Write the planned orders, and the firm ones beside them.
     Orders {
         /// The last period of a release, 0 to [`LAST_PERIOD`]: orders that are released later are left
         /// out. Without it none is.

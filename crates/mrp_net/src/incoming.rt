@@ -14,7 +14,7 @@ use mrp_master_data::{ShipRow, Tables};
 use mrp_qty::Memory;
 use std::alloc::Global;
 
-/// What comes in for each pair to which something is on its way, row by row, and the place of each
+/// Receipts and shipments of each pair to which something is on its way, row by row, and the place of each
 /// pair's row among them, counted from 1: 0 where nothing is on its way.
 #[derive(Drop)]
 pub struct Incoming {
@@ -92,7 +92,7 @@ fn add_ships(tables: &Tables, pairs: &[usize], places: &[usize], rows: &mut [u64
 }
 
 impl Incoming {
-    /// What comes in for the pairs of a table, of which these are the receipts.
+    /// Receipts and shipments of the pairs of a table, of which these are the receipts.
     pub fn of(alloc: Global, tables: &Tables, receipts: &[u64]) -> Result<Incoming, Memory>
         requires { ArePeriods tables.now (received tables.now) receipts.now }
         ensures { IfOk result (IsIncoming tables.now) }

@@ -121,8 +121,8 @@ pub fn sources_have_lanes()
     ensures { SourcesHaveLanes }
 {}
 
-/// What comes in for a pair in a period is its receipts and what arrives of its item over the despatch
-/// lanes to its plant; a lane that doesn't have the item has no shipments of it.
+/// What comes in for a pair in a period, beside firm planned orders, is its receipts and what arrives of its item
+/// over the despatch lanes to its plant; a lane that doesn't have the item has no shipments of it.
 pub fn shipments_come_over_lanes()
     ensures incoming { IncomingComesOverLanes }
     ensures items { ShipmentsAreOfItems }

@@ -249,8 +249,8 @@ impl Network {
         self.amounts.demand_totals[x.0]
     }
 
-    /// What comes in for the pair in period `t`: its receipt rows and the shipments to it, at most
-    /// 2 * 10^18 pieces.
+    /// What comes in for the pair in period `t` beside firm planned orders: its receipt rows and the shipments to it,
+    /// at most 2 * 10^18 pieces.
     pub fn incoming(&self, x: PairNo, t: usize) -> u64
         requires pair { IsPair self.now x.0 }
         requires period { t < horizon self.now }
@@ -259,8 +259,8 @@ impl Network {
         self.incoming_row(x)[t]
     }
 
-    /// What comes in for the pair, period by period: its receipt rows and the shipments to it, each at most 2 * 10^18
-    /// pieces.
+    /// What comes in for the pair beside firm planned orders, period by period: its receipt rows and the shipments to
+    /// it, each at most 2 * 10^18 pieces.
     pub fn incoming_row(&self, x: PairNo) -> &[u64]
         requires { IsPair self.now x.0 }
         ensures { result.now ≡ row_of self.now (incoming self.now x.0) }

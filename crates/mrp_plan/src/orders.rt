@@ -15,9 +15,10 @@ pub struct PlannedOrder {
     pub quantity: Qty,
     /// The period of the order's receipt, 0 to 103 and below the horizon.
     pub due: usize,
-    /// The period of its release: due less lead time, and 0 where that lies before period 0.
+    /// The period of its release: due less lead time, and 0 where that lies before period 0; of a firm planned order
+    /// that of its row.
     pub release: usize,
-    /// How many periods are missing: lead time less due, at most 104, and 0 where none is.
+    /// How many periods are missing: lead time less due, at most 104, and 0 where none is or the order is firm.
     pub late: u64,
 }
 

@@ -11,7 +11,7 @@ pub fn planned_are_ready()
 {}
 
 /// What taken lanes have brought to a ready pair is what the network's plan says: with the receipt rows
-/// all that comes in, and with the demand rows and what the parents at its plant ask the gross
+/// all that comes in beside firm planned orders, and with the demand rows and what the parents at its plant ask the gross
 /// requirements.
 pub fn taken_blocks_bring_the_plan()
     ensures incoming { DespatchesBringIncoming }

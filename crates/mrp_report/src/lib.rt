@@ -1,6 +1,6 @@
 //! Reports of a plan as comma-separated rows: the plan rows and the late orders of a plan, the pegging
 //! of a gross requirement and of the whole plan, the low-level codes, the cumulative figures of lanes, and
-//! the planned orders.
+//! the planned and firm orders.
 //!
 //! A row ends with a line feed. All reports but those of the plan may begin with a row of the names of
 //! their columns. The room for a report is taken before its first byte is sent: where it is refused, the
