@@ -47,7 +47,9 @@ impl Model for FirmRows {
 impl FirmRows {
     /// Room for so many periods, and no order.
     pub fn new(horizon: Horizon) -> FirmRows
-        ensures { result.periods ≡ horizon }
+        ensures periods { result.periods ≡ horizon }
+        ensures no_start { result.start ≡ [] }
+        ensures no_due { result.due ≡ [] }
     {
         FirmRows {
             periods: horizon.get() as usize,

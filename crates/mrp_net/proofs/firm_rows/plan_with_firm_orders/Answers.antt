@@ -51,7 +51,7 @@ rows_written : (c : After-write) → AreFirmRows (planned (terms_of (length c.ar
 rows_written c =
     let counted : c.unwrap.result ≡ c.len.result = subst (λ (h : Option ℕ). IfSome h (λ n. n ≡ c.len.result)) c.unwrap.ensures c.new.ensures.value in
     written c.args.params c.args.orders.now c.args.incoming.now c.args.gross.now c.write.new.self.start c.write.new.self.due c.new-rows.result.periods
-    (c.new-rows.ensures ∙ counted ∙ c.len.ensures.value) c.write.ensures.few_starts c.write.ensures.few_dues c.write.ensures.start c.write.ensures.due
+    (c.new-rows.ensures.periods ∙ counted ∙ c.len.ensures.value) c.write.ensures.few_starts c.write.ensures.few_dues c.write.ensures.start c.write.ensures.due
 
 pub plan_from-requires-2-clause-within : goal.plan_from-requires-2-clause-within
 plan_from-requires-2-clause-within c =

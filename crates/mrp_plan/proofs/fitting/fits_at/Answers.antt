@@ -14,7 +14,7 @@ use Rattle.mrp_plan.proofs.fitting.fits_at.Goals.{After-planning_data-given}
 given : (c : After-planning_data-given) → IsGiven c.args.network.now c.args.x.0 c.planning_data-given.result c.params-params.result c.incoming_row.result.now
     c.firm_orders.result.now c.new-firm.result.periods c.write.new.self
 given c = record {
-  horizon_is = c.new-firm.ensures ∙ c.horizon.ensures;
+  horizon_is = c.new-firm.ensures.periods ∙ c.horizon.ensures;
   params_is = c.params-params.ensures ∙ ap params_of c.pair.ensures;
   incoming_is = c.incoming_row.ensures;
   orders_are = c.firm_orders.ensures.value;
@@ -27,11 +27,11 @@ given c = record {
 
 pub write-requires-clause-starts : goal.write-requires-clause-starts
 write-requires-clause-starts c =
-    orders_start c.args.network.now c.args.x.0 _ c.requires.is_table c.firm_orders.ensures.value _ (c.new-firm.ensures ∙ c.horizon.ensures)
+    orders_start c.args.network.now c.args.x.0 _ c.requires.is_table c.firm_orders.ensures.value _ (c.new-firm.ensures.periods ∙ c.horizon.ensures)
 
 pub write-requires-clause-dues : goal.write-requires-clause-dues
 write-requires-clause-dues c =
-    orders_due c.args.network.now c.args.x.0 _ c.requires.is_table c.firm_orders.ensures.value _ (c.new-firm.ensures ∙ c.horizon.ensures)
+    orders_due c.args.network.now c.args.x.0 _ c.requires.is_table c.firm_orders.ensures.value _ (c.new-firm.ensures.periods ∙ c.horizon.ensures)
 
 pub write-requires-clause-total : goal.write-requires-clause-total
 write-requires-clause-total c =
