@@ -1,5 +1,5 @@
 -- The rows of the plan from one record of planning data.
-use Rattle.std.specs.Prelude.{◌≡◌, ℕ, ◌+◌, ◌≤◌, ◌<◌, List, length, sum, sum_by, take, slice_index, suc}
+use Rattle.std.specs.Prelude.{◌≡◌, ℕ, ◌+◌, ◌≤◌, ◌<◌, List, length, sum, sum_by, take, slice_index, zero, suc}
 use Rattle.std.specs.List.{range_with_len}
 use Rattle.std.proofs.Common.{arith, refl, sym, ◌∙◌, ap, subst}
 use Rattle.std.proofs.lemmas.List.FromFn.{length-map-range_with_len}
@@ -11,11 +11,11 @@ use Rattle.mrp_netting.specs.PlanningData.{available_row, planned_release, relea
 use Rattle.mrp_netting.specs.PlanningBound.{IsWithinData, order_quantities}
 use Rattle.mrp_netting.specs.PlanningLaws.{IsOrder, OrdersComeAfterReceipts, AvailableCoversAhead, StockIsKept, StockIsKeptInAll}
 use Rattle.mrp_netting.specs.PlanningLaws.{OrdersAreLeastMultiples, FenceHoldsReleases, OrdersAreAllReleased, ReleasesStayBounded}
-use Rattle.mrp_netting.specs.PlanningLaws.{AllRowsStayWithin}
+use Rattle.mrp_netting.specs.PlanningLaws.{AllComesIn, AllRowsStayWithin}
 use Rattle.mrp_netting.proofs.OneLaws.{all_periods, sum_range-ge}
 use Rattle.mrp_netting.proofs.Compared.{row_reads}
 use Rattle.mrp_netting.proofs.RowSums.{sum_take-all}
-use Rattle.mrp_netting.proofs.ReceiptLaws.{incoming-le}
+use Rattle.mrp_netting.proofs.ReceiptLaws.{incoming-le, incoming-sum, had-all}
 use Rattle.mrp_netting.proofs.PlannedReleases.{planned_release-none, planned-sum}
 use Rattle.mrp_netting.proofs.DataLaws.{is_order, available-ge, balance_before-sum, orders-le, balance_before-le, all_counted}
 
@@ -88,6 +88,21 @@ stock_is_kept_in_all d t is last =
       whole d.gross t last,
       stock_is_kept d t is (omega arith),
     )
+
+come_in : (d : PairData) (n : ℕ) → IsWithinData d → length d.gross ≡ n → sum (incoming_row d) ≡ sum d.receipts + sum d.arrivals + sum d.firm_due
+come_in d zero is none = absurd (omega (arith, is.fence))
+come_in d (suc t) is last =
+    omega (
+      arith,
+      whole (incoming_row d) t (length-map-range_with_len (incoming_at d) 0 (length d.gross) ∙ last),
+      incoming-sum d (suc t) (omega arith),
+      had-all d t (omega (arith, is.receipts)),
+      sum_take-all d.arrivals (suc t) (omega (arith, is.arrivals)),
+      sum_take-all d.firm_due (suc t) (omega (arith, is.firm_due)),
+    )
+
+pub all_comes_in : AllComesIn
+all_comes_in d is = ap (λ (row : List ℕ). sum row) (one-incoming d) ∙ come_in d (length d.gross) is refl
 
 pub orders_are_least_multiples : OrdersAreLeastMultiples
 orders_are_least_multiples d t within = subst (IsOrder d t) (sym (order-at d t within)) (is_order d t)

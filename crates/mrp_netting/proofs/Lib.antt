@@ -8,8 +8,9 @@ pub mod DataLaws
 pub mod DataRows
 pub mod TogetherLaws
 pub mod OneRows
-pub mod Counting
+pub mod CountSteps
 pub mod DataPlans
+pub mod Needless
 pub mod Matched
 pub mod WorkedPairs
 pub mod PlannedReleases

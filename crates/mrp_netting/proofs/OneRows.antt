@@ -1,17 +1,17 @@
--- The rows of the plan from one record as wholes, and of a pair whose receipts count when they come.
-use Rattle.std.specs.Prelude.{◌≡◌, ℕ, ◌+◌, ◌≤◌, ◌<◌, List, length, map, sum, suc, zero, slice_index}
-use Rattle.std.specs.List.{range_with_len}
+-- The rows of the plan from one record as wholes, and rows of firm planned orders that say the same.
+use Rattle.std.specs.Prelude.{◌≡◌, ℕ, ◌≤◌, ◌<◌, List, length, sum, take, zero, suc, slice_index}
 use Rattle.std.proofs.Common.{arith, refl, sym, ◌∙◌, ⊎_elim}
 use Rattle.std.proofs.lemmas.Bool.{cases_lt}
 use Rattle.std.proofs.lemmas.List.{get_or_past}
 use Rattle.std.proofs.lemmas.List.FromFn.{length-map-range_with_len}
-use Rattle.mrp_qty.proofs.RangeLaws.{map-range-same, sum_by-range-take, sum_by-range-same}
+use Rattle.mrp_qty.proofs.RangeLaws.{sum_by-range-take, sum_by-range-same}
 use Rattle.mrp_netting.specs.PlanRows.{late_orders}
-use Rattle.mrp_netting.specs.PlanningData.{PairData, PairTerms, planned, incoming_at, order_at, order_row, balance_before}
+use Rattle.mrp_netting.specs.PlanningData.{PairData, lack, short, had, incoming_at, order_at, order_row, balance_before}
 use Rattle.mrp_netting.specs.PlanningData.{release_at, release_row, earliest, one}
 use Rattle.mrp_netting.specs.PlanningBound.{IsWithinData}
 use Rattle.mrp_netting.proofs.RowSums.{sum_take-all}
-use Rattle.mrp_netting.proofs.TogetherLaws.{sum_is_enough}
+use Rattle.mrp_netting.proofs.ReceiptLaws.{short-zero, short-suc, incoming_at-is}
+use Rattle.mrp_netting.proofs.TogetherLaws.{same_plan}
 
 pub one-gross : (d : PairData) → (one d).gross ≡ d.gross
 unfolding one
@@ -42,21 +42,6 @@ pub one-late : (d : PairData) → (one d).late ≡ late_orders (earliest d) (one
 unfolding one
 one-late d = refl
 
--- what comes in is what is said to come, and what is firmly ordered
-incoming_at-planned : (terms : PairTerms) (incoming gross : List ℕ) (t : ℕ)
-    → incoming_at (planned terms incoming gross) t ≡ slice_index incoming t + slice_index terms.firm_due t
-unfolding incoming_at
-incoming_at-planned terms incoming gross zero = omega arith
-incoming_at-planned terms incoming gross (suc t) = omega arith
-
-pub planned-incoming : (terms : PairTerms) (incoming gross : List ℕ)
-    → (one (planned terms incoming gross)).incoming
-    ≡ map (λ t. slice_index incoming t + slice_index terms.firm_due t) (range_with_len 0 (length gross))
-unfolding one
-planned-incoming terms incoming gross =
-    map-range-same (incoming_at (planned terms incoming gross)) (λ t. slice_index incoming t + slice_index terms.firm_due t) (length gross)
-    (λ t h. incoming_at-planned terms incoming gross t)
-
 -- two rows that say the same of the first n periods, and nothing beyond them
 pub rows-same : (a b : List ℕ) (n : ℕ) → length a ≤ n → length b ≤ n → ((t : ℕ) → t < n → slice_index a t ≡ slice_index b t)
     → (t : ℕ) → slice_index a t ≡ slice_index b t
@@ -78,18 +63,54 @@ pub record AreFirmRows (d : PairData) (starts dues : List ℕ) : Type 0 where
   pub start : (t : ℕ) → t < length d.gross → slice_index starts t ≡ slice_index d.firm_start t
   pub due : (t : ℕ) → t < length d.gross → slice_index dues t ≡ slice_index d.firm_due t
 
+-- as much is due up to each period
+firm_due-take : (d : PairData) (starts dues : List ℕ) → IsWithinData d → AreFirmRows d starts dues
+    → (m : ℕ) → sum (take m dues) ≡ sum (take m d.firm_due)
+firm_due-take d starts dues is are m =
+    sym (sum_by-range-take dues m)
+    ∙ sum_by-range-same (λ k. slice_index dues k) (λ k. slice_index d.firm_due k) m
+    (λ k h. rows-same dues d.firm_due (length d.gross) are.few_dues is.firm_due are.due k)
+    ∙ sum_by-range-take d.firm_due m
+
+module _ (d : PairData) (starts dues : List ℕ) (is : IsWithinData d) (are : AreFirmRows d starts dues) where
+  abbrev written : PairData
+  written = record d { firm_start = starts; firm_due = dues }
+
+  written_lack : (s : ℕ) → lack written s ≡ lack d s
+  written_lack s = omega (arith, firm_due-take d starts dues is are (suc s))
+
+  written_short : (t : ℕ) → short written t ≡ short d t
+  written_short zero = omega (arith, short-zero written, short-zero d, written_lack zero)
+  written_short (suc t) = omega (arith, short-suc written t, short-suc d t, written_lack (suc t), written_short t)
+
+  written_had : (t : ℕ) → had written t ≡ had d t
+  written_had t = omega (arith, written_short t)
+
+  written_incoming : (t : ℕ) → incoming_at written t ≡ incoming_at d t
+  written_incoming zero =
+      omega (
+        arith,
+        incoming_at-is written zero,
+        incoming_at-is d zero,
+        written_had zero,
+        rows-same dues d.firm_due (length d.gross) are.few_dues is.firm_due are.due zero,
+      )
+  written_incoming (suc t) =
+      omega (
+        arith,
+        incoming_at-is written (suc t),
+        incoming_at-is d (suc t),
+        written_had t,
+        written_had (suc t),
+        rows-same dues d.firm_due (length d.gross) are.few_dues is.firm_due are.due (suc t),
+      )
+
 -- they give the same plan, and are within the bound as well
-pub firm_rows-same : (d : PairData) (starts dues : List ℕ) → d.policy.sooner ≡ 0 → IsWithinData d → AreFirmRows d starts dues
+pub firm_rows-same : (d : PairData) (starts dues : List ℕ) → IsWithinData d → AreFirmRows d starts dues
     → one (record d { firm_start = starts; firm_due = dues }) ≡ one d
-firm_rows-same d starts dues none is are =
-    sum_is_enough (record d { firm_start = starts; firm_due = dues }) d (record {
-      params = refl;
-      policy = refl;
-      gross = refl;
-      when_due = none;
-      come = λ t. omega (arith, rows-same dues d.firm_due (length d.gross) are.few_dues is.firm_due are.due t);
-      released = rows-same starts d.firm_start (length d.gross) are.few_starts is.firm_start are.start;
-    })
+firm_rows-same d starts dues is are =
+    same_plan (record d { firm_start = starts; firm_due = dues }) d (written_incoming d starts dues is are)
+    (rows-same starts d.firm_start (length d.gross) are.few_starts is.firm_start are.start)
 
 pub firm_rows-within : (d : PairData) (starts dues : List ℕ) → IsWithinData d → AreFirmRows d starts dues
     → IsWithinData (record d { firm_start = starts; firm_due = dues })

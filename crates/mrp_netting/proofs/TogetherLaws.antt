@@ -26,7 +26,7 @@ incoming-due d (suc t) none =
     omega (arith, incoming_at-is d (suc t), had-due d (suc t) none, had-due d t none, sum_take-suc d.receipts (suc t))
 
 -- the data of d with the rows of e
-abbrev with_rows : PairData → PairData → PairData
+abbrev pub with_rows : PairData → PairData → PairData
 with_rows d e = record e { params = d.params; policy = d.policy; gross = d.gross }
 
 -- an order by what comes in
@@ -35,13 +35,8 @@ order_by params policy gross come before t =
     let needs : ℕ → ℕ = λ n. (params.safety + sum_from gross t (n + policy.cover)) - (before + sum_from come t n) in
     if needs 1 == 0 then 0 else made_up policy (lot_for params.rule needs)
 
-module _ (d e : PairData) (none : d.policy.sooner ≡ 0)
-    (come : (t : ℕ) → slice_index d.receipts t + slice_index d.arrivals t + slice_index d.firm_due t
-    ≡ slice_index e.receipts t + slice_index e.arrivals t + slice_index e.firm_due t)
+module _ (d e : PairData) (same_incoming : (t : ℕ) → incoming_at d t ≡ incoming_at (with_rows d e) t)
     (firm : (t : ℕ) → slice_index d.firm_start t ≡ slice_index e.firm_start t) where
-  same_incoming : (t : ℕ) → incoming_at d t ≡ incoming_at (with_rows d e) t
-  same_incoming t = omega (arith, incoming-due d t none, incoming-due (with_rows d e) t none, come t)
-
   same_row : incoming_row d ≡ incoming_row (with_rows d e)
   same_row = map-range-same (incoming_at d) (incoming_at (with_rows d e)) (length d.gross) (λ t h. same_incoming t)
 
@@ -75,7 +70,7 @@ module _ (d e : PairData) (none : d.policy.sooner ≡ 0)
   same_release order =
       map-range-same (release_at d order) (release_at (with_rows d e) order) (length d.gross) (λ u h. omega (arith, firm u))
 
-  same_plan : one d ≡ one (with_rows d e)
+  pub same_plan : one d ≡ one (with_rows d e)
   unfolding one
   same_plan =
       let f = with_rows d e in
@@ -92,4 +87,6 @@ sum_is_enough d e are =
     ap (λ (p : PairParams). record e { params = p; policy = d.policy; gross = d.gross }) are.params
     ∙ ap (λ (p : Policy). record e { policy = p; gross = d.gross }) are.policy
     ∙ ap (λ (row : List ℕ). record e { gross = row }) are.gross in
-    same_plan d e are.when_due are.come are.released ∙ ap one moved
+    let same : (t : ℕ) → incoming_at d t ≡ incoming_at (with_rows d e) t =
+    λ t. omega (arith, incoming-due d t are.when_due, incoming-due (with_rows d e) t are.when_due, are.come t) in
+    same_plan d e same are.released ∙ ap one moved

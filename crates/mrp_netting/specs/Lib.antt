@@ -5,5 +5,7 @@ pub mod Rules
 pub mod Plan
 pub mod PlanningData
 pub mod PlanningBound
+pub mod Counting
 pub mod PlanningLaws
+pub mod OpenOrders
 pub mod WorkedPairs

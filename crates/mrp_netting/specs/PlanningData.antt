@@ -33,16 +33,18 @@ pub record PairData : Type 0 where
 pub record PairTerms : Type 0 where
   pub params : PairParams
   pub policy : Policy
+  -- scheduled receipts that may be counted sooner than they come
+  pub receipts : List ℕ
   pub firm_start : List ℕ
   pub firm_due : List ℕ
 
--- a pair of these terms whose receipts count when they come: `incoming` has its receipts and what comes from other
--- plants
+-- a pair of these terms: `incoming` has what comes in at its time, receipts that may be counted sooner are among the
+-- terms
 abbrev pub planned : PairTerms → List ℕ → List ℕ → PairData
 planned terms incoming gross = record {
   params = terms.params;
   policy = terms.policy;
-  receipts = [];
+  receipts = terms.receipts;
   arrivals = incoming;
   firm_start = terms.firm_start;
   firm_due = terms.firm_due;
@@ -142,7 +144,7 @@ order_row d = map (order_at d) (range_with_len 0 (length d.gross))
 abbrev pub available_row : PairData → List ℕ
 available_row d = map (λ t. balance_before d (suc t)) (range_with_len 0 (length d.gross))
 
--- the first period for which planned orders can be released in time: the lead time, or behind the fence
+-- the first period for which planned orders can be released in time: the greater of lead time and fence
 abbrev pub earliest : PairData → ℕ
 earliest d = max d.params.lead d.policy.fence
 

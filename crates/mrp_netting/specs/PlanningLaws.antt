@@ -34,6 +34,10 @@ pub record AreCounted (d : PairData) : Type 0 where
 abbrev pub ReceiptsAreCounted : Type 0
 ReceiptsAreCounted = (d : PairData) → IsWithinData d → AreCounted d
 
+-- over all periods what comes in is receipts, arrivals and firm planned orders
+abbrev pub AllComesIn : Type 0
+AllComesIn = (d : PairData) → IsWithinData d → sum (one d).incoming ≡ sum d.receipts + sum d.arrivals + sum d.firm_due
+
 -- nothing is ordered while a receipt could still be counted
 abbrev pub OrdersComeAfterReceipts : Type 0
 OrdersComeAfterReceipts = (d : PairData) (t : ℕ) → IsWithinData d → t < length d.gross → 0 < slice_index (one d).order t

@@ -5,7 +5,8 @@ ghost use Rattle.mrp_netting.specs.PlanningData.{incoming_row};
 ghost use Rattle.mrp_netting.specs.PlanningBound.{IsWithinData, data_of};
 
 use crate::PlanningData;
-use crate::pieces::{add_pieces, front_pieces, front_quantity, pieces_at, put_pieces, quantity_at};
+use crate::counting::Sums;
+use crate::pieces::{add_pieces, put_pieces};
 use mrp_qty::{Qty, Row};
 
 /// Writes what comes in: arrivals, firm planned orders, and the receipts that are counted in each period.
@@ -32,22 +33,9 @@ fn count_receipts(given: &PlanningData<'_>, gross: &[Qty], incoming: &mut Row)
         ≡ slice_index given.now.arrivals.now t + slice_index given.now.firm_due.now t }
     ensures { incoming.new ≡ incoming_row (data_of given.now gross.now) }
 {
-    let sooner = given.policy.sooner as usize;
-    let cover = given.policy.cover as usize;
-    let mut came = 0;
-    let mut could = front_pieces(given.receipts, sooner);
-    let mut asked = given.params.safety.get() + front_quantity(gross, cover);
-    let mut has = given.params.on_hand.get();
-    let mut lacked = 0;
-    let mut counted = 0;
+    let mut sums = Sums::new(given, gross);
     for t in 0..gross.len() {
-        came += pieces_at(given.receipts, t);
-        could += pieces_at(given.receipts, t + sooner);
-        asked += quantity_at(gross, t + cover);
-        has += incoming.get(t).get();
-        lacked = asked.saturating_sub(has).max(lacked);
-        let had = could.min(lacked).max(came);
-        incoming.add(t, Qty::of(had - counted));
-        counted = had;
+        let counted = sums.count(given, gross, t, incoming.get(t).get());
+        incoming.add(t, Qty::of(counted));
     }
 }

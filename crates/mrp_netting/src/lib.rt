@@ -15,6 +15,7 @@
 #![tactic(auto)]
 
 mod blank;
+mod counting;
 mod following;
 mod incoming;
 mod late;
@@ -40,7 +41,8 @@ pub use params::{Late, PairParams};
 pub use plan::{PairPlan, is_plan, is_plan_from, plan_from, plan_pair};
 pub use planning_data::{PlanningData, Policy};
 pub use planning_laws::{
-    all_rows_stay_within, available_covers_ahead, fence_holds_releases, orders_are_least_multiples,
+    all_comes_in, all_rows_stay_within, available_covers_ahead, fence_holds_releases,
+    needed_receipts_are_counted, needless_orders_change_nothing, orders_are_least_multiples,
     orders_come_after_receipts, plain_pairs_are_planned_from_two_rows,
     planned_and_firm_orders_are_released, receipts_are_counted, stock_is_kept, sum_is_enough,
     worked_pairs_are_planned,

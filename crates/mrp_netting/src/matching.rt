@@ -7,13 +7,26 @@ ghost use Rattle.mrp_netting.specs.PlanningData.{incoming_row, order_row, availa
 ghost use Rattle.mrp_netting.specs.PlanningBound.{IsWithinData, data_of};
 
 use crate::PlanningData;
+use crate::counting::Sums;
 use crate::orders::order_and_stock;
 use crate::pieces::{front_quantity, pieces_at, quantity_at};
 use crate::releasing::earliest_period;
 use mrp_qty::Qty;
 
-/// Whether the row is what comes in: receipts, arrivals and firm planned orders, each when it is due.
+/// Whether the row is what comes in: arrivals, firm planned orders, and the receipts that are counted in each period.
 pub(crate) fn has_incoming(given: &PlanningData<'_>, gross: &[Qty], incoming: &[Qty]) -> bool
+    requires within { IsWithinData (data_of given.now gross.now) }
+    requires len { length incoming.now ≡ length gross.now }
+    ensures { IsTrue result ↔ (incoming.now ≡ incoming_row (data_of given.now gross.now)) }
+{
+    if given.policy.sooner == 0 {
+        return has_incoming_when_due(given, gross, incoming);
+    }
+    has_receipts_counted(given, gross, incoming)
+}
+
+/// The same where all receipts count when they come.
+fn has_incoming_when_due(given: &PlanningData<'_>, gross: &[Qty], incoming: &[Qty]) -> bool
     requires within { IsWithinData (data_of given.now gross.now) }
     requires when_due { given.now.policy.sooner ≡ 0 }
     requires len { length incoming.now ≡ length gross.now }
@@ -22,6 +35,22 @@ pub(crate) fn has_incoming(given: &PlanningData<'_>, gross: &[Qty], incoming: &[
     for t in 0..incoming.len() {
         let comes = pieces_at(given.receipts, t) + pieces_at(given.arrivals, t);
         if incoming[t].get() != comes + pieces_at(given.firm_due, t) {
+            return false;
+        }
+    }
+    true
+}
+
+/// The same where receipts may be counted sooner.
+fn has_receipts_counted(given: &PlanningData<'_>, gross: &[Qty], incoming: &[Qty]) -> bool
+    requires within { IsWithinData (data_of given.now gross.now) }
+    requires len { length incoming.now ≡ length gross.now }
+    ensures { IsTrue result ↔ (incoming.now ≡ incoming_row (data_of given.now gross.now)) }
+{
+    let mut sums = Sums::new(given, gross);
+    for t in 0..incoming.len() {
+        let others = pieces_at(given.arrivals, t) + pieces_at(given.firm_due, t);
+        if incoming[t].get() != others + sums.count(given, gross, t, others) {
             return false;
         }
     }

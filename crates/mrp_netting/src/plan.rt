@@ -272,11 +272,10 @@ pub fn is_plan(params: &PairParams, plan: &PairPlan) -> bool
 /// Whether the plan is the one that follows from its planning data and its gross requirements: what comes in, each
 /// order, release, projected available and late order.
 ///
-/// Receipts count when they come, and what is within the bound of [`plan_from`] may be asked. Nothing is allocated
-/// (by construction; no clause says so).
+/// Receipts are to be counted as [`plan_from`] counts them, when they come or sooner, and what is within its bound may
+/// be asked. Nothing is allocated (by construction; no clause says so).
 pub fn is_plan_from(given: &PlanningData<'_>, plan: &PairPlan) -> bool
     requires within { IsWithinData (data_of given.now plan.now.gross) }
-    requires when_due { given.now.policy.sooner ≡ 0 }
     ensures { IsTrue result ↔ (plan.now ≡ planning.one (data_of given.now plan.now.gross)) }
 {
     let _len = plan.len();

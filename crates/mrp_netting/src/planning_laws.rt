@@ -4,7 +4,8 @@ ghost use Rattle.mrp_netting.specs.PlanningLaws.{PlainIsToday, PlainFollowsRules
 ghost use Rattle.mrp_netting.specs.PlanningLaws.{OrdersComeAfterReceipts, AvailableCoversAhead, StockIsKept};
 ghost use Rattle.mrp_netting.specs.PlanningLaws.{StockIsKeptInAll, OrdersAreLeastMultiples, FenceHoldsReleases};
 ghost use Rattle.mrp_netting.specs.PlanningLaws.{OrdersAreAllReleased, ReleasesStayBounded, AllRowsStayWithin};
-ghost use Rattle.mrp_netting.specs.PlanningLaws.{SumIsEnough};
+ghost use Rattle.mrp_netting.specs.PlanningLaws.{AllComesIn, SumIsEnough};
+ghost use Rattle.mrp_netting.specs.OpenOrders.{NeededReceiptsAreCounted, NeedlessOrdersChangeNothing};
 ghost use Rattle.mrp_netting.specs.WorkedPairs.{FirmParentIsPlanned, FirmComponentIsPlanned, FencedIsPlanned};
 ghost use Rattle.mrp_netting.specs.WorkedPairs.{CountedSoonerIsPlanned, CoveredAheadIsPlanned};
 
@@ -19,6 +20,22 @@ pub fn plain_pairs_are_planned_from_two_rows()
 /// them by the last period.
 pub fn receipts_are_counted()
     ensures { ReceiptsAreCounted }
+{}
+
+/// Over all periods what comes in is the receipts, what arrives, and the firm planned orders.
+pub fn all_comes_in()
+    ensures { AllComesIn }
+{}
+
+/// Of the receipts that come within SOONER periods those are counted that are needed by then, and no others: the plan
+/// counts a receipt sooner than it comes exactly if a period up to then would lack something without it.
+pub fn needed_receipts_are_counted()
+    ensures { NeededReceiptsAreCounted }
+{}
+
+/// Without receipts, arrivals and firm planned orders that no period needs the plan orders the same.
+pub fn needless_orders_change_nothing()
+    ensures { NeedlessOrdersChangeNothing }
 {}
 
 /// Nothing is ordered in a period by which a receipt could still be counted.

@@ -4,33 +4,23 @@ use Rattle.std.proofs.lemmas.List.Edits.{fill_by_more}
 use Rattle.std.proofs.lemmas.List.FromFn.{fill_by_all}
 use Rattle.mrp_netting.specs.PlanningData.{incoming_at}
 use Rattle.mrp_netting.specs.PlanningBound.{data_of}
-use Rattle.mrp_netting.proofs.Counting.{IsCounted, count_step}
 use Rattle.mrp_netting.proofs.ReceiptLaws.{incoming_at-le}
 use Rattle.mrp_netting.proofs.incoming.count_receipts.Goals as goal
-use Rattle.mrp_netting.proofs.incoming.count_receipts.Goals.{After-max-had}
-
--- what is counted in this period
-counted : (c : After-max-had) → IsCounted (data_of c.args.given.now c.args.gross.now) c.loop-t.t (c.loop-t.came + c.pieces_at-came.result)
-    (c.loop-t.could + c.pieces_at-could.result) (c.loop-t.asked + c.quantity_at-asked.result) (c.loop-t.has + c.get-has-in-loop-t.result)
-    c.max-lacked.result c.max-had.result c.loop-t.counted
-counted c =
-    let t = c.loop-t.t in
-    let come = c.loop-t.invariant.rest t (omega arith) in
-    count_step (data_of c.args.given.now c.args.gross.now) t c.loop-t.came c.loop-t.could c.loop-t.asked c.loop-t.has c.loop-t.lacked c.loop-t.counted
-    _ _ _ _ _ _ c.loop-t.invariant.count (omega arith) (omega arith) (omega arith) (omega (arith, come)) (omega arith) (omega arith)
 
 pub of-requires : goal.of-requires
 of-requires c =
     let d = data_of c.args.given.now c.args.gross.now in
-    let is = counted (goal.at.of-requires c).After-max-had in
-    omega (arith, is.incoming, incoming_at-le d c.loop-t.t c.requires.within (omega arith))
+    omega (arith, c.count-counted.ensures.value, incoming_at-le d c.loop-t.t c.requires.within (omega arith))
 
 pub add-requires-clause-within : goal.add-requires-clause-within
 add-requires-clause-within c =
     let d = data_of c.args.given.now c.args.gross.now in
-    let t = c.loop-t.t in
-    let is = counted (goal.at.add-requires-clause-within c).After-max-had in
-    omega (arith, is.incoming, c.loop-t.invariant.rest t (omega arith), incoming_at-le d t c.requires.within (omega arith))
+    omega (
+      arith,
+      c.count-counted.ensures.value,
+      c.get-in-loop-t.ensures.value,
+      incoming_at-le d c.loop-t.t c.requires.within (omega arith),
+    )
 
 pub loop-t-preserved : goal.loop-t-preserved
 loop-t-preserved c =
@@ -38,11 +28,11 @@ loop-t-preserved c =
     let t = c.loop-t.t in
     let row = c.loop-t.incoming in
     let inv = c.loop-t.invariant in
-    let is = counted (goal.at.loop-t-preserved c).After-max-had in
-    let here : slice_index row t + c.of.result ≡ incoming_at d t = omega (arith, is.incoming, inv.rest t (omega arith)) in
+    let here : slice_index row t + c.of.result ≡ incoming_at d t =
+    omega (arith, c.count-counted.ensures.value, c.get-in-loop-t.ensures.value) in
     let written : c.add.new.self ≡ slice_set row t (incoming_at d t) = c.add.ensures ∙ ap (λ (q : ℕ). slice_set row t q) here in
     record {
-      count = is.next;
+      sums = c.count-counted.ensures.after;
       done = λ k h. ap (λ (xs : List ℕ). slice_index xs k) written ∙ fill_by_more (incoming_at d) row t 0 (omega (arith, inv.size)) inv.done k h;
       rest = λ k h. ap (λ (xs : List ℕ). slice_index xs k) written
           ∙ get_or-set_other row t k (incoming_at d t) 0 (λ e. absurd (omega arith)) ∙ inv.rest k (omega arith);
