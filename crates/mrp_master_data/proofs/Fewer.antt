@@ -26,6 +26,7 @@ read_without N is =
         cums = is.limits.cums;
         resets = is.limits.resets;
         firms = is.limits.firms;
+        policies = is.limits.policies;
       };
       plants = is.plants;
       items = is.items;
@@ -46,6 +47,14 @@ read_without N is =
       cums = λ k d h. let r = is.cums k d h in record { from = r.from; pair = r.pair; figure = r.figure };
       resets = λ k d h. let r = is.resets k d h in record { from = r.from; pair = r.pair; period = r.period };
       firms = λ k d h. let f = is.firms k d h in record { pair = f.pair; start = f.start; due = f.due; some = f.some; quantity = f.quantity };
+      policies = λ k d h. let p = is.policies k d h in record {
+        pair = p.pair;
+        fence = p.fence;
+        sooner = p.sooner;
+        cover = p.cover;
+        least = p.least;
+        multiple = p.multiple;
+      };
     }
 
 pub table_without : (N : Table) → IsTable N → IsTable (without_bills_and_demands N)
@@ -64,6 +73,7 @@ table_without N is =
         bills = IsDistinct-nil is_same_bill;
         cums = once.cums;
         resets = once.resets;
+        policies = once.policies;
       };
       sourced = record {
         items = sourced.items;

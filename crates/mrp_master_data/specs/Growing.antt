@@ -13,12 +13,13 @@ use Rattle.mrp_master_data.specs.declared.rows.ShipRow.{ShipRow}
 use Rattle.mrp_master_data.specs.declared.rows.CumRow.{CumRow}
 use Rattle.mrp_master_data.specs.declared.rows.ResetRow.{ResetRow}
 use Rattle.mrp_master_data.specs.declared.rows.FirmRow.{FirmRow}
+use Rattle.mrp_master_data.specs.declared.rows.PolicyRow.{PolicyRow}
 
 -- the table of these rows
 abbrev pub table_of : CalendarTerms → List (List ℕ) → List (List ℕ) → List PairRow → List SourceRow → List BillRow
     → List DemandRow
-    → List ReceiptRow → List ShipRow → List CumRow → List ResetRow → List FirmRow → Table
-table_of calendar plants items pairs sources bills demands receipts ships cums resets firms = record {
+    → List ReceiptRow → List ShipRow → List CumRow → List ResetRow → List FirmRow → List PolicyRow → Table
+table_of calendar plants items pairs sources bills demands receipts ships cums resets firms policies = record {
   calendar = calendar;
   plants = plants;
   items = items;
@@ -31,6 +32,7 @@ table_of calendar plants items pairs sources bills demands receipts ships cums r
   cums = cums;
   resets = resets;
   firms = firms;
+  policies = policies;
 }
 
 -- whether the pair behind a source has no row
@@ -75,6 +77,9 @@ with_reset N r = record N { resets = N.resets ++ r ∷ [] }
 abbrev pub with_firm : Table → FirmRow → Table
 with_firm N f = record N { firms = N.firms ++ f ∷ [] }
 
+abbrev pub with_policy : Table → PolicyRow → Table
+with_policy N p = record N { policies = N.policies ++ p ∷ [] }
+
 -- the table of a calendar without any row
 abbrev pub empty_table : CalendarTerms → Table
-empty_table c = table_of c [] [] [] [] [] [] [] [] [] [] []
+empty_table c = table_of c [] [] [] [] [] [] [] [] [] [] [] []

@@ -18,6 +18,7 @@ use Rattle.mrp_master_data.specs.declared.rows.CumRow.{CumRow}
 use Rattle.mrp_master_data.specs.declared.rows.DemandRow.{DemandRow}
 use Rattle.mrp_master_data.specs.declared.rows.FirmRow.{FirmRow}
 use Rattle.mrp_master_data.specs.declared.rows.PairRow.{PairRow}
+use Rattle.mrp_master_data.specs.declared.rows.PolicyRow.{PolicyRow}
 use Rattle.mrp_master_data.specs.declared.rows.ReceiptRow.{ReceiptRow}
 use Rattle.mrp_master_data.specs.declared.rows.ResetRow.{ResetRow}
 use Rattle.mrp_master_data.specs.declared.rows.ShipRow.{ShipRow}
@@ -41,6 +42,7 @@ pub record Table : Type 0 where
   pub cums : List CumRow
   pub resets : List ResetRow
   pub firms : List FirmRow
+  pub policies : List PolicyRow
 
 -- the number of periods
 abbrev pub horizon : Table → ℕ
@@ -119,6 +121,15 @@ pub record IsFirmRow (N : Table) (f : FirmRow) : Type 0 where
   pub some : 1 ≤ f.quantity
   pub quantity : IsAmount f.quantity
 
+-- a planning time fence within the horizon, at most 104 periods of each kind, and pieces as a row may have them
+pub record IsPolicyRow (N : Table) (p : PolicyRow) : Type 0 where
+  pub pair : IsPair N p.pair.0
+  pub fence : p.policy.fence < horizon N
+  pub sooner : p.policy.sooner ≤ LONGEST_LEAD
+  pub cover : p.policy.cover ≤ LONGEST_LEAD
+  pub least : IsAmount p.policy.least
+  pub multiple : IsAmount p.policy.multiple
+
 -- the table has a period, and no more periods, names and rows of each kind than a table may have
 pub record IsLimited (N : Table) : Type 0 where
   pub some_periods : 1 ≤ horizon N
@@ -134,6 +145,7 @@ pub record IsLimited (N : Table) : Type 0 where
   pub cums : length N.cums ≤ MOST_OF_A_KIND
   pub resets : length N.resets ≤ MOST_SOURCES
   pub firms : length N.firms ≤ MOST_OF_A_KIND
+  pub policies : length N.policies ≤ MOST_PAIRS
 
 -- the calendar is one, there are no more rows than a table may have, names are names, and each row is in range and
 -- names plants, items and pairs of the table
@@ -151,6 +163,7 @@ pub record IsRead (N : Table) : Type 0 where
   pub cums : All (IsCumRow N) N.cums
   pub resets : All (IsResetRow N) N.resets
   pub firms : All (IsFirmRow N) N.firms
+  pub policies : All (IsPolicyRow N) N.policies
 
 -- the item of the pair at a place
 abbrev pub item_at : Table → ℕ → ℕ
@@ -177,7 +190,10 @@ is_same_cum c d = (c.from.0 == d.from.0) && (c.pair.0 == d.pair.0)
 abbrev pub is_same_reset : ResetRow → ResetRow → Bool
 is_same_reset r s = (r.from.0 == s.from.0) && (r.pair.0 == s.pair.0)
 
--- no plant, item, pair, source, bill row, cumulative figure or reset stands twice
+abbrev pub is_same_policy : PolicyRow → PolicyRow → Bool
+is_same_policy p q = p.pair.0 == q.pair.0
+
+-- no plant, item, pair, source, bill row, cumulative figure or reset stands twice, and no pair has two policies
 pub record IsOnce (N : Table) : Type 0 where
   pub plants : IsDistinct bytes_eq N.plants
   pub items : IsDistinct bytes_eq N.items
@@ -186,6 +202,7 @@ pub record IsOnce (N : Table) : Type 0 where
   pub bills : IsDistinct is_same_bill N.bills
   pub cums : IsDistinct is_same_cum N.cums
   pub resets : IsDistinct is_same_reset N.resets
+  pub policies : IsDistinct is_same_policy N.policies
 
 -- ---- where pairs come from
 

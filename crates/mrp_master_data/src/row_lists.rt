@@ -2,8 +2,8 @@
 
 use crate::names::{name_at, place_of_name, push_name};
 use crate::{
-    BillRow, CumRow, DemandRow, FirmRow, ItemNo, PairNo, PairRow, PlantNo, ReceiptRow, ResetRow,
-    ShipRow, SourceRow,
+    BillRow, CumRow, DemandRow, FirmRow, ItemNo, PairNo, PairRow, PlantNo, PolicyRow, ReceiptRow,
+    ResetRow, ShipRow, SourceRow,
 };
 use mrp_cal::Calendar;
 use std::alloc::{AllocError, Global};
@@ -34,6 +34,7 @@ pub struct RowLists {
     cums: Vec<CumRow>,
     resets: Vec<ResetRow>,
     firms: Vec<FirmRow>,
+    policies: Vec<PolicyRow>,
 }
 
 impl Model for RowLists {
@@ -49,13 +50,13 @@ impl Model for RowLists {
     ghost view = { λ r. table_of r.calendar (map string_bytes r.plants.items)
         (map string_bytes r.items.items) r.pairs.items r.sources.items
         r.bills.items r.demands.items r.receipts.items r.ships.items r.cums.items r.resets.items
-        r.firms.items };
+        r.firms.items r.policies.items };
 
     // the rows are in range, and each pair is found
     ghost invariant = { λ r. IsRead (table_of r.calendar (map string_bytes r.plants.items)
         (map string_bytes r.items.items) r.pairs.items r.sources.items
         r.bills.items r.demands.items r.receipts.items r.ships.items r.cums.items r.resets.items
-        r.firms.items)
+        r.firms.items r.policies.items)
         × FindsPairs (get is_same_place r.pair_places) r.pairs.items };
 }
 
@@ -70,11 +71,11 @@ impl RowLists {
     ghost use Rattle.mrp_master_data.specs.Growing.{lacks_pair, with_plant, with_item};
     ghost use Rattle.mrp_master_data.specs.Growing.{with_pair, with_source, with_bill};
     ghost use Rattle.mrp_master_data.specs.Growing.{with_demand, with_receipt, with_ship, with_cum, with_reset};
-    ghost use Rattle.mrp_master_data.specs.Growing.{with_firm};
+    ghost use Rattle.mrp_master_data.specs.Growing.{with_firm, with_policy};
     ghost use Rattle.mrp_master_data.specs.Table.{item_at, IsName, IsRead, IsPairRow, IsSourceRow, IsBillRow};
     ghost use Rattle.mrp_master_data.specs.Growing.{empty_table};
     ghost use Rattle.mrp_master_data.specs.Table.{IsDemandRow, IsReceiptRow, IsShipRow, IsCumRow, IsResetRow};
-    ghost use Rattle.mrp_master_data.specs.Table.{IsFirmRow};
+    ghost use Rattle.mrp_master_data.specs.Table.{IsFirmRow, IsPolicyRow};
 
     /// The lists after the run row.
     pub fn new(alloc: Global, calendar: Calendar) -> RowLists
@@ -95,6 +96,7 @@ impl RowLists {
             cums: Vec::new(alloc),
             resets: Vec::new(alloc),
             firms: Vec::new(alloc),
+            policies: Vec::new(alloc),
         }
     }
 
@@ -272,6 +274,21 @@ impl RowLists {
         Ok(())
     }
 
+    /// Adds a policy row.
+    ///
+    /// # Errors
+    ///
+    /// [`AllocError`] where a growth is refused.
+    pub fn add_policy(&mut self, row: PolicyRow) -> Result<(), AllocError>
+        requires row { IsPolicyRow self.old row }
+        requires room { length self.old.policies < MOST_PAIRS }
+        ensures rows { OnOk result (IsRead self.new) }
+        ensures table { OnOk result (self.new ≡ with_policy self.old row) }
+    {
+        self.policies.push(row)?;
+        Ok(())
+    }
+
     /// The pair of a plant and an item.
     pub fn find_pair(&self, plant: PlantNo, item: ItemNo) -> Option<PairNo>
         ensures place { option_map (λ x. x.0) result
@@ -381,6 +398,13 @@ impl RowLists {
         ensures value { result.now ≡ self.now.firms }
     {
         self.firms.as_slice()
+    }
+
+    /// The policy rows in table order.
+    pub fn policies(&self) -> &[PolicyRow]
+        ensures value { result.now ≡ self.now.policies }
+    {
+        self.policies.as_slice()
     }
 
     /// How many items there are.

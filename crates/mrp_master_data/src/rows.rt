@@ -4,7 +4,7 @@ ghost use Rattle.std.specs.Prelude.{◌≡◌};
 
 use crate::{ItemNo, PairNo, PlantNo};
 use mrp_lot::Rule;
-use mrp_netting::PairParams;
+use mrp_netting::{PairParams, Policy};
 use mrp_qty::Qty;
 
 /// Where a pair comes from.
@@ -149,4 +149,14 @@ pub struct FirmRow {
     pub due: usize,
     /// How many pieces, 1 to 10^12.
     pub quantity: Qty,
+}
+
+/// How a pair is planned beyond its pair row. A pair has at most one.
+#[derive(Clone, Copy, Debug)]
+pub struct PolicyRow {
+    /// The pair that is planned so.
+    pub pair: PairNo,
+    /// Its planning time fence, how much sooner its receipts may be counted, how many periods are covered ahead, and the
+    /// minimum and the multiple of its planned orders. The fence is below the horizon.
+    pub policy: Policy,
 }

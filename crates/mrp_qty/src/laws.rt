@@ -29,5 +29,5 @@ pub fn limits_are_numbers()
 
 /// The most turns of reading: the run, each other kind of row up to its limit, and the end.
 pub fn turns_are_rows()
-    ensures { MAX_TURNS ≡ 1 + MOST_PLANTS + MOST_PAIRS + MOST_BILLS + 5 * MOST_OF_A_KIND + MOST_SOURCES + 1 }
+    ensures { MAX_TURNS ≡ 1 + MOST_PLANTS + 2 * MOST_PAIRS + MOST_BILLS + 5 * MOST_OF_A_KIND + MOST_SOURCES + 1 }
 {}

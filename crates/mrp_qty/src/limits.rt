@@ -3,7 +3,7 @@
 /// The most plants of a table.
 pub const MOST_PLANTS: usize = 64;
 
-/// The most pairs of a table, and so the most items.
+/// The most pairs of a table, and so the most items and policy rows.
 pub const MOST_PAIRS: usize = 20_000;
 
 /// The most sources of one pair.
@@ -18,7 +18,8 @@ pub const MOST_BILLS: usize = 200_000;
 /// The most demand rows of a table, and the most receipt, ship, cum and firm rows.
 pub const MOST_OF_A_KIND: usize = 1_000_000;
 
-/// The greatest quantity of a pair, demand, receipt, ship or firm row: 10^12 pieces. A cumulative figure may be greater.
+/// The greatest quantity of a pair, demand, receipt, ship, firm or policy row: 10^12 pieces. A cumulative figure may be
+/// greater.
 pub const MOST_IN_ROW: u64 = 1_000_000_000_000;
 
 /// The greatest quantity of a component in one parent.
@@ -28,7 +29,7 @@ pub const MOST_PER: u64 = 1_000_000;
 pub const MOST_SHARE: u64 = 1000;
 
 /// The most turns of reading a table: a row of each kind up to its limit, and the end.
-pub const MAX_TURNS: u64 = 5_300_066;
+pub const MAX_TURNS: u64 = 5_320_066;
 
 /// The most records of one text.
 pub const MOST_RECORDS: u64 = 4_000_000;

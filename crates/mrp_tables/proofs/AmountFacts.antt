@@ -1,4 +1,4 @@
--- What a demand, a receipt or a firm row says of a pair.
+-- What a demand, a receipt, a firm or a policy row says of a pair.
 use Rattle.std.proofs.Common.{◌≡◌, ◌<◌, ℕ, Bool, true, false, List, [], get_or, Option, None, Some, is_some, position, Result, Ok, Err, ok_or}
 use Rattle.std.proofs.Common.{option_map, refl, ap, sym, subst, ◌∙◌, ◌≤◌, nat_lt, arith, true≢false}
 use Rattle.std.specs.List.{All}
@@ -12,10 +12,12 @@ use Rattle.mrp_master_data.specs.Names.{pair_named, pair_of_item, plant_no}
 use Rattle.mrp_master_data.specs.Table.{horizon, IsName, Table}
 use Rattle.mrp_tables.specs.Amounts.{known_amount}
 use Rattle.mrp_validation.specs.Grammar.{◌>>=◌, amount_row, amount_terms, AmountTerms, check, firm_of, firm_terms, FirmTerms, known_pair, seen}
+use Rattle.mrp_validation.specs.Grammar.{has_policy, policy_of, policy_terms, PolicyTerms}
 use Rattle.mrp_tables.specs.Keys.{Knows}
 use Rattle.mrp_validation.specs.declared.fault.TableFaultKind.{TableFaultKind}
 use Rattle.mrp_validation.specs.declared.fault.TableFaultKind.TheVariants as fault
 use Rattle.mrp_tables.specs.declared.names.KnownNames.{KnownNames}
+use Rattle.mrp_validation.proofs.KeepingRows.{known_named}
 
 -- ---- a pair that is there
 
@@ -109,6 +111,27 @@ pub firm_of_none : (N : Table) (row : List (List ℕ)) (t : FirmTerms) (e : Tabl
     → firm_of N row ≡ Err e
 unfolding firm_of
 firm_of_none N row t e is refused = rw (is, unseen (known_pair N t.plant t.item) e refused) refl
+
+-- ---- a policy row of no pair, and one of a pair
+
+pub policy_of_none : (N : Table) (row : List (List ℕ)) (t : PolicyTerms) (e : TableFaultKind) → policy_terms row (horizon N) ≡ Ok t
+    → has_policy N (pair_named N (plant_no N t.plant) t.item) ≡ false
+    → ◌≡◌ {A = Result PairNo TableFaultKind} (Err e) (seen (λ (f : PlantNo × PairNo). f.1) (known_pair N t.plant t.item))
+    → policy_of N row ≡ Err e
+unfolding policy_of
+policy_of_none N row t e is new refused = rw (is, new, unseen (known_pair N t.plant t.item) e refused) refl
+
+pub policy_fresh : (N : Table) (plant item : List ℕ) (x : PairNo) → has_policy N (pair_named N (plant_no N plant) item) ≡ false
+    → ◌≡◌ {A = Result PairNo TableFaultKind} (Ok x) (seen (λ (f : PlantNo × PairNo). f.1) (known_pair N plant item))
+    → has_policy N (Some x.0) ≡ false
+policy_fresh N plant item x new found = by (known_pair N plant item) refl found
+  where
+    by : (r : Result (PlantNo × PairNo) TableFaultKind) → known_pair N plant item ≡ r
+        → ◌≡◌ {A = Result PairNo TableFaultKind} (Ok x) (seen (λ (f : PlantNo × PairNo). f.1) r) → has_policy N (Some x.0) ≡ false
+    by (Ok f) is same =
+        let of : x ≡ f.1 = cc in
+        ap (λ (y : PairNo). has_policy N (Some y.0)) of ∙ ap (has_policy N) (sym (known_named N plant item f is)) ∙ new
+    by (Err e) is same = absurd (cc)
 
 -- ---- a row made of them
 

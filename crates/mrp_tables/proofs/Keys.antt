@@ -1,12 +1,19 @@
 -- The places of keys.
-use Rattle.std.proofs.Common.{◌≡◌, ◌==◌, ◌&&◌, false, List, map, position, Option, Some, None, option_map, ap, refl, ◌∙◌}
-use Rattle.std.specs.List.{list_any}
+use Rattle.std.proofs.Common.{◌≡◌, ◌<◌, ℕ, ◌==◌, ◌&&◌, false, List, [], ◌∷◌, ◌++◌, length, map, position, Option, Some, None, option_map, ap, refl, sym}
+use Rattle.std.proofs.Common.{◌∙◌, subst, arith}
+use Rattle.std.specs.List.{All, IsDistinct, list_any}
+use Rattle.std.proofs.lemmas.List.{length-map, length_push}
+use Rattle.std.proofs.lemmas.List.Elements.{All-map, All-push, All-weaker}
+use Rattle.mrp_master_data.specs.declared.rows.PolicyRow.{PolicyRow}
 use Rattle.mrp_master_data.specs.declared.rows.ResetRow.{ResetRow}
-use Rattle.mrp_master_data.specs.Table.{Table}
+use Rattle.mrp_master_data.specs.Table.{IsPolicyRow, IsRead, Table}
+use Rattle.mrp_qty.specs.declared.limits.TheConstants.{MOST_PAIRS}
+use Rattle.mrp_validation.proofs.KeepingFew.{few, HasBelow}
 use Rattle.mrp_validation.specs.Grammar.{cum_between, reset_between}
-use Rattle.mrp_tables.specs.Lists.{bill_key_of, cum_key_of, key_between, lane_of, reset_key_of}
+use Rattle.mrp_tables.specs.Lists.{bill_key_of, cum_key_of, key_between, lane_of, policy_key_of, reset_key_of}
 use Rattle.mrp_tables.specs.contracts.draft.BillKeyPartialEq.TheImpl as bill
 use Rattle.mrp_tables.specs.contracts.draft.LaneKeyPartialEq.TheImpl as lane
+use Rattle.mrp_master_data.specs.contracts.numbers.PairNoPartialEq.TheImpl as pair
 use Rattle.mrp_tables.specs.declared.draft.BillKey.{BillKey}
 use Rattle.mrp_tables.specs.declared.draft.LaneKey.{LaneKey}
 use Rattle.mrp_master_data.specs.declared.rows.BillRow.{BillRow}
@@ -15,7 +22,7 @@ use Rattle.mrp_master_data.specs.declared.rows.SourceRow.{SourceRow}
 use Rattle.mrp_master_data.specs.declared.numbers.PlantNo.{PlantNo}
 use Rattle.mrp_master_data.specs.declared.numbers.PairNo.{PairNo}
 use Rattle.mrp_master_data.proofs.Mapped.{list_any_keys}
-use Rattle.mrp_master_data.proofs.Keys.{position_keys, swap}
+use Rattle.mrp_master_data.proofs.Keys.{position_keys, same_test, swap}
 
 -- whether there is a bill row of two pairs
 pub any_bill : (x y : PairNo) (keys : List BillKey) (bills : List BillRow) → keys ≡ map bill_key_of bills
@@ -42,6 +49,12 @@ any_source f x keys sources same = any_lane lane_of f x keys sources same
 pub any_reset : (f : PlantNo) (x : PairNo) (keys : List LaneKey) (resets : List ResetRow) → keys ≡ map reset_key_of resets
     → list_any (lane.eq-value.it (record { from = f; pair = x })) keys ≡ list_any (λ r. (r.from.0 == f.0) && (r.pair.0 == x.0)) resets
 any_reset f x keys resets same = any_lane reset_key_of f x keys resets same
+
+pub any_policy : (x : PairNo) (keys : List PairNo) (policies : List PolicyRow) → keys ≡ map policy_key_of policies
+    → list_any (pair.eq-value.it x) keys ≡ list_any (λ p. p.pair.0 == x.0) policies
+any_policy x keys policies same =
+    ap (list_any (pair.eq-value.it x)) same
+    ∙ list_any_keys policy_key_of _ (λ p. p.pair.0 == x.0) (λ p. same_test x.0 p.pair.0) policies
 
 -- the place of a source
 pub place_of_source : (f : PlantNo) (x : PairNo) (keys : List LaneKey) (sources : List SourceRow) → keys ≡ map lane_of sources
@@ -70,3 +83,17 @@ pub no_reset : (N : Table) (from : Option PlantNo) (x : Option PairNo) → key_b
 no_reset N None x e = refl
 no_reset N (Some f) None e = refl
 no_reset N (Some f) (Some x) e = absurd (cc e)
+
+abbrev place : PairNo → ℕ
+place k = k.0
+
+-- there is room for a policy of a pair that has none: each pair has one at most
+pub policies_room : (N : Table) (x : PolicyRow) (keys new : List PairNo) → IsRead N → keys ≡ map policy_key_of N.policies → new ≡ keys ++ x.pair ∷ []
+    → IsDistinct pair.eq-value.it new → x.pair.0 < length N.pairs → length N.policies < MOST_PAIRS
+policies_room N x keys new read are with_it apart within =
+    let old : All (HasBelow place (length N.pairs)) (map policy_key_of N.policies) =
+    All-map (HasBelow place (length N.pairs)) policy_key_of N.policies (All-weaker (IsPolicyRow N) (λ p. p.pair.0 < length N.pairs) (λ p h. h.pair) N.policies
+    read.policies) in
+    let all = All-push (HasBelow place (length N.pairs)) keys x.pair (subst (All (HasBelow place (length N.pairs))) (sym are) old) within in
+    let le = few place (keys ++ x.pair ∷ []) (length N.pairs) (subst (IsDistinct pair.eq-value.it) with_it apart) all in
+    omega (arith, le, length_push keys x.pair, ap length are, length-map N.policies policy_key_of, read.limits.pairs)

@@ -13,6 +13,7 @@ use Rattle.mrp_master_data.specs.declared.rows.SourceRow.{SourceRow}
 use Rattle.mrp_master_data.specs.declared.rows.BillRow.{BillRow}
 use Rattle.mrp_master_data.specs.declared.rows.ShipRow.{ShipRow}
 use Rattle.mrp_master_data.specs.declared.rows.CumRow.{CumRow}
+use Rattle.mrp_master_data.specs.declared.rows.PolicyRow.{PolicyRow}
 use Rattle.mrp_master_data.specs.declared.rows.ResetRow.{ResetRow}
 use Rattle.mrp_validation.specs.declared.fault.TableFaultKind.{TableFaultKind}
 use Rattle.mrp_validation.specs.declared.fault.TableFaultKind.TheVariants as fault
@@ -72,6 +73,9 @@ cum_key_of c = record { from = c.from; pair = c.pair }
 abbrev pub reset_key_of : ResetRow → LaneKey
 reset_key_of r = record { from = r.from; pair = r.pair }
 
+abbrev pub policy_key_of : PolicyRow → PairNo
+policy_key_of p = p.pair
+
 -- the key of a plant and a pair, where both are there
 abbrev pub key_between : Option PlantNo → Option PairNo → Option LaneKey
 key_between None x = None
@@ -89,6 +93,7 @@ pub record HoldsRows (d : Draft) : Type 0 where
   pub bill_keys : d.bill_keys.keys ≡ map bill_key_of d.lists.bills
   pub cum_keys : d.cum_keys.keys ≡ map cum_key_of d.lists.cums
   pub reset_keys : d.reset_keys.keys ≡ map reset_key_of d.lists.resets
+  pub policy_keys : d.policy_keys.keys ≡ map policy_key_of d.lists.policies
   pub resets : AreLanes d.lane_keys.keys d.reset_keys.keys
   pub fits : FitsRows d.lists d.lane_keys.keys d.arrivals.items
 
@@ -112,6 +117,7 @@ pub record AddsSources (old new : Draft) (count : ℕ) : Type 0 where
   pub bills : (new.bill_keys.keys ≡ old.bill_keys.keys) × (new.lists.bills ≡ old.lists.bills)
   pub cums : (new.cum_keys.keys ≡ old.cum_keys.keys) × (new.lists.cums ≡ old.lists.cums)
   pub resets : (new.reset_keys.keys ≡ old.reset_keys.keys) × (new.lists.resets ≡ old.lists.resets)
+  pub policies : (new.policy_keys.keys ≡ old.policy_keys.keys) × (new.lists.policies ≡ old.lists.policies)
   pub lanes : AreLanes old.lane_keys.keys old.reset_keys.keys → AreLanes new.lane_keys.keys new.reset_keys.keys
   pub pairs : length new.lists.pairs ≡ length old.lists.pairs
   pub sources : length new.lists.sources ≡ length old.lists.sources + count

@@ -8,7 +8,7 @@ use Rattle.mrp_tables.specs.declared.spelled.SpelledFirm.{SpelledFirm}
 use Rattle.mrp_tables.specs.declared.spelled.SpelledPair.{SpelledPair}
 use Rattle.mrp_tables.specs.declared.spelled.SpelledRun.{SpelledRun}
 use Rattle.mrp_master_data.specs.Table.{IsName}
-use Rattle.mrp_validation.specs.Grammar.{field, AmountTerms, BillTerms, FirmTerms, LaneTerms, PairTerms, RunTerms}
+use Rattle.mrp_validation.specs.Grammar.{field, AmountTerms, BillTerms, FirmTerms, LaneTerms, PairTerms, PolicyTerms, RunTerms}
 
 -- a pair row whose item is a name, and whose numbers are in their ranges
 pub record IsSpelledPair (p : SpelledPair) : Type 0 where
@@ -62,6 +62,17 @@ terms_of_firm row f = record {
   start = f.start;
   due = f.due;
   quantity = f.quantity;
+}
+
+abbrev pub terms_of_policy : List (List ℕ) → ℕ → ℕ → ℕ → ℕ → ℕ → PolicyTerms
+terms_of_policy row fence sooner cover least multiple = record {
+  plant = field row 1;
+  item = field row 2;
+  fence = fence;
+  sooner = sooner;
+  cover = cover;
+  least = least;
+  multiple = multiple;
 }
 
 abbrev pub terms_of_lane : List (List ℕ) → LaneTerms

@@ -59,6 +59,8 @@ pub(crate) struct Draft {
     pub(crate) bill_keys: IndexSet<BillKey>,
     pub(crate) cum_keys: IndexSet<LaneKey>,
     pub(crate) reset_keys: IndexSet<LaneKey>,
+    /// The pairs of the policy rows, in the order of the rows.
+    pub(crate) policy_keys: IndexSet<PairNo>,
     /// The kind of the last row, and how many rows there are.
     pub(crate) last: Kind,
     pub(crate) rows: u64,
@@ -92,6 +94,7 @@ impl Draft {
             bill_keys: IndexSet::new(alloc),
             cum_keys: IndexSet::new(alloc),
             reset_keys: IndexSet::new(alloc),
+            policy_keys: IndexSet::new(alloc),
             last: Kind::Run,
             rows: 1,
         })
@@ -139,6 +142,7 @@ impl Draft {
             Kind::Cum => self.add_cum(row),
             Kind::Reset => self.add_reset(row),
             Kind::Firm => self.add_firm(row),
+            Kind::Policy => self.add_policy(row),
         }
     }
 }

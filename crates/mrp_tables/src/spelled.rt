@@ -3,11 +3,14 @@
 ghost use Rattle.std.specs.Prelude.{◌≡◌, ◌≤◌, ◌<◌, true, IfOk};
 ghost use Rattle.mrp_qty.specs.declared.horizon.TheConstants.{LONGEST};
 ghost use Rattle.mrp_qty.specs.declared.limits.TheConstants.{MOST_IN_ROW, MOST_PER};
+ghost use Rattle.mrp_lot.specs.declared.rule.TheConstants.{LONGEST_LEAD};
 ghost use Rattle.csv.specs.Records.{fields_of};
 ghost use Rattle.mrp_validation.specs.Grammar.{amount_terms, bill_terms, field, firm_terms, is_empty_from};
 ghost use Rattle.mrp_validation.specs.Grammar.{kind_of, lane_number, lane_terms, name_field, pair_terms, plant_terms};
+ghost use Rattle.mrp_validation.specs.Grammar.{policy_terms};
 ghost use Rattle.mrp_validation.specs.Grammar.{row_kind, run_terms, seen, ship_terms, TellsSeen};
 ghost use Rattle.mrp_tables.specs.Spelled.{terms_of_amount, terms_of_bill, terms_of_firm, terms_of_lane, pair_view, run_view};
+ghost use Rattle.mrp_tables.specs.Spelled.{terms_of_policy};
 ghost use Rattle.mrp_tables.specs.Spelled.{HasThreeNames, HasTwoNames, IsSpelledPair};
 ghost use Rattle.mrp_master_data.specs.Table.{IsName};
 ghost use Rattle.mrp_tables.specs.Drafts.{TellsRun};
@@ -16,7 +19,9 @@ use crate::spelling::{name, ranged};
 use csv::StringRecord;
 use mrp_cal::Calendar;
 use mrp_lot::{LONGEST_LEAD, Rule};
-use mrp_master_data::{MOST_IN_ROW, MOST_PER, SpelledSupply, is_same_text, number, rule, supply};
+use mrp_master_data::{
+    MOST_IN_ROW, MOST_PER, Policy, SpelledSupply, is_same_text, number, rule, supply,
+};
 use mrp_qty::{Horizon, LONGEST};
 use mrp_validation::{Kind, TableFaultKind, field, is_free, used};
 use std::alloc::Global;
@@ -40,6 +45,8 @@ fn kind_of(word: &str) -> Option<Kind>
         Some(Kind::Pair)
     } else if is_same_text(word, "firm") {
         Some(Kind::Firm)
+    } else if is_same_text(word, "policy") {
+        Some(Kind::Policy)
     } else if is_same_text(word, "cum") {
         Some(Kind::Cum)
     } else if is_same_text(word, "reset") {
@@ -241,6 +248,35 @@ pub(crate) fn spelled_firm(
         start: start as usize,
         due: due as usize,
         quantity,
+    })
+}
+
+/// How a pair is planned by a policy row. Its names aren't tested where they are known.
+#[tactic(auto, unfolding(mrp_validation::specs::Grammar::policy_terms))]
+pub(crate) fn spelled_policy(
+    row: &StringRecord,
+    horizon: Horizon,
+    are_known: bool,
+) -> Result<Policy, TableFaultKind>
+    requires known { are_known ≡ true → HasTwoNames (fields_of row.now) }
+    ensures exact { seen (λ p. terms_of_policy (fields_of row.now) p.fence p.sooner p.cover p.least p.multiple) result
+        ≡ policy_terms (fields_of row.now) horizon }
+    ensures periods { IfOk result (λ p. (p.fence < horizon) × (p.sooner ≤ LONGEST_LEAD) × (p.cover ≤ LONGEST_LEAD)) }
+    ensures pieces { IfOk result (λ p. (p.least ≤ MOST_IN_ROW) × (p.multiple ≤ MOST_IN_ROW)) }
+{
+    test_name(row, 1, are_known)?;
+    test_name(row, 2, are_known)?;
+    let fence = ranged(field(row, 3), 0, horizon.get() - 1)?;
+    let sooner = ranged(field(row, 4), 0, LONGEST_LEAD)?;
+    let cover = ranged(field(row, 5), 0, LONGEST_LEAD)?;
+    let least = ranged(field(row, 6), 0, MOST_IN_ROW)?;
+    let multiple = ranged(field(row, 7), 0, MOST_IN_ROW)?;
+    Ok(Policy {
+        fence,
+        sooner,
+        cover,
+        least,
+        multiple,
     })
 }
 

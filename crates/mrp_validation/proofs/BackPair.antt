@@ -4,7 +4,7 @@ use Rattle.std.proofs.Common.{List, [], ◌∷◌, ◌++◌, codes, length, map,
 use Rattle.std.proofs.Common.{subst, append_assoc, append-nil, arith}
 use Rattle.std.specs.List.{All, filter, IsDistinct, list_all, list_any}
 use Rattle.std.specs.List.Sorted.{IsNonDecreasingBy}
-use Rattle.std.specs.Str.{bytes_eq, is_utf8}
+use Rattle.std.specs.Str.{bytes_eq}
 use Rattle.std.proofs.lemmas.Bool.{cases_lt, eqb-true, eq-eqb, ne_eqb}
 use Rattle.std.proofs.lemmas.Bool.Decides.{nat_tests}
 use Rattle.std.proofs.lemmas.List.{get_or_append_left, get_or_at, length-append, length-map, length_push}
@@ -42,7 +42,7 @@ use Rattle.mrp_validation.specs.Reading.{row_after, row_of_kind}
 use Rattle.mrp_validation.specs.Written.{AreNumbered, pair_fields, pair_rows}
 use Rattle.mrp_master_data.specs.Said.{item_name, plant_name, source_said, supply_said}
 use Rattle.mrp_validation.proofs.BackNames.{at_place, name_at, none_before, plant_at_place}
-use Rattle.mrp_validation.proofs.BackRows.{Ends, ends_after, has_room, kind_read, may_stand, plant_is_name, Row, row_read, with_bills}
+use Rattle.mrp_validation.proofs.BackRows.{eight_texts, Ends, ends_after, has_room, kind_read, may_stand, plant_is_name, Row, row_read, with_bills}
 use Rattle.mrp_validation.proofs.BackTexts.{name_is_text, number_is_text, rule_is_text, supply_is_text, word_is_text}
 use Rattle.mrp_master_data.proofs.Keys.{any-from_position}
 use Rattle.mrp_validation.proofs.KeepingLists.{any_agree, bytes_flip, filter_everything, filter_nothing, position_last}
@@ -190,11 +190,6 @@ unfolding field_at pair_terms pair_fits
 pair_read N a b c r l o s p lead on_hand safety rule from na nb lead_is on_hand_is safety_is rule_is from_is plant new known other room =
     rw (na, nb, lead_is, on_hand_is, safety_is, rule_is, from_is, plant, new, known, other, room) refl
 
-pair_texts : (w a b c d e f g : List ℕ) → is_utf8 w ≡ true → is_utf8 a ≡ true → is_utf8 b ≡ true → is_utf8 c ≡ true → is_utf8 d ≡ true → is_utf8 e ≡ true
-    → is_utf8 f ≡ true → is_utf8 g ≡ true
-    → list_all is_utf8 (w ∷ a ∷ b ∷ c ∷ d ∷ e ∷ f ∷ g ∷ []) ≡ true
-pair_texts w a b c d e f g uw ua ub uc ud ue uf ug = rw (uw, ua, ub, uc, ud, ue, uf, ug) refl
-
 at_its_place : {X : Type 0} (before : List X) (x : X) (after : List X) → slice_get (before ++ x ∷ after) (length before) ≡ Some x
 at_its_place [] x after = refl
 at_its_place (y ∷ before) x after = at_its_place before x after
@@ -215,6 +210,7 @@ module _ (N : Table) (table : IsTable N) where
         [];
     resets = [];
     firms = [];
+    policies = [];
   }
 
   same_parts : {i j : List (List ℕ)} {a b : List PairRow} {c d : List SourceRow} → i ≡ j → a ≡ b → c ≡ d → of_parts i a c ≡ of_parts j b d
@@ -448,7 +444,7 @@ module _ (N : Table) (table : IsTable N) where
         let on_hand : p.on_hand < 10 ^ 16 = omega (arith, is_row.on_hand) in
         let safety : p.safety < 10 ^ 16 = omega (arith, is_row.safety) in
         row_read old (with_pairs (before ++ p ∷ []) next.has (x + 1)) last kind.Pair (pair_fields N x p)
-        (kind_read (pair_fields N x p) kind.Pair (pair_texts (codes "pair") (plant_name N p.plant.0) (item_name N p.item.0) (supply_text from)
+        (kind_read (pair_fields N x p) kind.Pair (eight_texts (codes "pair") (plant_name N p.plant.0) (item_name N p.item.0) (supply_text from)
         (rule_text p.rule) (decimal p.lead) (decimal p.on_hand) (decimal p.safety)
         (word_is_text (codes "pair") refl) (name_is_text _ na) (name_is_text _ nb) (supply_is_text from is_whole) (rule_is_text p.rule is_row.rule)
         (number_is_text p.lead lead) (number_is_text p.on_hand on_hand)

@@ -1,4 +1,4 @@
--- Bill, demand, receipt, ship, cum, reset and firm rows that are written of a table are read as its own, one after the other.
+-- Bill, demand, receipt, ship, cum, reset, firm and policy rows that are written of a table are read as its own, one after the other.
 use Rattle.std.proofs.Common.{◌≡◌, ◌≤◌, ◌<◌, ◌^◌, ℕ, ◌+◌, ◌-◌, ◌==◌, Bool, true, false, leb, ltb, List, [], ◌∷◌, ◌++◌, codes, length, map, Option, Some, None}
 use Rattle.std.proofs.Common.{option_map, slice_get, unwrap_or, Ok, refl, ap, sym, ◌∙◌, subst, append_assoc, append-nil, arith}
 use Rattle.std.specs.List.{list_all}
@@ -10,6 +10,7 @@ use Rattle.std.proofs.lemmas.List.Elements.{All-get_or}
 use Rattle.std.specs.Prelude.{decimal}
 use Rattle.csv.specs.Records.{field_at}
 use Rattle.mrp_qty.specs.declared.horizon.TheConstants.{LONGEST}
+use Rattle.mrp_lot.specs.declared.rule.TheConstants.{LONGEST_LEAD}
 use Rattle.mrp_qty.specs.declared.quantity.TheConstants.{MOST}
 use Rattle.mrp_master_data.specs.Spelling.{is_name}
 use Rattle.mrp_master_data.specs.Parsing.{number_within}
@@ -20,24 +21,25 @@ use Rattle.mrp_master_data.specs.declared.rows.CumRow.{CumRow}
 use Rattle.mrp_master_data.specs.declared.rows.DemandRow.{DemandRow}
 use Rattle.mrp_master_data.specs.declared.rows.PairRow.{PairRow}
 use Rattle.mrp_master_data.specs.declared.rows.FirmRow.{FirmRow}
+use Rattle.mrp_master_data.specs.declared.rows.PolicyRow.{PolicyRow}
 use Rattle.mrp_master_data.specs.declared.rows.ReceiptRow.{ReceiptRow}
 use Rattle.mrp_master_data.specs.declared.rows.ResetRow.{ResetRow}
 use Rattle.mrp_master_data.specs.declared.rows.ShipRow.{ShipRow}
 use Rattle.mrp_master_data.specs.declared.rows.Supply.TheVariants as supply
 use Rattle.mrp_qty.specs.declared.limits.TheConstants.{MOST_BILLS, MOST_IN_ROW, MOST_OF_A_KIND, MOST_PER}
-use Rattle.mrp_master_data.specs.Growing.{with_bill, with_cum, with_demand, with_firm, with_receipt, with_reset, with_ship}
+use Rattle.mrp_master_data.specs.Growing.{with_bill, with_cum, with_demand, with_firm, with_policy, with_receipt, with_reset, with_ship}
 use Rattle.mrp_master_data.specs.Names.{pair_named, plant_no}
-use Rattle.mrp_master_data.specs.Table.{arrivals, horizon, is_same_bill, is_same_cum, is_same_reset, is_taken_from}
-use Rattle.mrp_master_data.specs.Table.{IsBillRow, IsCumRow, IsDemandRow, IsFirmRow, IsName, IsPair}
+use Rattle.mrp_master_data.specs.Table.{arrivals, horizon, is_same_bill, is_same_cum, is_same_policy, is_same_reset, is_taken_from}
+use Rattle.mrp_master_data.specs.Table.{IsBillRow, IsCumRow, IsDemandRow, IsFirmRow, IsName, IsPair, IsPolicyRow}
 use Rattle.mrp_master_data.specs.Table.{IsReceiptRow, IsResetRow, IsShipRow, IsTable, plant_at, rises_from, supply_at, Table}
 use Rattle.mrp_validation.specs.declared.kind.Kind.{Kind}
 use Rattle.mrp_validation.specs.declared.kind.Kind.TheVariants as kind
 use Rattle.mrp_validation.specs.Grammar.{◌>>=◌, amount_row, amount_terms, bill_fits, bill_row, bill_terms, cum_between, cum_of, cum_row, lane_number, demand_made}
 use Rattle.mrp_validation.specs.Grammar.{demand_of, field, has_bill, is_empty_from, is_made, is_make, kind_of, known_lane, known_pair, lane_terms, may_follow}
 use Rattle.mrp_validation.specs.Grammar.{kind_place, receipt_made, receipt_of, reset_between, reset_in_row, reset_row, row_kind, ship_of, ship_row}
-use Rattle.mrp_validation.specs.Grammar.{firm_of, firm_row, firm_terms, ship_terms, used}
+use Rattle.mrp_validation.specs.Grammar.{firm_of, firm_row, firm_terms, has_policy, policy_of, policy_row, policy_terms, ship_terms, used}
 use Rattle.mrp_validation.specs.Reading.{at_row, go_on, kind_of_row, row_after, row_of_kind, rows_after}
-use Rattle.mrp_validation.specs.Written.{bill_fields, cum_fields, demand_fields, firm_fields, receipt_fields, reset_fields, ship_fields}
+use Rattle.mrp_validation.specs.Written.{bill_fields, cum_fields, demand_fields, firm_fields, policy_fields, receipt_fields, reset_fields, ship_fields}
 use Rattle.mrp_master_data.specs.Said.{pair_item, pair_plant, plant_name}
 use Rattle.mrp_validation.proofs.BackNames.{at_place, none_before, pair_by_names, plant_at_place, plant_of_pair, stands}
 use Rattle.mrp_validation.proofs.BackTexts.{name_is_text, number_is_text, word_is_text}
@@ -92,6 +94,11 @@ five_texts w a b c d uw ua ub uc ud = rw (uw, ua, ub, uc, ud, word_is_text [] re
 pub six_texts : (w a b c d e : List ℕ) → is_utf8 w ≡ true → is_utf8 a ≡ true → is_utf8 b ≡ true → is_utf8 c ≡ true → is_utf8 d ≡ true → is_utf8 e ≡ true
     → list_all is_utf8 (w ∷ a ∷ b ∷ c ∷ d ∷ e ∷ [] ∷ [] ∷ []) ≡ true
 six_texts w a b c d e uw ua ub uc ud ue = rw (uw, ua, ub, uc, ud, ue, word_is_text [] refl) refl
+
+pub eight_texts : (w a b c d e f g : List ℕ) → is_utf8 w ≡ true → is_utf8 a ≡ true → is_utf8 b ≡ true → is_utf8 c ≡ true → is_utf8 d ≡ true → is_utf8 e ≡ true
+    → is_utf8 f ≡ true → is_utf8 g ≡ true
+    → list_all is_utf8 (w ∷ a ∷ b ∷ c ∷ d ∷ e ∷ f ∷ g ∷ []) ≡ true
+eight_texts w a b c d e f g uw ua ub uc ud ue uf ug = rw (uw, ua, ub, uc, ud, ue, uf, ug) refl
 
 -- ---- what fields say that are in order
 
@@ -149,6 +156,22 @@ firm_read : (N : Table) (a b c d e : List ℕ) (f x s p q : ℕ) → is_name a �
 unfolding field_at firm_of firm_terms known_pair
 firm_read N a b c d e f x s p q na nb start due quantity plant pair room = rw (na, nb, start, due, quantity, plant, pair, room) refl
 
+-- five numbers in the ranges of a policy row
+record ArePolicyNumbers (c d e m n : List ℕ) (last fence sooner cover least multiple : ℕ) : Type 0 where
+  fence_is : number_within c 0 last ≡ Some fence
+  sooner_is : number_within d 0 LONGEST_LEAD ≡ Some sooner
+  cover_is : number_within e 0 LONGEST_LEAD ≡ Some cover
+  least_is : number_within m 0 MOST_IN_ROW ≡ Some least
+  multiple_is : number_within n 0 MOST_IN_ROW ≡ Some multiple
+
+policy_read : (N : Table) (a b c d e m n : List ℕ) (f : ℕ) (p : PolicyRow) → is_name a ≡ true → is_name b ≡ true
+    → ArePolicyNumbers c d e m n (horizon N - 1) p.policy.fence p.policy.sooner p.policy.cover p.policy.least p.policy.multiple
+    → plant_no N a ≡ Some f → pair_named N (Some f) b ≡ Some p.pair.0 → has_policy N (Some p.pair.0) ≡ false
+    → policy_row N (codes "policy" ∷ a ∷ b ∷ c ∷ d ∷ e ∷ m ∷ n ∷ []) ≡ Ok (with_policy N p)
+unfolding field_at policy_of policy_terms known_pair
+policy_read N a b c d e m n f p na nb are plant pair new =
+    rw (na, nb, are.fence_is, are.sooner_is, are.cover_is, are.least_is, are.multiple_is, plant, pair, new) refl
+
 -- ---- a made pair, room for one more, and numbers in their ranges
 
 made_pair : (N : Table) (x : ℕ) → supply_at N x ≡ supply.Make → is_made N x ≡ true
@@ -190,26 +213,29 @@ module _ (N : Table) (table : IsTable N) where
   item_of_pair_is_name x is = All-get_or IsName N.items _ [] (stands N table x is).item table.read.items
 
   -- the table whose rows of a kind are these, and that has no rows of the kinds after it
+  abbrev pub with_policies : List PolicyRow → Table
+  with_policies policies = record N { policies = policies }
+
   abbrev pub with_firms : List FirmRow → Table
-  with_firms firms = record N { firms = firms }
+  with_firms firms = record N { firms = firms; policies = [] }
 
   abbrev pub with_resets : List ResetRow → Table
-  with_resets resets = record N { resets = resets; firms = [] }
+  with_resets resets = record N { resets = resets; firms = []; policies = [] }
 
   abbrev pub with_cums : List CumRow → Table
-  with_cums cums = record N { cums = cums; resets = []; firms = [] }
+  with_cums cums = record N { cums = cums; resets = []; firms = []; policies = [] }
 
   abbrev pub with_ships : List ShipRow → Table
-  with_ships ships = record N { ships = ships; cums = []; resets = []; firms = [] }
+  with_ships ships = record N { ships = ships; cums = []; resets = []; firms = []; policies = [] }
 
   abbrev pub with_receipts : List ReceiptRow → Table
-  with_receipts receipts = record N { receipts = receipts; ships = []; cums = []; resets = []; firms = [] }
+  with_receipts receipts = record N { receipts = receipts; ships = []; cums = []; resets = []; firms = []; policies = [] }
 
   abbrev pub with_demands : List DemandRow → Table
-  with_demands demands = record N { demands = demands; receipts = []; ships = []; cums = []; resets = []; firms = [] }
+  with_demands demands = record N { demands = demands; receipts = []; ships = []; cums = []; resets = []; firms = []; policies = [] }
 
   abbrev pub with_bills : List BillRow → Table
-  with_bills bills = record N { bills = bills; demands = []; receipts = []; ships = []; cums = []; resets = []; firms = [] }
+  with_bills bills = record N { bills = bills; demands = []; receipts = []; ships = []; cums = []; resets = []; firms = []; policies = [] }
 
   bill_step : (before : List BillRow) (b : BillRow) (after : List BillRow) (last : Kind) → before ++ b ∷ after ≡ N.bills
       → kind_place last ≤ kind_place kind.Bill
@@ -238,7 +264,7 @@ module _ (N : Table) (table : IsTable N) where
 
   -- demand and receipt rows are read alike
   abbrev with_amounts : List DemandRow → List ReceiptRow → Table
-  with_amounts demands receipts = record N { demands = demands; receipts = receipts; ships = []; cums = []; resets = []; firms = [] }
+  with_amounts demands receipts = record N { demands = demands; receipts = receipts; ships = []; cums = []; resets = []; firms = []; policies = [] }
 
   abbrev amount_fields : List ℕ → ℕ → ℕ → ℕ → Row
   amount_fields word x period quantity = word ∷ pair_plant N x ∷ pair_item N x ∷ decimal period ∷ decimal quantity ∷ [] ∷ [] ∷ [] ∷ []
@@ -291,7 +317,7 @@ module _ (N : Table) (table : IsTable N) where
 
   -- the names of a lane, whatever stands of the ship, cum and reset rows
   abbrev with_lanes : List ShipRow → List CumRow → List ResetRow → Table
-  with_lanes ships cums resets = record N { ships = ships; cums = cums; resets = resets; firms = [] }
+  with_lanes ships cums resets = record N { ships = ships; cums = cums; resets = resets; firms = []; policies = [] }
 
   names_lane : (ships : List ShipRow) (cums : List CumRow) (resets : List ResetRow) (f x : ℕ) → f < length N.plants → IsPair N x → is_taken_from N x f ≡ true
       → NamesLane (with_lanes ships cums resets) (plant_name N f) (pair_plant N x) (pair_item N x) f (plant_at N x) x
@@ -395,15 +421,54 @@ module _ (N : Table) (table : IsTable N) where
       (number_written 1 MOST_IN_ROW o.quantity is.some is.quantity few)
       (plant_of_pair N table x is.pair) (pair_by_names N table x is.pair) (has_room before o after N.firms MOST_OF_A_KIND e table.read.limits.firms))
 
+  policy_step : (before : List PolicyRow) (p : PolicyRow) (after : List PolicyRow) (last : Kind) → before ++ p ∷ after ≡ N.policies
+      → kind_place last ≤ kind_place kind.Policy
+      → row_after (with_policies before, last) (policy_fields N p) ≡ Ok (with_policies (before ++ p ∷ []), kind.Policy)
+  unfolding field_at row_of_kind
+  policy_step before p after last e low =
+      let is = at_place (IsPolicyRow N) before p after N.policies e table.read.policies in
+      let x = p.pair.0 in
+      let na = plant_of_pair_is_name x is.pair in
+      let nb = item_of_pair_is_name x is.pair in
+      let periods = table.read.limits.periods in
+      let fence : p.policy.fence < 10 ^ 16 = omega (arith, is.fence, periods) in
+      let sooner : p.policy.sooner < 10 ^ 16 = omega (arith, is.sooner) in
+      let cover : p.policy.cover < 10 ^ 16 = omega (arith, is.cover) in
+      let least : p.policy.least < 10 ^ 16 = omega (arith, is.least) in
+      let multiple : p.policy.multiple < 10 ^ 16 = omega (arith, is.multiple) in
+      row_read (with_policies before) (with_policies (before ++ p ∷ [])) last kind.Policy (policy_fields N p)
+      (kind_read (policy_fields N p) kind.Policy (eight_texts (codes "policy") (pair_plant N x) (pair_item N x) (decimal p.policy.fence)
+      (decimal p.policy.sooner) (decimal p.policy.cover) (decimal p.policy.least) (decimal p.policy.multiple)
+      (word_is_text (codes "policy") refl) (name_is_text _ na) (name_is_text _ nb) (number_is_text p.policy.fence fence)
+      (number_is_text p.policy.sooner sooner) (number_is_text p.policy.cover cover) (number_is_text p.policy.least least)
+      (number_is_text p.policy.multiple multiple)) refl refl refl)
+      (may_stand kind.Policy last (omega arith) low)
+      (policy_read (with_policies before) (pair_plant N x) (pair_item N x) (decimal p.policy.fence) (decimal p.policy.sooner) (decimal p.policy.cover)
+      (decimal p.policy.least) (decimal p.policy.multiple) (plant_at N x) p na nb (record {
+        fence_is = period_written p.policy.fence (horizon N) is.fence periods;
+        sooner_is = number_written 0 LONGEST_LEAD p.policy.sooner (omega arith) is.sooner sooner;
+        cover_is = number_written 0 LONGEST_LEAD p.policy.cover (omega arith) is.cover cover;
+        least_is = number_written 0 MOST_IN_ROW p.policy.least (omega arith) is.least least;
+        multiple_is = number_written 0 MOST_IN_ROW p.policy.multiple (omega arith) is.multiple multiple;
+      })
+      (plant_of_pair N table x is.pair) (pair_by_names N table x is.pair)
+      (none_before is_same_policy before p after N.policies e table.once.policies))
+
   -- ---- the rows from the bills on
 
-  firms_end : (last : Kind) → kind_place last ≤ kind_place kind.Firm → Ends (with_firms [], last) (map (firm_fields N) N.firms) N
-  firms_end last low =
-      subst (λ (rows : List Row). Ends (with_firms [], last) rows N) (append-nil (map (firm_fields N) N.firms))
-      (one_by_one kind.Firm with_firms (firm_fields N) N.firms [] N firm_step (λ l h. ends_here N l) [] N.firms last refl low)
+  policies_end : (last : Kind) → kind_place last ≤ kind_place kind.Policy → Ends (with_policies [], last) (map (policy_fields N) N.policies) N
+  policies_end last low =
+      subst (λ (rows : List Row). Ends (with_policies [], last) rows N) (append-nil (map (policy_fields N) N.policies))
+      (one_by_one kind.Policy with_policies (policy_fields N) N.policies [] N policy_step (λ l h. ends_here N l) [] N.policies last refl low)
+
+  abbrev from_firms : List Row
+  from_firms = map (firm_fields N) N.firms ++ map (policy_fields N) N.policies
+
+  firms_end : (last : Kind) → kind_place last ≤ kind_place kind.Firm → Ends (with_firms [], last) from_firms N
+  firms_end last low = one_by_one kind.Firm with_firms (firm_fields N) N.firms _ N firm_step (λ l h. policies_end l (omega (arith, h))) [] N.firms last refl low
 
   abbrev from_resets : List Row
-  from_resets = map (reset_fields N) N.resets ++ map (firm_fields N) N.firms
+  from_resets = map (reset_fields N) N.resets ++ from_firms
 
   resets_end : (last : Kind) → kind_place last ≤ kind_place kind.Reset → Ends (with_resets [], last) from_resets N
   resets_end last low = one_by_one kind.Reset with_resets (reset_fields N) N.resets _ N reset_step (λ l h. firms_end l (omega (arith, h))) [] N.resets last

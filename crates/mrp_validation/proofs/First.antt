@@ -27,10 +27,10 @@ use Rattle.mrp_validation.specs.Grammar.{◌>>=◌, amount_row, amount_terms, Am
 use Rattle.mrp_validation.specs.Grammar.{demand_made, demand_of, field, has_bill, has_cum, has_reset, is_empty_from, is_made, kind_of, known_lane, known_pair}
 use Rattle.mrp_validation.specs.Grammar.{knows_sources, lane_terms, LaneTerms, may_follow, name_field, pair_fits, pair_terms, PairTerms, plant_in_row}
 use Rattle.mrp_validation.specs.Grammar.{receipt_made, receipt_of, reset_between, reset_in_row, row_kind, run_terms, RunTerms, ship_of, ship_terms}
-use Rattle.mrp_validation.specs.Grammar.{firm_of, firm_terms, FirmTerms, used}
+use Rattle.mrp_validation.specs.Grammar.{firm_of, firm_terms, FirmTerms, has_policy, policy_made, policy_of, policy_terms, PolicyTerms, used}
 use Rattle.mrp_validation.specs.Reading.{first_terms, is_run, kind_of_row, row_after, row_of_kind}
 use Rattle.mrp_validation.specs.Tests.{amount_passes, bill_passes, cum_passes, first_failed, fits_kind, has_number, HasFirstFault, is_in_order, is_lane, pair_in}
-use Rattle.mrp_validation.specs.Tests.{firm_passes, first_due, pair_passes, passes, passes_of, plant_in, plant_passes}
+use Rattle.mrp_validation.specs.Tests.{firm_passes, first_due, pair_passes, passes, passes_of, plant_in, plant_passes, policy_passes}
 use Rattle.mrp_validation.specs.Tests.{reset_passes, row_passes, run_passes, ship_passes, sources_in, stands_well, three_names, two_names}
 use Rattle.mrp_validation.proofs.KeepingRows.{on_lane}
 use Rattle.mrp_validation.proofs.KeepingSteps.{after, after_check, after_some, same_Ok}
@@ -333,6 +333,46 @@ firm_names row periods t e =
       sym (ap (λ (p : FirmTerms). p.item) same) ∙ name_same (field row 2) b.0 b.1,
     )
 
+-- a policy row: two names and five numbers
+policy_refusal : (row : List (List ℕ)) (periods : ℕ) → result_err (policy_terms row periods)
+    ≡ cond (not (two_names row)) (Some fault.BadName) (cond (not (has_number row 3 0 (periods - 1) && has_number row 4 0 LONGEST_LEAD
+    && has_number row 5 0 LONGEST_LEAD && has_number row 6 0 MOST_IN_ROW && has_number row 7 0 MOST_IN_ROW)) (Some fault.BadNumber) None)
+unfolding policy_terms
+policy_refusal row periods =
+    by (is_name (field row 1)) (is_name (field row 2)) (field row 1) (field row 2) (number_within (field row 3) 0 (periods - 1))
+    (number_within (field row 4) 0 LONGEST_LEAD) (number_within (field row 5) 0 LONGEST_LEAD)
+    (number_within (field row 6) 0 MOST_IN_ROW) (number_within (field row 7) 0 MOST_IN_ROW)
+  where
+    by : (a b : Bool) (x y : List ℕ) (f s c l m : Option ℕ)
+        → result_err {T = PolicyTerms} ((if a then Ok x else Err fault.BadName) >>= λ p. (if b then Ok y
+        else Err fault.BadName) >>= λ q. ok_or f fault.BadNumber >>= λ h. ok_or s fault.BadNumber >>= λ i. ok_or c fault.BadNumber >>= λ j.
+        ok_or l fault.BadNumber >>= λ k. ok_or m fault.BadNumber >>= λ n. Ok
+        (record { plant = p; item = q; fence = h; sooner = i; cover = j; least = k; multiple = n }))
+        ≡ cond (not (a && b)) (Some fault.BadName) (cond (not (is_some f && is_some s && is_some c && is_some l && is_some m)) (Some fault.BadNumber) None)
+    by true true x y (Some f) (Some s) (Some c) (Some l) (Some m) = refl
+    by true true x y (Some f) (Some s) (Some c) (Some l) None = refl
+    by true true x y (Some f) (Some s) (Some c) None m = refl
+    by true true x y (Some f) (Some s) None l m = refl
+    by true true x y (Some f) None c l m = refl
+    by true true x y None s c l m = refl
+    by true false x y f s c l m = refl
+    by false b x y f s c l m = refl
+
+policy_names : (row : List (List ℕ)) (periods : ℕ) (t : PolicyTerms) → policy_terms row periods ≡ Ok t → (t.plant ≡ field row 1) × (t.item ≡ field row 2)
+unfolding policy_terms
+policy_names row periods t e =
+    let a = after (name_field (field row 1)) _ t e in
+    let b = after (name_field (field row 2)) _ t a.2 in
+    let c = after_some (number_within (field row 3) 0 (periods - 1)) _ _ t b.2 in
+    let d = after_some (number_within (field row 4) 0 LONGEST_LEAD) _ _ t c.2 in
+    let f = after_some (number_within (field row 5) 0 LONGEST_LEAD) _ _ t d.2 in
+    let g = after_some (number_within (field row 6) 0 MOST_IN_ROW) _ _ t f.2 in
+    let h = after_some (number_within (field row 7) 0 MOST_IN_ROW) _ _ t g.2 in
+    let same = same_Ok _ t h.2 in (
+      sym (ap (λ (p : PolicyTerms). p.plant) same) ∙ name_same (field row 1) a.0 a.1,
+      sym (ap (λ (p : PolicyTerms). p.item) same) ∙ name_same (field row 2) b.0 b.1,
+    )
+
 -- ---- what a row says, tested against the rows before it
 
 known_refusal : (N : Table) (plant item : List ℕ) → result_err (known_pair N plant item)
@@ -395,6 +435,11 @@ reset_new : (N : Table) (row : List (List ℕ)) (t : LaneTerms) → t ≡ lane_i
     ≡ cond (not (not (reset_between N (plant_in N row 1) (pair_in N row 2 3)))) (Some fault.Repeated) None
 reset_new N row t same = ap (λ (x : LaneTerms). result_err (check (not (has_reset N x)) fault.Repeated)) same
     ∙ checked (not (has_reset N (lane_in row))) fault.Repeated
+
+policy_new : (N : Table) (row : List (List ℕ)) (plant item : List ℕ) → (plant ≡ field row 1) × (item ≡ field row 2)
+    → result_err (check (not (has_policy N (pair_named N (plant_no N plant) item))) fault.Repeated)
+    ≡ cond (not (not (has_policy N (pair_in N row 1 2)))) (Some fault.Repeated) None
+policy_new N row plant item names = rw (names.0, names.1) (checked (not (has_policy N (pair_in N row 1 2))) fault.Repeated)
 
 order_is : (N : Table) (row : List (List ℕ)) (t : LaneTerms) (lane : PlantNo × PairNo) → t ≡ lane_in row → known_lane N t ≡ Ok lane
     → is_in_order N (plant_in N row 1) (pair_in N row 2 3) ≡ rises_from 0 (arrivals N lane.0.0 lane.1.0)
@@ -560,6 +605,18 @@ firm-first N row =
     (λ t is. more p (fault.UnknownPlant ∷ fault.UnknownPair ∷ []) (fault.TooMany ∷ []) (known_pair N t.plant t.item) _
     (known_in N row t.plant t.item (firm_names row (horizon N) t is)) (λ x found. last (nat_lt (length N.firms) MOST_OF_A_KIND) fault.TooMany _))
 
+policy-first : (N : Table) (row : List (List ℕ)) → result_err (policy_of N row) ≡ first_failed (policy_passes N row) (faults_of_kind kind.Policy)
+unfolding policy_of
+policy-first N row =
+    let p = policy_passes N row in
+    more p (fault.BadName ∷ fault.BadNumber ∷ []) (fault.Repeated ∷ fault.UnknownPlant ∷ fault.UnknownPair ∷ []) (policy_terms row (horizon N)) _
+    (policy_refusal row (horizon N))
+    (λ t is. more p (fault.Repeated ∷ []) (fault.UnknownPlant ∷ fault.UnknownPair ∷ [])
+    (check (not (has_policy N (pair_named N (plant_no N t.plant) t.item))) fault.Repeated) _
+    (policy_new N row t.plant t.item (policy_names row (horizon N) t is))
+    (λ u new. kept (known_pair N t.plant t.item) (λ found. policy_made found.1 t)
+    ∙ known_in N row t.plant t.item (policy_names row (horizon N) t is)))
+
 -- ---- a row of any kind
 
 kind_refusal : (row : List (List ℕ)) → result_err (kind_of_row row)
@@ -610,6 +667,7 @@ of-kind kind.Ship last N row u follows = kept (ship_of N row) _ ∙ ship-first N
 of-kind kind.Cum last N row u follows = kept (cum_of N row) _ ∙ cum-first N row
 of-kind kind.Reset last N row u follows = kept (reset_in_row N row) _ ∙ reset-first N row
 of-kind kind.Firm last N row u follows = kept (firm_of N row) _ ∙ firm-first N row
+of-kind kind.Policy last N row u follows = kept (policy_of N row) _ ∙ policy-first N row
 
 of-named : (k : Kind) (o : Option Kind) (last : Kind) (N : Table) (row : List (List ℕ)) (u : Unit {0}) → o ≡ Some k
     → check (may_follow k last) fault.KindOrder ≡ Ok u

@@ -7,6 +7,7 @@ use Rattle.mrp_master_data.specs.declared.rows.BillRow.{BillRow}
 use Rattle.mrp_master_data.specs.declared.rows.CumRow.{CumRow}
 use Rattle.mrp_master_data.specs.declared.rows.DemandRow.{DemandRow}
 use Rattle.mrp_master_data.specs.declared.rows.FirmRow.{FirmRow}
+use Rattle.mrp_master_data.specs.declared.rows.PolicyRow.{PolicyRow}
 use Rattle.mrp_master_data.specs.declared.rows.ReceiptRow.{ReceiptRow}
 use Rattle.mrp_master_data.specs.declared.rows.ResetRow.{ResetRow}
 use Rattle.mrp_master_data.specs.declared.rows.ShipRow.{ShipRow}
@@ -16,18 +17,18 @@ use Rattle.mrp_validation.specs.declared.fault.TableFaultKind.{TableFaultKind}
 use Rattle.mrp_validation.specs.declared.kind.Kind.{Kind}
 use Rattle.mrp_validation.specs.declared.kind.Kind.TheVariants as kind
 use Rattle.mrp_validation.specs.Grammar.{◌>>=◌, bill_of, cum_of, demand_of, may_follow, kind_place, plant_in_row, receipt_of, reset_in_row, ship_of}
-use Rattle.mrp_validation.specs.Grammar.{firm_of}
-use Rattle.mrp_master_data.specs.Growing.{with_plant, with_bill, with_demand, with_receipt, with_ship, with_cum, with_reset, with_firm}
+use Rattle.mrp_validation.specs.Grammar.{firm_of, policy_of}
+use Rattle.mrp_master_data.specs.Growing.{with_plant, with_bill, with_demand, with_receipt, with_ship, with_cum, with_reset, with_firm, with_policy}
 use Rattle.mrp_validation.specs.Reading.{IsReadSoFar, kind_of_row, row_after, row_of_kind}
-use Rattle.mrp_master_data.specs.Table.{Table, IsBillRow, IsCumRow, IsDemandRow, IsFirmRow, IsName, IsPairRow}
+use Rattle.mrp_master_data.specs.Table.{Table, IsBillRow, IsCumRow, IsDemandRow, IsFirmRow, IsName, IsPairRow, IsPolicyRow}
 use Rattle.mrp_master_data.specs.Table.{IsReceiptRow, IsResetRow, IsShipRow, IsSourceRow, is_same_pair}
-use Rattle.mrp_master_data.specs.Table.{is_same_source, is_same_bill, is_same_cum, is_same_reset}
+use Rattle.mrp_master_data.specs.Table.{is_same_source, is_same_bill, is_same_cum, is_same_policy, is_same_reset}
 use Rattle.mrp_master_data.specs.Growing.{empty_table}
 use Rattle.mrp_validation.proofs.KeepingBill.{bill_keeps}
 use Rattle.mrp_master_data.proofs.SpelledLists.{IsDistinct-nil}
 use Rattle.mrp_validation.proofs.KeepingPair.{pair_keeps}
-use Rattle.mrp_validation.proofs.KeepingRead.{bill_read, cum_read, demand_read, firm_read, plant_read, receipt_read, reset_read, ship_read}
-use Rattle.mrp_validation.proofs.KeepingRows.{plant_keeps, demand_keeps, receipt_keeps, ship_keeps, cum_keeps, reset_keeps, firm_keeps}
+use Rattle.mrp_validation.proofs.KeepingRead.{bill_read, cum_read, demand_read, firm_read, plant_read, policy_read, receipt_read, reset_read, ship_read}
+use Rattle.mrp_validation.proofs.KeepingRows.{plant_keeps, demand_keeps, receipt_keeps, ship_keeps, cum_keeps, reset_keeps, firm_keeps, policy_keeps}
 use Rattle.mrp_validation.proofs.KeepingSteps.{after, after_check, same_Ok}
 
 -- a kind stands with the kinds before it
@@ -139,6 +140,19 @@ module _ (N : Table) (last : Kind) (row : List (List ℕ)) (so_far : IsReadSoFar
             λ lt. absurd (omega arith);
       }
 
+  policy_more : (x : PolicyRow) → policy_of N row ≡ Ok x → IsReadSoFar (with_policy N x) kind.Policy
+  policy_more x is =
+      let kept = policy_keeps N row x so_far.once so_far.sourced is in
+      record {
+        read = policy_read N row x so_far.read kept.0 is;
+        once = kept.0;
+        sourced = kept.1;
+        items = so_far.items;
+        sources = so_far.sources;
+        resets =
+            λ lt. absurd (omega arith);
+      }
+
 -- what was read of a row makes the table with it
 made_keeps : {X : Type 0} (k : Kind) (read : Result X TableFaultKind) (made : X → Table) (M : Table) → ((x : X) → read ≡ Ok x → IsReadSoFar (made x) k)
     → (read >>= λ x. Ok (made x)) ≡ Ok M → IsReadSoFar M k
@@ -162,6 +176,7 @@ row_keeps kind.Ship last N M row so_far before is = made_keeps kind.Ship (ship_o
 row_keeps kind.Cum last N M row so_far before is = made_keeps kind.Cum (cum_of N row) (with_cum N) M (λ x. cum_more N last row so_far x before) is
 row_keeps kind.Reset last N M row so_far before is = made_keeps kind.Reset (reset_in_row N row) (with_reset N) M (λ x. reset_more N last row so_far x) is
 row_keeps kind.Firm last N M row so_far before is = made_keeps kind.Firm (firm_of N row) (with_firm N) M (λ x. firm_more N last row so_far x) is
+row_keeps kind.Policy last N M row so_far before is = made_keeps kind.Policy (policy_of N row) (with_policy N) M (λ x. policy_more N last row so_far x) is
 
 -- a table and the kind of its last row
 abbrev Kept : Table × Kind → Type 0
@@ -194,6 +209,7 @@ empty_keeps c calendar = record {
       cums = omega arith;
       resets = omega arith;
       firms = omega arith;
+      policies = omega arith;
     };
     plants = All-nil IsName;
     items = All-nil IsName;
@@ -206,6 +222,7 @@ empty_keeps c calendar = record {
     cums = All-nil (IsCumRow (empty_table c));
     resets = All-nil (IsResetRow (empty_table c));
     firms = All-nil (IsFirmRow (empty_table c));
+    policies = All-nil (IsPolicyRow (empty_table c));
   };
   once = record {
     plants = IsDistinct-nil bytes_eq;
@@ -215,6 +232,7 @@ empty_keeps c calendar = record {
     bills = IsDistinct-nil is_same_bill;
     cums = IsDistinct-nil is_same_cum;
     resets = IsDistinct-nil is_same_reset;
+    policies = IsDistinct-nil is_same_policy;
   };
   sourced = record {
     items = λ i lt. absurd (omega arith);

@@ -230,6 +230,7 @@ module _ (N : Table) (plant : PlantNo) (t : PairTerms) (read : IsRead N) (once :
     bills = once.bills;
     cums = once.cums;
     resets = once.resets;
+    policies = once.policies;
   }
 
   pub old_kept : (x : ℕ) → x < length N.pairs → sources_of_pair M x ≡ sources_of_pair N x
@@ -379,6 +380,7 @@ module _ (N : Table) (plant : PlantNo) (t : PairTerms) (read : IsRead N) (once :
       } in
       let item : Changes IsName MOST_PAIRS N.items M.items = name_added N.items t.item says.item (omega (arith, few_items, fit.room)) in
       read_grows N M read grows same_rows item (one_more new_row row_in fit.room) sources same_rows same_rows same_rows same_rows same_rows same_rows same_rows
+      same_rows
 
 -- a pair row more stands after the run, the plants and other pairs
 pub pair_keeps : (N M : Table) (last : Kind) (row : List (List ℕ)) → IsReadSoFar N last → kind_place last ≤ kind_place kind.Pair → pair_row N row ≡ Ok M

@@ -6,6 +6,7 @@ use Rattle.mrp_master_data.specs.declared.rows.BillRow.{BillRow}
 use Rattle.mrp_master_data.specs.declared.rows.CumRow.{CumRow}
 use Rattle.mrp_master_data.specs.declared.rows.DemandRow.{DemandRow}
 use Rattle.mrp_master_data.specs.declared.rows.FirmRow.{FirmRow}
+use Rattle.mrp_master_data.specs.declared.rows.PolicyRow.{PolicyRow}
 use Rattle.mrp_master_data.specs.declared.rows.ReceiptRow.{ReceiptRow}
 use Rattle.mrp_master_data.specs.declared.rows.ResetRow.{ResetRow}
 use Rattle.mrp_master_data.specs.declared.rows.ShipRow.{ShipRow}
@@ -16,7 +17,7 @@ use Rattle.mrp_master_data.specs.declared.numbers.PairNo.{PairNo}
 use Rattle.mrp_qty.specs.declared.quantity.TheConstants.{MOST}
 use Rattle.mrp_validation.specs.Grammar.{AmountTerms, BillTerms, LaneTerms, amount_row, amount_terms, bill_fits, cum_of, lane_number, demand_made, demand_of}
 use Rattle.mrp_validation.specs.Grammar.{has_bill, has_cum, has_reset, is_made, known_lane, known_pair, receipt_made, receipt_of, reset_in_row}
-use Rattle.mrp_validation.specs.Grammar.{firm_of, firm_terms, FirmTerms, ship_of, ship_terms}
+use Rattle.mrp_validation.specs.Grammar.{firm_of, firm_terms, FirmTerms, has_policy, policy_made, policy_of, policy_terms, PolicyTerms, ship_of, ship_terms}
 use Rattle.mrp_validation.proofs.KeepingSteps.{after, after_check, after_some, same_Ok}
 
 pub record BillParts (N : Table) (t : BillTerms) (b : BillRow) : Type 0 where
@@ -99,6 +100,25 @@ firm_parts N row x is =
     let b = after (known_pair N a.0.plant a.0.item) _ x a.2 in
     let c = after_check (ltb (length N.firms) MOST_OF_A_KIND) _ _ x b.2 in
     record { terms = a.0; found = b.0; read = a.1; known = b.1; room = c.0; same = same_Ok _ x c.1 }
+
+-- ---- policies
+
+pub record PolicyParts (N : Table) (row : List (List ℕ)) (x : PolicyRow) : Type 0 where
+  pub terms : PolicyTerms
+  pub found : PlantNo × PairNo
+  pub read : policy_terms row (horizon N) ≡ Ok terms
+  pub new : has_policy N (pair_named N (plant_no N terms.plant) terms.item) ≡ false
+  pub known : known_pair N terms.plant terms.item ≡ Ok found
+  pub same : policy_made found.1 terms ≡ x
+
+pub policy_parts : (N : Table) (row : List (List ℕ)) (x : PolicyRow) → policy_of N row ≡ Ok x → PolicyParts N row x
+unfolding policy_of
+policy_parts N row x is =
+    let a = after (policy_terms row (horizon N)) _ x is in
+    let there = has_policy N (pair_named N (plant_no N a.0.plant) a.0.item) in
+    let b = after_check (not there) _ _ x a.2 in
+    let c = after (known_pair N a.0.plant a.0.item) _ x b.1 in
+    record { terms = a.0; found = c.0; read = a.1; new = not-true there b.0; known = c.1; same = same_Ok _ x c.2 }
 
 -- ---- rows of a lane
 

@@ -1,5 +1,5 @@
 -- A row more that fits is in range, and names what is there.
-use Rattle.std.proofs.Common.{◌≡◌, ◌≤◌, ◌<◌, ℕ, ◌-◌, ◌==◌, ◌&&◌, ◌||◌, Bool, true, false, not, ltb, if◌then◌else◌, List, [], ◌∷◌, map, length, Option, Some}
+use Rattle.std.proofs.Common.{◌≡◌, ◌≤◌, ◌<◌, ℕ, ◌-◌, ◌==◌, ◌&&◌, ◌||◌, Bool, true, false, not, ltb, if◌then◌else◌, List, [], ◌∷◌, ◌++◌, map, length, Option, Some}
 use Rattle.std.proofs.Common.{None, position, Result, Ok, Err, ok_or, refl, ap, ◌∙◌, subst, arith}
 use Rattle.std.specs.Cmp.{IsEquivalence}
 use Rattle.std.specs.List.{All, list_any}
@@ -7,9 +7,10 @@ use Rattle.std.specs.Str.{bytes_eq}
 use Rattle.std.proofs.lemmas.Bool.{eq-eqb, eqb-true}
 use Rattle.std.proofs.lemmas.Bool.Decides.{nat_tests}
 use Rattle.std.proofs.lemmas.List.{length-map, length_push}
-use Rattle.std.proofs.lemmas.List.Elements.{All-head, All-tail}
+use Rattle.std.proofs.lemmas.List.Elements.{All-head, All-push, All-tail, All-weaker}
 use Rattle.std.proofs.lemmas.Map.Made.{length-le_from_is_member}
 use Rattle.mrp_qty.specs.declared.quantity.TheConstants.{MOST}
+use Rattle.mrp_lot.specs.declared.rule.TheConstants.{LONGEST_LEAD}
 use Rattle.mrp_master_data.specs.declared.numbers.PlantNo.{PlantNo}
 use Rattle.mrp_master_data.specs.declared.numbers.PairNo.{PairNo}
 use Rattle.mrp_qty.specs.declared.limits.TheConstants.{MOST_BILLS, MOST_IN_ROW, MOST_OF_A_KIND, MOST_PER, MOST_PLANTS}
@@ -17,16 +18,17 @@ use Rattle.mrp_master_data.specs.declared.rows.BillRow.{BillRow}
 use Rattle.mrp_master_data.specs.declared.rows.CumRow.{CumRow}
 use Rattle.mrp_master_data.specs.declared.rows.DemandRow.{DemandRow}
 use Rattle.mrp_master_data.specs.declared.rows.FirmRow.{FirmRow}
+use Rattle.mrp_master_data.specs.declared.rows.PolicyRow.{PolicyRow}
 use Rattle.mrp_master_data.specs.declared.rows.ReceiptRow.{ReceiptRow}
 use Rattle.mrp_master_data.specs.declared.rows.ResetRow.{ResetRow}
 use Rattle.mrp_master_data.specs.declared.rows.ShipRow.{ShipRow}
 use Rattle.mrp_master_data.specs.declared.rows.SourceRow.{SourceRow}
-use Rattle.mrp_master_data.specs.Growing.{with_bill, with_cum, with_demand, with_firm, with_plant, with_receipt, with_reset, with_ship}
+use Rattle.mrp_master_data.specs.Growing.{with_bill, with_cum, with_demand, with_firm, with_plant, with_policy, with_receipt, with_reset, with_ship}
 use Rattle.mrp_master_data.specs.Names.{has_plant, pair_named, pair_of_item, plant_no}
 use Rattle.mrp_master_data.specs.Table.{horizon, IsBillRow, IsCumRow, IsDemandRow, IsName, IsOnce, IsRead, IsReceiptRow, IsResetRow, IsShipRow, is_same_reset}
-use Rattle.mrp_master_data.specs.Table.{IsFirmRow, IsSourced, Table}
+use Rattle.mrp_master_data.specs.Table.{IsFirmRow, IsPolicyRow, IsSourced, Table}
 use Rattle.mrp_master_data.proofs.Keys.{same_test}
-use Rattle.mrp_master_data.proofs.Grow.{read-with_bill, read-with_cum, read-with_demand, read-with_firm, read-with_plant, read-with_receipt, read-with_reset, read-with_ship}
+use Rattle.mrp_master_data.proofs.Grow.{read-with_bill, read-with_cum, read-with_demand, read-with_firm, read-with_plant, read-with_policy, read-with_receipt, read-with_reset, read-with_ship}
 use Rattle.mrp_master_data.specs.Spelling.{is_name}
 use Rattle.mrp_master_data.specs.Parsing.{number_within}
 use Rattle.mrp_master_data.proofs.Mapped.{list_any_keys}
@@ -35,9 +37,10 @@ use Rattle.mrp_validation.specs.declared.fault.TableFaultKind.{TableFaultKind}
 use Rattle.mrp_validation.specs.declared.fault.TableFaultKind.TheVariants as fault
 use Rattle.mrp_validation.specs.Grammar.{◌>>=◌, amount_terms, AmountTerms, bill_fits, bill_of, bill_terms, BillTerms, cum_of, lane_number, demand_made, demand_of}
 use Rattle.mrp_validation.specs.Grammar.{field, known_lane, known_pair, lane_terms, LaneTerms, name_field, plant_in_row, plant_terms, ranged}
-use Rattle.mrp_validation.specs.Grammar.{firm_of, firm_terms, FirmTerms, receipt_made, receipt_of, reset_in_row, ship_of, ship_terms}
+use Rattle.mrp_validation.specs.Grammar.{firm_of, firm_terms, FirmTerms, policy_of, policy_terms, PolicyTerms, receipt_made, receipt_of, reset_in_row, ship_of, ship_terms}
 use Rattle.mrp_validation.proofs.KeepingLists.{position_there}
-use Rattle.mrp_validation.proofs.KeepingParts.{AmountParts, bill_parts, cum_parts, demand_parts, firm_parts, receipt_parts, reset_parts, ship_parts}
+use Rattle.mrp_validation.proofs.KeepingParts.{AmountParts, bill_parts, cum_parts, demand_parts, firm_parts, policy_parts, receipt_parts, reset_parts, ship_parts}
+use Rattle.mrp_validation.proofs.KeepingFew.{few, HasBelow}
 use Rattle.mrp_validation.proofs.KeepingRows.{on_lane}
 use Rattle.mrp_validation.proofs.KeepingSteps.{after, after_check, after_some, same_Ok}
 
@@ -245,6 +248,59 @@ firm_read N row x read is =
       quantity = few.1;
     }) in
     read-with_firm N x read made (lt_test (length N.firms) MOST_OF_A_KIND p.room)
+
+-- ---- policies
+
+-- each field of a policy row is read as it stands in the terms
+pub record PolicyRead (row : List (List ℕ)) (periods : ℕ) (t : PolicyTerms) : Type 0 where
+  pub plant : name_field (field row 1) ≡ Ok t.plant
+  pub item : name_field (field row 2) ≡ Ok t.item
+  pub fence : ranged (field row 3) 0 (periods - 1) ≡ Ok t.fence
+  pub sooner : ranged (field row 4) 0 LONGEST_LEAD ≡ Ok t.sooner
+  pub cover : ranged (field row 5) 0 LONGEST_LEAD ≡ Ok t.cover
+  pub least : ranged (field row 6) 0 MOST_IN_ROW ≡ Ok t.least
+  pub multiple : ranged (field row 7) 0 MOST_IN_ROW ≡ Ok t.multiple
+
+pub policy_terms_read : (row : List (List ℕ)) (periods : ℕ) (t : PolicyTerms) → policy_terms row periods ≡ Ok t → PolicyRead row periods t
+unfolding policy_terms
+policy_terms_read row periods t is =
+    let n = two_names_read row _ t is in
+    let a = after (ranged (field row 3) 0 (periods - 1)) _ t n.rest in
+    let b = after (ranged (field row 4) 0 LONGEST_LEAD) _ t a.2 in
+    let c = after (ranged (field row 5) 0 LONGEST_LEAD) _ t b.2 in
+    let d = after (ranged (field row 6) 0 MOST_IN_ROW) _ t c.2 in
+    let e = after (ranged (field row 7) 0 MOST_IN_ROW) _ t d.2 in
+    let same : record { plant = n.first; item = n.second; fence = a.0; sooner = b.0; cover = c.0; least = d.0; multiple = e.0 } ≡ t = same_Ok _ t e.2 in
+    subst (PolicyRead row periods) same (record {
+      plant = n.first_is;
+      item = n.second_is;
+      fence = a.1;
+      sooner = b.1;
+      cover = c.1;
+      least = d.1;
+      multiple = e.1;
+    })
+
+abbrev pair_of : PolicyRow → ℕ
+pair_of p = p.pair.0
+
+pub policy_read : (N : Table) (row : List (List ℕ)) (x : PolicyRow) → IsRead N → IsOnce (with_policy N x) → policy_of N row ≡ Ok x → IsRead (with_policy N x)
+policy_read N row x read once is =
+    let p = policy_parts N row x is in
+    let t = p.terms in
+    let fields = policy_terms_read row (horizon N) t p.read in
+    let made : IsPolicyRow N x = subst (IsPolicyRow N) p.same (record {
+      pair = known_within N t.plant t.item p.found p.known;
+      fence = period_is N (field row 3) t.fence read fields.fence;
+      sooner = (ranged_is (field row 4) 0 LONGEST_LEAD t.sooner fields.sooner).1;
+      cover = (ranged_is (field row 5) 0 LONGEST_LEAD t.cover fields.cover).1;
+      least = (ranged_is (field row 6) 0 MOST_IN_ROW t.least fields.least).1;
+      multiple = (ranged_is (field row 7) 0 MOST_IN_ROW t.multiple fields.multiple).1;
+    }) in
+    let within = All-push (HasBelow pair_of (length N.pairs)) N.policies x
+    (All-weaker (IsPolicyRow N) (HasBelow pair_of (length N.pairs)) (λ q h. h.pair) N.policies read.policies) made.pair in
+    let le = few pair_of (N.policies ++ x ∷ []) (length N.pairs) once.policies within in
+    read-with_policy N x read made (omega (arith, le, length_push N.policies x, read.limits.pairs))
 
 -- ---- lanes
 

@@ -9,17 +9,18 @@ use Rattle.mrp_qty.specs.declared.limits.TheConstants.{MOST_PLANTS}
 use Rattle.mrp_master_data.specs.declared.rows.CumRow.{CumRow}
 use Rattle.mrp_master_data.specs.declared.rows.DemandRow.{DemandRow}
 use Rattle.mrp_master_data.specs.declared.rows.FirmRow.{FirmRow}
+use Rattle.mrp_master_data.specs.declared.rows.PolicyRow.{PolicyRow}
 use Rattle.mrp_master_data.specs.declared.rows.ReceiptRow.{ReceiptRow}
 use Rattle.mrp_master_data.specs.declared.rows.ResetRow.{ResetRow}
 use Rattle.mrp_master_data.specs.declared.rows.ShipRow.{ShipRow}
-use Rattle.mrp_master_data.specs.Table.{Table, IsOnce, IsSourced, is_taken_from, is_same_cum, is_same_reset}
-use Rattle.mrp_master_data.specs.Growing.{with_plant, with_demand, with_receipt, with_ship, with_cum, with_reset, with_firm}
-use Rattle.mrp_validation.specs.Grammar.{LaneTerms, cum_between, cum_of, known_lane, plant_in_row, plant_terms, reset_between, reset_in_row, ship_of}
+use Rattle.mrp_master_data.specs.Table.{Table, IsOnce, IsSourced, is_taken_from, is_same_cum, is_same_policy, is_same_reset}
+use Rattle.mrp_master_data.specs.Growing.{with_plant, with_demand, with_receipt, with_ship, with_cum, with_reset, with_firm, with_policy}
+use Rattle.mrp_validation.specs.Grammar.{LaneTerms, cum_between, cum_of, has_policy, known_lane, known_pair, plant_in_row, plant_terms, policy_of, reset_between, reset_in_row, ship_of}
 use Rattle.mrp_master_data.specs.Names.{has_plant, pair_named, plant_no}
 use Rattle.mrp_master_data.specs.Table.{rises_from, arrivals}
 use Rattle.mrp_master_data.proofs.SpelledLists.{distinct_push}
 use Rattle.mrp_master_data.proofs.Naming.{distinct_name}
-use Rattle.mrp_validation.proofs.KeepingParts.{cum_parts, reset_parts, ship_parts}
+use Rattle.mrp_validation.proofs.KeepingParts.{cum_parts, policy_parts, reset_parts, ship_parts}
 use Rattle.mrp_validation.proofs.KeepingSame.{stays_once, stays_sourced}
 use Rattle.mrp_validation.proofs.KeepingSteps.{after, after_check, after_some, same_Ok}
 
@@ -37,7 +38,7 @@ new_plant N row name is =
 pub plant_keeps : (N : Table) (row : List (List ℕ)) (name : List ℕ) → IsOnce N → IsSourced N → plant_in_row N row ≡ Ok name
     → IsOnce (with_plant N name) × IsSourced (with_plant N name)
 plant_keeps N row name once sourced is = (
-  stays_once N (with_plant N name) refl once (distinct_name N.plants name once.plants (new_plant N row name is)) once.bills once.cums once.resets,
+  stays_once N (with_plant N name) refl once (distinct_name N.plants name once.plants (new_plant N row name is)) once.bills once.cums once.resets once.policies,
   stays_sourced N (with_plant N name) refl sourced sourced.parents sourced.plants sourced.ships sourced.cums sourced.resets sourced.arrive,
 )
 
@@ -45,13 +46,13 @@ plant_keeps N row name once sourced is = (
 
 pub demand_keeps : (N : Table) (x : DemandRow) → IsOnce N → IsSourced N → IsOnce (with_demand N x) × IsSourced (with_demand N x)
 demand_keeps N x once sourced = (
-  stays_once N (with_demand N x) refl once once.plants once.bills once.cums once.resets,
+  stays_once N (with_demand N x) refl once once.plants once.bills once.cums once.resets once.policies,
   stays_sourced N (with_demand N x) refl sourced sourced.parents sourced.plants sourced.ships sourced.cums sourced.resets sourced.arrive,
 )
 
 pub receipt_keeps : (N : Table) (x : ReceiptRow) → IsOnce N → IsSourced N → IsOnce (with_receipt N x) × IsSourced (with_receipt N x)
 receipt_keeps N x once sourced = (
-  stays_once N (with_receipt N x) refl once once.plants once.bills once.cums once.resets,
+  stays_once N (with_receipt N x) refl once once.plants once.bills once.cums once.resets once.policies,
   stays_sourced N (with_receipt N x) refl sourced sourced.parents sourced.plants sourced.ships sourced.cums sourced.resets sourced.arrive,
 )
 
@@ -59,8 +60,34 @@ receipt_keeps N x once sourced = (
 
 pub firm_keeps : (N : Table) (x : FirmRow) → IsOnce N → IsSourced N → IsOnce (with_firm N x) × IsSourced (with_firm N x)
 firm_keeps N x once sourced = (
-  stays_once N (with_firm N x) refl once once.plants once.bills once.cums once.resets,
+  stays_once N (with_firm N x) refl once once.plants once.bills once.cums once.resets once.policies,
   stays_sourced N (with_firm N x) refl sourced sourced.parents sourced.plants sourced.ships sourced.cums sourced.resets sourced.arrive,
+)
+
+-- ---- policies
+
+-- the place of a pair that is there
+pub known_named : (N : Table) (plant item : List ℕ) (found : PlantNo × PairNo) → known_pair N plant item ≡ Ok found
+    → pair_named N (plant_no N plant) item ≡ Some found.1.0
+unfolding known_pair
+known_named N plant item found is =
+    let a = after_some (plant_no N plant) _ _ found is in
+    let b = after_some (pair_named N (Some a.0) item) _ _ found a.2 in
+    let same : ◌≡◌ {A = PlantNo × PairNo} (record { 0 = a.0 }, record { 0 = b.0 }) found = same_Ok _ found b.2 in
+    ap (λ (o : Option ℕ). pair_named N o item) a.1 ∙ b.1 ∙ ap (λ (f : PlantNo × PairNo). Some f.1.0) same
+
+policy_new : (N : Table) (row : List (List ℕ)) (x : PolicyRow) → policy_of N row ≡ Ok x → list_any (λ p. is_same_policy p x) N.policies ≡ false
+policy_new N row x is =
+    let p = policy_parts N row x is in
+    let named = known_named N p.terms.plant p.terms.item p.found p.known in
+    subst (λ (y : PolicyRow). list_any (λ p. is_same_policy p y) N.policies ≡ false) p.same (ap (has_policy N) (sym named) ∙ p.new)
+
+pub policy_keeps : (N : Table) (row : List (List ℕ)) (x : PolicyRow) → IsOnce N → IsSourced N → policy_of N row ≡ Ok x
+    → IsOnce (with_policy N x) × IsSourced (with_policy N x)
+policy_keeps N row x once sourced is = (
+  stays_once N (with_policy N x) refl once once.plants once.bills once.cums once.resets
+      (distinct_push is_same_policy N.policies x once.policies (policy_new N row x is)),
+  stays_sourced N (with_policy N x) refl sourced sourced.parents sourced.plants sourced.ships sourced.cums sourced.resets sourced.arrive,
 )
 
 -- ---- lanes
@@ -95,7 +122,7 @@ ship_lane N row x is =
 pub ship_keeps : (N : Table) (row : List (List ℕ)) (x : ShipRow) → IsOnce N → IsSourced N → N.resets ≡ [] → ship_of N row ≡ Ok x
     → IsOnce (with_ship N x) × IsSourced (with_ship N x)
 ship_keeps N row x once sourced none is = (
-  stays_once N (with_ship N x) refl once once.plants once.bills once.cums once.resets,
+  stays_once N (with_ship N x) refl once once.plants once.bills once.cums once.resets once.policies,
   stays_sourced N (with_ship N x) refl sourced sourced.parents sourced.plants
       (All-push (λ s. is_taken_from N s.pair.0 s.from.0 ≡ true) N.ships x sourced.ships (ship_lane N row x is)) sourced.cums sourced.resets
       (λ k d lt. absurd (omega (arith, ap length none, lt))),
@@ -120,7 +147,7 @@ cum_lane N row x is =
 pub cum_keeps : (N : Table) (row : List (List ℕ)) (x : CumRow) → IsOnce N → IsSourced N → cum_of N row ≡ Ok x → IsOnce (with_cum N x) × IsSourced (with_cum N x)
 cum_keeps N row x once sourced is =
     let says = cum_lane N row x is in (
-      stays_once N (with_cum N x) refl once once.plants once.bills (distinct_push is_same_cum N.cums x once.cums says.1) once.resets,
+      stays_once N (with_cum N x) refl once once.plants once.bills (distinct_push is_same_cum N.cums x once.cums says.1) once.resets once.policies,
       stays_sourced N (with_cum N x) refl sourced sourced.parents sourced.plants sourced.ships
           (All-push (λ s. is_taken_from N s.pair.0 s.from.0 ≡ true) N.cums x sourced.cums says.0) sourced.resets sourced.arrive,
     )
@@ -148,7 +175,7 @@ pub reset_keeps : (N : Table) (row : List (List ℕ)) (x : ResetRow) → IsOnce 
     → IsOnce (with_reset N x) × IsSourced (with_reset N x)
 reset_keeps N row x once sourced is =
     let says = reset_lane N row x is in (
-      stays_once N (with_reset N x) refl once once.plants once.bills once.cums (distinct_push is_same_reset N.resets x once.resets says.1),
+      stays_once N (with_reset N x) refl once once.plants once.bills once.cums (distinct_push is_same_reset N.resets x once.resets says.1) once.policies,
       stays_sourced N (with_reset N x) refl sourced sourced.parents sourced.plants sourced.ships sourced.cums
           (All-push (λ s. is_taken_from N s.pair.0 s.from.0 ≡ true) N.resets x sourced.resets says.0)
           (All-push (λ s. rises_from 0 (arrivals N s.from.0 s.pair.0) ≡ true) N.resets x sourced.arrive says.2),

@@ -3,16 +3,17 @@ use Rattle.std.proofs.Common.{◌≡◌, true, sym, subst}
 use Rattle.std.specs.List.{All, IsDistinct}
 use Rattle.std.specs.Str.{bytes_eq}
 use Rattle.mrp_master_data.specs.declared.rows.Supply.TheVariants as supply
-use Rattle.mrp_master_data.specs.Table.{Table, IsOnce, IsSourced, arrivals, is_same_bill, is_same_cum}
+use Rattle.mrp_master_data.specs.Table.{Table, IsOnce, IsSourced, arrivals, is_same_bill, is_same_cum, is_same_policy}
 use Rattle.mrp_master_data.specs.Table.{is_same_reset, is_taken_from, plant_at, rises_from, supply_at}
 
 -- the plants and the rows of `M` beside the items, pairs and sources of `N`
 abbrev pub with_rows : Table → Table → Table
-with_rows N M = record N { plants = M.plants; bills = M.bills; demands = M.demands; receipts = M.receipts; ships = M.ships; cums = M.cums; resets = M.resets; firms = M.firms }
+with_rows N M = record N { plants = M.plants; bills = M.bills; demands = M.demands; receipts = M.receipts; ships = M.ships; cums = M.cums; resets = M.resets; firms = M.firms; policies = M.policies }
 
 pub stays_once : (N M : Table) → M ≡ with_rows N M → IsOnce N
-    → IsDistinct bytes_eq M.plants → IsDistinct is_same_bill M.bills → IsDistinct is_same_cum M.cums → IsDistinct is_same_reset M.resets → IsOnce M
-stays_once N M same once plants bills cums resets =
+    → IsDistinct bytes_eq M.plants → IsDistinct is_same_bill M.bills → IsDistinct is_same_cum M.cums → IsDistinct is_same_reset M.resets
+    → IsDistinct is_same_policy M.policies → IsOnce M
+stays_once N M same once plants bills cums resets policies =
     subst IsOnce (sym same) (record {
       plants = plants;
       items = once.items;
@@ -22,6 +23,7 @@ stays_once N M same once plants bills cums resets =
       cums = cums;
       resets =
           resets;
+      policies = policies;
     })
 
 pub stays_sourced : (N M : Table) → M ≡ with_rows N M → IsSourced N

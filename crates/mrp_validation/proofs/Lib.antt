@@ -7,6 +7,7 @@ pub mod BackTexts
 pub mod First
 pub mod Keeping
 pub mod KeepingBill
+pub mod KeepingFew
 pub mod KeepingLists
 pub mod KeepingPair
 pub mod KeepingParts

@@ -24,9 +24,9 @@ use Rattle.mrp_validation.specs.declared.kind.Kind.{Kind}
 use Rattle.mrp_validation.specs.declared.kind.Kind.TheVariants as kind
 use Rattle.mrp_validation.specs.Faults.{faults_of, faults_of_any, HasListedFaults, IsListedFault, Rise}
 use Rattle.mrp_validation.specs.Grammar.{◌>>=◌, amount_row, amount_terms, bill_fits, bill_terms, BillTerms, check, cum_of, lane_number, demand_made, demand_of}
-use Rattle.mrp_validation.specs.Grammar.{field, firm_of, firm_terms, is_empty_from, kind_of, known_lane, known_pair}
+use Rattle.mrp_validation.specs.Grammar.{field, firm_of, firm_terms, has_policy, is_empty_from, kind_of, known_lane, known_pair}
 use Rattle.mrp_validation.specs.Grammar.{has_bill, has_cum, has_reset, is_made, knows_sources, lane_terms, LaneTerms, may_follow, name_field}
-use Rattle.mrp_validation.specs.Grammar.{pair_fits, pair_terms, PairTerms, plant_in_row, ranged, receipt_made, receipt_of, reset_in_row}
+use Rattle.mrp_validation.specs.Grammar.{pair_fits, pair_terms, PairTerms, plant_in_row, policy_of, policy_terms, ranged, receipt_made, receipt_of, reset_in_row}
 use Rattle.mrp_validation.specs.Grammar.{row_kind, run_terms, RunTerms, ship_of, ship_terms, TellsFault, used}
 use Rattle.mrp_validation.specs.Reading.{first_terms, is_run, kind_of_row, row_after, row_of_kind, started, Starts, StartsWith, UnlessMemory}
 use Rattle.mrp_validation.proofs.KeepingSteps.{chosen, found, steps, tested}
@@ -62,6 +62,14 @@ module _ (P : TableFaultKind → Type 0) where
       steps P _ _ (name (field row 1) m) (λ plant. steps P _ _ (name (field row 2) m)
       (λ item. steps P _ _ (number (field row 3) 0 (periods - 1) n) (λ start. steps P _ _ (number (field row 4) start (periods - 1) n)
       (λ due. steps P _ _ (number (field row 5) 1 MOST_IN_ROW n) (λ quantity. tt)))))
+
+  policy-terms : (row : List (List ℕ)) (periods : ℕ) → P fault.BadName → P fault.BadNumber → IfErr (policy_terms row periods) P
+  unfolding policy_terms
+  policy-terms row periods m n =
+      steps P _ _ (name (field row 1) m) (λ plant. steps P _ _ (name (field row 2) m)
+      (λ item. steps P _ _ (number (field row 3) 0 (periods - 1) n) (λ fence. steps P _ _ (number (field row 4) 0 LONGEST_LEAD n)
+      (λ sooner. steps P _ _ (number (field row 5) 0 LONGEST_LEAD n) (λ cover. steps P _ _ (number (field row 6) 0 MOST_IN_ROW n)
+      (λ least. steps P _ _ (number (field row 7) 0 MOST_IN_ROW n) (λ multiple. tt)))))))
 
   lane-terms : (row : List (List ℕ)) → P fault.BadName → IfErr (lane_terms row) P
   unfolding lane_terms
@@ -135,6 +143,13 @@ module _ (P : TableFaultKind → Type 0) where
   unfolding firm_of
   firm-of N row m n u p t = steps P _ _ (firm-terms row (horizon N) m n)
       (λ a. steps P _ _ (known-pair N a.plant a.item u p) (λ x. steps P _ _ (tested P (nat_lt (length N.firms) MOST_OF_A_KIND) _ t) (λ room. tt)))
+
+  policy-of : (N : Table) (row : List (List ℕ)) → P fault.BadName → P fault.BadNumber → P fault.Repeated → P fault.UnknownPlant → P fault.UnknownPair
+      → IfErr (policy_of N row) P
+  unfolding policy_of
+  policy-of N row m n r u p = steps P _ _ (policy-terms row (horizon N) m n)
+      (λ a. steps P _ _ (tested P (not (has_policy N (pair_named N (plant_no N a.plant) a.item))) _ r)
+      (λ fresh. steps P _ _ (known-pair N a.plant a.item u p) (λ x. tt)))
 
   known-lane : (N : Table) (t : LaneTerms) → P fault.UnknownPlant → P fault.UnknownPair → P fault.NotSourced → IfErr (known_lane N t) P
   unfolding known_lane
@@ -211,6 +226,10 @@ of-kind kind.Reset N row =
 of-kind kind.Firm N row =
     let P = Contains (faults_of (Ok kind.Firm)) in
     steps P _ _ (firm-of P N row (4, omega arith, refl) (5, omega arith, refl) (6, omega arith, refl) (7, omega arith, refl) (8, omega arith, refl)) (λ x. tt)
+of-kind kind.Policy N row =
+    let P = Contains (faults_of (Ok kind.Policy)) in
+    steps P _ _ (policy-of P N row (4, omega arith, refl) (5, omega arith, refl) (6, omega arith, refl) (7, omega arith, refl) (8, omega arith, refl))
+    (λ x. tt)
 
 -- the first four faults are in every list
 order : (k : Kind) → Contains (faults_of (Ok k)) fault.KindOrder
@@ -224,6 +243,7 @@ order kind.Ship = (3, omega arith, refl)
 order kind.Cum = (3, omega arith, refl)
 order kind.Reset = (3, omega arith, refl)
 order kind.Firm = (3, omega arith, refl)
+order kind.Policy = (3, omega arith, refl)
 
 no-kind : (row : List (List ℕ)) → IfErr (kind_of_row row) (Contains faults_of_any)
 no-kind row = kind-of-row (Contains faults_of_any) row (0, omega arith, refl) (1, omega arith, refl) (2, omega arith, refl)
@@ -277,6 +297,7 @@ by-kind kind.Ship row e starts = of-order kind.Ship e starts
 by-kind kind.Cum row e starts = of-order kind.Cum e starts
 by-kind kind.Reset row e starts = of-order kind.Reset e starts
 by-kind kind.Firm row e starts = of-order kind.Firm e starts
+by-kind kind.Policy row e starts = of-order kind.Policy e starts
 
 of-first : (r : Result Kind TableFaultKind) (row : List (List ℕ)) (e : TableFaultKind) → IfErr r (Contains faults_of_any)
     → StartsWith (r >>= λ k. check (is_run k) fault.KindOrder >>= λ u. run_terms row) (Err e) → Contains (faults_of r) e
@@ -351,6 +372,7 @@ rise kind.Reset = (
   ),
 )
 rise kind.Firm = (omega arith, (omega arith, (omega arith, (omega arith, (omega arith, (omega arith, (omega arith, (omega arith, tt))))))))
+rise kind.Policy = (omega arith, (omega arith, (omega arith, (omega arith, (omega arith, (omega arith, (omega arith, (omega arith, tt))))))))
 
 -- ---- no list has a failed read
 
@@ -369,6 +391,7 @@ all_of_row (Ok kind.Ship) = refl
 all_of_row (Ok kind.Cum) = refl
 all_of_row (Ok kind.Reset) = refl
 all_of_row (Ok kind.Firm) = refl
+all_of_row (Ok kind.Policy) = refl
 all_of_row (Err e) = refl
 
 unlisted : (row : List (List ℕ)) → IsListedFault row fault.ReadFault → ⊥

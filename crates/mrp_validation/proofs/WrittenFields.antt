@@ -37,6 +37,7 @@ word_of kind.Ship = codes "ship"
 word_of kind.Cum = codes "cum"
 word_of kind.Reset = codes "reset"
 word_of kind.Firm = codes "firm"
+word_of kind.Policy = codes "policy"
 
 chosen : (w : List ℕ) (named : Kind) (rest : Option Kind) (k : Kind) → (if bytes_eq w (word_of named) then Some named else rest) ≡ Some k
     → (rest ≡ Some k → w ≡ word_of k) → w ≡ word_of k
@@ -52,8 +53,8 @@ word_is : (w : List ℕ) (k : Kind) → kind_of w ≡ Some k → w ≡ word_of k
 word_is w k is =
     chosen w kind.Demand _ k is (λ e1. chosen w kind.Receipt _ k e1
     (λ e2. chosen w kind.Ship _ k e2 (λ e3. chosen w kind.Bill _ k e3 (λ e4. chosen w kind.Pair _ k e4
-    (λ e5. chosen w kind.Firm _ k e5 (λ e6. chosen w kind.Cum _ k e6 (λ e7. chosen w kind.Reset _ k e7
-    (λ e8. chosen w kind.Plant _ k e8 (λ e9. chosen w kind.Run None k e9 (λ e10. absurd (cc)))))))))))
+    (λ e5. chosen w kind.Firm _ k e5 (λ e6. chosen w kind.Policy _ k e6 (λ e7. chosen w kind.Cum _ k e7 (λ e8. chosen w kind.Reset _ k e8
+    (λ e9. chosen w kind.Plant _ k e9 (λ e10. chosen w kind.Run None k e10 (λ e11. absurd (cc))))))))))))
 
 -- ---- a row has eight fields
 

@@ -4,6 +4,7 @@ use Rattle.std.specs.Prelude.{decimal}
 use Rattle.mrp_cal.specs.Calendar.{CalendarTerms, IsCalendar}
 use Rattle.mrp_cal.specs.Made.{IsCalendarFrom}
 use Rattle.mrp_cal.specs.Days.{day_text}
+use Rattle.mrp_lot.specs.declared.rule.TheConstants.{LONGEST_LEAD}
 use Rattle.mrp_qty.specs.declared.horizon.TheConstants.{LONGEST}
 use Rattle.mrp_qty.specs.declared.quantity.TheConstants.{MOST}
 use Rattle.mrp_master_data.specs.Parsing.{spelled_number}
@@ -14,6 +15,7 @@ use Rattle.mrp_master_data.specs.declared.rows.BillRow.{BillRow}
 use Rattle.mrp_master_data.specs.declared.rows.CumRow.{CumRow}
 use Rattle.mrp_master_data.specs.declared.rows.DemandRow.{DemandRow}
 use Rattle.mrp_master_data.specs.declared.rows.FirmRow.{FirmRow}
+use Rattle.mrp_master_data.specs.declared.rows.PolicyRow.{PolicyRow}
 use Rattle.mrp_master_data.specs.declared.rows.ReceiptRow.{ReceiptRow}
 use Rattle.mrp_master_data.specs.declared.rows.ResetRow.{ResetRow}
 use Rattle.mrp_master_data.specs.declared.rows.ShipRow.{ShipRow}
@@ -24,17 +26,17 @@ use Rattle.mrp_validation.specs.declared.kind.Kind.TheVariants as kind
 use Rattle.mrp_validation.specs.Grammar.{amount_terms, AmountTerms, bill_fits, bill_of, bill_terms, BillTerms, cum_of, lane_number, demand_made, demand_of, field}
 use Rattle.mrp_validation.specs.Grammar.{firm_of, firm_terms, FirmTerms, known_lane, known_pair, lane_terms, LaneTerms, name_field}
 use Rattle.mrp_validation.specs.Grammar.{plant_in_row, plant_terms, ranged, receipt_made, receipt_of, reset_in_row, run_terms, RunTerms, ship_of}
-use Rattle.mrp_validation.specs.Grammar.{ship_terms}
+use Rattle.mrp_validation.specs.Grammar.{policy_of, policy_terms, PolicyTerms, ship_terms}
 use Rattle.mrp_validation.specs.Reading.{first_terms, is_run, kind_of_row}
 use Rattle.mrp_validation.specs.Written.{bill_fields, cum_fields, demand_fields, plant_fields, receipt_fields, reset_fields}
 use Rattle.mrp_master_data.specs.Said.{pair_item, pair_plant, plant_name}
-use Rattle.mrp_validation.specs.Written.{firm_fields, run_fields, ship_fields}
-use Rattle.mrp_validation.proofs.KeepingParts.{AmountParts, bill_parts, cum_parts, demand_parts, firm_parts, receipt_parts, reset_parts, ship_parts}
-use Rattle.mrp_validation.proofs.KeepingRead.{amount_terms_read, bill_terms_read, firm_terms_read, lane_number_read, ship_terms_read, two_names_read}
+use Rattle.mrp_validation.specs.Written.{firm_fields, policy_fields, run_fields, ship_fields}
+use Rattle.mrp_validation.proofs.KeepingParts.{AmountParts, bill_parts, cum_parts, demand_parts, firm_parts, policy_parts, receipt_parts, reset_parts, ship_parts}
+use Rattle.mrp_validation.proofs.KeepingRead.{amount_terms_read, bill_terms_read, firm_terms_read, lane_number_read, policy_terms_read, ship_terms_read, two_names_read}
 use Rattle.mrp_validation.proofs.KeepingRows.{on_lane}
 use Rattle.mrp_validation.proofs.KeepingSteps.{after, after_check, after_some, same_Ok}
 use Rattle.mrp_validation.proofs.WrittenDay.{first_text}
-use Rattle.mrp_validation.proofs.WrittenFields.{AreFree, five_used, four_used, IsNamed, IsOfKind, name_text, number_is_text, of_kind, pair_found, plant_found}
+use Rattle.mrp_validation.proofs.WrittenFields.{all_used, AreFree, five_used, four_used, IsNamed, IsOfKind, name_text, number_is_text, of_kind, pair_found, plant_found}
 use Rattle.mrp_validation.proofs.WrittenFields.{ranged_text, six_used, two_used, word_of}
 
 -- ---- plants
@@ -147,6 +149,37 @@ firm_said N row x k is =
     subst (λ (z : FirmRow). row ≡ firm_fields N z) p.same (six_used row _ _ _ _ _ _ k.size k.word k.free (says.plant ∙ names.plant) (says.item ∙ names.item)
     says.start says.due says.quantity)
 
+-- ---- policies
+
+record PolicySaid (row : List (List ℕ)) (t : PolicyTerms) : Type 0 where
+  plant : field row 1 ≡ t.plant
+  item : field row 2 ≡ t.item
+  fence : field row 3 ≡ decimal t.fence
+  sooner : field row 4 ≡ decimal t.sooner
+  cover : field row 5 ≡ decimal t.cover
+  least : field row 6 ≡ decimal t.least
+  multiple : field row 7 ≡ decimal t.multiple
+
+policy_terms_said : (row : List (List ℕ)) (periods : ℕ) (t : PolicyTerms) → policy_terms row periods ≡ Ok t → PolicySaid row t
+policy_terms_said row periods t is =
+    let read = policy_terms_read row periods t is in record {
+      plant = name_text (field row 1) t.plant read.plant;
+      item = name_text (field row 2) t.item read.item;
+      fence = ranged_text (field row 3) 0 (periods - 1) t.fence read.fence;
+      sooner = ranged_text (field row 4) 0 LONGEST_LEAD t.sooner read.sooner;
+      cover = ranged_text (field row 5) 0 LONGEST_LEAD t.cover read.cover;
+      least = ranged_text (field row 6) 0 MOST_IN_ROW t.least read.least;
+      multiple = ranged_text (field row 7) 0 MOST_IN_ROW t.multiple read.multiple;
+    }
+
+pub policy_said : (N : Table) (row : List (List ℕ)) (x : PolicyRow) → IsOfKind row kind.Policy → policy_of N row ≡ Ok x → row ≡ policy_fields N x
+policy_said N row x k is =
+    let p = policy_parts N row x is in
+    let says = policy_terms_said row (horizon N) p.terms p.read in
+    let names = known_said N p.terms.plant p.terms.item p.found p.known in
+    subst (λ (z : PolicyRow). row ≡ policy_fields N z) p.same (all_used row _ _ _ _ _ _ _ _ k.size k.word (says.plant ∙ names.plant)
+    (says.item ∙ names.item) says.fence says.sooner says.cover says.least says.multiple)
+
 -- ---- what one plant ships to another
 
 record LaneSaid (row : List (List ℕ)) (t : LaneTerms) : Type 0 where
@@ -253,6 +286,7 @@ run_kind kind.Ship e = absurd (cc)
 run_kind kind.Cum e = absurd (cc)
 run_kind kind.Reset e = absurd (cc)
 run_kind kind.Firm e = absurd (cc)
+run_kind kind.Policy e = absurd (cc)
 
 pub run_said : (row : List (List ℕ)) (t : RunTerms) (c : CalendarTerms) → first_terms row ≡ Ok t → IsCalendarFrom t.first t.days t.periods c → IsCalendar c
     → row ≡ run_fields c

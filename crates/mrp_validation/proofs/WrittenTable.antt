@@ -8,21 +8,22 @@ use Rattle.mrp_master_data.specs.declared.rows.BillRow.{BillRow}
 use Rattle.mrp_master_data.specs.declared.rows.CumRow.{CumRow}
 use Rattle.mrp_master_data.specs.declared.rows.DemandRow.{DemandRow}
 use Rattle.mrp_master_data.specs.declared.rows.FirmRow.{FirmRow}
+use Rattle.mrp_master_data.specs.declared.rows.PolicyRow.{PolicyRow}
 use Rattle.mrp_master_data.specs.declared.rows.ReceiptRow.{ReceiptRow}
 use Rattle.mrp_master_data.specs.declared.rows.ResetRow.{ResetRow}
 use Rattle.mrp_master_data.specs.declared.rows.ShipRow.{ShipRow}
-use Rattle.mrp_master_data.specs.Growing.{with_bill, with_cum, with_demand, with_firm, with_plant, with_receipt, with_reset, with_ship}
+use Rattle.mrp_master_data.specs.Growing.{with_bill, with_cum, with_demand, with_firm, with_plant, with_policy, with_receipt, with_reset, with_ship}
 use Rattle.mrp_master_data.specs.Table.{Table}
 use Rattle.mrp_master_data.specs.Growing.{empty_table}
 use Rattle.mrp_validation.specs.declared.fault.TableFaultKind.{TableFaultKind}
 use Rattle.mrp_validation.specs.declared.kind.Kind.{Kind}
 use Rattle.mrp_validation.specs.declared.kind.Kind.TheVariants as kind
 use Rattle.mrp_validation.specs.Grammar.{◌>>=◌, bill_of, cum_of, demand_of, may_follow, pair_fits, pair_row, pair_terms, PairTerms, kind_place, plant_in_row}
-use Rattle.mrp_validation.specs.Grammar.{firm_of, receipt_of, reset_in_row, RunTerms, ship_of, with_pair_terms}
+use Rattle.mrp_validation.specs.Grammar.{firm_of, policy_of, receipt_of, reset_in_row, RunTerms, ship_of, with_pair_terms}
 use Rattle.mrp_validation.specs.Reading.{at_row, first_lacking, first_terms, IsCalendarOf, IsReadSoFar, kind_of_row, read_from, Reads, row_after, row_of_kind}
 use Rattle.mrp_validation.specs.Reading.{rows_after, started, Starts, StartsWith, waiting}
 use Rattle.mrp_validation.specs.Written.{AreNumbered, bill_fields, cum_fields, demand_fields, later_rows, pair_rows, plant_fields, receipt_fields, reset_fields}
-use Rattle.mrp_validation.specs.Written.{firm_fields, rows_of, run_fields, ship_fields}
+use Rattle.mrp_validation.specs.Written.{firm_fields, policy_fields, rows_of, run_fields, ship_fields}
 use Rattle.mrp_validation.proofs.Accept.{waited, was_read, went_on}
 use Rattle.mrp_validation.proofs.Keeping.{follows, row_after_keeps}
 use Rattle.mrp_validation.proofs.KeepingPair.{fits}
@@ -31,7 +32,7 @@ use Rattle.mrp_validation.proofs.KeepingSteps.{after, after_check, same_Ok}
 use Rattle.mrp_validation.proofs.Whole.{first_keeps}
 use Rattle.mrp_validation.proofs.WrittenFields.{IsOfKind, of_kind}
 use Rattle.mrp_validation.proofs.WrittenPair.{pair_numbered, pair_terms_said, pairs_written}
-use Rattle.mrp_validation.proofs.WrittenRows.{bill_said, cum_said, demand_said, firm_said, plant_said, receipt_said, reset_said, run_said, ship_said}
+use Rattle.mrp_validation.proofs.WrittenRows.{bill_said, cum_said, demand_said, firm_said, plant_said, policy_said, receipt_said, reset_said, run_said, ship_said}
 
 abbrev Row : Type 0
 Row = List (List ℕ)
@@ -71,6 +72,7 @@ record IsFresh (N : Table) (place : ℕ) : Type 0 where
   cums : place < 7 → N.cums ≡ []
   resets : place < 8 → N.resets ≡ []
   firms : place < 9 → N.firms ≡ []
+  policies : place < 10 → N.policies ≡ []
 
 stays_fresh : (N : Table) (m n : ℕ) → IsFresh N m → m ≤ n → IsFresh N n
 stays_fresh N m n fresh le = record {
@@ -82,11 +84,15 @@ stays_fresh N m n fresh le = record {
   cums = λ lt. fresh.cums (omega arith);
   resets = λ lt. fresh.resets (omega arith);
   firms = λ lt. fresh.firms (omega arith);
+  policies = λ lt. fresh.policies (omega arith);
 }
 
 -- the rows from a kind on
+abbrev from_firms : Table → List Row
+from_firms N = map (firm_fields N) N.firms ++ map (policy_fields N) N.policies
+
 abbrev from_resets : Table → List Row
-from_resets N = map (reset_fields N) N.resets ++ map (firm_fields N) N.firms
+from_resets N = map (reset_fields N) N.resets ++ from_firms N
 
 abbrev from_cums : Table → List Row
 from_cums N = map (cum_fields N) N.cums ++ from_resets N
@@ -107,8 +113,11 @@ abbrev from_pairs : Table → List Row
 from_pairs N = pair_rows N 0 N.pairs ++ from_bills N
 
 module _ (N : Table) (place : ℕ) (fresh : IsFresh N place) where
-  no_firms : place < 9 → map (firm_fields N) N.firms ≡ []
-  no_firms lt = none_of (firm_fields N) N.firms (fresh.firms lt)
+  no_policies : place < 10 → map (policy_fields N) N.policies ≡ []
+  no_policies lt = none_of (policy_fields N) N.policies (fresh.policies lt)
+
+  no_firms : place < 9 → from_firms N ≡ []
+  no_firms lt = none _ _ (none_of (firm_fields N) N.firms (fresh.firms lt)) (no_policies (omega arith))
 
   no_resets : place < 8 → from_resets N ≡ []
   no_resets lt = none _ _ (none_of (reset_fields N) N.resets (fresh.resets lt)) (no_firms (omega arith))
@@ -156,6 +165,7 @@ module _ (N : Table) (row : Row) where
         cums = fresh.cums;
         resets = fresh.resets;
         firms = fresh.firms;
+        policies = fresh.policies;
       } in
       record {
         calendar = refl;
@@ -182,6 +192,7 @@ module _ (N : Table) (row : Row) where
           fresh.cums;
       resets = fresh.resets;
       firms = fresh.firms;
+      policies = fresh.policies;
     };
   }
 
@@ -202,6 +213,7 @@ module _ (N : Table) (row : Row) where
           fresh.cums;
       resets = fresh.resets;
       firms = fresh.firms;
+      policies = fresh.policies;
     };
   }
 
@@ -223,6 +235,7 @@ module _ (N : Table) (row : Row) where
           fresh.cums;
       resets = fresh.resets;
       firms = fresh.firms;
+      policies = fresh.policies;
     };
   }
 
@@ -245,6 +258,7 @@ module _ (N : Table) (row : Row) where
           fresh.cums;
       resets = fresh.resets;
       firms = fresh.firms;
+      policies = fresh.policies;
     };
   }
 
@@ -267,6 +281,7 @@ module _ (N : Table) (row : Row) where
           λ lt. absurd (omega arith);
       resets = fresh.resets;
       firms = fresh.firms;
+      policies = fresh.policies;
     };
   }
 
@@ -277,7 +292,7 @@ module _ (N : Table) (row : Row) where
     rows = behind (map plant_fields N.plants) _ _ row (behind (pair_rows N 0 N.pairs) _ _ row
         (behind (map (bill_fields N) N.bills) _ _ row (behind (map (demand_fields N) N.demands) _ _ row
         (behind (map (receipt_fields N) N.receipts) _ _ row (behind (map (ship_fields N) N.ships) _ _ row (behind (map (cum_fields N) N.cums) _ _ row
-        (at_end _ (map (reset_fields N) N.resets) (map (firm_fields N) N.firms) row (map_push (reset_fields N) N.resets x row (reset_said N row x k is))
+        (at_end _ (map (reset_fields N) N.resets) (from_firms N) row (map_push (reset_fields N) N.resets x row (reset_said N row x k is))
         (no_firms N 8 fresh (omega arith)))))))));
     fresh = record {
       pairs = fresh.pairs;
@@ -289,6 +304,7 @@ module _ (N : Table) (row : Row) where
           fresh.cums;
       resets = λ lt. absurd (omega arith);
       firms = fresh.firms;
+      policies = fresh.policies;
     };
   }
 
@@ -299,7 +315,9 @@ module _ (N : Table) (row : Row) where
     rows = behind (map plant_fields N.plants) _ _ row (behind (pair_rows N 0 N.pairs) _ _ row
         (behind (map (bill_fields N) N.bills) _ _ row (behind (map (demand_fields N) N.demands) _ _ row
         (behind (map (receipt_fields N) N.receipts) _ _ row (behind (map (ship_fields N) N.ships) _ _ row (behind (map (cum_fields N) N.cums) _ _ row
-        (behind (map (reset_fields N) N.resets) _ _ row (map_push (firm_fields N) N.firms x row (firm_said N row x k is)))))))));
+        (behind (map (reset_fields N) N.resets) _ _ row
+        (at_end _ (map (firm_fields N) N.firms) (map (policy_fields N) N.policies) row (map_push (firm_fields N) N.firms x row (firm_said N row x k is))
+        (no_policies N 9 fresh (omega arith))))))))));
     fresh = record {
       pairs = fresh.pairs;
       bills = fresh.bills;
@@ -310,6 +328,30 @@ module _ (N : Table) (row : Row) where
           fresh.cums;
       resets = fresh.resets;
       firms = λ lt. absurd (omega arith);
+      policies = fresh.policies;
+    };
+  }
+
+  policy_adds : (x : PolicyRow) → IsFresh N 10 → IsOfKind row kind.Policy → policy_of N row ≡ Ok x → Adds N (with_policy N x) kind.Policy row
+  policy_adds x fresh k is = record {
+    calendar = refl;
+    numbered = λ h. h;
+    rows = behind (map plant_fields N.plants) _ _ row (behind (pair_rows N 0 N.pairs) _ _ row
+        (behind (map (bill_fields N) N.bills) _ _ row (behind (map (demand_fields N) N.demands) _ _ row
+        (behind (map (receipt_fields N) N.receipts) _ _ row (behind (map (ship_fields N) N.ships) _ _ row (behind (map (cum_fields N) N.cums) _ _ row
+        (behind (map (reset_fields N) N.resets) _ _ row (behind (map (firm_fields N) N.firms) _ _ row
+        (map_push (policy_fields N) N.policies x row (policy_said N row x k is))))))))));
+    fresh = record {
+      pairs = fresh.pairs;
+      bills = fresh.bills;
+      demands = fresh.demands;
+      receipts = fresh.receipts;
+      ships = fresh.ships;
+      cums =
+          fresh.cums;
+      resets = fresh.resets;
+      firms = fresh.firms;
+      policies = λ lt. absurd (omega arith);
     };
   }
 
@@ -341,6 +383,7 @@ pair_adds N M last row so_far fresh k is =
       cums = fresh.cums;
       resets = fresh.resets;
       firms = fresh.firms;
+      policies = fresh.policies;
     }
 
 -- what was read of a row makes the table with it
@@ -364,6 +407,7 @@ row_adds kind.Ship last N M row so_far fresh k is = made_adds N kind.Ship row (s
 row_adds kind.Cum last N M row so_far fresh k is = made_adds N kind.Cum row (cum_of N row) (with_cum N) M (λ x. cum_adds N row x fresh k) is
 row_adds kind.Reset last N M row so_far fresh k is = made_adds N kind.Reset row (reset_in_row N row) (with_reset N) M (λ x. reset_adds N row x fresh k) is
 row_adds kind.Firm last N M row so_far fresh k is = made_adds N kind.Firm row (firm_of N row) (with_firm N) M (λ x. firm_adds N row x fresh k) is
+row_adds kind.Policy last N M row so_far fresh k is = made_adds N kind.Policy row (policy_of N row) (with_policy N) M (λ x. policy_adds N row x fresh k) is
 
 abbrev AddsTo : Table → Row → Table × Kind → Type 0
 AddsTo N row t = Adds N t.0 t.1 row
@@ -427,6 +471,7 @@ run_has N row t (Ok c) is says e =
         resets =
             λ lt. refl;
         firms = λ lt. refl;
+        policies = λ lt. refl;
       };
     })
 run_has N row t (Err f) is says e = absurd (cc)

@@ -65,6 +65,8 @@ faults_of_kind kind.Reset =
     ∷ fault.ResetOrder ∷ []
 faults_of_kind kind.Firm = fault.BadName ∷ fault.BadNumber ∷ fault.UnknownPlant ∷ fault.UnknownPair ∷ fault.TooMany
     ∷ []
+faults_of_kind kind.Policy = fault.BadName ∷ fault.BadNumber ∷ fault.Repeated ∷ fault.UnknownPlant ∷ fault.UnknownPair
+    ∷ []
 
 -- the faults that a row may have, where it has a kind and where it has none
 abbrev pub faults_of : Result Kind TableFaultKind → List TableFaultKind

@@ -25,6 +25,7 @@ use Rattle.mrp_master_data.specs.declared.rows.Supply.{Supply}
 use Rattle.mrp_master_data.specs.declared.rows.Supply.TheVariants as supply
 use Rattle.mrp_master_data.specs.declared.rows.BillRow.{BillRow}
 use Rattle.mrp_master_data.specs.declared.rows.FirmRow.{FirmRow}
+use Rattle.mrp_master_data.specs.declared.rows.PolicyRow.{PolicyRow}
 use Rattle.mrp_master_data.specs.declared.rows.ResetRow.{ResetRow}
 use Rattle.mrp_master_data.specs.declared.rows.CumRow.{CumRow}
 use Rattle.mrp_master_data.specs.declared.rows.ShipRow.{ShipRow}
@@ -38,7 +39,7 @@ use Rattle.mrp_master_data.specs.declared.rows.SourceRow.{SourceRow}
 use Rattle.mrp_master_data.specs.Table.{arrivals, is_taken_from, rises_from}
 use Rattle.mrp_master_data.specs.Growing.{add_item, with_plant, with_bill, with_demand}
 use Rattle.mrp_master_data.specs.Growing.{with_receipt, with_ship, with_cum}
-use Rattle.mrp_master_data.specs.Growing.{with_firm, with_reset}
+use Rattle.mrp_master_data.specs.Growing.{with_firm, with_policy, with_reset}
 use Rattle.mrp_master_data.specs.Spelling.{is_name}
 use Rattle.mrp_master_data.specs.Parsing.{spelled_number, number_within, rule_of}
 
@@ -92,6 +93,7 @@ kind_of word =
     else if bytes_eq word (codes "bill") then Some kind.Bill
     else if bytes_eq word (codes "pair") then Some kind.Pair
     else if bytes_eq word (codes "firm") then Some kind.Firm
+    else if bytes_eq word (codes "policy") then Some kind.Policy
     else if bytes_eq word (codes "cum") then Some kind.Cum
     else if bytes_eq word (codes "reset") then Some kind.Reset
     else if bytes_eq word (codes "plant") then Some kind.Plant
@@ -110,6 +112,7 @@ used kind.Ship = 6
 used kind.Cum = 5
 used kind.Reset = 5
 used kind.Firm = 6
+used kind.Policy = 8
 
 -- the place of a kind in the order of the kinds
 abbrev pub kind_place : Kind → ℕ
@@ -123,6 +126,7 @@ kind_place kind.Ship = 6
 kind_place kind.Cum = 7
 kind_place kind.Reset = 8
 kind_place kind.Firm = 9
+kind_place kind.Policy = 10
 
 -- the run stands first and once, and rows of one kind stand together
 abbrev pub may_follow : Kind → Kind → Bool
@@ -204,6 +208,36 @@ firm_terms row periods = do
   due ← ranged (field row 4) start (periods - 1)
   quantity ← ranged (field row 5) 1 MOST_IN_ROW
   Ok (record { plant = plant; item = item; start = start; due = due; quantity = quantity })
+
+-- a policy row: the planning time fence, how much sooner receipts may be counted, the periods that are covered ahead, and
+-- the minimum and the multiple of an order
+pub record PolicyTerms : Type 0 where
+  pub plant : List ℕ
+  pub item : List ℕ
+  pub fence : ℕ
+  pub sooner : ℕ
+  pub cover : ℕ
+  pub least : ℕ
+  pub multiple : ℕ
+
+unfoldable pub policy_terms : List (List ℕ) → ℕ → Result PolicyTerms TableFaultKind
+policy_terms row periods = do
+  plant ← name_field (field row 1)
+  item ← name_field (field row 2)
+  fence ← ranged (field row 3) 0 (periods - 1)
+  sooner ← ranged (field row 4) 0 LONGEST_LEAD
+  cover ← ranged (field row 5) 0 LONGEST_LEAD
+  least ← ranged (field row 6) 0 MOST_IN_ROW
+  multiple ← ranged (field row 7) 0 MOST_IN_ROW
+  Ok (record {
+    plant = plant;
+    item = item;
+    fence = fence;
+    sooner = sooner;
+    cover = cover;
+    least = least;
+    multiple = multiple;
+  })
 
 -- the names of a row on what one plant ships to another
 pub record LaneTerms : Type 0 where
@@ -338,6 +372,11 @@ reset_between N (Some p) (Some x) = list_any (λ r. (r.from.0 == p) && (r.pair.0
 abbrev pub has_reset : Table → LaneTerms → Bool
 has_reset N t = reset_between N (plant_no N t.from) (pair_named N (plant_no N t.to) t.item)
 
+-- a policy row of that pair
+abbrev pub has_policy : Table → Option ℕ → Bool
+has_policy N None = false
+has_policy N (Some x) = list_any (λ p. p.pair.0 == x) N.policies
+
 -- ---- the table with one row more, or the first fault of the row
 
 -- the name of a new plant
@@ -458,6 +497,27 @@ firm_of N row = do
   _ ← check (nat_lt (length N.firms) MOST_OF_A_KIND) fault.TooMany
   Ok (record { pair = found.1; start = t.start; due = t.due; quantity = t.quantity })
 
+-- how a pair is planned, by what a policy row spells
+abbrev pub policy_made : PairNo → PolicyTerms → PolicyRow
+policy_made pair t =
+    record {
+      pair = pair;
+      policy = record {
+        fence = t.fence;
+        sooner = t.sooner;
+        cover = t.cover;
+        least = t.least;
+        multiple = t.multiple;
+      };
+    }
+
+unfoldable pub policy_of : Table → List (List ℕ) → Result PolicyRow TableFaultKind
+policy_of N row = do
+  t ← policy_terms row (horizon N)
+  _ ← check (not (has_policy N (pair_named N (plant_no N t.plant) t.item))) fault.Repeated
+  found ← known_pair N t.plant t.item
+  Ok (policy_made found.1 t)
+
 abbrev pub bill_row : Table → List (List ℕ) → Result Table TableFaultKind
 bill_row N row = bill_of N row >>= λ x. Ok (with_bill N x)
 
@@ -478,3 +538,6 @@ reset_row N row = reset_in_row N row >>= λ x. Ok (with_reset N x)
 
 abbrev pub firm_row : Table → List (List ℕ) → Result Table TableFaultKind
 firm_row N row = firm_of N row >>= λ x. Ok (with_firm N x)
+
+abbrev pub policy_row : Table → List (List ℕ) → Result Table TableFaultKind
+policy_row N row = policy_of N row >>= λ x. Ok (with_policy N x)

@@ -18,7 +18,7 @@ use Rattle.mrp_master_data.specs.Growing.{empty_table}
 use Rattle.mrp_qty.specs.declared.limits.TheConstants.{MOST_SOURCES_OF_PAIR}
 use Rattle.mrp_master_data.specs.Growing.{lacks_pair}
 use Rattle.mrp_validation.specs.Grammar.{◌>>=◌, bill_row, check, cum_row, demand_row, firm_row, may_follow, pair_row}
-use Rattle.mrp_validation.specs.Grammar.{kind_place}
+use Rattle.mrp_validation.specs.Grammar.{kind_place, policy_row}
 use Rattle.mrp_validation.specs.Grammar.{plant_row, receipt_row, reset_row}
 use Rattle.mrp_validation.specs.Grammar.{row_kind, run_terms, RunTerms, ship_row}
 
@@ -40,6 +40,7 @@ row_of_kind kind.Ship N row = ship_row N row
 row_of_kind kind.Cum N row = cum_row N row
 row_of_kind kind.Reset N row = reset_row N row
 row_of_kind kind.Firm N row = firm_row N row
+row_of_kind kind.Policy N row = policy_row N row
 
 -- ---- the first row
 
@@ -54,6 +55,7 @@ is_run kind.Ship = false
 is_run kind.Cum = false
 is_run kind.Reset = false
 is_run kind.Firm = false
+is_run kind.Policy = false
 
 -- what the first row spells
 unfoldable pub first_terms : List (List ℕ) → Result RunTerms TableFaultKind

@@ -23,7 +23,7 @@ use Rattle.mrp_validation.specs.declared.kind.Kind.{Kind}
 use Rattle.mrp_validation.specs.declared.kind.Kind.TheVariants as kind
 use Rattle.mrp_validation.specs.Faults.{faults_of, faults_of_any}
 use Rattle.mrp_validation.specs.Grammar.{cum_between, field, has_bill, is_empty_from, is_made, kind_of, knows_sources}
-use Rattle.mrp_validation.specs.Grammar.{may_follow, reset_between, used}
+use Rattle.mrp_validation.specs.Grammar.{has_policy, may_follow, reset_between, used}
 use Rattle.mrp_validation.specs.Reading.{first_terms, is_run, kind_of_row, row_after}
 
 -- ---- what the fields of a row say, as far as it is there
@@ -111,6 +111,15 @@ firm_passes N row fault.UnknownPair = is_some (pair_in N row 1 2)
 firm_passes N row fault.TooMany = nat_lt (length N.firms) MOST_OF_A_KIND
 firm_passes N row e = true
 
+abbrev pub policy_passes : Table → List (List ℕ) → TableFaultKind → Bool
+policy_passes N row fault.BadName = two_names row
+policy_passes N row fault.BadNumber = has_number row 3 0 (horizon N - 1) && has_number row 4 0 LONGEST_LEAD
+    && has_number row 5 0 LONGEST_LEAD && has_number row 6 0 MOST_IN_ROW && has_number row 7 0 MOST_IN_ROW
+policy_passes N row fault.Repeated = not (has_policy N (pair_in N row 1 2))
+policy_passes N row fault.UnknownPlant = is_some (plant_in N row 1)
+policy_passes N row fault.UnknownPair = is_some (pair_in N row 1 2)
+policy_passes N row e = true
+
 -- a row on a lane, whose numbers are good or not, which repeats none, and for which there is room, or not
 abbrev pub lane_passes : Bool → Bool → Bool → Table → List (List ℕ) → TableFaultKind → Bool
 lane_passes numbers new room N row fault.BadName = three_names row
@@ -149,6 +158,7 @@ passes_of (Some kind.Ship) N row e = ship_passes N row e
 passes_of (Some kind.Cum) N row e = cum_passes N row e
 passes_of (Some kind.Reset) N row e = reset_passes N row e
 passes_of (Some kind.Firm) N row e = firm_passes N row e
+passes_of (Some kind.Policy) N row e = policy_passes N row e
 
 -- ---- the tests of every row
 

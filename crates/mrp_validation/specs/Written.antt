@@ -13,6 +13,7 @@ use Rattle.mrp_master_data.specs.declared.rows.CumRow.{CumRow}
 use Rattle.mrp_master_data.specs.declared.rows.DemandRow.{DemandRow}
 use Rattle.mrp_master_data.specs.declared.rows.FirmRow.{FirmRow}
 use Rattle.mrp_master_data.specs.declared.rows.PairRow.{PairRow}
+use Rattle.mrp_master_data.specs.declared.rows.PolicyRow.{PolicyRow}
 use Rattle.mrp_master_data.specs.declared.rows.ReceiptRow.{ReceiptRow}
 use Rattle.mrp_master_data.specs.declared.rows.ResetRow.{ResetRow}
 use Rattle.mrp_master_data.specs.declared.rows.ShipRow.{ShipRow}
@@ -71,6 +72,11 @@ firm_fields N f =
     ∷ decimal f.quantity
     ∷ [] ∷ [] ∷ []
 
+abbrev pub policy_fields : Table → PolicyRow → List (List ℕ)
+policy_fields N p =
+    codes "policy" ∷ pair_plant N p.pair.0 ∷ pair_item N p.pair.0 ∷ decimal p.policy.fence ∷ decimal p.policy.sooner
+    ∷ decimal p.policy.cover ∷ decimal p.policy.least ∷ decimal p.policy.multiple ∷ []
+
 -- ---- the rows of a table
 
 -- pairs, the first of which stands at that place
@@ -84,7 +90,8 @@ later_rows N =
     map plant_fields N.plants ++ (pair_rows N 0 N.pairs
     ++ (map (bill_fields N) N.bills ++ (map (demand_fields N) N.demands
     ++ (map (receipt_fields N) N.receipts ++ (map (ship_fields N) N.ships
-    ++ (map (cum_fields N) N.cums ++ (map (reset_fields N) N.resets ++ map (firm_fields N) N.firms)))))))
+    ++ (map (cum_fields N) N.cums ++ (map (reset_fields N) N.resets
+    ++ (map (firm_fields N) N.firms ++ map (policy_fields N) N.policies))))))))
 
 -- the whole table
 abbrev pub rows_of : Table → List (List (List ℕ))

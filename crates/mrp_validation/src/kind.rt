@@ -26,6 +26,8 @@ pub enum Kind {
     Reset,
     /// A firm planned order.
     Firm,
+    /// How a pair is planned beyond its pair row.
+    Policy,
 }
 
 /// How many of the eight fields a row of this kind uses.
@@ -43,6 +45,7 @@ pub fn used(kind: Kind) -> usize
         Kind::Cum => 5,
         Kind::Reset => 5,
         Kind::Firm => 6,
+        Kind::Policy => 8,
     }
 }
 

@@ -71,6 +71,7 @@ loop-source-preserved c =
         bills = (a.bills.0 ∙ p.bills.0, a.bills.1 ∙ p.bills.1);
         cums = (a.cums.0 ∙ p.cums.0, a.cums.1 ∙ p.cums.1);
         resets = (a.resets.0 ∙ p.resets.0, a.resets.1 ∙ p.resets.1);
+        policies = (a.policies.0 ∙ p.policies.0, a.policies.1 ∙ p.policies.1);
         lanes = λ h. a.lanes (p.lanes h);
         pairs = a.pairs ∙ p.pairs;
         sources = omega (arith, a.sources, p.sources);
