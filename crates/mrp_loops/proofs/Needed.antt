@@ -5,14 +5,13 @@ use Rattle.std.proofs.lemmas.Bool.{eqb-true, cases_eq, or_cases, true≢false}
 use Rattle.std.proofs.lemmas.List.{get_or_default, get_or-map, get_or-set_same, get_or-set_other, length-map}
 use Rattle.std.proofs.lemmas.List.Sums.{sum_by-cons}
 use Rattle.mrp_qty.specs.declared.quantity.TheConstants.{MOST}
-use Rattle.mrp_lot.specs.Lot.{rule_quantities}
 use Rattle.mrp_master_data.specs.Table.{Table, IsPair}
 use Rattle.mrp_master_data.specs.declared.numbers.PairNo.{PairNo}
 use Rattle.mrp_net.specs.declared.edge.Edge.{Edge}
 use Rattle.mrp_net.specs.Edges.{demanders}
 use Rattle.mrp_net.specs.FirmOrders.{firm_total}
 use Rattle.mrp_net.specs.Sums.{pair_at, demand_total, supply}
-use Rattle.mrp_loops.specs.Need.{need_at, AreNeeds, AreWithin}
+use Rattle.mrp_loops.specs.Need.{need_at, quantities_at, AreNeeds, AreWithin}
 use Rattle.mrp_loops.specs.Taking.{is_in}
 use Rattle.mrp_loops.specs.Order.{ComesBefore, IsInCodeOrder, IsFound, IsSolved, IsFirstAbove}
 use Rattle.mrp_loops.specs.Planning.{IsPlanningOrder}
@@ -34,7 +33,7 @@ pub need_agrees : (N : Table) (a b : List ℕ) (x : ℕ) → ((e : Edge) → In 
 need_agrees N a b x each =
     let asked = sum_agree (λ (e : Edge). e.per * slice_index a e.demander.0) (λ (e : Edge). e.per * slice_index b e.demander.0) (demanders N x)
     (λ e h. ap (λ (n : ℕ). e.per * n) (each e h)) in
-    ap (λ (n : ℕ). demand_total N x + n + (pair_at N x).safety + rule_quantities (pair_at N x).rule + firm_total N x) asked
+    ap (λ (n : ℕ). demand_total N x + n + (pair_at N x).safety + quantities_at N x + firm_total N x) asked
 
 -- where a pair of a list stands
 pub place_in : (pairs : List PairNo) (x : ℕ) → is_in pairs x ≡ true → (k : ℕ) × (k < length pairs) × ((d : PairNo) → (get_or pairs k d).0 ≡ x)

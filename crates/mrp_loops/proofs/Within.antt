@@ -7,7 +7,6 @@ use Rattle.std.proofs.lemmas.List.FromFn.{length-map-range_with_len}
 use Rattle.std.proofs.lemmas.List.Sums.{sum_by-cons, sum_by-le-sum_by, get_or-le-sum_by}
 use Rattle.std.proofs.Math.Nat.{mul-le-mul_left}
 use Rattle.mrp_qty.specs.declared.quantity.TheConstants.{MOST}
-use Rattle.mrp_lot.specs.Lot.{rule_quantities}
 use Rattle.mrp_netting.specs.PlanRows.{PlanRows}
 use Rattle.mrp_netting.specs.Bound.{IsWithin}
 use Rattle.mrp_netting.specs.PlanningBound.{IsWithinData}
@@ -28,10 +27,12 @@ use Rattle.mrp_net.specs.Plan.{rows_at, gross, pair_data, plan_of}
 use Rattle.mrp_net.specs.PlanLaws.{Fits}
 use Rattle.mrp_net.specs.Sums.{incoming, no_pair, opening_total, pair_at, params_at, received_total, row_of, shipped_total}
 use Rattle.mrp_net.proofs.Firms.{firms_are_kept}
-use Rattle.mrp_net.proofs.Periods.{incomings-le}
+use Rattle.mrp_net.proofs.Periods.{all_incomings-le}
+use Rattle.mrp_net.proofs.PolicyRows.{policy_within}
+use Rattle.mrp_net.proofs.Sooner.{received_sooner-few}
 use Rattle.mrp_net.proofs.Totals.{gross_sum-le}
 use Rattle.mrp_loops.specs.Loop.{HasEdge}
-use Rattle.mrp_loops.specs.Need.{AreNeeds, AreWithin}
+use Rattle.mrp_loops.specs.Need.{AreNeeds, AreWithin, quantities_at}
 use Rattle.mrp_loops.specs.Sized.{IsSized}
 use Rattle.mrp_loops.specs.Within.{ReleasesAreWithinNeed, GrossIsWithinNeed, SupplyAndReleasesAreWithin, FiguresAreWithin, PlansAreWithin, DataAreWithin, QuantitiesAreWithin}
 use Rattle.mrp_loops.specs.Within.{PlanIsWithin}
@@ -72,27 +73,28 @@ both-le false b v = omega arith
 -- what a pair is planned from is within the bound where all its quantities together are
 pub data_is_within : (N : Table) (table : List PlanRows) (x : ℕ) → IsTable N → IsPair N x
     → (pair_at N x).on_hand + received_total N x + shipped_total N x + firm_total N x + sum (row_of N (gross N table x)) + (pair_at N x).safety
-    + rule_quantities (pair_at N x).rule ≤ MOST
+    + quantities_at N x ≤ MOST
     → IsWithinData (pair_data N table x)
 data_is_within N table x is pair total =
     let own = is.read.pairs x no_pair pair in
+    let policy = policy_within N x is in
     let firms = firms_are_kept N is x in
     let periods = length-row_of N (gross N table x) in
     record {
       rule = own.rule;
       lead = own.lead;
-      fence = omega (arith, periods, is.read.limits.some_periods);
-      sooner = omega arith;
-      cover = omega arith;
-      least = omega arith;
-      multiple = omega arith;
+      fence = omega (arith, periods, policy.fence);
+      sooner = policy.sooner;
+      cover = policy.cover;
+      least = policy.least;
+      multiple = policy.multiple;
       periods = omega (arith, periods, is.read.limits.periods);
-      receipts = omega arith;
+      receipts = omega (arith, periods, received_sooner-few N x);
       arrivals = omega (arith, periods, length-row_of N (incoming N x));
       firm_start = omega (arith, periods, length-row_of N (firm_start N x));
       firm_due = omega (arith, periods, length-row_of N (firm_due N x));
       firm = firms.started ∙ sym firms.come;
-      total = omega (arith, incomings-le N x, firms.come, total);
+      total = omega (arith, all_incomings-le N x, firms.come, total);
     }
 
 -- so are its rows
@@ -126,7 +128,7 @@ module _ (N : Table) (sized : IsSized N) (needs : List ℕ) (are : AreNeeds N ne
   DemandersWithin x = (y : ℕ) → HasEdge N y x → ReleasesWithin y
 
   gross-le : (x : ℕ) → IsPair N x → DemandersWithin x
-      → sum (row_of N (gross N table x)) + (pair_at N x).safety + rule_quantities (pair_at N x).rule + firm_total N x ≤ slice_index needs x
+      → sum (row_of N (gross N table x)) + (pair_at N x).safety + quantities_at N x + firm_total N x ≤ slice_index needs x
   gross-le x pair each =
       omega (arith, gross_sum-le N table x sized.table, asks-le N table needs x each, are.need x pair)
 

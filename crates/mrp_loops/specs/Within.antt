@@ -2,7 +2,6 @@
 use Rattle.std.specs.Prelude.{ℕ, ◌+◌, ◌≤◌, List, sum, sum_by, slice_index, All, Contains}
 use Rattle.std.specs.List.{range_with_len}
 use Rattle.mrp_qty.specs.declared.quantity.TheConstants.{MOST}
-use Rattle.mrp_lot.specs.Lot.{rule_quantities}
 use Rattle.mrp_netting.specs.PlanRows.{PlanRows}
 use Rattle.mrp_netting.specs.Bound.{IsWithin}
 use Rattle.mrp_netting.specs.PlanningBound.{IsWithinData}
@@ -15,7 +14,7 @@ use Rattle.mrp_net.specs.FirmOrders.{firm_total}
 use Rattle.mrp_net.specs.Plan.{rows_at, release_at, pair_data, plan_of}
 use Rattle.mrp_net.specs.PlanLaws.{Fits}
 use Rattle.mrp_net.specs.Sums.{pair_at, params_at, supply}
-use Rattle.mrp_loops.specs.Need.{AreNeeds}
+use Rattle.mrp_loops.specs.Need.{AreNeeds, quantities_at}
 use Rattle.mrp_loops.specs.Sized.{IsSized}
 
 -- in a table of plans that fits, the releases of all periods, firm and planned, are within the pair's need
@@ -25,12 +24,13 @@ ReleasesAreWithinNeed =
     → IsPair N x
     → sum (rows_at table x).release ≤ slice_index needs x
 
--- and so are gross requirements of all periods, safety stock, the rule's quantities and firm planned orders together
+-- and so are gross requirements of all periods, safety stock, the quantities of rule and policy and firm planned orders
+-- together
 abbrev pub GrossIsWithinNeed : Type 0
 GrossIsWithinNeed =
     (N : Table) → IsSized N → (needs : List ℕ) → AreNeeds N needs → (table : List PlanRows) → Fits N table → (x : ℕ)
     → IsPair N x
-    → sum (rows_at table x).gross + (pair_at N x).safety + rule_quantities (pair_at N x).rule + firm_total N x
+    → sum (rows_at table x).gross + (pair_at N x).safety + quantities_at N x + firm_total N x
     ≤ slice_index needs x
 
 -- what a pair has without any planned order and all its releases are together within 10^15
@@ -53,7 +53,8 @@ PlansAreWithin =
     (N : Table) → IsSized N → (table : List PlanRows) → Fits N table → (x : ℕ) → IsPair N x
     → IsWithin (params_at N x) (rows_at table x).incoming (rows_at table x).gross
 
--- so is what each pair is planned from: receipts, arrivals, firm planned orders, gross requirements and quantities
+-- so is what each pair is planned from: receipts, arrivals, firm planned orders, gross requirements, and the quantities
+-- of rule and policy
 abbrev pub DataAreWithin : Type 0
 DataAreWithin =
     (N : Table) → IsSized N → (table : List PlanRows) → Fits N table → (x : ℕ) → IsPair N x
@@ -87,8 +88,8 @@ pub record IsPlanWithin (N : Table) (needs : List ℕ) (x : ℕ) : Type 0 where
   pub supply : supply N x + sum (plan_at N x).release ≤ MOST
   pub each : IsSmallPlan (plan_at N x)
 
--- in the plan of a sized network on hand, receipts, gross requirements, safety stock and the rule's
--- quantities of each pair are together within 10^15, and its releases within its need
+-- in the plan of a sized network on hand, receipts, gross requirements, safety stock and the quantities of rule and
+-- policy of each pair are together within 10^15, and its releases within its need
 abbrev pub PlanIsWithin : Type 0
 PlanIsWithin = (N : Table) → IsSized N → (needs : List ℕ) → AreNeeds N needs → (x : ℕ) → IsPair N x
     → IsPlanWithin N needs x

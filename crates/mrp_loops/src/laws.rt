@@ -61,8 +61,8 @@ pub fn one_plan()
 {}
 
 /// In a table of plans that fits a sized network the releases of a pair, firm and planned, and its gross
-/// requirements with safety stock, the rule's quantities and firm planned orders, are over all periods at
-/// most its need. So supply and releases together are at most 10^15 pieces, and so is each cumulative
+/// requirements with safety stock, the quantities of rule and policy and firm planned orders, are over all
+/// periods at most its need. So supply and releases together are at most 10^15 pieces, and so is each cumulative
 /// figure: opening figure, shipments and releases.
 pub fn releases_within_need()
     ensures releases { ReleasesAreWithinNeed }
@@ -72,8 +72,8 @@ pub fn releases_within_need()
 {}
 
 /// On hand, what comes in, gross requirements, safety stock and the rule's quantities of a pair are
-/// then together at most 10^15 pieces, and what it is planned from is within the bound. So no row of it
-/// has a quantity or a balance above.
+/// then together at most 10^15 pieces, and what it is planned from, its policy's quantities too, is within
+/// the bound. So no row of it has a quantity or a balance above.
 pub fn quantities_within()
     ensures together { PlansAreWithin }
     ensures given { DataAreWithin }

@@ -10,20 +10,23 @@ use mrp_lot::Rule;
 use mrp_net::{Edge, Network, PairNo};
 
 /// What the pair needs over the whole horizon where its demanders need `needs`, or 2^64 - 1 where
-/// that is more: its demand, what its demanders need of it, its safety stock, its rule's quantities
-/// and its firm planned orders.
+/// that is more: its demand, what its demanders need of it, its safety stock, its rule's quantities,
+/// LEAST and MULTIPLE of its policy, and its firm planned orders.
 pub fn need(network: &Network, needs: &[u64], x: PairNo) -> u64
     requires pair { IsPair network.now x.0 }
     requires size { length needs.now ≡ length network.now.pairs }
     ensures { result ≡ min (need_at network.now needs.now x.0) (2 ^ 64 - 1) }
 {
     let row = network.pair(x);
+    let policy = network.policy(x);
     let asked = asked_by(network, network.demanders(x), needs);
     network
         .demand_total(x)
         .saturating_add(asked)
         .saturating_add(row.safety.get())
         .saturating_add(quantities_of(&row.rule))
+        .saturating_add(policy.least)
+        .saturating_add(policy.multiple)
         .saturating_add(network.firm_total(x))
 }
 

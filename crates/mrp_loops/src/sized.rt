@@ -103,8 +103,8 @@ impl<'a> SizedNet<'a> {
 ///
 /// The supply of a pair is what it has without any planned order: on hand, receipts, shipments to it,
 /// its firm planned orders and its opening figures. Its need is its demand, what its demanders need of
-/// it, its safety stock, its rule's quantities and its firm planned orders. All supplies are tested
-/// before any need.
+/// it, its safety stock, its rule's quantities, LEAST and MULTIPLE of its policy, and its firm planned
+/// orders. All supplies are tested before any need.
 ///
 /// # Errors
 ///

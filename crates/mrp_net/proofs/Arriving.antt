@@ -17,7 +17,7 @@ use Rattle.mrp_net.specs.Lanes.{lanes, lanes_of, lanes_between, taken_over, item
 use Rattle.mrp_net.specs.Lanes.{customer_of, supplier_of}
 use Rattle.mrp_net.specs.LaneLaws.{is_despatch, despatches_to, arriving, IncomingComesOverLanes, ShipmentsAreOfItems}
 use Rattle.mrp_net.specs.RouteLaws.{over_plants}
-use Rattle.mrp_net.specs.Sums.{pair_at, no_pair, received, shipped}
+use Rattle.mrp_net.specs.Sums.{pair_at, no_pair, received_when_due, shipped}
 use Rattle.mrp_net.proofs.Covering.{sum_by-same, sum-flat_map, sum_groups}
 use Rattle.mrp_net.proofs.Local.{pair_of}
 use Rattle.mrp_net.proofs.Members.{In, Contains-from_in, In-filter, In-map, any_some}
@@ -196,4 +196,4 @@ module _ (N : Table) (is : IsTable N) (x t : ℕ) (pair : IsPair N x) where
       ∙ by_plants N is x t
 
 pub incoming_comes_over_lanes : IncomingComesOverLanes
-incoming_comes_over_lanes N is x t pair = ap (λ (n : ℕ). received N x t + n) (sym (over_lanes N is x t pair))
+incoming_comes_over_lanes N is x t pair = ap (λ (n : ℕ). received_when_due N x t + n) (sym (over_lanes N is x t pair))

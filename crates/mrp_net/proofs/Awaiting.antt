@@ -1,23 +1,28 @@
--- What comes in for the pairs to which something is on its way: their places, their receipts, and their shipments.
-use Rattle.std.proofs.Common.{◌≡◌, ℕ, ◌+◌, ◌-◌, ◌*◌, ◌^◌, ◌<◌, ◌≤◌, ◌&&◌, Bool, cond, eqb, List, [], ◌∷◌, ◌++◌, inl, inr, length, get_or, map, take, drop, refl}
+-- What comes in for the pairs to which something is on its way, and those whose policies have SOONER: their places, their
+-- receipts, and their shipments.
+use Rattle.std.proofs.Common.{◌≡◌, ℕ, ◌+◌, ◌-◌, ◌*◌, ◌^◌, ◌<◌, ◌≤◌, ◌&&◌, Bool, cond, eqb, List, [], ◌∷◌, ◌++◌, inl, inr, length, get_or, map, set, take, drop, refl}
 use Rattle.std.proofs.Common.{sym, ap, ◌∙◌, subst, arith, ⊎_elim}
 use Rattle.std.specs.List.{All, range_with_len, sum_by}
 use Rattle.std.proofs.lemmas.Bool.{cases_eq, cases_lt, eq-eqb, ne_eqb}
-use Rattle.std.proofs.lemmas.List.{get_or_read, get_or_append_left, get_or-append_right, get_or-take, length-take-le, length-append}
-use Rattle.std.proofs.lemmas.List.Elements.{All-head, All-tail}
+use Rattle.std.proofs.lemmas.List.{get_or_read, get_or_append_left, get_or-append_right, get_or-set_same, get_or-set_other, get_or-take}
+use Rattle.std.proofs.lemmas.List.{length-take-le, length-append, length-set, take_more}
+use Rattle.std.proofs.lemmas.List.Elements.{All-head, All-tail, All-append, All-cons, All-nil}
 use Rattle.std.proofs.lemmas.List.FromFn.{get_or-map-range_with_len, length-map-range_with_len}
 use Rattle.std.proofs.lemmas.List.Sums.{sum_by-cons}
 use Rattle.std.proofs.lemmas.Nat.{mul-add-lt, mul-le}
 use Rattle.std.proofs.Math.Nat.{add-mul, mul-le-mul_right}
 use Rattle.mrp_qty.proofs.RangeLaws.{map-range-same}
 use Rattle.mrp_qty.specs.declared.horizon.TheConstants.{LONGEST}
-use Rattle.mrp_qty.specs.declared.limits.TheConstants.{MOST_OF_A_KIND}
+use Rattle.mrp_qty.specs.declared.limits.TheConstants.{MOST_OF_A_KIND, MOST_PAIRS}
+use Rattle.mrp_master_data.specs.declared.rows.PolicyRow.{PolicyRow}
 use Rattle.mrp_master_data.specs.declared.rows.ShipRow.{ShipRow}
 use Rattle.mrp_master_data.specs.Table.{Table, IsTable, IsPair, horizon}
 use Rattle.mrp_grouping.specs.Added.{AddsAmounts, sum_in}
 use Rattle.mrp_net.specs.declared.incoming.Incoming.{Incoming}
 use Rattle.mrp_net.specs.Incoming.{AreCounted, AreRows, IsIncoming}
-use Rattle.mrp_net.specs.Sums.{row_of, incoming, received, shipped}
+use Rattle.mrp_net.specs.Sums.{row_of, incoming, received, received_when_due, shipped}
+use Rattle.mrp_net.proofs.PolicyRows.{sooner_none}
+use Rattle.mrp_net.proofs.Sooner.{when_due-all, when_due-le}
 use Rattle.mrp_net.proofs.Summing.{received_within, row_at, shipped_within}
 
 -- ---- rows
@@ -66,9 +71,9 @@ test_same : (a b c : Bool) (v : ℕ) → a ≡ b → cond (a && c) v 0 ≡ cond 
 test_same a b c v e = ap (λ (z : Bool). cond (z && c) v 0) e
 
 -- two places are the same where their pairs are
-places_apart : (ships : List ShipRow) (pairs places : List ℕ) (x y : ℕ) → AreCounted ships pairs places → 0 < get_or places x 0 → 0 < get_or places y 0
+places_apart : (ships : List ShipRow) (policies : List PolicyRow) (pairs places : List ℕ) (x y : ℕ) → AreCounted ships policies pairs places → 0 < get_or places x 0 → 0 < get_or places y 0
     → eqb (get_or places y 0 - 1) (get_or places x 0 - 1) ≡ eqb y x
-places_apart ships pairs places x y are has_x has_y =
+places_apart ships policies pairs places x y are has_x has_y =
     elim (cases_eq y x) as (λ _. eqb (get_or places y 0 - 1) (get_or places x 0 - 1) ≡ eqb y x) [
       | inl e ↦ eq-eqb (get_or places y 0 - 1) (get_or places x 0 - 1) (ap (λ (z : ℕ). get_or places z 0 - 1) e) ∙ sym (eq-eqb y x e)
       | inr ne ↦
@@ -78,21 +83,21 @@ places_apart ships pairs places x y are has_x has_y =
     ]
 
 -- the shipments to the place of a pair are those to the pair
-pub shipped_by_place : (N : Table) (pairs places : List ℕ) (x t : ℕ) → AreCounted N.ships pairs places → 0 < get_or places x 0
+pub shipped_by_place : (N : Table) (pairs places : List ℕ) (x t : ℕ) → AreCounted N.ships N.policies pairs places → 0 < get_or places x 0
     → sum_in (λ (s : ShipRow). get_or places s.pair.0 0 - 1) (λ s. s.period) (λ s. s.quantity) (get_or places x 0 - 1) t N.ships ≡ shipped N x t
 shipped_by_place N pairs places x t are has =
     sums_same (λ (s : ShipRow). cond (eqb (get_or places s.pair.0 0 - 1) (get_or places x 0 - 1) && eqb s.period t) s.quantity 0)
     (λ (s : ShipRow). cond (eqb s.pair.0 x && eqb s.period t) s.quantity 0) N.ships
     (λ k d h. let s : ShipRow = get_or N.ships k d in
     test_same (eqb (get_or places s.pair.0 0 - 1) (get_or places x 0 - 1)) (eqb s.pair.0 x) (eqb s.period t) s.quantity
-    (places_apart N.ships pairs places x s.pair.0 are has (are.seen k d h)))
+    (places_apart N.ships N.policies pairs places x s.pair.0 are has (are.seen k d h)))
 
 nothing : (rows : List ShipRow) → sum_by (λ (s : ShipRow). 0) rows ≡ 0
 nothing [] = refl
 nothing (s ∷ rows) = omega (arith, sum_by-cons (λ (s : ShipRow). 0) s rows, nothing rows)
 
 -- no shipment is to a pair without a place
-pub shipped_none : (N : Table) (pairs places : List ℕ) (x t : ℕ) → AreCounted N.ships pairs places → get_or places x 0 ≡ 0 → shipped N x t ≡ 0
+pub shipped_none : (N : Table) (pairs places : List ℕ) (x t : ℕ) → AreCounted N.ships N.policies pairs places → get_or places x 0 ≡ 0 → shipped N x t ≡ 0
 shipped_none N pairs places x t are none =
     sums_same (λ (s : ShipRow). cond (eqb s.pair.0 x && eqb s.period t) s.quantity 0) (λ (s : ShipRow). 0) N.ships
     (λ k d h. let s : ShipRow = get_or N.ships k d in
@@ -101,8 +106,8 @@ shipped_none N pairs places x t are none =
     ∙ nothing N.ships
 
 incoming_is : (N : Table) (pairs first rows : List ℕ) (i : Incoming) → IsTable N → length i.places.items ≡ length N.pairs
-    → AreCounted N.ships pairs i.places.items
-    → AreRows N (received N) pairs first → length rows ≡ length first → i.rows.items ≡ rows
+    → AreCounted N.ships N.policies pairs i.places.items
+    → AreRows N (received_when_due N) pairs first → length rows ≡ length first → i.rows.items ≡ rows
     → AddsAmounts (λ (s : ShipRow). get_or i.places.items s.pair.0 0 - 1) (λ s. s.period) (λ s. s.quantity) (horizon N) N.ships first rows → IsIncoming N i
 incoming_is N pairs first rows i is size are had long back adds =
     let places : List ℕ = i.places.items in
@@ -113,34 +118,131 @@ incoming_is N pairs first rows i is size are had long back adds =
         ap length back,
         long,
         had.size,
-        mul-le (length pairs) (horizon N) MOST_OF_A_KIND LONGEST
-            (omega (arith, are.few, is.read.limits.ships)) is.read.limits.periods,
+        mul-le (length pairs) (horizon N) (MOST_OF_A_KIND + MOST_PAIRS) LONGEST
+            (omega (arith, are.few, is.read.limits.ships, is.read.limits.policies)) is.read.limits.periods,
       );
       none = λ x t pair none. shipped_none N pairs places x t are none;
+      when_due = λ x pair none. sooner_none places x N.policies are.sooner none;
       room = λ x pair has. omega (arith, ap length back, long, had.size, mul-le-mul_right (horizon N) (are.back x has).0);
       each = λ x t pair has g.
           let was = are.back x has in
           let at : ℕ = get_or places x 0 - 1 in
           let low : at < length pairs = omega (arith, was.0, has) in
           let within : at * horizon N + t < length first = omega (arith, had.size, mul-add-lt at (horizon N) t (length pairs) low g) in
-          let from : get_or first (at * horizon N + t) 0 ≡ received N x t = had.each at t low g ∙ ap (λ (z : ℕ). received N z t) was.1 in
+          let from : get_or first (at * horizon N + t) 0 ≡ received_when_due N x t = had.each at t low g ∙ ap (λ (z : ℕ). received_when_due N z t) was.1 in
           ap (λ (z : List ℕ). get_or z (at * horizon N + t) 0) back
-          ∙ omega (arith, adds at t g within, from, shipped_by_place N pairs places x t are has, received_within N is x t, shipped_within N is x t);
+          ∙ omega (
+            arith,
+            adds at t g within,
+            from,
+            shipped_by_place N pairs places x t are has,
+            when_due-le N x t,
+            received_within N is x t,
+            shipped_within N is x t,
+          );
     }
 
 -- what is added to the receipts of the pairs that have a place is what comes in for them
-pub incoming_of : (N : Table) (pairs counted places read first slice rows : List ℕ) (ships : List ShipRow) (i : Incoming) → IsTable N → ships ≡ N.ships
+pub incoming_of : (N : Table) (pairs counted places read first slice rows : List ℕ) (i : Incoming) → IsTable N
     → length i.places.items ≡ length N.pairs
-    → AreCounted ships counted places → pairs ≡ counted → i.places.items ≡ places → read ≡ i.places.items
-    → AreRows N (received N) pairs first → slice ≡ first → length rows ≡ length slice → i.rows.items ≡ rows
+    → AreCounted N.ships N.policies counted places → pairs ≡ counted → i.places.items ≡ places → read ≡ i.places.items
+    → AreRows N (received_when_due N) pairs first → slice ≡ first → length rows ≡ length slice → i.rows.items ≡ rows
     → AddsAmounts (λ (s : ShipRow). get_or read s.pair.0 0 - 1) (λ s. s.period) (λ s. s.quantity) (horizon N) N.ships slice rows → IsIncoming N i
-incoming_of N pairs counted places read first slice rows ships i is same size all same_pairs kept same_places had same_rows long back adds =
-    let are : AreCounted N.ships counted i.places.items = subst (λ (z : List ℕ). AreCounted N.ships counted z) (sym kept)
-    (subst (λ (z : List ShipRow). AreCounted z counted places) same all) in
-    incoming_is N counted first rows i is size are (subst (λ (z : List ℕ). AreRows N (received N) z first) same_pairs had) (long ∙ ap length same_rows) back
+incoming_of N pairs counted places read first slice rows i is size all same_pairs kept same_places had same_rows long back adds =
+    let are : AreCounted N.ships N.policies counted i.places.items = subst (λ (z : List ℕ). AreCounted N.ships N.policies counted z) (sym kept) all in
+    incoming_is N counted first rows i is size are (subst (λ (z : List ℕ). AreRows N (received_when_due N) z first) same_pairs had)
+    (long ∙ ap length same_rows) back
     (subst (λ (z : List ℕ). AddsAmounts (λ (s : ShipRow). get_or z s.pair.0 0 - 1) (λ s. s.period) (λ s. s.quantity) (horizon N) N.ships first rows) same_places
     (subst (λ (z : List ℕ). AddsAmounts (λ (s : ShipRow). get_or read s.pair.0 0 - 1) (λ s. s.period) (λ s. s.quantity) (horizon N) N.ships z rows) same_rows
     adds))
+
+-- ---- places
+
+-- what holds of the first rows holds of one more
+all_more : {X : Type 0} (P : X → Type 0) (xs : List X) (i : ℕ) (d : X) → i < length xs → P (get_or xs i d) → All P (take i xs)
+    → All P (take (i + 1) xs)
+all_more {X} P xs i d lt here before =
+    subst (All P) (sym (take_more xs i d lt)) (All-append P (take i xs) (get_or xs i d ∷ []) before (All-cons P (get_or xs i d) [] here (All-nil P)))
+
+-- one policy more, of a pair that has a place or without SOONER
+pub counted_still : (ships : List ShipRow) (rows : List PolicyRow) (pairs places : List ℕ) (i : ℕ) (d : PolicyRow) → i < length rows
+    → (0 < (get_or rows i d).policy.sooner → 0 < get_or places (get_or rows i d).pair.0 0)
+    → AreCounted ships (take i rows) pairs places → AreCounted ships (take (i + 1) rows) pairs places
+counted_still ships rows pairs places i d lt has are = record {
+  back = are.back;
+  seen = are.seen;
+  sooner = all_more (λ (p : PolicyRow). 0 < p.policy.sooner → 0 < get_or places p.pair.0 0) rows i d lt has are.sooner;
+  few = omega (arith, are.few, length-take-le i rows (omega arith), length-take-le (i + 1) rows (omega arith));
+  within = are.within;
+}
+
+-- one policy more, of a pair that gets the next place
+pub counted_next : (ships : List ShipRow) (rows : List PolicyRow) (pairs places next after : List ℕ) (i : ℕ) (d : PolicyRow) → i < length rows
+    → (get_or rows i d).pair.0 < length places → get_or places (get_or rows i d).pair.0 0 ≡ 0
+    → next ≡ pairs ++ (get_or rows i d).pair.0 ∷ [] → after ≡ set places (get_or rows i d).pair.0 (length next)
+    → AreCounted ships (take i rows) pairs places → AreCounted ships (take (i + 1) rows) next after
+counted_next ships rows pairs places next after i d lt room none grown written are =
+    let x : ℕ = (get_or rows i d).pair.0 in
+    let n : ℕ = length pairs in
+    let long : length next ≡ n + 1 = ap length grown ∙ length-append pairs (x ∷ []) in
+    let here : get_or after x 0 ≡ n + 1 = ap (λ (z : List ℕ). get_or z x 0) written ∙ get_or-set_same places x (length next) 0 room ∙ long in
+    let other : (y : ℕ) → (y ≡ x → ⊥) → get_or after y 0 ≡ get_or places y 0 =
+    λ y ne. ap (λ (z : List ℕ). get_or z y 0) written ∙ get_or-set_other places x y (length next) 0 ne in
+    let more : (y : ℕ) → 0 < get_or places y 0 → 0 < get_or after y 0 =
+    λ y has. elim (cases_eq y x) as (λ _. 0 < get_or after y 0) [
+      | inl same ↦ omega (arith, here, ap (λ (z : ℕ). get_or after z 0) same)
+      | inr ne ↦ omega (arith, other y ne, has)
+    ] in
+    record {
+      back = λ y has. elim (cases_eq y x) as (λ _. (get_or after y 0 ≤ length next) × (get_or next (get_or after y 0 - 1) 0 ≡ y)) [
+        | inl same ↦
+            let at : get_or after y 0 ≡ n + 1 = ap (λ (z : ℕ). get_or after z 0) same ∙ here in (
+              omega (arith, at, long),
+              ap (λ (z : ℕ). get_or next (z - 1) 0) at
+                  ∙ (let e : n + 1 - 1 ≡ n = omega arith in ap (λ (z : ℕ). get_or next z 0) e)
+                  ∙ ap (λ (z : List ℕ). get_or z n 0) grown
+                  ∙ get_or-append_right pairs (x ∷ []) n n 0 refl (omega arith)
+                  ∙ (let e : n - n ≡ 0 = omega arith in ap (λ (z : ℕ). get_or (x ∷ []) z 0) e)
+                  ∙ sym same,
+            )
+        | inr ne ↦
+            let at = other y ne in
+            let was = are.back y (omega (arith, at, has)) in (
+              omega (arith, at, was.0, long),
+              ap (λ (z : ℕ). get_or next (z - 1) 0) at
+                  ∙ ap (λ (z : List ℕ). get_or z (get_or places y 0 - 1) 0) grown
+                  ∙ get_or_append_left pairs (x ∷ []) 0 (get_or places y 0 - 1) (omega (arith, was.0, at, has))
+                  ∙ was.1,
+            )
+      ];
+      seen = λ k e h. more (get_or ships k e).pair.0 (are.seen k e h);
+      sooner = all_more (λ (p : PolicyRow). 0 < p.policy.sooner → 0 < get_or after p.pair.0 0) rows i d lt (λ some. omega (arith, here))
+          (λ k e h. λ some. more (get_or (take i rows) k e).pair.0 (are.sooner k e h some));
+      few = omega (arith, long, are.few, length-take-le i rows (omega arith), length-take-le (i + 1) rows (omega arith));
+      within = λ k h. elim (cases_lt k n) as (λ _. get_or next k 0 < length after) [
+        | inl low ↦
+            omega (
+              arith,
+              ap (λ (z : List ℕ). get_or z k 0) grown,
+              get_or_append_left pairs (x ∷ []) 0 k low,
+              are.within k low,
+              ap length written,
+              length-set places x (length next),
+            )
+        | inr high ↦
+            let last : k ≡ n = omega (arith, h, long, high) in
+            omega (
+              arith,
+              ap (λ (z : ℕ). get_or next z 0) last,
+              ap (λ (z : List ℕ). get_or z n 0) grown,
+              get_or-append_right pairs (x ∷ []) n n 0 refl (omega arith),
+              (let e : n - n ≡ 0 = omega arith in ap (λ (z : ℕ). get_or (x ∷ []) z 0) e),
+              room,
+              ap length written,
+              length-set places x (length next),
+            )
+      ];
+    }
 
 -- ---- readers
 
@@ -153,7 +255,9 @@ pub incoming_is_received : (N M : Table) (i : Incoming) (x place : ℕ) → N �
     → row_of M (received M x) ≡ row_of M (incoming M x)
 incoming_is_received N M i x place same are pair read none =
     let is : IsIncoming M i = subst (λ (z : Table). IsIncoming z i) same are in
-    map-range-same (received M x) (incoming M x) (horizon M) (λ t h. omega (arith, is.none x t pair (place_is M i x place is pair read ∙ none)))
+    let free : get_or i.places.items x 0 ≡ 0 = place_is M i x place is pair read ∙ none in
+    map-range-same (received M x) (incoming M x) (horizon M)
+    (λ t h. omega (arith, is.none x t pair free, when_due-all M x t (is.when_due x pair free)))
 
 -- the row of a pair that has a place is within all rows
 pub row_room : (N M : Table) (i : Incoming) (x place periods : ℕ) → N ≡ M → IsIncoming N i → IsPair M x → place ≡ get_or i.places.items x place → 0 < place

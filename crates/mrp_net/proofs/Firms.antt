@@ -1,12 +1,13 @@
--- Firm planned orders: what all periods have is what the pair has, and a pair without any is planned as before.
-use Rattle.std.proofs.Common.{◌≡◌, ℕ, ◌+◌, ◌<◌, ◌≤◌, ◌==◌, cond, eqb, if◌then◌else◌, List, [], ◌∷◌, length, map, sum, sum_by, slice_index, slice_range}
-use Rattle.std.proofs.Common.{arith, refl, sym, ap, ◌∙◌, subst, get_or}
-use Rattle.std.specs.List.{All, range_with_len, filter}
+-- Firm planned orders: what all periods have is what the pair has, and a pair without any, and without a policy, is
+-- planned as before.
+use Rattle.std.proofs.Common.{◌≡◌, ℕ, ◌+◌, ◌<◌, ◌≤◌, ◌==◌, eqb, if◌then◌else◌, List, [], ◌∷◌, length, map, sum, sum_by, slice_index, slice_range}
+use Rattle.std.proofs.Common.{arith, refl, sym, ap, ◌∙◌, subst}
+use Rattle.std.specs.List.{All, range_with_len}
 use Rattle.std.proofs.lemmas.List.FromFn.{get_or-map-range_with_len, length-map-range_with_len}
 use Rattle.std.proofs.lemmas.List.Elements.{All-head, All-tail, All-filter}
 use Rattle.std.proofs.lemmas.List.Sums.{sum_by-cons, sum-map}
 use Rattle.mrp_qty.proofs.RangeLaws.{placed_once, sum_by-add, sum_by-none, sum_by-ext}
-use Rattle.mrp_netting.specs.declared.params.PairParams.{PairParams}
+use Rattle.mrp_netting.specs.declared.planning_data.Policy.{Policy}
 use Rattle.mrp_netting.specs.PlanningData.{planned, plain}
 use Rattle.mrp_netting.proofs.OneRows.{AreFirmRows, rows-same}
 use Rattle.mrp_netting.proofs.TogetherLaws.{sum_is_enough}
@@ -17,10 +18,13 @@ use Rattle.mrp_master_data.specs.declared.rows.FirmRow.{FirmRow}
 use Rattle.mrp_master_data.specs.Table.{Table, IsTable, IsPair, IsFirmRow, horizon}
 use Rattle.mrp_net.specs.Built.{AreFirms}
 use Rattle.mrp_net.specs.FirmOrders.{firms_of, starting_in, due_in, firm_start, firm_due, firm_total}
-use Rattle.mrp_net.specs.Plan.{pair_plan, gross}
+use Rattle.mrp_net.specs.Plan.{gross}
 use Rattle.mrp_net.specs.PlanLaws.{PlainPairs, FirmsAreKept}
 use Rattle.mrp_net.specs.Sums.{params_at, terms_at, row_of, incoming}
-use Rattle.mrp_net.specs.Terms.{terms_of}
+use Rattle.mrp_net.proofs.Sooner.{received_sooner-none}
+use Rattle.mrp_net.specs.declared.terms.PlanningTerms.{PlanningTerms}
+use Rattle.mrp_net.specs.Policies.{policy_of}
+use Rattle.mrp_net.specs.Terms.{terms_given}
 
 -- orders by a period of theirs, over all periods
 by_period-sum : (period : FirmRow → ℕ) (n : ℕ) (orders : List FirmRow) → All (λ f. period f < n) orders
@@ -67,15 +71,15 @@ firm_row-sum period n orders below =
     sum-map (λ t. sum_by (λ f. if period f == t then f.quantity else 0) orders) (range_with_len 0 n) ∙ by_period-sum period n orders below
 
 -- rows that say of each period what starts in it and is due in it
-pub are_firm_rows : (params : PairParams) (orders : List FirmRow) (n : ℕ) (incoming required starts dues : List ℕ) → length required ≡ n
-    → length starts ≤ n → length dues ≤ n → ((t : ℕ) → t < n → slice_index starts t ≡ starting_in orders t)
-    → ((t : ℕ) → t < n → slice_index dues t ≡ due_in orders t)
-    → AreFirmRows (planned (terms_of n params orders) incoming required) starts dues
-are_firm_rows params orders n incoming required starts dues long few_starts few_dues start due = record {
+pub are_firm_rows : (given : PlanningTerms) (n : ℕ) (incoming required starts dues : List ℕ) → length required ≡ n
+    → length starts ≤ n → length dues ≤ n → ((t : ℕ) → t < n → slice_index starts t ≡ starting_in given.orders.now t)
+    → ((t : ℕ) → t < n → slice_index dues t ≡ due_in given.orders.now t)
+    → AreFirmRows (planned (terms_given n given) incoming required) starts dues
+are_firm_rows given n incoming required starts dues long few_starts few_dues start due = record {
   few_starts = omega (arith, long, few_starts);
   few_dues = omega (arith, long, few_dues);
-  start = λ t h. start t (omega (arith, long)) ∙ sym (get_or-map-range_with_len (starting_in orders) 0 n t t 0 (omega (arith, long)) (omega arith));
-  due = λ t h. due t (omega (arith, long)) ∙ sym (get_or-map-range_with_len (due_in orders) 0 n t t 0 (omega (arith, long)) (omega arith));
+  start = λ t h. start t (omega (arith, long)) ∙ sym (get_or-map-range_with_len (starting_in given.orders.now) 0 n t t 0 (omega (arith, long)) (omega arith));
+  due = λ t h. due t (omega (arith, long)) ∙ sym (get_or-map-range_with_len (due_in given.orders.now) 0 n t t 0 (omega (arith, long)) (omega arith));
 }
 
 -- a row of no orders has no pieces
@@ -85,17 +89,19 @@ none_at N amount none =
     (λ t h. get_or-map-range_with_len amount 0 (horizon N) t t 0 h (omega arith) ∙ none t)
 
 pub plain_pairs : PlainPairs
-plain_pairs N table x none =
+plain_pairs N table x free none =
     let starts = none_at N (firm_start N x) (λ t. ap (λ (fs : List FirmRow). starting_in fs t) none) in
     let dues = none_at N (firm_due N x) (λ t. ap (λ (fs : List FirmRow). due_in fs t) none) in
+    let when_due : (policy_of N x).sooner ≡ 0 = ap (λ (p : Policy). p.sooner) free in
+    let no_sooner = received_sooner-none N x when_due in
     sum_is_enough (planned (terms_at N x) (row_of N (incoming N x)) (row_of N (gross N table x)))
     (plain (params_at N x) (row_of N (incoming N x)) (row_of N (gross N table x)))
     (record {
       params = refl;
-      policy = refl;
+      policy = free;
       gross = refl;
-      when_due = refl;
-      come = λ t. omega (arith, dues t);
+      when_due = when_due;
+      come = λ t. omega (arith, dues t, ap (λ (row : List ℕ). slice_index row t) no_sooner);
       released = starts;
     })
 

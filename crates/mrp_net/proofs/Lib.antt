@@ -20,4 +20,6 @@ pub mod Lengths
 pub mod Ends
 pub mod Growing
 pub mod Awaiting
+pub mod PolicyRows
+pub mod Sooner
 pub mod Firms

@@ -1,6 +1,6 @@
 -- Sums of rows by period: no period, and not all periods together, have more than all rows.
 use Rattle.std.proofs.Common.{◌≡◌, ℕ, ◌+◌, ◌<◌, ◌≤◌, ◌==◌, ◌&&◌, if◌then◌else◌, Bool, true, false, List, [], ◌∷◌, length, sum, sum_by, slice_index}
-use Rattle.std.proofs.Common.{slice_index_or, arith, ap, ◌∙◌, ⊎_elim}
+use Rattle.std.proofs.Common.{slice_index_or, arith, ap, ◌∙◌, ⊎_elim, inl, inr}
 use Rattle.std.specs.List.{range_with_len}
 use Rattle.std.proofs.lemmas.Bool.{cases_lt}
 use Rattle.std.proofs.lemmas.List.FromFn.{get_or-range_with_len, get_or-map-range_with_len, length-range_with_len, length-map-range_with_len}
@@ -10,7 +10,9 @@ use Rattle.mrp_master_data.specs.Table.{Table, horizon}
 use Rattle.mrp_master_data.specs.declared.rows.DemandRow.{DemandRow}
 use Rattle.mrp_master_data.specs.declared.rows.ReceiptRow.{ReceiptRow}
 use Rattle.mrp_master_data.specs.declared.rows.ShipRow.{ShipRow}
-use Rattle.mrp_net.specs.Sums.{demand, demand_total, incoming, received, received_total, shipped, shipped_total, row_of}
+use Rattle.mrp_net.specs.Policies.{policy_of}
+use Rattle.mrp_net.specs.Sums.{demand, demand_total, incoming, received, received_sooner, received_total, received_when_due, shipped, shipped_total, row_of}
+use Rattle.mrp_net.proofs.Sooner.{received_sooner-all, received_sooner-none, when_due-all, when_due-none}
 
 -- one amount, in its period, counts once at the most
 placed-le : (v p n : ℕ) → sum_by (λ t. if p == t then v else 0) (range_with_len 0 n) ≤ v
@@ -54,15 +56,53 @@ demands-le N x =
       periods-le (λ (d : DemandRow). d.pair.0 == x) (λ (d : DemandRow). d.period) (λ (d : DemandRow). d.quantity) (horizon N) N.demands,
     )
 
-pub incomings-le : (N : Table) (x : ℕ) → sum (row_of N (incoming N x)) ≤ received_total N x + shipped_total N x
-incomings-le N x =
+receipts-le : (N : Table) (x : ℕ) → sum (row_of N (received N x)) ≤ received_total N x
+receipts-le N x =
+    omega (
+      arith,
+      sum-map (received N x) (range_with_len 0 (horizon N)),
+      periods-le (λ (r : ReceiptRow). r.pair.0 == x) (λ (r : ReceiptRow). r.period) (λ (r : ReceiptRow). r.quantity) (horizon N) N.receipts,
+    )
+
+-- receipts that may be counted sooner, and those that count when they come
+both_receipts-le : (N : Table) (x : ℕ) → sum (received_sooner N x) + sum (row_of N (received_when_due N x)) ≤ received_total N x
+both_receipts-le N x =
+    let n = horizon N in
+    elim (cases_lt 0 (policy_of N x).sooner) as (λ _. sum (received_sooner N x) + sum (row_of N (received_when_due N x)) ≤ received_total N x) [
+      | inl some ↦
+          omega (
+            arith,
+            ap (λ (row : List ℕ). sum row) (received_sooner-all N x some),
+            sum-map (received_when_due N x) (range_with_len 0 n),
+            sum_by-ext (received_when_due N x) (λ t. 0) (range_with_len 0 n) (λ t. when_due-none N x t some),
+            sum_by-none (range_with_len 0 n),
+            receipts-le N x,
+          )
+      | inr none ↦
+          omega (
+            arith,
+            ap (λ (row : List ℕ). sum row) (received_sooner-none N x (omega (arith, none))),
+            sum-map (received_when_due N x) (range_with_len 0 n),
+            sum-map (received N x) (range_with_len 0 n),
+            sum_by-ext (received_when_due N x) (received N x) (range_with_len 0 n) (λ t. when_due-all N x t (omega (arith, none))),
+            receipts-le N x,
+          )
+    ]
+
+-- all that comes in beside firm planned orders, be it counted sooner or when it comes
+pub all_incomings-le : (N : Table) (x : ℕ) → sum (received_sooner N x) + sum (row_of N (incoming N x)) ≤ received_total N x + shipped_total N x
+all_incomings-le N x =
     omega (
       arith,
       sum-map (incoming N x) (range_with_len 0 (horizon N)),
-      sum_by-add (received N x) (shipped N x) (range_with_len 0 (horizon N)),
-      periods-le (λ (r : ReceiptRow). r.pair.0 == x) (λ (r : ReceiptRow). r.period) (λ (r : ReceiptRow). r.quantity) (horizon N) N.receipts,
+      sum_by-add (received_when_due N x) (shipped N x) (range_with_len 0 (horizon N)),
+      sum-map (received_when_due N x) (range_with_len 0 (horizon N)),
+      both_receipts-le N x,
       periods-le (λ (s : ShipRow). s.pair.0 == x) (λ (s : ShipRow). s.period) (λ (s : ShipRow). s.quantity) (horizon N) N.ships,
     )
+
+pub incomings-le : (N : Table) (x : ℕ) → sum (row_of N (incoming N x)) ≤ received_total N x + shipped_total N x
+incomings-le N x = omega (arith, all_incomings-le N x)
 
 pub demand-le : (N : Table) (x t : ℕ) → t < horizon N → demand N x t ≤ demand_total N x
 demand-le N x t within =

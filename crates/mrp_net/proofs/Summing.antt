@@ -4,7 +4,7 @@ use Rattle.std.proofs.Common.{min, replicate, refl, sym, subst, ap, ◌∙◌, i
 use Rattle.std.specs.List.{All, AllByRecursion, IsDistinct, range_with_len, sum_by}
 use Rattle.std.proofs.lemmas.Bool.{cond_both, cases_Bool, and_from, and_parts, eq-eqb, eqb-true, false_from_ne_true, true≢false}
 use Rattle.std.proofs.lemmas.Grind.{same_number_lists}
-use Rattle.std.proofs.lemmas.List.{take_at, get_or-replicate, get_or-map, get_or-take, get_or-drop, length-replicate, length-map, length-take-le}
+use Rattle.std.proofs.lemmas.List.{take_at, get_or_read, get_or-replicate, get_or-map, get_or-take, get_or-drop, length-replicate, length-map, length-take-le}
 use Rattle.std.proofs.lemmas.List.{length-drop}
 use Rattle.std.proofs.lemmas.List.FromFn.{get_or-map-range_with_len, length-map-range_with_len}
 use Rattle.std.proofs.lemmas.List.Elements.{All-head, All-tail}
@@ -101,6 +101,13 @@ row_read N M sums amounts read x from to is are begins ends pair same =
     ∙ ap (λ (z : ℕ). take z (drop from amounts)) long
     ∙ ap (λ (z : ℕ). take (horizon M) (drop z amounts)) begins
     ∙ row_in_periods M (sums M) amounts x there pair
+
+-- an amount of a pair that is read
+pub total_read : (N M : Table) (amount : Table → ℕ → ℕ) (totals : List ℕ) (x v : ℕ) → N ≡ M → AreTotals N (amount N) totals → IsPair M x
+    → v ≡ get_or totals x v → v ≡ amount M x
+total_read N M amount totals x v is are pair read =
+    let there : AreTotals M (amount M) totals = subst (λ (z : Table). AreTotals z (amount z) totals) is are in
+    get_or_read totals x v (omega (arith, there.size, pair)) read 0 ∙ there.each x pair
 
 -- what is added to zeros, in a slice of a list that is put back, are the sums
 pub sums_built : {R : Type 0} (pair period amount : R → ℕ) (N : Table) (periods : ℕ) (rows : List R) (first slice after : List ℕ) (n : ℕ)

@@ -12,6 +12,7 @@ use Rattle.mrp_grouping.specs.Starts.{IsGrouped}
 use Rattle.mrp_net.specs.Routes.{AreLaneLists}
 use Rattle.mrp_net.specs.Sums.{demand, demand_total, received, supply}
 use Rattle.mrp_master_data.specs.declared.rows.FirmRow.{FirmRow}
+use Rattle.mrp_master_data.specs.declared.rows.PolicyRow.{PolicyRow}
 
 -- all edges in order of their demanders, and then in order of their pairs
 abbrev pub by_demander : Table → List Edge
@@ -50,7 +51,11 @@ pub record AreEdges (N : Table) (e : Edges) : Type 0 where
 abbrev pub AreFirms : Table → List FirmRow → List ℕ → Type 0
 AreFirms N rows starts = IsGrouped (λ f. f.pair.0) (length N.pairs) N.firms rows starts
 
--- what the rows add up to, and firm planned orders by their pairs
+-- the policy of each pair that has one, kept the same way
+abbrev pub ArePolicies : Table → List PolicyRow → List ℕ → Type 0
+ArePolicies N rows starts = IsGrouped (λ p. p.pair.0) (length N.pairs) N.policies rows starts
+
+-- what the rows add up to, and firm planned orders and policies by their pairs
 pub record AreAmounts (N : Table) (a : Amounts) : Type 0 where
   pub demanded : ArePeriods N (demand N) a.demand.items
   pub receipts : ArePeriods N (received N) a.received.items
@@ -58,6 +63,7 @@ pub record AreAmounts (N : Table) (a : Amounts) : Type 0 where
   pub total : AreTotals N (demand_total N) a.demand_totals.items
   pub supplied : AreTotals N (capped_supply N) a.supplies.items
   pub firms : AreFirms N a.firms.rows.items a.firms.starts.items
+  pub policies : ArePolicies N a.policies.rows.items a.policies.starts.items
 
 -- the table, and what is built of it
 pub record IsBuilt (N : Table) (e : Edges) (a : Amounts) (l : LaneLists) : Type 0 where

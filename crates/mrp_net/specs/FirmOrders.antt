@@ -1,6 +1,5 @@
 -- Firm planned orders of a pair, and what they add up to. Orders that are equal all count.
-use Rattle.std.specs.Prelude.{ℕ, ◌+◌, ◌==◌, if◌then◌else◌, List, sum_by, length, map}
-use Rattle.std.specs.List.{range_with_len}
+use Rattle.std.specs.Prelude.{ℕ, ◌==◌, if◌then◌else◌, List, sum_by}
 use Rattle.mrp_grouping.specs.Groups.{group}
 use Rattle.mrp_master_data.specs.declared.rows.FirmRow.{FirmRow}
 use Rattle.mrp_master_data.specs.Table.{Table}

@@ -13,7 +13,7 @@ use Rattle.mrp_net.specs.Lanes.{lanes, lane_at, taken_over, item_of_source, lane
 use Rattle.mrp_net.specs.Lanes.{customer_of, supplier_of}
 use Rattle.mrp_net.specs.Sources.{source_on}
 use Rattle.mrp_net.specs.SourceRows.{supplied_on}
-use Rattle.mrp_net.specs.Sums.{pair_at, incoming, received, supply}
+use Rattle.mrp_net.specs.Sums.{pair_at, incoming, received_when_due, supply}
 
 -- the items over a route are each brought by one source, and a lane has each of its items once
 abbrev pub is_same_item : ItemNo → ItemNo → Bool
@@ -112,11 +112,12 @@ is_schedule Schedule = true
 abbrev pub arriving : ℕ → List Shipment → ℕ
 arriving t ships = sum_by (λ s. if s.period == t then s.quantity else 0) ships
 
--- what comes in for a pair is its receipts, and what arrives of its item over the despatch lanes to its plant
+-- what comes in for a pair is its receipts that count when they come, and what arrives of its item over the despatch
+-- lanes to its plant
 abbrev pub IncomingComesOverLanes : Type 0
 IncomingComesOverLanes =
     (N : Table) → IsTable N → (x t : ℕ) → IsPair N x
-    → incoming N x t ≡ received N x t + sum_by (λ lane. arriving t (shipments N lane (pair_at N x).item))
+    → incoming N x t ≡ received_when_due N x t + sum_by (λ lane. arriving t (shipments N lane (pair_at N x).item))
     (despatches_to N (pair_at N x).plant.0)
 
 -- and a lane that doesn't have the item has no shipments of it

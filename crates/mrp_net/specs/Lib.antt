@@ -13,6 +13,7 @@ pub mod Shares
 pub mod SourceRows
 pub mod Sources
 pub mod FirmOrders
+pub mod Policies
 pub mod Terms
 pub mod Sums
 pub mod Suppliers

@@ -1,14 +1,16 @@
--- Laws of plans: what the plan of a pair looks at, and where its gross requirements come from.
+-- Laws of plans: what the plan of a pair looks at, from which receipts it is made, and where its gross requirements
+-- come from.
 use Rattle.std.specs.Prelude.{◌≡◌, ℕ, ◌+◌, ◌*◌, ◌==◌, if◌then◌else◌, List, [], sum, sum_by, All, length}
 use Rattle.mrp_netting.specs.PlanRows.{PlanRows}
-use Rattle.mrp_netting.specs.PlanningData.{plain, one}
+use Rattle.mrp_netting.specs.PlanningData.{PairData, plain, no_policy, one}
 use Rattle.mrp_master_data.specs.declared.rows.BillRow.{BillRow}
 use Rattle.mrp_master_data.specs.declared.rows.SourceRow.{SourceRow}
 use Rattle.mrp_master_data.specs.Table.{Table, IsTable, IsPair, source_pair}
 use Rattle.mrp_net.specs.Edges.{part, source_edge, demanders}
 use Rattle.mrp_net.specs.Plan.{rows_at, gross, pair_plan, release_at, plan_of}
 use Rattle.mrp_net.specs.FirmOrders.{firms_of, firm_start, firm_due, firm_total}
-use Rattle.mrp_net.specs.Sums.{pair_at, params_at, row_of, demand, incoming}
+use Rattle.mrp_net.specs.Policies.{policy_of}
+use Rattle.mrp_net.specs.Sums.{pair_at, params_at, row_of, demand, incoming, received, shipped}
 use Rattle.mrp_net.specs.RouteLaws.{over_route, over_plants}
 
 -- the plan of a pair looks at the releases of its demanders alone
@@ -18,10 +20,28 @@ PlansLookAtDemanders =
     → All (λ e. (rows_at a e.demander.0).release ≡ (rows_at b e.demander.0).release) (demanders N x)
     → pair_plan N a x ≡ pair_plan N b x
 
--- a pair without firm planned orders is planned from what comes in and what is required of it
+-- a pair without a policy and firm planned orders is planned from what comes in and what is required of it
 abbrev pub PlainPairs : Type 0
-PlainPairs = (N : Table) (table : List PlanRows) (x : ℕ) → firms_of N x ≡ []
+PlainPairs = (N : Table) (table : List PlanRows) (x : ℕ) → policy_of N x ≡ no_policy → firms_of N x ≡ []
     → pair_plan N table x ≡ one (plain (params_at N x) (row_of N (incoming N x)) (row_of N (gross N table x)))
+
+-- all that a pair is planned from: its row and its policy, its receipts, what comes from other plants, its firm planned
+-- orders, and its gross requirements
+abbrev pub whole_data : Table → List PlanRows → ℕ → PairData
+whole_data N table x = record {
+  params = params_at N x;
+  policy = policy_of N x;
+  receipts = row_of N (received N x);
+  arrivals = row_of N (shipped N x);
+  firm_start = row_of N (firm_start N x);
+  firm_due = row_of N (firm_due N x);
+  gross = row_of N (gross N table x);
+}
+
+-- the plan of a pair is the one from all its receipts, whether they may be counted sooner or not
+abbrev pub PlansAreOfAllReceipts : Type 0
+PlansAreOfAllReceipts = (N : Table) (table : List PlanRows) (x : ℕ)
+    → pair_plan N table x ≡ one (whole_data N table x)
 
 -- by release and by due period the firm planned orders of a pair are all of them
 pub record AreAllFirms (N : Table) (x : ℕ) : Type 0 where

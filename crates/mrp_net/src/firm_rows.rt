@@ -3,17 +3,17 @@
 ghost use Rattle.std.specs.Prelude.{◌≡◌, ℕ, ◌<◌, ◌≤◌, List, [], All, length, slice_index, sum_by};
 ghost use Rattle.std.specs.Prelude.{if◌then◌else◌};
 ghost use Rattle.mrp_qty.specs.declared.quantity.TheConstants.{MOST};
-ghost use Rattle.mrp_netting.specs.PlanningData.{planned, no_policy, one};
-ghost use Rattle.mrp_netting.specs.PlanningBound.{IsWithinData, data_of};
-ghost use Rattle.mrp_net.specs.Terms.{terms_of};
+ghost use Rattle.mrp_netting.specs.PlanningData.{planned};
+ghost use Rattle.mrp_netting.specs.PlanningBound.{data_of};
 ghost use Rattle.mrp_grouping.specs.Added.{sum_of};
 ghost use Rattle.mrp_net.specs.FirmOrders.{FirmPieces, starting_in, due_in};
 
 use crate::sums::{ByDue, ByStart, Pieces};
+use crate::terms::PlanningTerms;
 use mrp_grouping::{KeyOf, add_totals};
 use mrp_master_data::FirmRow;
-use mrp_netting::{PairParams, PairPlan, PlanningData, Policy, plan_from};
-use mrp_qty::{Horizon, LONGEST, Row};
+use mrp_netting::PlanningData;
+use mrp_qty::{Horizon, LONGEST};
 use std::marker::Model;
 
 /// The periods of the longest horizon.
@@ -78,54 +78,25 @@ impl FirmRows {
         }
     }
 
-    /// What a pair is planned from beside its gross requirements: what comes in is `incoming` and the orders that
-    /// were written.
-    pub fn planning_data<'a>(&'a self, params: PairParams, incoming: &'a [u64]) -> PlanningData<'a>
+    /// What a pair of these terms is planned from beside its gross requirements: what comes in at its time is
+    /// `incoming`, and the firm planned orders are those that were written.
+    pub fn planning_data<'a>(
+        &'a self,
+        terms: &PlanningTerms<'a>,
+        incoming: &'a [u64],
+    ) -> PlanningData<'a>
         ensures { (gross : List ℕ) → data_of result gross ≡ planned (record {
-          params = params;
-          policy = no_policy;
+          params = terms.now.params;
+          policy = terms.now.policy;
+          receipts = terms.now.receipts.now;
           firm_start = self.now.start;
           firm_due = self.now.due;
         }) incoming.now gross }
     {
-        PlanningData {
-            params,
-            policy: Policy::NONE,
-            receipts: &[],
-            arrivals: incoming,
-            firm_start: row_if(self.some, &self.start[..self.periods]),
-            firm_due: row_if(self.some, &self.due[..self.periods]),
-        }
+        let start = row_if(self.some, &self.start[..self.periods]);
+        let due = row_if(self.some, &self.due[..self.periods]);
+        terms.data_with(incoming, start, due)
     }
-}
-
-/// Plans one pair from what its row says, its firm planned orders, what comes in beside them and what is required of
-/// it: writes into `into` the rows and the late orders, whatever it held. The gross requirements become the plan's own,
-/// and `gross` is left with the row that `into` had, as by [`plan_from`].
-///
-/// `incoming` has a number for each period, or fewer. The orders are released and due within the periods. All
-/// quantities together are at most 10^15. Nothing is allocated (by construction; no clause says so).
-pub fn plan_with_firm_orders(
-    params: PairParams,
-    orders: &[FirmRow],
-    incoming: &[u64],
-    gross: &mut Row,
-    into: &mut PairPlan,
-)
-    requires starts { All (λ f. f.start < length gross.old) orders.now }
-    requires dues { All (λ f. f.due < length gross.old) orders.now }
-    requires within { IsWithinData (planned (terms_of (length gross.old) params orders.now) incoming.now gross.old) }
-    requires room { length into.old.gross ≡ length gross.old }
-    ensures plan { into.new ≡ one (planned (terms_of (length gross.old) params orders.now) incoming.now gross.old) }
-    ensures room { gross.new ≡ into.old.gross }
-{
-    if orders.is_empty() {
-        plan_from(&PlanningData::plain(params, incoming), gross, into);
-        return;
-    }
-    let mut rows = FirmRows::new(Horizon::new(gross.len() as u64).unwrap());
-    rows.write(orders);
-    plan_from(&rows.planning_data(params, incoming), gross, into);
 }
 
 /// Writes what the orders of each period add up to.

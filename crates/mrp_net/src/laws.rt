@@ -10,6 +10,7 @@ ghost use Rattle.mrp_net.specs.EdgeLaws.{SourcePairsAreThere, LocalEdgesAreBills
 ghost use Rattle.mrp_net.specs.EdgeLaws.{LocalDemandersAreWhole, CrossingEdgesAreSources};
 ghost use Rattle.mrp_net.specs.LaneLaws.{SourcesHaveLanes, LanesComeInTwos, LanesStandOnce, LanesJoinTwoPlants};
 ghost use Rattle.mrp_net.specs.PlanLaws.{GrossIsLocalAndCalled, PlansLookAtDemanders, PlainPairs, FirmsAreKept};
+ghost use Rattle.mrp_net.specs.PlanLaws.{PlansAreOfAllReceipts};
 ghost use Rattle.mrp_net.specs.LaneLaws.{ItemsHaveSources, OpeningsAreSupplied, IncomingComesOverLanes};
 ghost use Rattle.mrp_net.specs.LaneLaws.{ShipmentsAreOfItems};
 ghost use Rattle.mrp_net.specs.EdgeLaws.{OneEdgeJoinsTwoPairs, DemandersStandOnce};
@@ -59,9 +60,15 @@ pub fn plans_look_at_demanders()
     ensures { PlansLookAtDemanders }
 {}
 
-/// A pair without firm planned orders is planned from what comes in and from its gross requirements.
+/// A pair without a policy and firm planned orders is planned from what comes in and from its gross requirements.
 pub fn plain_pairs_have_no_firm_orders()
     ensures { PlainPairs }
+{}
+
+/// The plan of a pair is the one from all its receipts, what comes from other plants, its policy and its firm planned
+/// orders, whether its receipts may be counted sooner or not.
+pub fn plans_are_of_all_receipts()
+    ensures { PlansAreOfAllReceipts }
 {}
 
 /// The firm planned orders of a pair by release period, and those by due period, are all of its firm planned orders.
@@ -121,8 +128,9 @@ pub fn sources_have_lanes()
     ensures { SourcesHaveLanes }
 {}
 
-/// What comes in for a pair in a period, beside firm planned orders, is its receipts and what arrives of its item
-/// over the despatch lanes to its plant; a lane that doesn't have the item has no shipments of it.
+/// What comes in at its time for a pair in a period, beside firm planned orders, is its receipts that count when they
+/// come, and what arrives of its item over the despatch lanes to its plant; a lane that doesn't have the item has no
+/// shipments of it.
 pub fn shipments_come_over_lanes()
     ensures incoming { IncomingComesOverLanes }
     ensures items { ShipmentsAreOfItems }

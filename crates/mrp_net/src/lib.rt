@@ -17,14 +17,17 @@ mod lane;
 mod lanes;
 pub mod laws;
 mod network;
+mod policies;
 mod shares;
 mod sums;
+mod terms;
 
 pub use edge::Edge;
-pub use firm_rows::{FirmRows, plan_with_firm_orders};
+pub use firm_rows::FirmRows;
 pub use lane::{Lane, LaneKind, LaneNo, Shipment};
 pub use mrp_master_data::{
-    FirmRow, ItemNo, PairNo, PairRow, PlantNo, ReceiptRow, ShipRow, SourceRow, Supply,
+    FirmRow, ItemNo, PairNo, PairRow, PlantNo, PolicyRow, ReceiptRow, ShipRow, SourceRow, Supply,
 };
 pub use network::Network;
 pub use shares::share_of;
+pub use terms::{PlanningTerms, plan_by_terms};

@@ -5,8 +5,10 @@ ghost use Rattle.std.specs.Prelude.{length, slice_get, Option, Some, None, IfSom
 ghost use Rattle.mrp_master_data.specs.Table.{Table, IsTable, horizon, IsFirmRow, IsPair, is_taken_from, pair_no};
 ghost use Rattle.mrp_net.specs.Edges.{demanders};
 ghost use Rattle.mrp_net.specs.Suppliers.{suppliers, IsEdge};
-ghost use Rattle.mrp_net.specs.Sums.{pair_at, row_of, demand, demand_total, incoming, received, supply};
+ghost use Rattle.mrp_net.specs.Sums.{pair_at, params_at, row_of, demand, demand_total, supply};
+ghost use Rattle.mrp_net.specs.Sums.{incoming, received, received_sooner, earliest_at};
 ghost use Rattle.mrp_net.specs.FirmOrders.{firm_total, firms_of};
+ghost use Rattle.mrp_net.specs.Policies.{policy_of};
 ghost use Rattle.mrp_net.specs.Names.{IsNamed};
 ghost use Rattle.mrp_net.specs.Lanes.{lanes, lane_at, lane_items, figure, opening, shipments, reset, pair_on};
 ghost use Rattle.mrp_net.specs.Lanes.{customer_of, shipped_from, supplier_of};
@@ -18,11 +20,14 @@ use crate::build::{Amounts, Edges};
 use crate::kept::Kept;
 use crate::lane::{Lane, LaneKind, LaneNo, Shipment};
 use crate::lanes::{LaneLists, source_of};
+use crate::policies::first_policy;
+use crate::terms::PlanningTerms;
 use crate::{Edge, build, lanes};
 use mrp_cal::Calendar;
 use mrp_master_data::{
     FirmRow, ItemNo, PairNo, PairRow, PlantNo, ReceiptRow, ShipRow, SourceRow, Tables,
 };
+use mrp_netting::Policy;
 use mrp_qty::{Horizon, Memory};
 use std::alloc::Global;
 use std::marker::Model;
@@ -249,8 +254,8 @@ impl Network {
         self.amounts.demand_totals[x.0]
     }
 
-    /// What comes in for the pair in period `t` beside firm planned orders: its receipt rows and the shipments to it,
-    /// at most 2 * 10^18 pieces.
+    /// What comes in at its time for the pair in period `t`, beside firm planned orders: the shipments to it, and its
+    /// receipt rows but where they may be counted sooner, at most 2 * 10^18 pieces.
     pub fn incoming(&self, x: PairNo, t: usize) -> u64
         requires pair { IsPair self.now x.0 }
         requires period { t < horizon self.now }
@@ -259,8 +264,8 @@ impl Network {
         self.incoming_row(x)[t]
     }
 
-    /// What comes in for the pair beside firm planned orders, period by period: its receipt rows and the shipments to
-    /// it, each at most 2 * 10^18 pieces.
+    /// What comes in at its time for the pair, beside firm planned orders, period by period: the shipments to it, and
+    /// its receipt rows but where they may be counted sooner, each at most 2 * 10^18 pieces.
     pub fn incoming_row(&self, x: PairNo) -> &[u64]
         requires { IsPair self.now x.0 }
         ensures { result.now ≡ row_of self.now (incoming self.now x.0) }
@@ -278,6 +283,19 @@ impl Network {
         ensures { result.now ≡ row_of self.now (received self.now x.0) }
     {
         &self.amounts.received[self.places_of(x)]
+    }
+
+    /// The pair's receipt rows that may be counted sooner than they come, period by period, each sum at most 10^18
+    /// pieces: of a pair whose policy has SOONER all, of others no row.
+    fn received_sooner(&self, x: PairNo) -> &[u64]
+        requires { IsPair self.now x.0 }
+        ensures { result.now ≡ received_sooner self.now x.0 }
+    {
+        if self.policy(x).sooner > 0 {
+            self.received_row(x)
+        } else {
+            &[]
+        }
     }
 
     /// The receipt rows of all pairs, in table order.
@@ -314,6 +332,41 @@ impl Network {
             total += order.quantity.get();
         }
         total
+    }
+
+    /// How the pair is planned beyond its row: what its policy says, and none of each where it has none.
+    pub fn policy(&self, x: PairNo) -> Policy
+        requires { IsPair self.now x.0 }
+        ensures { result ≡ policy_of self.now x.0 }
+    {
+        first_policy(self.amounts.policies.get(x.0))
+    }
+
+    /// What planners say of the pair: its row, its policy, the receipts that may be counted sooner than they come, and
+    /// its firm planned orders.
+    pub fn terms(&self, x: PairNo) -> PlanningTerms<'_>
+        requires { IsPair self.now x.0 }
+        ensures params { result.params ≡ params_at self.now x.0 }
+        ensures policy { result.policy ≡ policy_of self.now x.0 }
+        ensures receipts { result.receipts.now ≡ received_sooner self.now x.0 }
+        ensures orders { result.orders.now ≡ firms_of self.now x.0 }
+        ensures rows { All (IsFirmRow self.now) result.orders.now }
+    {
+        PlanningTerms {
+            params: self.pair(x).params(),
+            policy: self.policy(x),
+            receipts: self.received_sooner(x),
+            orders: self.firm_orders(x),
+        }
+    }
+
+    /// The first period for which planned orders of the pair can be released in time: the greater of its lead time and its
+    /// planning time fence, 0 to 104.
+    pub fn earliest(&self, x: PairNo) -> u64
+        requires { IsPair self.now x.0 }
+        ensures { result ≡ earliest_at self.now x.0 }
+    {
+        self.pair(x).lead.max(self.policy(x).fence)
     }
 
     /// On hand, receipts, shipments, opening figures and firm planned orders of the pair, or 2^64 - 1 where they are

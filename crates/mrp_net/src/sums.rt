@@ -1,7 +1,7 @@
 //! Rows of a table by their pair and their period, by which they are put in order and added up.
 
 use mrp_grouping::{AmountOf, KeyOf};
-use mrp_master_data::{CumRow, DemandRow, FirmRow, ReceiptRow, ShipRow, SourceRow};
+use mrp_master_data::{CumRow, DemandRow, FirmRow, PolicyRow, ReceiptRow, ShipRow, SourceRow};
 
 /// The pair of a row as its key.
 pub struct OfPair;
@@ -50,6 +50,14 @@ impl KeyOf<FirmRow> for OfPair {
     ghost key_of = { λ _ f. f.pair.0 };
 
     fn key(&self, row: &FirmRow) -> usize {
+        row.pair.0
+    }
+}
+
+impl KeyOf<PolicyRow> for OfPair {
+    ghost key_of = { λ _ p. p.pair.0 };
+
+    fn key(&self, row: &PolicyRow) -> usize {
         row.pair.0
     }
 }

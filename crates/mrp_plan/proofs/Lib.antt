@@ -2,6 +2,7 @@ pub mod Adding
 pub mod Asked
 pub mod Pegs
 pub mod Next
+pub mod Releasing
 pub mod Ordering
 pub mod Listing
 pub mod FirmGiven

@@ -6,7 +6,6 @@ use Rattle.std.proofs.lemmas.List.{get_or_default, get_or-set_same, get_or-set_o
 use Rattle.std.proofs.lemmas.List.FromFn.{fill_by_all, get_or-map-range_with_len, length-map-range_with_len}
 use Rattle.std.proofs.lemmas.List.Sums.{sum_by-cons}
 use Rattle.std.proofs.Math.Nat.{mul-le-mul_left}
-use Rattle.mrp_lot.specs.Lot.{rule_quantities}
 use Rattle.mrp_netting.specs.PlanRows.{PlanRows}
 use Rattle.mrp_netting.specs.PlanningData.{planned, one}
 use Rattle.mrp_netting.specs.PlanningBound.{IsWithinData}
@@ -20,7 +19,7 @@ use Rattle.mrp_net.specs.Sums.{demand, incoming, terms_at, pair_at, row_of}
 use Rattle.mrp_net.specs.Plan.{rows_at, no_rows, gross, pair_data, pair_plan, asked}
 use Rattle.mrp_net.specs.PlanLaws.{Fits}
 use Rattle.mrp_net.specs.declared.edge.Edge.{Edge}
-use Rattle.mrp_loops.specs.Need.{AreNeeds, AreWithin}
+use Rattle.mrp_loops.specs.Need.{AreNeeds, AreWithin, quantities_at}
 use Rattle.mrp_loops.specs.Planning.{IsPlanningOrder}
 use Rattle.mrp_plan.specs.Explosion.{asked_total}
 use Rattle.mrp_plan.specs.Progress.{CanBeDrafted, HavePeriods, IsPlannedTo}
@@ -67,10 +66,10 @@ pair_plan-release N table x =
 pub one-gross : (N : Table) (table : List PlanRows) (x : ℕ) → (pair_plan N table x).gross ≡ row_of N (gross N table x)
 one-gross N table x = of_data (pair_data N table x)
 
--- its releases together are within what safety, the rule, the gross requirements and firm planned orders ask
+-- its releases together are within what safety, rule and policy, the gross requirements and firm planned orders ask
 pub pair_plan-releases : (N : Table) (table : List PlanRows) (x : ℕ) → IsTable N → IsWithinData (pair_data N table x)
     → sum (pair_plan N table x).release
-    ≤ (pair_at N x).safety + rule_quantities (pair_at N x).rule + sum (row_of N (gross N table x)) + firm_total N x
+    ≤ (pair_at N x).safety + quantities_at N x + sum (row_of N (gross N table x)) + firm_total N x
 pair_plan-releases N table x is within =
     omega (arith, releases_stay_bounded (pair_data N table x) within, (firms_are_kept N is x).started)
 

@@ -1,13 +1,13 @@
 -- How far a plan has come, and which pair can be planned next.
 use Rattle.std.specs.Prelude.{◌≡◌, ℕ, ◌+◌, ◌<◌, ◌≤◌, List, length, sum, slice_index, All}
 use Rattle.mrp_qty.specs.declared.quantity.TheConstants.{MOST}
-use Rattle.mrp_lot.specs.Lot.{rule_quantities}
 use Rattle.mrp_netting.specs.PlanRows.{PlanRows}
 use Rattle.mrp_master_data.specs.Table.{Table, IsTable, IsPair, horizon}
 use Rattle.mrp_net.specs.Edges.{demanders}
 use Rattle.mrp_net.specs.FirmOrders.{firm_total}
 use Rattle.mrp_net.specs.Sums.{pair_at, demand_total, received_total, shipped_total}
 use Rattle.mrp_net.specs.Plan.{rows_at, pair_plan}
+use Rattle.mrp_loops.specs.Need.{quantities_at}
 use Rattle.mrp_plan.specs.Explosion.{asked_total}
 
 -- the plan of each pair has the periods of the network
@@ -22,7 +22,7 @@ pub record CanBeDrafted (N : Table) (table : List PlanRows) (x : ℕ) : Type 0 w
   pub room : length (rows_at table x).gross ≡ horizon N
   pub releases : All (λ e. length (rows_at table e.demander.0).release ≡ horizon N) (demanders N x)
   pub within : (pair_at N x).on_hand + received_total N x + shipped_total N x + firm_total N x + demand_total N x
-      + asked_total table (demanders N x) + (pair_at N x).safety + rule_quantities (pair_at N x).rule ≤ MOST
+      + asked_total table (demanders N x) + (pair_at N x).safety + quantities_at N x ≤ MOST
 
 -- the first k pairs of the order have their plans, whose releases are within their needs; each place
 -- has room for a plan

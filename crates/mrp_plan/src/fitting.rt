@@ -19,7 +19,7 @@ use mrp_netting::is_plan_from;
 use mrp_qty::Row;
 
 /// Whether the plan obeys the rules at every pair of the network: what comes in and its gross
-/// requirements are those of the network, of its firm planned orders and of the demanders' releases,
+/// requirements are those of the network, of its policies and firm planned orders and of the demanders' releases,
 /// and its orders, releases, projected available and late orders follow from them.
 ///
 /// The plan may be one of another network. Nothing is allocated, and it takes time linear in edges times
@@ -81,10 +81,10 @@ fn fits_at(network: &Network, x: PairNo, plan: &Plan) -> bool
     if !has_gross(network, x, plan, own.gross()) {
         return false;
     }
+    let terms = network.terms(x);
     let mut firm = FirmRows::new(network.horizon());
-    firm.write(network.firm_orders(x));
-    let params = network.pair(x).params();
-    let given = firm.planning_data(params, network.incoming_row(x));
+    firm.write(terms.orders);
+    let given = firm.planning_data(&terms, network.incoming_row(x));
     is_plan_from(&given, own)
 }
 

@@ -1,7 +1,8 @@
 //! Laws of pegging and of orders, each the contract of a function that does nothing.
 
 ghost use Rattle.mrp_plan.specs.OrderLaws.{OrdersMakeReleases, PlannedOrdersMakeReleases};
-ghost use Rattle.mrp_plan.specs.OrderLaws.{LateOrdersAreOrders, LateOrdersAreListed};
+ghost use Rattle.mrp_plan.specs.OrderLaws.{LateOrdersAreOrders, LateOrdersAreListed, LateOrdersArePlanned};
+ghost use Rattle.mrp_plan.specs.OrderLaws.{FirmOrdersAreListed, PlannedOrdersAreListed, NoFirmOrders};
 ghost use Rattle.mrp_plan.specs.PegLaws.{TermsAddUp, TermsAreProducts, TermsHaveRows};
 
 /// In a plan that fits the terms of a pair in a period add up to its gross requirement there, in
@@ -25,4 +26,13 @@ pub fn orders_make_releases()
     ensures planned { PlannedOrdersMakeReleases }
     ensures late { LateOrdersAreOrders }
     ensures listed { LateOrdersAreListed }
+{}
+
+/// Each firm planned order and each planned order of a pair is listed once. A pair without firm planned orders has its
+/// planned orders alone, and the listed orders that are late are the late planned orders.
+pub fn orders_are_listed()
+    ensures firm { FirmOrdersAreListed }
+    ensures planned { PlannedOrdersAreListed }
+    ensures late { LateOrdersArePlanned }
+    ensures none_firm { NoFirmOrders }
 {}

@@ -13,7 +13,7 @@ mod plan;
 mod terms;
 
 pub use fitting::fits;
-pub use laws::{orders_make_releases, terms_add_up, terms_have_rows};
+pub use laws::{orders_are_listed, orders_make_releases, terms_add_up, terms_have_rows};
 pub use mrp_net::Network;
 pub use mrp_netting::PairPlan;
 pub use mrp_qty::Memory;

@@ -7,18 +7,19 @@ use mrp_master_data::FirmRow;
 use mrp_netting::PairPlan;
 use mrp_qty::Qty;
 
-/// A planned order: the planned order receipt of a pair in one period, and its planned order release a
-/// lead time earlier.
+/// A planned order: the planned order receipt of a pair in one period, and its planned order release a lead time earlier,
+/// or a lead time before the earliest period in which planned orders of the pair can come in, where that is later.
 #[derive(Clone, Copy, Debug)]
 pub struct PlannedOrder {
     /// How many pieces are ordered, 1 to 10^15.
     pub quantity: Qty,
     /// The period of the order's receipt, 0 to 103 and below the horizon.
     pub due: usize,
-    /// The period of its release: due less lead time, and 0 where that lies before period 0; of a firm planned order
-    /// that of its row.
+    /// The period of its release: due less lead time; of an order that is due before the earliest period in which one
+    /// can come in, that period less lead time; of a firm planned order that of its row.
     pub release: usize,
-    /// How many periods are missing: lead time less due, at most 104, and 0 where none is or the order is firm.
+    /// How many periods are missing: the earliest period in which the order can come in less due, at most 104, and 0
+    /// where none is or the order is firm.
     pub late: u64,
 }
 
@@ -81,10 +82,11 @@ impl ListedOrder {
 
 /// The order of a pair's plan that is due in period `t`, or `None` where nothing is ordered there.
 ///
-/// `lead` is the pair's lead time, 0 to 104 periods, and `t` is below the horizon.
-pub fn planned_order(plan: &PairPlan, lead: u64, t: usize) -> Option<PlannedOrder>
+/// `lead` is the pair's lead time, 0 to 104 periods, `earliest` the earliest period in which planned orders of the pair
+/// can come in, the greater of its lead time and its planning time fence, 0 to 104, and `t` is below the horizon.
+pub fn planned_order(plan: &PairPlan, lead: u64, earliest: u64, t: usize) -> Option<PlannedOrder>
     requires { t < length plan.now.order }
-    ensures { result ≡ order_in lead plan.now t }
+    ensures { result ≡ order_in lead earliest plan.now t }
 {
     let quantity = plan.order().get(t);
     if quantity.get() == 0 {
@@ -93,7 +95,7 @@ pub fn planned_order(plan: &PairPlan, lead: u64, t: usize) -> Option<PlannedOrde
     Some(PlannedOrder {
         quantity,
         due: t,
-        release: t.saturating_sub(lead as usize),
-        late: lead.saturating_sub(t as u64),
+        release: t.max(earliest as usize).saturating_sub(lead as usize),
+        late: earliest.saturating_sub(t as u64),
     })
 }

@@ -13,7 +13,7 @@ ghost use Rattle.mrp_plan.specs.Progress.{CanBeDrafted, IsPlannedTo};
 
 use crate::explosion::explode_all;
 use mrp_loops::SizedNet;
-use mrp_net::{Network, PairNo, plan_with_firm_orders};
+use mrp_net::{Network, PairNo, plan_by_terms};
 use mrp_netting::{PairPlan, blank_plans};
 use mrp_qty::{Memory, Row};
 use std::alloc::Global;
@@ -106,11 +106,10 @@ fn plan_one(network: &Network, x: PairNo, plans: &mut [PairPlan], gross_row: &mu
 {
     fill_demand(network, x, gross_row);
     explode_all(network.demanders(x), plans, gross_row);
-    let params = network.pair(x).params();
-    let orders = network.firm_orders(x);
+    let terms = network.terms(x);
     let incoming = network.incoming_row(x);
     let plan = &mut plans[x.0];
-    plan_with_firm_orders(params, orders, incoming, gross_row, plan);
+    plan_by_terms(&terms, incoming, gross_row, plan);
 }
 
 /// Writes the demand rows of the pair.

@@ -1,8 +1,6 @@
-use Rattle.std.proofs.Common.{◌≡◌, [], sym, ap, ◌∙◌, arith}
+use Rattle.std.proofs.Common.{◌≡◌, sym, ap, ◌∙◌, arith}
 use Rattle.std.proofs.lemmas.Bool.{false≢true}
 use Rattle.mrp_netting.specs.PlanRows.{PlanRows}
-use Rattle.mrp_netting.specs.PlanningData.{PairData}
-use Rattle.mrp_master_data.specs.Rows.{params_of}
 use Rattle.mrp_net.specs.Plan.{gross}
 use Rattle.mrp_net.specs.Sums.{row_of}
 use Rattle.mrp_plan.proofs.FirmGiven.{IsGiven, orders_start, orders_due, orders_total, given_within, given_plan}
@@ -11,13 +9,17 @@ use Rattle.mrp_plan.proofs.fitting.fits_at.Goals as goal
 use Rattle.mrp_plan.proofs.fitting.fits_at.Goals.{After-planning_data-given}
 
 -- what the pair is planned from
-given : (c : After-planning_data-given) → IsGiven c.args.network.now c.args.x.0 c.planning_data-given.result c.params-params.result c.incoming_row.result.now
-    c.firm_orders.result.now c.new-firm.result.periods c.write.new.self
+given : (c : After-planning_data-given) → IsGiven c.args.network.now c.args.x.0 c.planning_data-given.result c.terms-terms.result c.incoming_row.result.now
+    c.new-firm.result.periods c.write.new.self
 given c = record {
   horizon_is = c.new-firm.ensures.periods ∙ c.horizon.ensures;
-  params_is = c.params-params.ensures ∙ ap params_of c.pair.ensures;
+  are = record {
+    params_are = c.terms-terms.ensures.params;
+    policy_is = c.terms-terms.ensures.policy;
+    receipts_are = c.terms-terms.ensures.receipts;
+    orders_are = c.terms-terms.ensures.orders;
+  };
   incoming_is = c.incoming_row.ensures;
-  orders_are = c.firm_orders.ensures.value;
   start = c.write.ensures.start;
   due = c.write.ensures.due;
   few_starts = c.write.ensures.few_starts;
@@ -27,15 +29,15 @@ given c = record {
 
 pub write-requires-clause-starts : goal.write-requires-clause-starts
 write-requires-clause-starts c =
-    orders_start c.args.network.now c.args.x.0 _ c.requires.is_table c.firm_orders.ensures.value _ (c.new-firm.ensures.periods ∙ c.horizon.ensures)
+    orders_start c.args.network.now c.args.x.0 _ c.requires.is_table c.terms-terms.ensures.orders _ (c.new-firm.ensures.periods ∙ c.horizon.ensures)
 
 pub write-requires-clause-dues : goal.write-requires-clause-dues
 write-requires-clause-dues c =
-    orders_due c.args.network.now c.args.x.0 _ c.requires.is_table c.firm_orders.ensures.value _ (c.new-firm.ensures.periods ∙ c.horizon.ensures)
+    orders_due c.args.network.now c.args.x.0 _ c.requires.is_table c.terms-terms.ensures.orders _ (c.new-firm.ensures.periods ∙ c.horizon.ensures)
 
 pub write-requires-clause-total : goal.write-requires-clause-total
 write-requires-clause-total c =
-    orders_total c.args.network.now c.args.x.0 _ c.requires.is_table c.firm_orders.ensures.value (omega (arith, c.requires.within))
+    orders_total c.args.network.now c.args.x.0 _ c.requires.is_table c.terms-terms.ensures.orders (omega (arith, c.requires.within))
 
 pub returns-then-not-has_gross : goal.returns-then-not-has_gross
 returns-then-not-has_gross c = (
@@ -45,16 +47,15 @@ returns-then-not-has_gross c = (
       absurd (false≢true (sym c.if-not-has_gross.true ∙ c.has_gross.ensures.1 same)),
 )
 
-pub is_plan_from-requires-clause-within : goal.is_plan_from-requires-clause-within
-is_plan_from-requires-clause-within c =
+pub is_plan_from-requires : goal.is_plan_from-requires
+is_plan_from-requires c =
     let N = c.args.network.now in
     let x = c.args.x.0 in
     let g : c.pair-own.result.now.gross ≡ row_of N (gross N c.args.plan.now x) = sym c.gross.ensures ∙ c.has_gross.ensures.0 c.if-not-has_gross.false in
-    given_within N x _ _ _ _ _ _ (given (goal.at.is_plan_from-requires-clause-within c).After-planning_data-given) c.args.plan.now
-    c.pair-own.result.now.gross g (pair_within N c.args.plan.now x c.requires)
-
-pub is_plan_from-requires-clause-when_due : goal.is_plan_from-requires-clause-when_due
-is_plan_from-requires-clause-when_due c = ap (λ (d : PairData). d.policy.sooner) (c.planning_data-given.ensures [])
+    record {
+      within = given_within N x _ _ _ _ _ (given (goal.at.is_plan_from-requires c).After-planning_data-given) c.args.plan.now c.pair-own.result.now.gross g
+          (pair_within N c.args.plan.now x c.requires);
+    }
 
 pub returns : goal.returns
 returns c =
@@ -62,7 +63,7 @@ returns c =
     let x = c.args.x.0 in
     let own = c.pair-own.ensures in
     let g : c.pair-own.result.now.gross ≡ row_of N (gross N c.args.plan.now x) = sym c.gross.ensures ∙ c.has_gross.ensures.0 c.if-not-has_gross.false in
-    let same = given_plan N x _ _ _ _ _ _ (given (goal.at.returns c).After-planning_data-given) c.args.plan.now
+    let same = given_plan N x _ _ _ _ _ (given (goal.at.returns c).After-planning_data-given) c.args.plan.now
     c.pair-own.result.now.gross g (pair_within N c.args.plan.now x c.requires) in (
       λ yes. sym own ∙ c.is_plan_from.ensures.0 yes ∙ same,
       λ is. c.is_plan_from.ensures.1 (own ∙ is ∙ sym same),

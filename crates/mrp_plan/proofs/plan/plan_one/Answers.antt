@@ -2,7 +2,6 @@ use Rattle.std.proofs.Common.{◌≡◌, ◌<◌, ◌+◌, ℕ, List, length, su
 use Rattle.std.proofs.lemmas.List.{get_or_default}
 use Rattle.std.specs.List.{All}
 use Rattle.mrp_netting.specs.PlanRows.{PlanRows}
-use Rattle.mrp_master_data.specs.Rows.{params_of}
 use Rattle.mrp_master_data.specs.Table.{horizon}
 use Rattle.mrp_net.specs.Edges.{demanders}
 use Rattle.mrp_net.specs.declared.edge.Edge.{Edge}
@@ -12,10 +11,10 @@ use Rattle.mrp_plan.specs.Explosion.{asked_total}
 use Rattle.mrp_net.proofs.Periods.{demands-le}
 use Rattle.mrp_netting.specs.PlanningBound.{IsWithinData}
 use Rattle.mrp_netting.specs.PlanningData.{one}
-use Rattle.mrp_plan.proofs.FirmGiven.{orders_start, orders_due, same_data}
+use Rattle.mrp_plan.proofs.FirmGiven.{AreTerms, orders_start, orders_due, same_data}
 use Rattle.mrp_plan.proofs.Planning.{length-row_of, pair_within, gross_row}
 use Rattle.mrp_plan.proofs.plan.plan_one.Goals as goal
-use Rattle.mrp_plan.proofs.plan.plan_one.Goals.{After-explode_all}
+use Rattle.mrp_plan.proofs.plan.plan_one.Goals.{After-explode_all, After-terms-terms}
 
 pub explode_all-requires-clause-edges : goal.explode_all-requires-clause-edges
 explode_all-requires-clause-edges c = λ i d h.
@@ -65,30 +64,39 @@ gross_size c =
     c.explode_all.ensures.size ∙ ap (λ (r : List ℕ). length r) c.fill_demand.ensures
     ∙ length-row_of c.args.network.now (demand c.args.network.now c.args.x.0)
 
-pub plan_with_firm_orders-requires-clause-starts : goal.plan_with_firm_orders-requires-clause-starts
-plan_with_firm_orders-requires-clause-starts c =
-    orders_start c.args.network.now c.args.x.0 _ c.requires.can.is_table c.firm_orders-orders.ensures.value _
-    (gross_size (goal.at.plan_with_firm_orders-requires-clause-starts c).After-explode_all)
+-- what planners say of the pair
+terms_are : (c : After-terms-terms) → AreTerms c.args.network.now c.args.x.0 c.terms-terms.result
+terms_are c = record {
+  params_are = c.terms-terms.ensures.params;
+  policy_is = c.terms-terms.ensures.policy;
+  receipts_are = c.terms-terms.ensures.receipts;
+  orders_are = c.terms-terms.ensures.orders;
+}
 
-pub plan_with_firm_orders-requires-clause-dues : goal.plan_with_firm_orders-requires-clause-dues
-plan_with_firm_orders-requires-clause-dues c =
-    orders_due c.args.network.now c.args.x.0 _ c.requires.can.is_table c.firm_orders-orders.ensures.value _
-    (gross_size (goal.at.plan_with_firm_orders-requires-clause-dues c).After-explode_all)
+pub plan_by_terms-requires-clause-starts : goal.plan_by_terms-requires-clause-starts
+plan_by_terms-requires-clause-starts c =
+    orders_start c.args.network.now c.args.x.0 _ c.requires.can.is_table c.terms-terms.ensures.orders _
+    (gross_size (goal.at.plan_by_terms-requires-clause-starts c).After-explode_all)
 
-pub plan_with_firm_orders-requires-clause-within : goal.plan_with_firm_orders-requires-clause-within
-plan_with_firm_orders-requires-clause-within c =
+pub plan_by_terms-requires-clause-dues : goal.plan_by_terms-requires-clause-dues
+plan_by_terms-requires-clause-dues c =
+    orders_due c.args.network.now c.args.x.0 _ c.requires.can.is_table c.terms-terms.ensures.orders _
+    (gross_size (goal.at.plan_by_terms-requires-clause-dues c).After-explode_all)
+
+pub plan_by_terms-requires-clause-within : goal.plan_by_terms-requires-clause-within
+plan_by_terms-requires-clause-within c =
     let N = c.args.network.now in
     let x = c.args.x.0 in
-    let at = goal.at.plan_with_firm_orders-requires-clause-within c in
+    let at = goal.at.plan_by_terms-requires-clause-within c in
     subst IsWithinData
-    (sym (same_data N c.args.plans.now x _ _ _ _ _ (gross_size at.After-explode_all) (c.params-params.ensures ∙ ap params_of c.pair.ensures)
-    c.firm_orders-orders.ensures.value c.incoming_row-incoming.ensures (gross_is at.After-explode_all)))
+    (sym (same_data N c.args.plans.now x _ _ _ _ (gross_size at.After-explode_all) (terms_are at.After-terms-terms) c.incoming_row-incoming.ensures
+    (gross_is at.After-explode_all)))
     (pair_within N c.args.plans.now x c.requires.can)
 
-pub plan_with_firm_orders-requires-clause-room : goal.plan_with_firm_orders-requires-clause-room
-plan_with_firm_orders-requires-clause-room c =
+pub plan_by_terms-requires-clause-room : goal.plan_by_terms-requires-clause-room
+plan_by_terms-requires-clause-room c =
     let x = c.args.x.0 in
-    let size = gross_size (goal.at.plan_with_firm_orders-requires-clause-room c).After-explode_all in
+    let size = gross_size (goal.at.plan_by_terms-requires-clause-room c).After-explode_all in
     let in_plans : x < length c.args.plans.now = omega (arith, c.requires.can.in_table, c.requires.can.size) in
     ap (λ (r : PlanRows). length r.gross) (get_or_default c.args.plans.now x c.index-plans-x.result no_rows in_plans) ∙ c.requires.can.room ∙ sym size
 
@@ -97,13 +105,13 @@ returns-clause-planned c =
     let N = c.args.network.now in
     let x = c.args.x.0 in
     let at = goal.at.returns-clause-planned c in
-    ap (slice_set c.args.plans.now x) (c.plan_with_firm_orders.ensures.plan
-    ∙ ap one (same_data N c.args.plans.now x _ _ _ _ _ (gross_size at.After-explode_all) (c.params-params.ensures ∙ ap params_of c.pair.ensures)
-    c.firm_orders-orders.ensures.value c.incoming_row-incoming.ensures (gross_is at.After-explode_all)))
+    ap (slice_set c.args.plans.now x) (c.plan_by_terms.ensures.plan
+    ∙ ap one (same_data N c.args.plans.now x _ _ _ _ (gross_size at.After-explode_all) (terms_are at.After-terms-terms) c.incoming_row-incoming.ensures
+    (gross_is at.After-explode_all)))
 
 pub returns-clause-gross_room : goal.returns-clause-gross_room
 returns-clause-gross_room c =
     let x = c.args.x.0 in
     let in_plans : x < length c.args.plans.now = omega (arith, c.requires.can.in_table, c.requires.can.size) in
-    ap (λ (r : List ℕ). length r) c.plan_with_firm_orders.ensures.room
+    ap (λ (r : List ℕ). length r) c.plan_by_terms.ensures.room
     ∙ ap (λ (r : PlanRows). length r.gross) (get_or_default c.args.plans.now x c.index-plans-x.result no_rows in_plans) ∙ c.requires.can.room
