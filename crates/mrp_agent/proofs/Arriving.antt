@@ -16,7 +16,6 @@ use Rattle.mrp_record.specs.declared.record.Record.{Record}
 use Rattle.mrp_record.specs.Entries.{Entry, LineOf, EndOf, ResetOf, Delivery, content, contents, entries_of, is_of, is_end, is_ended}
 use Rattle.mrp_record.specs.Blocks.{deliveries, entry_delivery}
 use Rattle.mrp_record.specs.Laws.{quantity_in}
-use Rattle.mrp_protocol.specs.State.{changed}
 use Rattle.mrp_protocol.specs.LocalPlans.{pieces_in, is_of_kind, booked_on}
 use Rattle.mrp_agent.specs.State.{incoming_at, no_incoming}
 use Rattle.mrp_agent.specs.Sent.{with_taken}

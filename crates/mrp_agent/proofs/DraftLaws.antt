@@ -7,7 +7,7 @@ use Rattle.std.proofs.lemmas.List.FromFn.{get_or-map-range_with_len, length-map-
 use Rattle.std.proofs.lemmas.List.Sums.{get_or-le-sum_by, passes_at_first}
 use Rattle.mrp_qty.specs.declared.quantity.TheConstants.{MOST}
 use Rattle.mrp_netting.specs.PlanRows.{PlanRows}
-use Rattle.mrp_netting.specs.PlanningData.{planned as data_of_terms, one}
+use Rattle.mrp_netting.specs.PlanningData.{PairTerms, planned as data_of_terms, one}
 use Rattle.mrp_netting.specs.PlanningBound.{IsWithinData}
 use Rattle.mrp_net.specs.Terms.{terms_of}
 use Rattle.mrp_master_data.specs.Table.{Table}
@@ -21,10 +21,10 @@ use Rattle.mrp_loops.specs.Order.{pair_of}
 use Rattle.mrp_record.specs.declared.record.Record.{Record}
 use Rattle.mrp_protocol.specs.State.{State}
 use Rattle.mrp_protocol.specs.LocalLaws.{IsPairAt, IsReadyAt}
-use Rattle.mrp_protocol.specs.LocalPlans.{amount_at, asked_within, booked_on, firms_in, local_data, local_incoming, local_gross, local_row, terms_in}
+use Rattle.mrp_protocol.specs.LocalPlans.{amount_at, asked_within, booked_on, firms_in, local_data, local_incoming, local_gross, local_row, sooner_in, terms_in}
 use Rattle.mrp_protocol.proofs.LocalPlanned as network
 use Rattle.mrp_protocol.proofs.Seeing.{sees_pair}
-use Rattle.mrp_agent.specs.State.{AgentState, pair_owned, pair_place, plans_of, no_plant_pair}
+use Rattle.mrp_agent.specs.State.{AgentState, pair_owned, pair_place, plans_of, no_plant_pair, terms_owned}
 use Rattle.mrp_agent.specs.Shows.{up_to_last}
 use Rattle.mrp_agent.specs.InNetwork.{WorksIn}
 use Rattle.mrp_agent.specs.Laws.{AgentDraftsAreThePlan, AgentDraftsAreWithin}
@@ -63,6 +63,12 @@ module _ (N : Table) (plant x : ℕ) (at : IsPairAt N plant x) where
       let same : get_or numbers place 0 ≡ x = sym (ap (λ (p : PlantPair). p.number.0) known) ∙ found in
       known ∙ ap (plant_pair N) same
 
+  -- and so is what planners say of it
+  terms_are : terms_owned (plant_rows N plant) (pair_of x) ≡ terms_in (plant_rows N plant) (plant_pair N x)
+  terms_are =
+      let R : PlantRows = plant_rows N plant in
+      ap (λ (p : PlantPair). terms_of R.horizon p.params p.policy (sooner_in R (pair_of x)) (firms_in R (pair_of x))) pair_is
+
 -- ---- its rows
 
 module _ (V : PlantRows) (taken : ℕ → List Record) (plans : ℕ → PlanRows) (receipts demand : List ℕ) (p : PlantPair)
@@ -91,7 +97,7 @@ module _ (V : PlantRows) (taken : ℕ → List Record) (plans : ℕ → PlanRows
 -- the rows that it drafts from
 abbrev RowsAre : Table → (ℕ → List Record) → (ℕ → PlanRows) → List ℕ → List ℕ → ℕ → PlantRows → PlantRows → Type 0
 RowsAre N taken plans receipts demand x R V =
-    (pair_owned V (pair_of x) ≡ plant_pair N x)
+    (terms_owned V (pair_of x) ≡ terms_in R (plant_pair N x))
     × (local_row V (λ t. amount_at V receipts (pair_of x) t) ≡ local_row R (local_incoming R taken (plant_pair N x)))
     × (local_row V (λ t. amount_at V demand (pair_of x) t + asked_within V plans (pair_of x) t) ≡ local_row R (local_gross R taken plans (plant_pair N x)))
 
@@ -111,7 +117,7 @@ rows_are N sized plant s A w x at ready =
     subst (λ (V : PlantRows). (t : ℕ) → t < V.horizon → amount_at V A.outside_demand p.number t
     ≡ up_to_last (amount_at V V.demands p.number t + booked_on Schedule V s.taken p.item t)) w.shown.view (w.shown.history.outside_demand p there) in
     subst (RowsAre N s.taken (plans_of A) A.scheduled_receipts A.outside_demand x R) (sym w.shown.view) (
-      pair_is N plant x at,
+      terms_are N plant x at,
       incoming_is R s.taken (plans_of A) A.scheduled_receipts A.outside_demand p small comes is_called,
       gross_is R s.taken
           (plans_of A) A.scheduled_receipts A.outside_demand p small comes is_called,
@@ -126,10 +132,9 @@ drafts_are_within N sized plant s A w x at ready =
     let V : PlantRows = A.view in
     let incoming : List ℕ = local_row V (λ t. amount_at V A.scheduled_receipts (pair_of x) t) in
     let gross : List ℕ = local_row V (λ t. amount_at V A.outside_demand (pair_of x) t + asked_within V (plans_of A) (pair_of x) t) in
-    subst (λ (q : PlantPair). IsWithinData (data_of_terms (terms_of V.horizon q.params (firms_in V (pair_of x))) incoming gross)) (sym rows.0)
-    (subst (λ (W : PlantRows). IsWithinData (data_of_terms (terms_of W.horizon p.params (firms_in W (pair_of x))) incoming gross)) (sym w.shown.view)
+    subst (λ (terms : PairTerms). IsWithinData (data_of_terms terms incoming gross)) (sym rows.0)
     (subst (λ (z : List ℕ). IsWithinData (data_of_terms (terms_in R p) z gross)) (sym rows.1)
-    (subst (λ (z : List ℕ). IsWithinData (data_of_terms (terms_in R p) (local_row R (local_incoming R s.taken p)) z)) (sym rows.2) small)))
+    (subst (λ (z : List ℕ). IsWithinData (data_of_terms (terms_in R p) (local_row R (local_incoming R s.taken p)) z)) (sym rows.2) small))
 
 pub drafts_are_the_plan : AgentDraftsAreThePlan
 drafts_are_the_plan N sized plant s A w x at ready =
@@ -139,8 +144,7 @@ drafts_are_the_plan N sized plant s A w x at ready =
     let V : PlantRows = A.view in
     let incoming : List ℕ = local_row V (λ t. amount_at V A.scheduled_receipts (pair_of x) t) in
     let gross : List ℕ = local_row V (λ t. amount_at V A.outside_demand (pair_of x) t + asked_within V (plans_of A) (pair_of x) t) in
-    ap (λ (q : PlantPair). one (data_of_terms (terms_of V.horizon q.params (firms_in V (pair_of x))) incoming gross)) rows.0
-    ∙ ap (λ (W : PlantRows). one (data_of_terms (terms_of W.horizon p.params (firms_in W (pair_of x))) incoming gross)) w.shown.view
+    ap (λ (terms : PairTerms). one (data_of_terms terms incoming gross)) rows.0
     ∙ ap (λ (z : List ℕ). one (data_of_terms (terms_in R p) z gross)) rows.1
     ∙ ap (λ (z : List ℕ). one (data_of_terms (terms_in R p) (local_row R (local_incoming R s.taken p)) z)) rows.2
     ∙ (network.drafts_are_the_plan N sized.table sized.loop_free plant s.taken s.planned (plans_of A)

@@ -1,105 +1,104 @@
 -- What a call reads of an agent to draft a pair, and what is drafted from that.
-use Rattle.std.proofs.Common.{◌≡◌, ℕ, ◌+◌, ◌<◌, ◌≤◌, List, [], length, slice_index_or, sym, ap, ◌∙◌, subst, arith}
+use Rattle.std.proofs.Common.{◌≡◌, ℕ, List, [], length, slice_index_or, sym, ap, ◌∙◌, subst, arith}
 use Rattle.std.specs.List.{All}
 use Rattle.mrp_netting.specs.PlanRows.{PlanRows}
-use Rattle.mrp_netting.specs.PlanningData.{planned, one}
-use Rattle.mrp_net.specs.Terms.{terms_of}
+use Rattle.mrp_netting.specs.PlanningData.{PairTerms, planned, one}
+use Rattle.mrp_net.specs.declared.terms.PlanningTerms.{PlanningTerms}
+use Rattle.mrp_net.specs.Terms.{terms_given}
 use Rattle.mrp_master_data.specs.declared.rows.FirmRow.{FirmRow}
-use Rattle.mrp_protocol.specs.LocalPlans.{firms_in}
-use Rattle.mrp_netting.specs.declared.params.PairParams.{PairParams}
 use Rattle.mrp_master_data.specs.declared.numbers.PairNo.{PairNo}
 use Rattle.mrp_agent.specs.declared.edges.ParentEdge.{ParentEdge}
 use Rattle.mrp_agent.specs.Asking.{HasDraft, IsFirmWithin, grossed}
 use Rattle.mrp_agent.specs.Drafts.{CanDraft, drafted}
 use Rattle.mrp_agent.specs.Kept.{Indexes, IsKept}
 use Rattle.mrp_agent.specs.Rows.{edges_at, part_at}
-use Rattle.mrp_agent.specs.State.{AgentState, plant_pair_at, pair_owned, pair_place}
+use Rattle.mrp_agent.specs.State.{AgentState, pair_place, terms_at_place, terms_owned}
 use Rattle.mrp_agent.proofs.Drafts.{demand_length, drafted_is, has_draft}
 use Rattle.mrp_agent.proofs.Placing.{IsAtPlace, can_before}
 use Rattle.mrp_agent.proofs.Owning.{own_within}
 
 -- a pair that can be drafted, and the rows and plans that a call was given for it
-pub record HasRead (A : AgentState) (I : Indexes) (x : PairNo) (place : ℕ) (params : PairParams) (firms : List FirmRow) (receipts demand : List ℕ)
+pub record HasRead (A : AgentState) (I : Indexes) (x : PairNo) (place : ℕ) (terms : PlanningTerms) (incoming demand : List ℕ)
     (edges : List ParentEdge) (plans : List PlanRows) : Type 0 where
   pub placed : IsAtPlace A I x place
   pub can : CanDraft A x
-  pub params_are : params ≡ (plant_pair_at A.view place).params
-  pub firms_are : firms ≡ slice_index_or A.view.firms place []
-  pub receipts_are : receipts ≡ part_at A.view.horizon place A.scheduled_receipts
+  pub terms_are : terms_given A.view.horizon terms ≡ terms_at_place A.view place
+  pub orders_are : terms.orders.now ≡ slice_index_or A.view.firms place []
+  pub incoming_are : incoming ≡ part_at A.view.horizon place A.scheduled_receipts
   pub demand_are : demand ≡ part_at A.view.horizon place A.outside_demand
   pub edges_are : edges ≡ edges_at A.view place
   pub plans_are : plans ≡ A.plans
 
 -- the rows were read of the amounts that the agent has
-pub rows_read : {A : AgentState} {I : Indexes} {x : PairNo} {place : ℕ} {params : PairParams} {firms : List FirmRow} {receipts demand : List ℕ}
+pub rows_read : {A : AgentState} {I : Indexes} {x : PairNo} {place : ℕ} {terms : PlanningTerms} {incoming demand : List ℕ}
     {edges : List ParentEdge} {plans : List PlanRows} {all_receipts all_demand : List ℕ}
     → IsAtPlace A I x place → CanDraft A x → all_receipts ≡ A.scheduled_receipts → all_demand ≡ A.outside_demand → plans ≡ A.plans
-    → params ≡ (plant_pair_at A.view place).params → firms ≡ slice_index_or A.view.firms place []
-    → receipts ≡ part_at A.view.horizon place all_receipts → demand ≡ part_at A.view.horizon place all_demand
+    → terms_given A.view.horizon terms ≡ terms_at_place A.view place → terms.orders.now ≡ slice_index_or A.view.firms place []
+    → incoming ≡ part_at A.view.horizon place all_receipts → demand ≡ part_at A.view.horizon place all_demand
     → edges ≡ edges_at A.view place
-    → HasRead A I x place params firms receipts demand edges plans
-rows_read {A} {I} {x} {place} placed can all_receipts_are all_demand_are plans_are params_are firms_are receipts_are demand_are edges_are = record {
+    → HasRead A I x place terms incoming demand edges plans
+rows_read {A} {I} {x} {place} placed can all_receipts_are all_demand_are plans_are terms_are orders_are incoming_are demand_are edges_are = record {
   placed = placed;
   can = can;
-  params_are = params_are;
-  firms_are = firms_are;
-  receipts_are = receipts_are ∙ ap (part_at A.view.horizon place) all_receipts_are;
+  terms_are = terms_are;
+  orders_are = orders_are;
+  incoming_are = incoming_are ∙ ap (part_at A.view.horizon place) all_receipts_are;
   demand_are = demand_are ∙ ap (part_at A.view.horizon place) all_demand_are;
   edges_are = edges_are;
   plans_are = plans_are;
 }
 
-module _ {A : AgentState} {I : Indexes} {x : PairNo} {place : ℕ} {params : PairParams} {firms : List FirmRow} {receipts demand : List ℕ}
-    {edges : List ParentEdge} {plans : List PlanRows} (read : HasRead A I x place params firms receipts demand edges plans) where
+module _ {A : AgentState} {I : Indexes} {x : PairNo} {place : ℕ} {terms : PlanningTerms} {incoming demand : List ℕ}
+    {edges : List ParentEdge} {plans : List PlanRows} (read : HasRead A I x place terms incoming demand edges plans) where
+  abbrev Periods : ℕ
+  Periods = A.view.horizon
+
   -- what is said of the pair's own rows is said of what was read
-  of_read : (P : PairParams → List FirmRow → List ℕ → List ℕ → List ParentEdge → List PlanRows → Type 0)
-      → P (pair_owned A.view x).params (firms_in A.view x) (part_at A.view.horizon (pair_place A.view x.0) A.scheduled_receipts)
-      (part_at A.view.horizon (pair_place A.view x.0) A.outside_demand)
+  of_read : (P : PairTerms → List ℕ → List ℕ → List ParentEdge → List PlanRows → Type 0)
+      → P (terms_owned A.view x) (part_at Periods (pair_place A.view x.0) A.scheduled_receipts)
+      (part_at Periods (pair_place A.view x.0) A.outside_demand)
       (edges_at A.view (pair_place A.view x.0)) A.plans
-      → P params firms receipts demand edges plans
+      → P (terms_given Periods terms) incoming demand edges plans
   of_read P own =
       let V = A.view in
-      subst (λ (z : PairParams). P z firms receipts demand edges plans) (sym read.params_are)
-      (subst (λ (z : List FirmRow). P (plant_pair_at V place).params z receipts demand edges plans) (sym read.firms_are)
-      (subst (λ (z : List ℕ). P (plant_pair_at V place).params (slice_index_or V.firms place []) z demand edges plans) (sym read.receipts_are)
-      (subst (λ (z : List ℕ). P (plant_pair_at V place).params (slice_index_or V.firms place []) (part_at V.horizon place A.scheduled_receipts) z edges plans)
-      (sym read.demand_are)
-      (subst (λ (z : List ParentEdge). P (plant_pair_at V place).params (slice_index_or V.firms place []) (part_at V.horizon place A.scheduled_receipts)
-      (part_at V.horizon place A.outside_demand) z plans) (sym read.edges_are)
-      (subst (λ (z : List PlanRows). P (plant_pair_at V place).params (slice_index_or V.firms place []) (part_at V.horizon place A.scheduled_receipts)
-      (part_at V.horizon place A.outside_demand) (edges_at V place) z) (sym read.plans_are)
-      (subst (λ (k : ℕ). P (plant_pair_at V k).params (slice_index_or V.firms k []) (part_at V.horizon k A.scheduled_receipts)
-      (part_at V.horizon k A.outside_demand) (edges_at V k) A.plans)
-      (sym read.placed.at) own))))))
+      subst (λ (z : PairTerms). P z incoming demand edges plans) (sym read.terms_are)
+      (subst (λ (z : List ℕ). P (terms_at_place V place) z demand edges plans) (sym read.incoming_are)
+      (subst (λ (z : List ℕ). P (terms_at_place V place) (part_at Periods place A.scheduled_receipts) z edges plans) (sym read.demand_are)
+      (subst (λ (z : List ParentEdge). P (terms_at_place V place) (part_at Periods place A.scheduled_receipts)
+      (part_at Periods place A.outside_demand) z plans) (sym read.edges_are)
+      (subst (λ (z : List PlanRows). P (terms_at_place V place) (part_at Periods place A.scheduled_receipts)
+      (part_at Periods place A.outside_demand) (edges_at V place) z) (sym read.plans_are)
+      (subst (λ (k : ℕ). P (terms_at_place V k) (part_at Periods k A.scheduled_receipts) (part_at Periods k A.outside_demand) (edges_at V k) A.plans)
+      (sym read.placed.at) own)))))
 
   pub demand_periods : length demand ≡ A.view.horizon
   demand_periods =
-      of_read (λ (_ : PairParams) (_ : List FirmRow) (_ z : List ℕ) (_ : List ParentEdge) (_ : List PlanRows). length z ≡ A.view.horizon)
+      of_read (λ (_ : PairTerms) (_ z : List ℕ) (_ : List ParentEdge) (_ : List PlanRows). length z ≡ Periods)
       (demand_length A read.placed.kept.view read.placed.kept.rooms x read.can.own)
 
-  pub draft_asked : HasDraft (terms_of (length demand) params firms) receipts demand edges plans
+  pub draft_asked : HasDraft (terms_given (length demand) terms) incoming demand edges plans
   draft_asked =
-      subst (λ (n : ℕ). HasDraft (terms_of n params firms) receipts demand edges plans) (sym demand_periods)
-      (of_read (λ (p : PairParams) (fs : List FirmRow) (incoming beside : List ℕ) (es : List ParentEdge) (rows : List PlanRows).
-      HasDraft (terms_of A.view.horizon p fs) incoming beside es rows)
+      subst (λ (n : ℕ). HasDraft (terms_given n terms) incoming demand edges plans) (sym demand_periods)
+      (of_read (λ (said : PairTerms) (comes beside : List ℕ) (es : List ParentEdge) (rows : List PlanRows). HasDraft said comes beside es rows)
       (has_draft A read.placed.kept.view read.placed.kept.rooms x read.can.own read.can.within))
 
-  pub draft_made : one (planned (terms_of (length demand) params firms) receipts (grossed demand edges plans)) ≡ drafted A x
+  pub draft_made : one (planned (terms_given (length demand) terms) incoming (grossed demand edges plans)) ≡ drafted A x
   draft_made =
-      ap (λ (n : ℕ). one (planned (terms_of n params firms) receipts (grossed demand edges plans))) demand_periods
-      ∙ of_read (λ (p : PairParams) (fs : List FirmRow) (incoming beside : List ℕ) (es : List ParentEdge) (rows : List PlanRows).
-      one (planned (terms_of A.view.horizon p fs) incoming (grossed beside es rows)) ≡ drafted A x)
+      ap (λ (n : ℕ). one (planned (terms_given n terms) incoming (grossed demand edges plans))) demand_periods
+      ∙ of_read (λ (said : PairTerms) (comes beside : List ℕ) (es : List ParentEdge) (rows : List PlanRows).
+      one (planned said comes (grossed beside es rows)) ≡ drafted A x)
       (drafted_is A read.placed.kept.view read.placed.kept.rooms x read.can.own)
 
   -- the pair's firm planned orders are released and due within the periods
-  pub firms_fit : All (IsFirmWithin (length demand)) firms
-  firms_fit =
+  pub orders_fit : All (IsFirmWithin (length demand)) terms.orders.now
+  orders_fit =
       let V = A.view in
       let own = own_within V x read.can.own in
       let seen = read.placed.kept.view.firms (pair_place V x.0) [] (omega (arith, own, read.placed.kept.view.firms_by_pair)) in
-      subst (λ (n : ℕ). All (IsFirmWithin n) firms) (sym demand_periods)
-      (of_read (λ (_ : PairParams) (fs : List FirmRow) (_ _ : List ℕ) (_ : List ParentEdge) (_ : List PlanRows). All (IsFirmWithin V.horizon) fs)
-      (λ k d h. let f = seen k d h in record { start = omega (arith, f.start, f.due); due = f.due }))
+      subst (λ (n : ℕ). All (IsFirmWithin n) terms.orders.now) (sym demand_periods)
+      (subst (λ (orders : List FirmRow). All (IsFirmWithin Periods) orders) (sym read.orders_are)
+      (subst (λ (k : ℕ). All (IsFirmWithin Periods) (slice_index_or V.firms k [])) (sym read.placed.at)
+      (λ k d h. let f = seen k d h in record { start = omega (arith, f.start, f.due); due = f.due })))
 
 -- the place of a pair, as it is given
 pub placed_at : {A S : AgentState} {I : Indexes} {x : PairNo} {place : ℕ} → A ≡ S → IsKept A I → CanDraft S x → place ≡ pair_place S.view x.0

@@ -7,18 +7,17 @@ use Rattle.std.proofs.lemmas.List.FromFn.{fill_by_all, get_or-map-range_with_len
 use Rattle.std.proofs.lemmas.List.{get_or-drop, get_or-take, length-drop, length-take-le}
 use Rattle.std.proofs.lemmas.List.Elements.{All-head, All-tail, All-filter, All-map}
 use Rattle.std.proofs.lemmas.List.Sums.{sum_by-cons, passes_at_first}
-use Rattle.mrp_netting.specs.PlanningData.{PairTerms, planned as data_of_terms, one}
+use Rattle.mrp_netting.specs.PlanningData.{planned as data_of_terms, one}
 use Rattle.mrp_netting.specs.PlanningBound.{IsWithinData}
-use Rattle.mrp_net.specs.Terms.{terms_of}
 use Rattle.mrp_master_data.specs.declared.numbers.PairNo.{PairNo}
 use Rattle.mrp_net.specs.Plan.{no_rows}
 use Rattle.mrp_plant_view.specs.declared.view.PlantEdge.{PlantEdge}
 use Rattle.mrp_plant_view.specs.declared.view.PlantPair.{PlantPair}
 use Rattle.mrp_plant_view.specs.Seen.{IsView, IsOwnPair, IsPlantEdge}
 use Rattle.mrp_plant_view.specs.View.{PlantRows}
-use Rattle.mrp_protocol.specs.LocalPlans.{amount_at, asked_within, firms_in}
+use Rattle.mrp_protocol.specs.LocalPlans.{amount_at, asked_within}
 use Rattle.mrp_agent.specs.declared.edges.ParentEdge.{ParentEdge}
-use Rattle.mrp_agent.specs.State.{AgentState, pair_place, pair_owned, plans_of, no_plant_pair}
+use Rattle.mrp_agent.specs.State.{AgentState, pair_place, plans_of, no_plant_pair, terms_owned}
 use Rattle.mrp_agent.specs.Asking.{asked_by, asked_on, ParentCanAsk, HasDraft, grossed}
 use Rattle.mrp_agent.specs.Drafts.{drafted, drafted_data, drafted_incoming, drafted_gross}
 use Rattle.mrp_agent.specs.Kept.{parent_edge, HasRooms}
@@ -136,17 +135,13 @@ module _ (A : AgentState) (view : IsView A.view) (rooms : HasRooms A) (x : PairN
       let within : pair_place A.view e.parent.0 < length A.plans = omega (arith, own_within A.view e.parent is.parent, rooms.plans.count) in
       record { known = within; periods_are = (rooms.plans.periods (pair_place A.view e.parent.0) no_rows within).gross ∙ sym demand_length }
 
-  -- what planners say of the pair
-  abbrev pub Terms : PairTerms
-  Terms = terms_of A.view.horizon (pair_owned A.view x).params (firms_in A.view x)
-
   pub has_draft : IsWithinData (drafted_data A x)
-      → HasDraft Terms (Part A.scheduled_receipts) (Part A.outside_demand) (edges_at A.view (pair_place A.view x.0)) A.plans
+      → HasDraft (terms_owned A.view x) (Part A.scheduled_receipts) (Part A.outside_demand) (edges_at A.view (pair_place A.view x.0)) A.plans
   has_draft within = record {
     within =
-        subst (λ (z : List ℕ). IsWithinData (data_of_terms Terms z (grossed (Part A.outside_demand) (edges_at A.view (pair_place A.view x.0)) A.plans)))
+        subst (λ (z : List ℕ). IsWithinData (data_of_terms (terms_owned A.view x) z (grossed (Part A.outside_demand) (edges_at A.view (pair_place A.view x.0)) A.plans)))
         (sym receipts_are)
-        (subst (λ (z : List ℕ). IsWithinData (data_of_terms Terms (drafted_incoming A x) z)) (sym gross_is) within);
+        (subst (λ (z : List ℕ). IsWithinData (data_of_terms (terms_owned A.view x) (drafted_incoming A x) z)) (sym gross_is) within);
     edges_are =
         All-filter (λ (e : ParentEdge). e.component == pair_place A.view x.0) (ParentCanAsk A.plans (length (Part A.outside_demand)))
         (map (parent_edge A.view) A.view.edges)
@@ -154,7 +149,7 @@ module _ (A : AgentState) (view : IsView A.view) (rooms : HasRooms A) (x : PairN
         (λ k d h. can_ask (get_or A.view.edges k d) (view.edges k d h)));
   }
 
-  pub drafted_is : one (data_of_terms Terms (Part A.scheduled_receipts) (grossed (Part A.outside_demand) (edges_at A.view (pair_place A.view x.0)) A.plans)) ≡ drafted A x
+  pub drafted_is : one (data_of_terms (terms_owned A.view x) (Part A.scheduled_receipts) (grossed (Part A.outside_demand) (edges_at A.view (pair_place A.view x.0)) A.plans)) ≡ drafted A x
   drafted_is =
-      ap (λ (z : List ℕ). one (data_of_terms Terms z (grossed (Part A.outside_demand) (edges_at A.view (pair_place A.view x.0)) A.plans))) receipts_are
-      ∙ ap (λ (z : List ℕ). one (data_of_terms Terms (drafted_incoming A x) z)) gross_is
+      ap (λ (z : List ℕ). one (data_of_terms (terms_owned A.view x) z (grossed (Part A.outside_demand) (edges_at A.view (pair_place A.view x.0)) A.plans))) receipts_are
+      ∙ ap (λ (z : List ℕ). one (data_of_terms (terms_owned A.view x) (drafted_incoming A x) z)) gross_is

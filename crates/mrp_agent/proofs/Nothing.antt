@@ -25,7 +25,7 @@ use Rattle.mrp_readiness.specs.ReadinessLaws.{NothingIsOpen}
 use Rattle.mrp_readiness.specs.Progress.{IsListed, is_planned}
 use Rattle.mrp_readiness.proofs.Counting.{ready_where_nothing_is_open}
 use Rattle.mrp_protocol.specs.State.{changed}
-use Rattle.mrp_protocol.specs.LocalPlans.{amount_at, asked_within, booked_on, firms_in, local_gross, local_incoming, terms_in}
+use Rattle.mrp_protocol.specs.LocalPlans.{amount_at, asked_within, booked_on, firms_in, local_gross, local_incoming, sooner_in, terms_in}
 use Rattle.mrp_net.specs.Terms.{terms_of}
 use Rattle.mrp_protocol.specs.LocalPlans.{local_plan, local_row, AwaitsNothing, Carries, HasCome}
 use Rattle.mrp_agent.specs.Drafts.{CanDraft, drafted}
@@ -156,6 +156,7 @@ draft_is_local A p sent taken planned view there can shows =
     (shows.outside_demand p there t low)
     (omega (arith, most)) in
     omega (arith, demand)) in
-    ap (λ (q : PlantPair). one (data_of_terms (terms_of V.horizon q.params (firms_in V p.number)) (local_row V receipts) (local_row V asked))) (pair_is V view p there)
+    ap (λ (q : PlantPair). one (data_of_terms (terms_of V.horizon q.params q.policy (sooner_in V p.number) (firms_in V p.number))
+    (local_row V receipts) (local_row V asked))) (pair_is V view p there)
     ∙ ap (λ (row : List ℕ). one (data_of_terms (terms_in V p) row (local_row V asked))) incoming
     ∙ ap (λ (row : List ℕ). one (data_of_terms (terms_in V p) (local_row V (local_incoming V taken p)) row)) gross

@@ -15,14 +15,13 @@ use Rattle.mrp_record.specs.Cursor.{OutFigures}
 use Rattle.mrp_readiness.specs.declared.join.Join.{Join}
 use Rattle.mrp_readiness.specs.Progress.{IsListed, Progress, is_planned}
 use Rattle.mrp_readiness.proofs.Counting.{ready_where_nothing_is_open}
-use Rattle.mrp_protocol.specs.LocalPlans.{amount_at, asked_within, firms_in}
-use Rattle.mrp_net.specs.Terms.{terms_of}
+use Rattle.mrp_protocol.specs.LocalPlans.{amount_at, asked_within}
 use Rattle.mrp_agent.specs.After.{after_settled}
 use Rattle.mrp_agent.specs.Drafts.{CanDraft, drafted, drafted_gross, drafted_incoming, ready_numbers}
 use Rattle.mrp_agent.specs.Kept.{Indexes, IsKept}
 use Rattle.mrp_agent.specs.Marking.{IsMarked}
 use Rattle.mrp_agent.specs.Shows.{awaited, join_of, joins_of}
-use Rattle.mrp_agent.specs.State.{AgentState, pair_owned, pair_place, plans_of}
+use Rattle.mrp_agent.specs.State.{AgentState, pair_place, plans_of, terms_owned}
 use Rattle.mrp_agent.proofs.Drafts.{map_same}
 use Rattle.mrp_agent.proofs.Ready.{ready_place}
 use Rattle.mrp_agent.proofs.Replanned.{asked_same, SameParents}
@@ -62,7 +61,7 @@ module _ (A : AgentState) (I : Indexes) (x : PairNo) (kept : IsKept A I) (can : 
       map_same (λ (t : ℕ). amount_at V A.outside_demand y t + asked_within V (plans_of Next) y t)
       (λ (t : ℕ). amount_at V A.outside_demand y t + asked_within V (plans_of A) y t) 0 V.horizon
       (λ t h. ap (λ (n : ℕ). amount_at V A.outside_demand y t + n) (sym (asked_same V (plans_of A) (plans_of Next) y.0 t V.edges parents))) in
-      ap (λ (row : List ℕ). one (data_of_terms (terms_of V.horizon (pair_owned V y).params (firms_in V y)) (drafted_incoming A y) row)) gross
+      ap (λ (row : List ℕ). one (data_of_terms (terms_owned V y) (drafted_incoming A y) row)) gross
 
 abbrev Written : AgentState → PairNo → ℕ → AgentState
 Written A x place = record A { plans = set A.plans place (drafted A x) }

@@ -1,12 +1,15 @@
--- What the releases of a pair's parents ask of it, by places.
+-- What the releases of a pair's parents ask of it, by places, and what its plan is drafted from.
 use Rattle.std.specs.Prelude.{◌≡◌, ℕ, ◌*◌, ◌<◌, ◌+◌, List, length, map, sum_by, slice_index, slice_index_or, All}
 use Rattle.std.specs.List.{range_with_len}
 use Rattle.mrp_netting.specs.PlanRows.{PlanRows}
 use Rattle.mrp_netting.specs.PlanningBound.{IsWithinData}
-use Rattle.mrp_netting.specs.PlanningData.{PairTerms, planned}
+use Rattle.mrp_netting.specs.PlanningData.{PairData, PairTerms, planned}
 use Rattle.mrp_master_data.specs.declared.rows.FirmRow.{FirmRow}
-use Rattle.mrp_agent.specs.declared.edges.ParentEdge.{ParentEdge}
+use Rattle.mrp_net.specs.declared.terms.PlanningTerms.{PlanningTerms}
 use Rattle.mrp_net.specs.Plan.{no_rows}
+use Rattle.mrp_net.specs.Terms.{terms_given}
+use Rattle.mrp_agent.specs.declared.drafting.PairRows.{PairRows}
+use Rattle.mrp_agent.specs.declared.edges.ParentEdge.{ParentEdge}
 
 -- the plan at a place
 abbrev pub plan_at_place : List PlanRows → ℕ → PlanRows
@@ -32,6 +35,12 @@ grossed demand edges plans = map (λ t. slice_index demand t + asked_by plans ed
 pub record IsFirmWithin (periods : ℕ) (f : FirmRow) : Type 0 where
   pub start : f.start < periods
   pub due : f.due < periods
+
+-- what planners say of a pair, its rows and the plans of its parents say together
+abbrev pub data_over : PlanningTerms → PairRows → List PlanRows → PairData
+data_over terms rows plans =
+    planned (terms_given (length rows.demand.now) terms) rows.incoming.now
+    (grossed rows.demand.now rows.edges.now plans)
 
 -- what a pair's plan is drafted from
 pub record HasDraft (terms : PairTerms) (receipts demand : List ℕ) (edges : List ParentEdge)

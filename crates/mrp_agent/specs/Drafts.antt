@@ -3,14 +3,14 @@ use Rattle.std.specs.Prelude.{ℕ, ◌+◌, List, map, Contains}
 use Rattle.mrp_netting.specs.PlanRows.{PlanRows}
 use Rattle.mrp_netting.specs.PlanningData.{PairData, planned, one}
 use Rattle.mrp_netting.specs.PlanningBound.{IsWithinData}
-use Rattle.mrp_net.specs.Terms.{terms_of}
 use Rattle.mrp_master_data.specs.declared.numbers.PairNo.{PairNo}
 use Rattle.mrp_plant_view.specs.Seen.{IsOwnPair}
 use Rattle.mrp_readiness.specs.Chosen.{number_at}
-use Rattle.mrp_protocol.specs.LocalPlans.{amount_at, asked_within, firms_in, local_row}
-use Rattle.mrp_agent.specs.State.{AgentState, plans_of, pair_owned}
+use Rattle.mrp_protocol.specs.LocalPlans.{amount_at, asked_within, local_row}
+use Rattle.mrp_agent.specs.State.{AgentState, plans_of, terms_owned}
 
--- what comes in of a pair beside firm planned orders, and what is asked for: beside the parents what has come, and what their plans release
+-- what comes in of a pair at its time, beside firm planned orders, and what is asked for: beside the parents what has
+-- come, and what their plans release
 abbrev pub drafted_incoming : AgentState → PairNo → List ℕ
 drafted_incoming A x = local_row A.view (λ t. amount_at A.view A.scheduled_receipts x t)
 
@@ -19,9 +19,7 @@ drafted_gross A x = local_row A.view (λ t. amount_at A.view A.outside_demand x 
 
 -- what a pair of the plant is planned from by these rows, and its plan
 abbrev pub drafted_data : AgentState → PairNo → PairData
-drafted_data A x =
-    planned (terms_of A.view.horizon (pair_owned A.view x).params (firms_in A.view x)) (drafted_incoming A x)
-    (drafted_gross A x)
+drafted_data A x = planned (terms_owned A.view x) (drafted_incoming A x) (drafted_gross A x)
 
 abbrev pub drafted : AgentState → PairNo → PlanRows
 drafted A x = one (drafted_data A x)

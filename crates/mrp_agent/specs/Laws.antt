@@ -15,7 +15,7 @@ use Rattle.mrp_record.specs.Text.{IsBeginning}
 use Rattle.mrp_protocol.specs.Loads.{loads}
 use Rattle.mrp_protocol.specs.State.{State, IsDecided}
 use Rattle.mrp_protocol.specs.LocalLaws.{IsPairAt, IsReadyAt}
-use Rattle.mrp_agent.specs.State.{AgentState, outgoing_at, plans_of, pair_owned}
+use Rattle.mrp_agent.specs.State.{AgentState, outgoing_at, plans_of}
 use Rattle.mrp_agent.specs.Sending.{ContinuesSent, NothingContinues, IsWithin64}
 use Rattle.mrp_agent.specs.Kept.{HasSmallOpenings}
 use Rattle.mrp_agent.specs.Drafts.{drafted, drafted_data}

@@ -3,11 +3,13 @@
 use Rattle.std.specs.Prelude.{ℕ, ◌==◌, false, List, [], slice_index_or, None}
 use Rattle.std.specs.List.{position_or_len}
 use Rattle.mrp_netting.specs.PlanRows.{PlanRows}
+use Rattle.mrp_netting.specs.PlanningData.{PairTerms, no_policy}
 use Rattle.mrp_lot.specs.declared.rule.Rule.TheVariants.{LotForLot}
 use Rattle.mrp_master_data.specs.declared.numbers.ItemNo.{ItemNo}
 use Rattle.mrp_master_data.specs.declared.numbers.PairNo.{PairNo}
 use Rattle.mrp_net.specs.declared.lane.LaneKind.TheVariants.{Despatch}
 use Rattle.mrp_net.specs.Plan.{no_rows}
+use Rattle.mrp_net.specs.Terms.{terms_of}
 use Rattle.mrp_plant_view.specs.declared.view.IncomingLane.{IncomingLane}
 use Rattle.mrp_plant_view.specs.declared.view.OutgoingLane.{OutgoingLane}
 use Rattle.mrp_plant_view.specs.declared.view.PlantPair.{PlantPair}
@@ -84,6 +86,7 @@ no_plant_pair = record {
   number = record { 0 = 0 };
   item = record { 0 = 0 };
   params = record { rule = LotForLot; lead = 0; on_hand = 0; safety = 0 };
+  policy = no_policy;
 }
 
 -- the pair at a place, and the pair with a number
@@ -92,6 +95,15 @@ plant_pair_at V place = slice_index_or V.pairs place no_plant_pair
 
 abbrev pub pair_owned : PlantRows → PairNo → PlantPair
 pair_owned V x = plant_pair_at V (pair_place V x.0)
+
+-- what planners say of the pair at a place, and of the pair with a number
+abbrev pub terms_at_place : PlantRows → ℕ → PairTerms
+terms_at_place V place =
+    terms_of V.horizon (plant_pair_at V place).params (plant_pair_at V place).policy (slice_index_or V.sooner place [])
+    (slice_index_or V.firms place [])
+
+abbrev pub terms_owned : PlantRows → PairNo → PairTerms
+terms_owned V x = terms_at_place V (pair_place V x.0)
 
 -- the plan that is kept of the pair with a number
 abbrev pub plans_of : AgentState → ℕ → PlanRows

@@ -1,31 +1,29 @@
-//! How the plan of a pair is drafted from its scheduled receipts, its firm planned orders, the demand from outside and
+//! How the plan of a pair is drafted from what planners say of it, its scheduled receipts, the demand from outside and
 //! its parents' plans.
 
 ghost use Rattle.std.specs.Prelude.{◌≡◌, ◌<◌, ◌≤◌, ◌+◌, ◌*◌, ℕ, [], All, length, map, slice_index, slice_index_or};
 ghost use Rattle.mrp_qty.specs.declared.quantity.TheConstants.{MOST};
-ghost use Rattle.mrp_netting.specs.PlanningData.{planned, one};
-ghost use Rattle.mrp_net.specs.Terms.{terms_of};
+ghost use Rattle.mrp_netting.specs.PlanningData.{one};
+ghost use Rattle.mrp_net.specs.Terms.{terms_given};
 ghost use Rattle.mrp_grouping.specs.Starts.{IsGrouped};
-ghost use Rattle.mrp_agent.specs.Asking.{ParentCanAsk, HasDraft, IsFirmWithin, asked_by, asked_on, grossed};
+ghost use Rattle.mrp_agent.specs.Asking.{ParentCanAsk, HasDraft, IsFirmWithin, asked_by, asked_on, data_over};
 ghost use Rattle.mrp_agent.specs.Kept.{parent_edge};
 ghost use Rattle.mrp_agent.specs.Rows.{edges_at, part_at};
-ghost use Rattle.mrp_agent.specs.State.{plant_pair_at};
+ghost use Rattle.mrp_agent.specs.State.{terms_at_place};
 
 use crate::Agent;
 use crate::edges::ParentEdge;
 use mrp_grouping::Groups;
-use mrp_net::{FirmRow, PairNo, plan_with_firm_orders};
-use mrp_netting::{PairParams, PairPlan};
+use mrp_net::{PairNo, PlanningTerms, plan_by_terms};
+use mrp_netting::PairPlan;
 use mrp_plant_view::PlantFrame;
 use mrp_qty::Row;
 
-/// What the plan of a pair is drafted from, beside the plans of its parents: what it is planned by, its firm planned
-/// orders, its scheduled receipts and the demand from outside by period, and the edges to its parents.
+/// What the plan of a pair is drafted from, beside what planners say of it and the plans of its parents: what comes in
+/// at its time and the demand from outside by period, and the edges to its parents.
 #[derive(Clone, Copy)]
 pub(crate) struct PairRows<'a> {
-    params: PairParams,
-    firms: &'a [FirmRow],
-    receipts: &'a [u64],
+    incoming: &'a [u64],
     demand: &'a [u64],
     edges: &'a [ParentEdge],
 }
@@ -61,6 +59,7 @@ impl Agent {
         let Some(place) = self.view.place(x) else {
             unreachable!()
         };
+        let terms = planning_terms(&self.view, place);
         let rows = pair_rows(
             &self.view,
             &self.structure.edges,
@@ -68,11 +67,28 @@ impl Agent {
             &self.amounts.outside_demand,
             place,
         );
-        draft_from(&rows, &self.amounts.plans, gross, into);
+        draft_from(&terms, &rows, &self.amounts.plans, gross, into);
     }
 }
 
-/// What the plan of the pair at a place is drafted from.
+/// What planners say of the pair at a place.
+pub(crate) fn planning_terms(view: &PlantFrame, place: usize) -> PlanningTerms<'_>
+    requires place { place < length view.now.pairs }
+    requires firms { length view.now.firms ≡ length view.now.pairs }
+    requires sooner { length view.now.sooner ≡ length view.now.pairs }
+    ensures terms { terms_given view.now.horizon result ≡ terms_at_place view.now place }
+    ensures orders { result.orders.now ≡ slice_index_or view.now.firms place [] }
+{
+    let pair = &view.pairs()[place];
+    PlanningTerms {
+        params: pair.params,
+        policy: pair.policy,
+        receipts: view.sooner().at(place),
+        orders: view.firms().at(place),
+    }
+}
+
+/// What the plan of the pair at a place is drafted from, beside what planners say of it.
 pub(crate) fn pair_rows<'a>(
     view: &'a PlantFrame,
     edges: &'a Groups<ParentEdge>,
@@ -81,22 +97,17 @@ pub(crate) fn pair_rows<'a>(
     place: usize,
 ) -> PairRows<'a>
     requires place { place < length view.now.pairs }
-    requires firms { length view.now.firms ≡ length view.now.pairs }
     requires edges { IsGrouped (λ e. e.component) (length view.now.pairs) (map (parent_edge view.now) view.now.edges)
         edges.now.rows.items edges.now.starts.items }
     requires receipts { length receipts.now ≡ length view.now.pairs * view.now.horizon }
     requires demand { length demand.now ≡ length view.now.pairs * view.now.horizon }
-    ensures params { result.params ≡ (plant_pair_at view.now place).params }
-    ensures firms { result.firms.now ≡ slice_index_or view.now.firms place [] }
-    ensures receipts { result.receipts.now ≡ part_at view.now.horizon place receipts.now }
+    ensures incoming { result.incoming.now ≡ part_at view.now.horizon place receipts.now }
     ensures demand { result.demand.now ≡ part_at view.now.horizon place demand.now }
     ensures edges { result.edges.now ≡ edges_at view.now place }
 {
     let periods = view.horizon().get() as usize;
     PairRows {
-        params: view.pairs()[place].params,
-        firms: view.firms().at(place),
-        receipts: part_of(receipts, periods, place),
+        incoming: part_of(receipts, periods, place),
         demand: part_of(demand, periods, place),
         edges: edges.get(place),
     }
@@ -111,27 +122,27 @@ fn part_of(amounts: &[u64], periods: usize, place: usize) -> &[u64]
     &amounts[begin..begin + periods]
 }
 
-/// Writes the plan of a pair from its scheduled receipts, its firm planned orders, the demand from outside, and the
+/// Writes the plan of a pair from what planners say of it, its scheduled receipts, the demand from outside, and the
 /// plans of its parents.
 pub(crate) fn draft_from(
+    terms: &PlanningTerms<'_>,
     rows: &PairRows<'_>,
     plans: &[PairPlan],
     gross: &mut Row,
     into: &mut PairPlan,
 )
-    requires draft { HasDraft (terms_of (length rows.now.demand.now) rows.now.params rows.now.firms.now)
-        rows.now.receipts.now rows.now.demand.now rows.now.edges.now plans.now }
-    requires firms { All (IsFirmWithin (length rows.now.demand.now)) rows.now.firms.now }
+    requires draft { HasDraft (terms_given (length rows.now.demand.now) terms.now) rows.now.incoming.now
+        rows.now.demand.now rows.now.edges.now plans.now }
+    requires orders { All (IsFirmWithin (length rows.now.demand.now)) terms.now.orders.now }
     requires gross { length gross.old ≡ length rows.now.demand.now }
     requires into { length into.old.gross ≡ length rows.now.demand.now }
-    ensures plan { into.new ≡ one (planned (terms_of (length rows.now.demand.now) rows.now.params rows.now.firms.now)
-        rows.now.receipts.now (grossed rows.now.demand.now rows.now.edges.now plans.now)) }
+    ensures plan { into.new ≡ one (data_over terms.now rows.now plans.now) }
     ensures gross { length gross.new ≡ length gross.old }
 {
     let _periods = gross.len();
     gross.copy_pieces(rows.demand);
     add_asked(rows.edges, plans, gross);
-    plan_with_firm_orders(rows.params, rows.firms, rows.receipts, gross, into);
+    plan_by_terms(terms, rows.incoming, gross, into);
 }
 
 /// Adds to `gross` what the releases of a pair's parents ask of it.

@@ -151,7 +151,8 @@ impl Lanes {
 /// The amounts of a plant by pair and period, and the room in which plans are drafted.
 #[derive(Drop)]
 pub(crate) struct Amounts {
-    /// What comes in beside firm planned orders: the receipt rows, and the despatches that are booked.
+    /// What comes in at its time, beside firm planned orders: the receipt rows but where they may be counted sooner, and
+    /// the despatches that are booked.
     pub(crate) scheduled_receipts: Vec<u64>,
     /// What is asked for from outside the plant: the demand rows, and the calls that are booked.
     pub(crate) outside_demand: Vec<u64>,

@@ -1,7 +1,7 @@
 //! How an agent plans a pair that can be planned.
 
 use crate::Agent;
-use crate::drafting::pair_rows;
+use crate::drafting::{pair_rows, planning_terms};
 use crate::settling::queue_item;
 use mrp_net::PairNo;
 
@@ -59,6 +59,7 @@ impl Agent {
         requires place { place ≡ pair_place self.old.view x.0 }
         ensures { self.new ≡ record self.old { plans = slice_set self.old.plans place (drafted self.old x) } }
     {
+        let terms = planning_terms(&self.view, place);
         let rows = pair_rows(
             &self.view,
             &self.structure.edges,
@@ -66,7 +67,9 @@ impl Agent {
             &self.amounts.outside_demand,
             place,
         );
-        self.amounts.room.draft_rows(&rows, &self.amounts.plans);
+        self.amounts
+            .room
+            .draft_rows(&terms, &rows, &self.amounts.plans);
         self.amounts.room.exchange(&mut self.amounts.plans[place]);
     }
 

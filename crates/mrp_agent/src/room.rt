@@ -2,15 +2,15 @@
 
 ghost use Rattle.std.specs.Prelude.{◌≡◌, IfOk, length};
 ghost use Rattle.std.specs.Prelude.{All};
-ghost use Rattle.mrp_netting.specs.PlanningData.{planned, one};
+ghost use Rattle.mrp_netting.specs.PlanningData.{one};
 ghost use Rattle.mrp_netting.specs.Plan.{nothing_planned};
-ghost use Rattle.mrp_net.specs.Terms.{terms_of};
-ghost use Rattle.mrp_agent.specs.Asking.{HasDraft, IsFirmWithin, grossed};
+ghost use Rattle.mrp_net.specs.Terms.{terms_given};
+ghost use Rattle.mrp_agent.specs.Asking.{HasDraft, IsFirmWithin, data_over};
 ghost use Rattle.mrp_agent.specs.Drafts.{CanDraft, drafted};
 
 use crate::Agent;
 use crate::drafting::{PairRows, draft_from};
-use mrp_net::PairNo;
+use mrp_net::{PairNo, PlanningTerms};
 use mrp_netting::PairPlan;
 use mrp_qty::{Horizon, Memory, Row};
 use std::alloc::Global;
@@ -66,17 +66,21 @@ impl Room {
         &self.plan
     }
 
-    /// Drafts the plan of a pair from its scheduled receipts, its firm planned orders, the demand from outside, and
+    /// Drafts the plan of a pair from what planners say of it, its scheduled receipts, the demand from outside, and
     /// the plans of its parents.
-    pub(crate) fn draft_rows(&mut self, rows: &PairRows<'_>, plans: &[PairPlan])
-        requires draft { HasDraft (terms_of (length rows.now.demand.now) rows.now.params rows.now.firms.now)
-            rows.now.receipts.now rows.now.demand.now rows.now.edges.now plans.now }
-        requires firms { All (IsFirmWithin (length rows.now.demand.now)) rows.now.firms.now }
+    pub(crate) fn draft_rows(
+        &mut self,
+        terms: &PlanningTerms<'_>,
+        rows: &PairRows<'_>,
+        plans: &[PairPlan],
+    )
+        requires draft { HasDraft (terms_given (length rows.now.demand.now) terms.now) rows.now.incoming.now
+            rows.now.demand.now rows.now.edges.now plans.now }
+        requires orders { All (IsFirmWithin (length rows.now.demand.now)) terms.now.orders.now }
         requires periods { length self.old.gross ≡ length rows.now.demand.now }
-        ensures { self.new ≡ one (planned (terms_of (length rows.now.demand.now) rows.now.params rows.now.firms.now)
-            rows.now.receipts.now (grossed rows.now.demand.now rows.now.edges.now plans.now)) }
+        ensures { self.new ≡ one (data_over terms.now rows.now plans.now) }
     {
-        draft_from(rows, plans, &mut self.gross, &mut self.plan);
+        draft_from(terms, rows, plans, &mut self.gross, &mut self.plan);
     }
 
     /// Gives the plan that was drafted last for another one of as many periods.

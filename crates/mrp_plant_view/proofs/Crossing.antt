@@ -1,10 +1,12 @@
 -- What a plant sees may go to another thread, and threads may share it: its lists own their rows, and the
 -- copies of the sums, which only contracts read, own nothing.
-use denote.Param.Send.{IsSend, IsSync, recorded_send, recorded_sync, struct_send, struct_sync, view_send, view_sync}
+use denote.Builtin.{u64}
+use denote.Param.Send.{IsSend, IsSync, recorded_send, recorded_sync, sendable, struct_send, struct_sync, view_send, view_sync}
 use denote.Struct.Declared.{shape}
 use Rattle.std.proofs.Crossing.{Vec-send, Vec-sync, crosses}
 use Rattle.mrp_qty.proofs.horizon.Horizon.TheSendSync as horizon
-use Rattle.mrp_plant_view.proofs.firms.FirmOrders.TheSendSync as firms
+use Rattle.mrp_master_data.proofs.rows.FirmRow.TheSendSync as firm
+use Rattle.mrp_plant_view.proofs.lists.Lists.TheSendSync as lists
 use Rattle.mrp_plant_view.proofs.view.IncomingLane.TheSendSync as incoming
 use Rattle.mrp_plant_view.proofs.view.OutgoingLane.TheSendSync as outgoing
 use Rattle.mrp_plant_view.proofs.view.PlantEdge.TheSendSync as edge
@@ -19,7 +21,16 @@ fields_send = struct_send (shape inside.the_type) (
     Vec-send _ pair.the_send,
     (
       Vec-send _ edge.the_send,
-      (search crosses, (search crosses, (firms.the_send, (Vec-send _ incoming.the_send, (Vec-send _ outgoing.the_send, tt))))),
+      (
+        search crosses,
+        (
+          search crosses,
+          (
+            lists.the_send _ firm.the_send,
+            (lists.the_send u64 (search sendable), (Vec-send _ incoming.the_send, (Vec-send _ outgoing.the_send, tt))),
+          ),
+        ),
+      ),
     ),
   ),
 )
@@ -31,7 +42,16 @@ fields_sync = struct_sync (shape inside.the_type) (
     Vec-sync _ pair.the_sync,
     (
       Vec-sync _ edge.the_sync,
-      (search crosses, (search crosses, (firms.the_sync, (Vec-sync _ incoming.the_sync, (Vec-sync _ outgoing.the_sync, tt))))),
+      (
+        search crosses,
+        (
+          search crosses,
+          (
+            lists.the_sync _ firm.the_sync,
+            (lists.the_sync u64 (search sendable), (Vec-sync _ incoming.the_sync, (Vec-sync _ outgoing.the_sync, tt))),
+          ),
+        ),
+      ),
     ),
   ),
 )

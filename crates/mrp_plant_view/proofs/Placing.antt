@@ -10,13 +10,19 @@ use Rattle.std.proofs.lemmas.Bool.Decides.{nat_tests}
 use Rattle.std.proofs.lemmas.Cmp.{ranked}
 use Rattle.std.proofs.lemmas.List.Sums.{position_or_len_is}
 use Rattle.mrp_lot.specs.declared.rule.Rule.TheVariants.{LotForLot}
+use Rattle.mrp_netting.specs.PlanningData.{no_policy}
 use Rattle.mrp_plant_view.specs.declared.view.PlantPair.{PlantPair}
 use Rattle.mrp_plant_view.specs.View.{NumbersRise}
 use Rattle.mrp_plant_view.proofs.OwnEdges.{never_falls}
 
 no_plant_pair : PlantPair
 no_plant_pair =
-    record { number = record { 0 = 0 }; item = record { 0 = 0 }; params = record { rule = LotForLot; lead = 0; on_hand = 0; safety = 0 } }
+    record {
+      number = record { 0 = 0 };
+      item = record { 0 = 0 };
+      params = record { rule = LotForLot; lead = 0; on_hand = 0; safety = 0 };
+      policy = no_policy;
+    }
 
 index_rises : (a b x : ℕ) → a ≤ b → ordering_index (nat_cmp a x) ≤ ordering_index (nat_cmp b x)
 index_rises a b x up = grind (arith, nat_tests)

@@ -5,8 +5,8 @@ use Rattle.std.proofs.lemmas.List.{length-map, map-id}
 use Rattle.mrp_plant_view.specs.declared.view.IncomingLane.{IncomingLane}
 use Rattle.mrp_plant_view.specs.declared.view.OutgoingLane.{OutgoingLane}
 use Rattle.mrp_net.specs.FirmOrders.{firms_of}
-use Rattle.mrp_net.specs.Sums.{demand, received}
-use Rattle.mrp_plant_view.proofs.FirmSpans.{firms_are}
+use Rattle.mrp_net.specs.Sums.{demand, received_when_due, received_sooner}
+use Rattle.mrp_plant_view.proofs.Ranges.{firms_are, policies_are}
 use Rattle.mrp_plant_view.specs.View.{comes_to, goes_from, lane_numbers, incoming_lane, outgoing_lane, plant_pairs}
 use Rattle.mrp_plant_view.specs.Laws.{ViewsSayEnough, ViewsHaveLanesIn, ViewsHaveLanesOut}
 use Rattle.mrp_plant_view.proofs.OwnEdges.{numbers_rise, by_component}
@@ -23,12 +23,14 @@ views_say_enough N is plant = record {
   numbers_once = numbers_stand_once N plant;
   items_once = λ item. items_stand_once N plant item is;
   pairs = pairs_are_planned N plant is;
+  policies = policies_are N plant is;
   edges = edges_are_own N plant is;
   by_component = by_component N plant;
   demands = amounts_length N (demand N) plant;
-  receipts = amounts_length N (received N) plant;
+  receipts = amounts_length N (received_when_due N) plant;
   firms_by_pair = length-map (plant_pairs N plant) (λ p. firms_of N p.number.0);
   firms = firms_are N plant is;
+  sooner_by_pair = length-map (plant_pairs N plant) (λ p. received_sooner N p.number.0);
   incoming_once = incoming_stand_once N plant;
   incoming = incoming_are N plant is;
   outgoing_once = outgoing_stand_once N plant;

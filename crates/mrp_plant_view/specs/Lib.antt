@@ -1,4 +1,4 @@
-pub mod Firms
+pub mod Lists
 pub mod Loads
 pub mod View
 pub mod Seen

@@ -5,7 +5,7 @@ use Rattle.std.specs.List.Sorted.{IsNonDecreasingBy}
 use Rattle.mrp_qty.specs.declared.quantity.TheConstants.{MOST}
 use Rattle.mrp_qty.specs.declared.horizon.TheConstants.{LONGEST}
 use Rattle.mrp_lot.specs.Lot.{IsRule}
-use Rattle.mrp_lot.specs.declared.rule.TheConstants.{LONGEST_LEAD}
+use Rattle.mrp_lot.specs.declared.rule.TheConstants.{LONGEST_LEAD, MOST_IN_RULE}
 use Rattle.mrp_master_data.specs.declared.numbers.ItemNo.{ItemNo}
 use Rattle.mrp_master_data.specs.declared.numbers.PairNo.{PairNo}
 use Rattle.mrp_master_data.specs.declared.rows.FirmRow.{FirmRow}
@@ -42,6 +42,14 @@ pub record IsPlantPair (p : PlantPair) : Type 0 where
   pub lead : p.params.lead ≤ LONGEST_LEAD
   pub on_hand : IsAmount p.params.on_hand
   pub safety : IsAmount p.params.safety
+
+-- it is planned beyond that by a policy in range: its planning time fence is within the periods
+pub record IsPlantPolicy (V : PlantRows) (p : PlantPair) : Type 0 where
+  pub fence : p.policy.fence < V.horizon
+  pub sooner : p.policy.sooner ≤ LONGEST_LEAD
+  pub cover : p.policy.cover ≤ LONGEST_LEAD
+  pub least : p.policy.least ≤ MOST_IN_RULE
+  pub multiple : p.policy.multiple ≤ MOST_IN_RULE
 
 -- a firm planned order is released no later than it is due, and due within the periods
 pub record IsPlantFirm (V : PlantRows) (f : FirmRow) : Type 0 where
@@ -122,12 +130,14 @@ pub record IsView (V : PlantRows) : Type 0 where
   pub numbers_once : (x : ℕ) → pairs_of_number x V.pairs ≤ 1
   pub items_once : (item : ℕ) → pairs_of_item item V.pairs ≤ 1
   pub pairs : All IsPlantPair V.pairs
+  pub policies : All (IsPlantPolicy V) V.pairs
   pub edges : All (IsPlantEdge V) V.edges
   pub by_component : IsNonDecreasingBy (λ e. e.component.0) V.edges
   pub demands : length V.demands ≡ length V.pairs * V.horizon
   pub receipts : length V.receipts ≡ length V.pairs * V.horizon
   pub firms_by_pair : length V.firms ≡ length V.pairs
   pub firms : All (All (IsPlantFirm V)) V.firms
+  pub sooner_by_pair : length V.sooner ≡ length V.pairs
   pub incoming_once : (l : ℕ) → count_by (λ lane. lane.number.0 == l) V.incoming ≤ 1
   pub incoming : All (IsIncomingLane V) V.incoming
   pub outgoing_once : (l : ℕ) → count_by (λ lane. lane.number.0 == l) V.outgoing ≤ 1

@@ -18,15 +18,16 @@ use Rattle.mrp_plant_view.specs.declared.view.PlantEdge.{PlantEdge}
 use Rattle.mrp_plant_view.specs.declared.view.PlantPair.{PlantPair}
 use Rattle.mrp_net.specs.Edges.{demanders}
 use Rattle.mrp_net.specs.FirmOrders.{firms_of}
+use Rattle.mrp_net.specs.Policies.{policy_of}
 use Rattle.mrp_net.specs.Lanes.{lanes, lane_at, lane_items, figure, opening, shipments, reset, pair_on, supplier_of}
 use Rattle.mrp_net.specs.EdgeLaws.{is_local}
 use Rattle.mrp_plant_view.specs.Loads.{OutgoingLoad}
 use Rattle.mrp_net.specs.Sources.{source_on}
-use Rattle.mrp_net.specs.Sums.{pair_at, params_at, row_of, demand, received}
+use Rattle.mrp_net.specs.Sums.{pair_at, params_at, row_of, demand, received_when_due, received_sooner}
 
--- The number of periods; the plant's pairs; the components of those that are made; what the demand
--- rows and the receipt rows of each pair add up to, pair by pair and period by period; the firm planned orders of each
--- pair; and the lanes.
+-- The number of periods; the plant's pairs; the components of those that are made; what the demand rows of each pair add
+-- up to, and its receipt rows that count when they come, pair by pair and period by period; the firm planned orders of
+-- each pair; its receipts that may be counted sooner, period by period, or no period; and the lanes.
 pub record PlantRows : Type 0 where
   pub horizon : ℕ
   pub pairs : List PlantPair
@@ -34,6 +35,7 @@ pub record PlantRows : Type 0 where
   pub demands : List ℕ
   pub receipts : List ℕ
   pub firms : List (List FirmRow)
+  pub sooner : List (List ℕ)
   pub incoming : List IncomingLane
   pub outgoing : List OutgoingLane
 
@@ -44,7 +46,8 @@ abbrev pub is_of_plant : Table → ℕ → ℕ → Bool
 is_of_plant N plant x = (pair_at N x).plant.0 == plant
 
 abbrev pub plant_pair : Table → ℕ → PlantPair
-plant_pair N x = record { number = record { 0 = x }; item = (pair_at N x).item; params = params_at N x }
+plant_pair N x =
+    record { number = record { 0 = x }; item = (pair_at N x).item; params = params_at N x; policy = policy_of N x }
 
 abbrev pub plant_pairs : Table → ℕ → List PlantPair
 plant_pairs N plant = map (plant_pair N) (filter (is_of_plant N plant) (range_with_len 0 (length N.pairs)))
@@ -64,10 +67,10 @@ edges_to N x = map plant_edge (filter (is_local N) (demanders N x))
 abbrev pub plant_edges : Table → ℕ → List PlantEdge
 plant_edges N plant = flat_map (λ p. edges_to N p.number.0) (plant_pairs N plant)
 
--- what the rows of a pair add up to in a period
+-- what the rows of a pair add up to in a period; receipts that may be counted sooner stand apart
 abbrev pub amount_of : Amounts → Table → ℕ → ℕ → ℕ
 amount_of Demands N = demand N
-amount_of Receipts N = received N
+amount_of Receipts N = received_when_due N
 
 -- an amount of each of its pairs and each period, pair by pair
 abbrev pub plant_amounts : Table → (ℕ → ℕ → ℕ) → ℕ → List ℕ
@@ -76,6 +79,10 @@ plant_amounts N amount plant = flat_map (λ p. row_of N (amount p.number.0)) (pl
 -- the firm planned orders of each of its pairs
 abbrev pub plant_firms : Table → ℕ → List (List FirmRow)
 plant_firms N plant = map (λ p. firms_of N p.number.0) (plant_pairs N plant)
+
+-- their receipts that may be counted sooner than they come
+abbrev pub plant_sooner : Table → ℕ → List (List ℕ)
+plant_sooner N plant = map (λ p. received_sooner N p.number.0) (plant_pairs N plant)
 
 -- ---- its lanes
 
@@ -159,8 +166,9 @@ plant_rows N plant = record {
   pairs = plant_pairs N plant;
   edges = plant_edges N plant;
   demands = plant_amounts N (demand N) plant;
-  receipts = plant_amounts N (received N) plant;
+  receipts = plant_amounts N (received_when_due N) plant;
   firms = plant_firms N plant;
+  sooner = plant_sooner N plant;
   incoming = incoming_lanes N plant;
   outgoing = outgoing_lanes N plant;
 }

@@ -1,14 +1,15 @@
-//! What one plant sees of the network, but for the sums of its demand rows and receipt rows.
+//! What one plant sees of the network, but for the sums of its demand rows and of its receipt rows that count when they
+//! come.
 
-use crate::firms::FirmOrders;
+use crate::lists::Lists;
 use crate::view::{IncomingLane, OutgoingLane, PlantEdge, PlantPair};
-use mrp_net::PairNo;
+use mrp_net::{FirmRow, PairNo};
 use mrp_qty::Horizon;
 use std::marker::Model;
 use std::snapshot::Snapshot;
 
-/// What one plant sees of a network, after the sums of its demand rows and receipt rows were handed out:
-/// its own pairs, the components of those that are made, and the lanes that it receives or sends.
+/// What one plant sees of a network, after the sums of its demand rows and of its receipt rows that count when they come
+/// were handed out: its own pairs, the components of those that are made, and the lanes that it receives or sends.
 ///
 /// Contracts see the sums too. They take no room here.
 #[derive(Drop)]
@@ -18,7 +19,8 @@ pub struct PlantFrame {
     pub(crate) edges: Vec<PlantEdge>,
     pub(crate) demands: Snapshot<Vec<u64>>,
     pub(crate) receipts: Snapshot<Vec<u64>>,
-    pub(crate) firms: FirmOrders,
+    pub(crate) firms: Lists<FirmRow>,
+    pub(crate) sooner: Lists<u64>,
     pub(crate) incoming: Vec<IncomingLane>,
     pub(crate) outgoing: Vec<OutgoingLane>,
 }
@@ -35,6 +37,7 @@ impl Model for PlantFrame {
       demands = v.demands.value.items;
       receipts = v.receipts.value.items;
       firms = v.firms;
+      sooner = v.sooner;
       incoming = v.incoming.items;
       outgoing = v.outgoing.items;
     } };
@@ -102,10 +105,18 @@ impl PlantFrame {
     }
 
     /// The firm planned orders of its pairs, by the places of the pairs.
-    pub fn firms(&self) -> &FirmOrders
+    pub fn firms(&self) -> &Lists<FirmRow>
         ensures { result.now ≡ self.now.firms }
     {
         &self.firms
+    }
+
+    /// The receipts of its pairs that may be counted sooner than they come, by the places of the pairs: of a pair whose
+    /// policy has SOONER what its receipt rows add up to, in pieces by period, of others no period.
+    pub fn sooner(&self) -> &Lists<u64>
+        ensures { result.now ≡ self.now.sooner }
+    {
+        &self.sooner
     }
 
     /// The lanes that the plant receives, in lane order.

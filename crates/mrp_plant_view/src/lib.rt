@@ -6,14 +6,14 @@
 #![tactic(auto)]
 
 mod amounts;
-mod firms;
 mod frame;
 pub mod laws;
+mod lists;
 mod view;
 mod viewing;
 
-pub use firms::FirmOrders;
 pub use frame::PlantFrame;
+pub use lists::Lists;
 pub use mrp_net::{FirmRow, ItemNo, LaneKind, LaneNo, PairNo, PlantNo, Shipment};
 pub use view::{
     Call, IncomingItem, IncomingItems, IncomingLane, OutgoingItem, OutgoingItems, OutgoingLane,

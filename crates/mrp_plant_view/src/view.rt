@@ -1,9 +1,9 @@
 //! What one plant sees of the network: its pairs, their rows, its lanes.
 
-use crate::firms::FirmOrders;
 use crate::frame::PlantFrame;
-use mrp_net::{ItemNo, LaneKind, LaneNo, PairNo, Shipment};
-use mrp_netting::PairParams;
+use crate::lists::Lists;
+use mrp_net::{FirmRow, ItemNo, LaneKind, LaneNo, PairNo, Shipment};
+use mrp_netting::{PairParams, Policy};
 use mrp_qty::{Horizon, Memory};
 use std::alloc::Global;
 use std::marker::Model;
@@ -17,6 +17,8 @@ pub struct PlantPair {
     pub item: ItemNo,
     /// How it is planned.
     pub params: PairParams,
+    /// How it is planned beyond that: none of each where no policy says more.
+    pub policy: Policy,
 }
 
 /// A component of a made pair of a plant.
@@ -202,8 +204,8 @@ pub struct OutgoingLane {
 }
 
 /// What one plant sees of a network: its own pairs, the components of those that are made, what their
-/// demand rows and receipt rows add up to, their firm planned orders, and the lanes that it receives or sends. It sees no row of
-/// another plant beside these lanes, and every pair that it names is the plant's own.
+/// demand rows and receipt rows add up to, their firm planned orders and policies, and the lanes that it receives or
+/// sends. It sees no row of another plant beside these lanes, and every pair that it names is the plant's own.
 ///
 /// Demands and receipts are kept as sums for each pair and period, since a plan looks at nothing else
 /// of them.
@@ -263,7 +265,8 @@ impl PlantView {
         self.demands.as_slice()
     }
 
-    /// The sums of the receipt rows, in pieces: pair by pair, period by period.
+    /// The sums of the receipt rows that count when they come, in pieces: pair by pair, period by period. A pair whose
+    /// receipts may be counted sooner has 0 here.
     pub fn receipts(&self) -> &[u64]
         ensures { result.now ≡ self.now.receipts }
     {
@@ -271,10 +274,18 @@ impl PlantView {
     }
 
     /// The firm planned orders of its pairs, by the places of the pairs.
-    pub fn firms(&self) -> &FirmOrders
+    pub fn firms(&self) -> &Lists<FirmRow>
         ensures { result.now ≡ self.now.firms }
     {
         self.frame.firms()
+    }
+
+    /// The receipts of its pairs that may be counted sooner than they come, by the places of the pairs: of a pair whose
+    /// policy has SOONER what its receipt rows add up to, in pieces by period, of others no period.
+    pub fn sooner(&self) -> &Lists<u64>
+        ensures { result.now ≡ self.now.sooner }
+    {
+        self.frame.sooner()
     }
 
     /// The lanes that the plant receives, in lane order.
@@ -291,7 +302,8 @@ impl PlantView {
         self.frame.outgoing()
     }
 
-    /// What the plant sees without the sums, the sums of the demand rows, and those of the receipt rows.
+    /// What the plant sees without the sums, the sums of the demand rows, and those of the receipt rows that count when
+    /// they come.
     pub fn into_parts(self) -> (PlantFrame, Vec<u64>, Vec<u64>)
         ensures frame { result.0 ≡ self }
         ensures demands { result.1.items ≡ self.demands }

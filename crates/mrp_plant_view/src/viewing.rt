@@ -7,19 +7,20 @@ ghost use Rattle.mrp_net.specs.Suppliers.{IsEdge};
 ghost use Rattle.mrp_net.specs.Lanes.{lanes, lane_at, lane_items};
 ghost use Rattle.mrp_net.specs.EdgeLaws.{is_local};
 ghost use Rattle.mrp_net.specs.FirmOrders.{firms_of};
+ghost use Rattle.mrp_net.specs.Sums.{received_sooner};
 ghost use Rattle.mrp_plant_view.specs.Loads.{bare};
 ghost use Rattle.mrp_plant_view.specs.View.{plant_pairs, plant_edge, edges_to};
 ghost use Rattle.mrp_plant_view.specs.View.{plant_rows, incoming_item, incoming_lanes};
 ghost use Rattle.mrp_plant_view.specs.View.{sent_on, called_on, call_on, outgoing_item, outgoing_lanes};
 
 use crate::amounts::{Amounts, plant_amounts};
-use crate::firms::FirmOrders;
 use crate::frame::PlantFrame;
+use crate::lists::Lists;
 use crate::view::{
     Call, IncomingItem, IncomingItems, IncomingLane, OutgoingItem, OutgoingItems, OutgoingLane,
     PlantEdge, PlantPair, PlantView,
 };
-use mrp_net::{Edge, ItemNo, LaneKind, LaneNo, Network, PairNo, PlantNo, Shipment};
+use mrp_net::{Edge, FirmRow, ItemNo, LaneKind, LaneNo, Network, PairNo, PlantNo, Shipment};
 use mrp_qty::Memory;
 use std::alloc::Global;
 use std::snapshot::Snapshot;
@@ -39,6 +40,7 @@ impl PlantView {
         let demands = plant_amounts(alloc, network, pairs.as_slice(), Amounts::Demands)?;
         let receipts = plant_amounts(alloc, network, pairs.as_slice(), Amounts::Receipts)?;
         let firms = plant_firms(alloc, network, pairs.as_slice())?;
+        let sooner = plant_sooner(alloc, network, pairs.as_slice())?;
         let incoming = incoming_lanes(alloc, network, plant)?;
         let outgoing = outgoing_lanes(alloc, network, plant)?;
         let frame = PlantFrame {
@@ -48,6 +50,7 @@ impl PlantView {
             demands: Snapshot::of(&demands),
             receipts: Snapshot::of(&receipts),
             firms,
+            sooner,
             incoming,
             outgoing,
         };
@@ -73,6 +76,7 @@ fn plant_pairs(alloc: Global, network: &Network, plant: PlantNo) -> Result<Vec<P
                 number: PairNo(x),
                 item: row.item,
                 params: row.params(),
+                policy: network.policy(PairNo(x)),
             })?;
         }
     }
@@ -121,15 +125,32 @@ fn plant_edges(
 }
 
 /// The firm planned orders of each of a plant's pairs.
-fn plant_firms(alloc: Global, network: &Network, pairs: &[PlantPair]) -> Result<FirmOrders, Memory>
+fn plant_firms(
+    alloc: Global,
+    network: &Network,
+    pairs: &[PlantPair],
+) -> Result<Lists<FirmRow>, Memory>
     requires { All (λ p. IsPair network.now p.number.0) pairs.now }
     ensures { IfOk result (λ f. f ≡ map (λ p. firms_of network.now p.number.0) pairs.now) }
 {
-    let mut firms = FirmOrders::new(alloc);
+    let mut firms = Lists::new(alloc);
     for pair in pairs {
         firms.push(network.firm_orders(pair.number))?;
     }
     Ok(firms)
+}
+
+/// The receipts of each of a plant's pairs that may be counted sooner than they come.
+fn plant_sooner(alloc: Global, network: &Network, pairs: &[PlantPair]) -> Result<Lists<u64>, Memory>
+    requires { All (λ p. IsPair network.now p.number.0) pairs.now }
+    ensures { IfOk result (λ s. s ≡ map (λ p. received_sooner network.now p.number.0) pairs.now) }
+{
+    let mut sooner = Lists::new(alloc);
+    for pair in pairs {
+        let terms = network.terms(pair.number);
+        sooner.push(terms.receipts)?;
+    }
+    Ok(sooner)
 }
 
 /// An item of a lane, as its receiver sees it.

@@ -11,7 +11,7 @@ use Rattle.mrp_net.specs.declared.lane.LaneKind.TheVariants.{Despatch, Schedule}
 use Rattle.mrp_net.specs.LaneLaws.{is_despatch, is_schedule}
 use Rattle.mrp_net.specs.PlanLaws.{asked_by_bill}
 use Rattle.mrp_net.specs.Plan.{rows_at, plan_of, gross}
-use Rattle.mrp_net.specs.Sums.{pair_at, params_at, terms_at, row_of, demand, received, incoming}
+use Rattle.mrp_net.specs.Sums.{pair_at, terms_at, row_of, demand, received_when_due, incoming}
 use Rattle.mrp_net.proofs.Covering.{sum_by-same}
 use Rattle.mrp_grouping.proofs.Kept.{sum_filter}
 use Rattle.mrp_plant_view.specs.declared.view.IncomingLane.{IncomingLane}
@@ -81,7 +81,7 @@ module _ (N : Table) (is : IsTable N) (plant : ℕ) (taken : ℕ → List Record
       ∙ views_have_bills N is plant x at.pair at.at_plant table t
 
   seen_incoming : (t : ℕ) → t < horizon N → local_incoming (plant_rows N plant) taken (plant_pair N x) t ≡ network.incoming_brought N taken x t
-  seen_incoming t within = omega (arith, amount_is N plant x (received N) t at within, despatches_brought N plant taken x at t)
+  seen_incoming t within = omega (arith, amount_is N plant x (received_when_due N) t at within, despatches_brought N plant taken x at t)
 
   seen_gross : (t : ℕ) → t < horizon N → local_gross (plant_rows N plant) taken plans (plant_pair N x) t ≡ network.gross_brought N taken table x t
   seen_gross t within = omega (arith, amount_is N plant x (demand N) t at within, asked_is t, schedules_brought N plant taken x at t)

@@ -1,6 +1,6 @@
 -- What a plant sees of the network: amounts, parents, and what has come over its lanes.
 use Rattle.std.proofs.Common.{◌≡◌, ℕ, suc, zero, ◌+◌, ◌*◌, ◌<◌, ◌==◌, Bool, true, inl, inr, List, [], ◌∷◌, length, get_or, map, refl, sym, ap, ◌∙◌, subst}
-use Rattle.std.proofs.Common.{arith, All, Contains, slice_index}
+use Rattle.std.proofs.Common.{arith, All, Contains, slice_index, slice_index_or}
 use Rattle.std.specs.List.{filter, flat_map, position_or_len, range_with_len}
 use Rattle.std.proofs.lemmas.Bool.{cases_lt, eqb-true, eq-eqb, both_ways}
 use Rattle.std.proofs.lemmas.List.{get_or_append_left, get_or-append-add, get_or-map, map-id}
@@ -16,8 +16,9 @@ use Rattle.mrp_net.specs.declared.lane.Lane.{Lane}
 use Rattle.mrp_net.specs.Edges.{demanders}
 use Rattle.mrp_net.specs.Lanes.{lanes, lane_at, lane_items}
 use Rattle.mrp_net.specs.EdgeLaws.{is_local}
-use Rattle.mrp_net.specs.Sums.{pair_at, params_at, terms_at, row_of}
+use Rattle.mrp_net.specs.Sums.{pair_at, params_at, terms_at, row_of, received_sooner}
 use Rattle.mrp_net.specs.FirmOrders.{firms_of}
+use Rattle.mrp_net.specs.Policies.{policy_of}
 use Rattle.mrp_net.specs.Terms.{terms_of}
 use Rattle.mrp_master_data.specs.declared.rows.FirmRow.{FirmRow}
 use Rattle.mrp_net.proofs.Members.{In, In-from_contains, Contains-from_in, In-filter, filter_only, In-map, map_only, In-flat_map, flat_map_only, In-range}
@@ -35,7 +36,7 @@ use Rattle.mrp_loops.proofs.Edges.{demanders_edge, demanders_only, HasEdge-from_
 use Rattle.mrp_record.specs.declared.record.Record.{Record}
 use Rattle.mrp_protocol.specs.State as state
 use Rattle.mrp_protocol.specs.State.{IsReady}
-use Rattle.mrp_protocol.specs.LocalPlans.{amount_at, firms_in, terms_in, HasCome, AwaitsNothing}
+use Rattle.mrp_protocol.specs.LocalPlans.{amount_at, place_in, firms_in, sooner_in, terms_in, HasCome, AwaitsNothing}
 use Rattle.mrp_protocol.specs.LocalLaws.{IsPairAt}
 
 -- ---- amounts
@@ -82,35 +83,50 @@ first_there p xs x h t =
       | inr past ↦ absurd (both_ways (p (get_or xs h.0 x)) (fails_before_first p xs h.0 x (omega (arith, h.1))) (ap p h.2 ∙ t))
     ]
 
+-- at the place of a pair stands the pair
+place_is : (N : Table) (plant x : ℕ) (d : PlantPair) → IsPairAt N plant x
+    → (place_in (plant_rows N plant) (record { 0 = x }) < length (plant_pairs N plant))
+    × ((get_or (plant_pairs N plant) (place_in (plant_rows N plant) (record { 0 = x })) d).number.0 ≡ x)
+place_is N plant x d at =
+    let pairs : List PlantPair = plant_pairs N plant in
+    let test = λ (p : PlantPair). p.number.0 == x in
+    let there : position_or_len test pairs < length pairs =
+    first_there test pairs (plant_pair N x) (Contains-from_in pairs (plant_pair N x) (sees_pair N plant x at)) (eq-eqb x x refl) in
+    (there, eqb-true (get_or pairs (position_or_len test pairs) d).number.0 x (passes_at_first test pairs d there))
+
 pub amount_is : (N : Table) (plant x : ℕ) (amount : ℕ → ℕ → ℕ) (t : ℕ) → IsPairAt N plant x → t < horizon N
     → amount_at (plant_rows N plant) (plant_amounts N amount plant) (record { 0 = x }) t ≡ amount x t
 amount_is N plant x amount t at within =
     let pairs : List PlantPair = plant_pairs N plant in
-    let test = λ (p : PlantPair). p.number.0 == x in
     let d : PlantPair = plant_pair N x in
-    let k : ℕ = position_or_len test pairs in
-    let there : k < length pairs = first_there test pairs d (Contains-from_in pairs d (sees_pair N plant x at)) (eq-eqb x x refl) in
-    let number : (get_or pairs k d).number.0 ≡ x = eqb-true (get_or pairs k d).number.0 x (passes_at_first test pairs d there) in
+    let k : ℕ = place_in (plant_rows N plant) (record { 0 = x }) in
+    let place = place_is N plant x d at in
     piece_at (λ (p : PlantPair). row_of N (amount p.number.0)) (horizon N) pairs
-    (λ p. length-map-range_with_len (amount p.number.0) 0 (horizon N)) k t d there within
+    (λ p. length-map-range_with_len (amount p.number.0) 0 (horizon N)) k t d place.0 within
     ∙ get_or-map-range_with_len (amount (get_or pairs k d).number.0) 0 (horizon N) t t 0 within (omega arith)
-    ∙ ap (λ (z : ℕ). amount z t) number
+    ∙ ap (λ (z : ℕ). amount z t) place.1
 
--- the firm planned orders of a pair are those of the table
-firms_are : (N : Table) (plant x : ℕ) → IsPairAt N plant x → firms_in (plant_rows N plant) (record { 0 = x }) ≡ firms_of N x
-firms_are N plant x at =
-    let pairs : List PlantPair = plant_pairs N plant in
-    let test = λ (p : PlantPair). p.number.0 == x in
+-- a list of each pair
+list_is : {X : Type 0} (N : Table) (plant x : ℕ) (list : ℕ → List X) → IsPairAt N plant x
+    → slice_index_or (map (λ p. list p.number.0) (plant_pairs N plant)) (place_in (plant_rows N plant) (record { 0 = x })) [] ≡ list x
+list_is N plant x list at =
     let d : PlantPair = plant_pair N x in
-    let k : ℕ = position_or_len test pairs in
-    let there : k < length pairs = first_there test pairs d (Contains-from_in pairs d (sees_pair N plant x at)) (eq-eqb x x refl) in
-    let number : (get_or pairs k d).number.0 ≡ x = eqb-true (get_or pairs k d).number.0 x (passes_at_first test pairs d there) in
-    get_or-map (λ (p : PlantPair). firms_of N p.number.0) pairs k d [] there ∙ ap (firms_of N) number
+    let place = place_is N plant x d at in
+    get_or-map (λ (p : PlantPair). list p.number.0) (plant_pairs N plant) (place_in (plant_rows N plant) (record { 0 = x })) d [] place.0 ∙ ap list place.1
+
+-- the firm planned orders of a pair are those of the table, and so are its receipts that may be counted sooner
+firms_are : (N : Table) (plant x : ℕ) → IsPairAt N plant x → firms_in (plant_rows N plant) (record { 0 = x }) ≡ firms_of N x
+firms_are N plant x at = list_is N plant x (firms_of N) at
+
+sooner_are : (N : Table) (plant x : ℕ) → IsPairAt N plant x → sooner_in (plant_rows N plant) (record { 0 = x }) ≡ received_sooner N x
+sooner_are N plant x at = list_is N plant x (received_sooner N) at
 
 -- so planners say of it what the table does
 pub terms_are : (N : Table) (plant x : ℕ) → IsPairAt N plant x → terms_in (plant_rows N plant) (plant_pair N x) ≡ terms_at N x
 terms_are N plant x at =
-    ap (λ (orders : List FirmRow). terms_of (horizon N) (params_at N x) orders) (firms_are N plant x at)
+    ap (λ (receipts : List ℕ). terms_of (horizon N) (params_at N x) (policy_of N x) receipts (firms_in (plant_rows N plant) (record { 0 = x })))
+    (sooner_are N plant x at)
+    ∙ ap (λ (orders : List FirmRow). terms_of (horizon N) (params_at N x) (policy_of N x) (received_sooner N x) orders) (firms_are N plant x at)
 
 -- ---- parents
 

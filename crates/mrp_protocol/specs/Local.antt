@@ -9,7 +9,7 @@ use Rattle.mrp_net.specs.Lanes.{lanes, lane_at}
 use Rattle.mrp_net.specs.LaneLaws.{is_despatch, is_schedule}
 use Rattle.mrp_net.specs.PlanLaws.{asked_by_bill}
 use Rattle.mrp_net.specs.Plan.{rows_at, plan_of, gross}
-use Rattle.mrp_net.specs.Sums.{pair_at, terms_at, row_of, demand, received, incoming}
+use Rattle.mrp_net.specs.Sums.{pair_at, terms_at, row_of, demand, received_when_due, incoming}
 use Rattle.mrp_loops.specs.Loop.{IsLoopFree}
 use Rattle.mrp_record.specs.declared.record.Record.{Record}
 use Rattle.mrp_record.specs.Entries.{contents}
@@ -33,9 +33,10 @@ brought N taken is_kind x period =
     sum_by (λ l. if arrives N is_kind (pair_at N x).plant.0 l then brought_by N taken x period l else 0)
     (range_with_len 0 (length (lanes N)))
 
--- what comes in for a pair beside firm planned orders: its receipt rows, and what despatch lanes have brought
+-- what comes in for a pair at its time, beside firm planned orders: its receipt rows that count when they come, and what
+-- despatch lanes have brought
 abbrev pub incoming_brought : Table → (ℕ → List Record) → ℕ → ℕ → ℕ
-incoming_brought N taken x period = received N x period + brought N taken is_despatch x period
+incoming_brought N taken x period = received_when_due N x period + brought N taken is_despatch x period
 
 -- its gross requirements: its demand rows, what its parents at the plant ask, and what schedule lanes have called for
 abbrev pub gross_brought : Table → (ℕ → List Record) → List PlanRows → ℕ → ℕ → ℕ
@@ -60,7 +61,7 @@ PlannedStayReady =
     (N : Table) (capacity : ℕ) (s : State) → IsReached N capacity s → (x : ℕ) → IsPair N x → s.planned x ≡ true
     → IsReady N s.planned s.taken x
 
--- to a ready pair the lanes have brought what comes in by the plan of the network
+-- to a ready pair the lanes have brought what comes in at its time beside firm planned orders
 abbrev pub DespatchesBringIncoming : Type 0
 DespatchesBringIncoming =
     (N : Table) → IsTable N → (planned : ℕ → Bool) (taken : ℕ → List Record) (x : ℕ) → IsPair N x

@@ -47,8 +47,8 @@ PlantPlansAreThePlan =
     → PlansLocally N plant taken planned plans
     → (x : ℕ) → IsPairAt N plant x → planned x ≡ true → plans x ≡ plan_at N x
 
--- and a pair for which nothing is missing gets it: what comes in and what is asked for are the network's,
--- and so is the plan
+-- and a pair for which nothing is missing gets it: what comes in at its time beside firm planned orders and what is
+-- asked for are the network's, and so is the plan
 pub record GetsThePlan (N : Table) (V : PlantRows) (taken : ℕ → List Record) (plans : ℕ → PlanRows) (x : ℕ)
     : Type 0 where
   pub incoming : (t : ℕ) → t < horizon N → local_incoming V taken (plant_pair N x) t ≡ incoming N x t

@@ -55,7 +55,8 @@ abbrev pub asked_within : PlantRows → (ℕ → PlanRows) → PairNo → ℕ �
 asked_within V plans x period =
     sum_by (λ e. if e.component.0 == x.0 then e.per * slice_index (plans e.parent.0).release period else 0) V.edges
 
--- scheduled receipts beside firm planned orders: the receipt rows, and what has come on despatch lanes
+-- scheduled receipts beside firm planned orders: the receipt rows that count when they come, and what has come on
+-- despatch lanes
 abbrev pub local_incoming : PlantRows → (ℕ → List Record) → PlantPair → ℕ → ℕ
 local_incoming V taken p period =
     amount_at V V.receipts p.number period + booked_on Despatch V taken p.item period
@@ -70,12 +71,15 @@ local_gross V taken plans p period =
 abbrev pub local_row : PlantRows → (ℕ → ℕ) → List ℕ
 local_row V amount = map amount (range_with_len 0 V.horizon)
 
--- the firm planned orders of a pair, and what planners say of it
+-- the firm planned orders of a pair, its receipts that may be counted sooner, and what planners say of it
 abbrev pub firms_in : PlantRows → PairNo → List FirmRow
 firms_in V x = slice_index_or V.firms (place_in V x) []
 
+abbrev pub sooner_in : PlantRows → PairNo → List ℕ
+sooner_in V x = slice_index_or V.sooner (place_in V x) []
+
 abbrev pub terms_in : PlantRows → PlantPair → PairTerms
-terms_in V p = terms_of V.horizon p.params (firms_in V p.number)
+terms_in V p = terms_of V.horizon p.params p.policy (sooner_in V p.number) (firms_in V p.number)
 
 -- what it is planned from, and its plan
 abbrev pub local_data : PlantRows → (ℕ → List Record) → (ℕ → PlanRows) → PlantPair → PairData

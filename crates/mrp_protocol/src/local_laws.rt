@@ -12,7 +12,7 @@ pub fn local_plans_are_the_plan()
 {}
 
 /// In a sized network what a pair has on hand, what comes in, what is asked for, safety stock and the
-/// quantities of its lot rule are together at most 10^15 pieces, once nothing is missing for its plan.
+/// quantities of its lot rule and its policy are together at most 10^15 pieces, once nothing is missing for its plan.
 pub fn drafts_are_within()
     ensures { DraftsAreWithin }
 {}

@@ -10,9 +10,9 @@ pub fn planned_are_ready()
     ensures { PlannedStayReady }
 {}
 
-/// What taken lanes have brought to a ready pair is what the network's plan says: with the receipt rows
-/// all that comes in beside firm planned orders, and with the demand rows and what the parents at its plant ask the gross
-/// requirements.
+/// What taken lanes have brought to a ready pair is what the network's plan says: with the receipt rows that count when
+/// they come all that comes in at its time beside firm planned orders, and with the demand rows and what the parents at
+/// its plant ask the gross requirements.
 pub fn taken_blocks_bring_the_plan()
     ensures incoming { DespatchesBringIncoming }
     ensures gross { SchedulesBringGross }

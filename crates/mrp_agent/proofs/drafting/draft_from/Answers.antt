@@ -1,7 +1,8 @@
 use Rattle.std.proofs.Common.{◌≡◌, ℕ, ◌+◌, ◌<◌, ◌≤◌, List, length, slice_index, sym, ap, ◌∙◌, subst, arith}
 use Rattle.mrp_netting.specs.PlanRows.{PlanRows}
 use Rattle.mrp_netting.specs.PlanningData.{PairTerms, planned, one}
-use Rattle.mrp_net.specs.Terms.{terms_of}
+use Rattle.mrp_net.specs.Terms.{terms_given}
+use Rattle.mrp_net.specs.declared.terms.PlanningTerms.{PlanningTerms}
 use Rattle.mrp_netting.specs.PlanningBound.{IsWithinData}
 use Rattle.mrp_qty.specs.declared.quantity.TheConstants.{MOST}
 use Rattle.mrp_agent.specs.declared.drafting.PairRows.{PairRows}
@@ -12,9 +13,9 @@ use Rattle.std.specs.List.{All}
 use Rattle.mrp_agent.proofs.drafting.draft_from.Goals as goal
 use Rattle.mrp_agent.proofs.drafting.draft_from.Goals.{After-add_asked}
 
--- what planners say of the pair whose rows these are
-abbrev terms : PairRows → PairTerms
-terms rows = terms_of (length rows.demand.now) rows.params rows.firms.now
+-- what planners say of the pair, over the periods of its rows
+abbrev over : PlanningTerms → PairRows → PairTerms
+over terms rows = terms_given (length rows.demand.now) terms
 
 -- the row was made what is called for, and then what the parents ask was added
 asked_added : (demand copied new : List ℕ) (edges : List ParentEdge) (plans : List PlanRows) → copied ≡ demand → length new ≡ length copied
@@ -25,14 +26,14 @@ asked_added demand copied new edges plans same size each =
 
 pub copy_pieces-requires-clause-within : goal.copy_pieces-requires-clause-within
 copy_pieces-requires-clause-within c =
-    demand_within (terms c.args.rows.now) c.args.rows.now.receipts.now c.args.rows.now.demand.now c.args.rows.now.edges.now c.args.plans.now
+    demand_within (over c.args.terms.now c.args.rows.now) c.args.rows.now.incoming.now c.args.rows.now.demand.now c.args.rows.now.edges.now c.args.plans.now
     c.requires.draft.within
 
 pub add_asked-requires-clause-within : goal.add_asked-requires-clause-within
 add_asked-requires-clause-within c =
     subst (λ (row : List ℕ). (t : ℕ) → t < length row → slice_index row t + asked_by c.args.plans.now c.args.rows.now.edges.now t ≤ MOST)
     (sym c.copy_pieces.ensures)
-    (gross_within (terms c.args.rows.now) c.args.rows.now.receipts.now c.args.rows.now.demand.now c.args.rows.now.edges.now c.args.plans.now
+    (gross_within (over c.args.terms.now c.args.rows.now) c.args.rows.now.incoming.now c.args.rows.now.demand.now c.args.rows.now.edges.now c.args.plans.now
     c.requires.draft.within)
 
 -- the gross requirements that were added up
@@ -45,31 +46,32 @@ grossed_up c =
 periods_are : (c : After-add_asked) → length c.add_asked.new.gross ≡ length c.args.rows.now.demand.now
 periods_are c = c.add_asked.ensures.size ∙ ap (λ (row : List ℕ). length row) c.copy_pieces.ensures
 
-pub plan_with_firm_orders-requires-clause-within : goal.plan_with_firm_orders-requires-clause-within
-plan_with_firm_orders-requires-clause-within c =
-    let at = goal.at.plan_with_firm_orders-requires-clause-within c in
+pub plan_by_terms-requires-clause-within : goal.plan_by_terms-requires-clause-within
+plan_by_terms-requires-clause-within c =
+    let at = goal.at.plan_by_terms-requires-clause-within c in
     let rows = c.args.rows.now in
-    subst (λ (n : ℕ). IsWithinData (planned (terms_of n rows.params rows.firms.now) rows.receipts.now c.add_asked.new.gross))
+    subst (λ (n : ℕ). IsWithinData (planned (terms_given n c.args.terms.now) rows.incoming.now c.add_asked.new.gross))
     (sym (periods_are at.After-add_asked))
-    (subst (λ (row : List ℕ). IsWithinData (planned (terms rows) rows.receipts.now row)) (sym (grossed_up at.After-add_asked)) c.requires.draft.within)
+    (subst (λ (row : List ℕ). IsWithinData (planned (over c.args.terms.now rows) rows.incoming.now row)) (sym (grossed_up at.After-add_asked))
+    c.requires.draft.within)
 
-pub plan_with_firm_orders-requires-clause-starts : goal.plan_with_firm_orders-requires-clause-starts
-plan_with_firm_orders-requires-clause-starts c =
-    let same = periods_are (goal.at.plan_with_firm_orders-requires-clause-starts c).After-add_asked in
-    λ k d h. omega (arith, (c.requires.firms k d h).start, same)
+pub plan_by_terms-requires-clause-starts : goal.plan_by_terms-requires-clause-starts
+plan_by_terms-requires-clause-starts c =
+    let same = periods_are (goal.at.plan_by_terms-requires-clause-starts c).After-add_asked in
+    λ k d h. omega (arith, (c.requires.orders k d h).start, same)
 
-pub plan_with_firm_orders-requires-clause-dues : goal.plan_with_firm_orders-requires-clause-dues
-plan_with_firm_orders-requires-clause-dues c =
-    let same = periods_are (goal.at.plan_with_firm_orders-requires-clause-dues c).After-add_asked in
-    λ k d h. omega (arith, (c.requires.firms k d h).due, same)
+pub plan_by_terms-requires-clause-dues : goal.plan_by_terms-requires-clause-dues
+plan_by_terms-requires-clause-dues c =
+    let same = periods_are (goal.at.plan_by_terms-requires-clause-dues c).After-add_asked in
+    λ k d h. omega (arith, (c.requires.orders k d h).due, same)
 
 pub returns-clause-plan : goal.returns-clause-plan
 returns-clause-plan c =
     let at = goal.at.returns-clause-plan c in
     let rows = c.args.rows.now in
-    c.plan_with_firm_orders.ensures.plan
-    ∙ ap (λ (n : ℕ). one (planned (terms_of n rows.params rows.firms.now) rows.receipts.now c.add_asked.new.gross)) (periods_are at.After-add_asked)
-    ∙ ap (λ (row : List ℕ). one (planned (terms rows) rows.receipts.now row)) (grossed_up at.After-add_asked)
+    c.plan_by_terms.ensures.plan
+    ∙ ap (λ (n : ℕ). one (planned (terms_given n c.args.terms.now) rows.incoming.now c.add_asked.new.gross)) (periods_are at.After-add_asked)
+    ∙ ap (λ (row : List ℕ). one (planned (over c.args.terms.now rows) rows.incoming.now row)) (grossed_up at.After-add_asked)
 
 pub copy_pieces-requires-clause-periods : goal.copy_pieces-requires-clause-periods
 copy_pieces-requires-clause-periods c = c.requires.gross
@@ -79,8 +81,8 @@ add_asked-requires-clause-edges c =
     subst (λ (row : List ℕ). All (ParentCanAsk c.args.plans.now (length row)) c.args.rows.now.edges.now)
     (sym c.copy_pieces.ensures) c.requires.draft.edges_are
 
-pub plan_with_firm_orders-requires-clause-room : goal.plan_with_firm_orders-requires-clause-room
-plan_with_firm_orders-requires-clause-room c = c.requires.into ∙ sym (c.add_asked.ensures.size ∙ ap (λ (row : List ℕ). length row) c.copy_pieces.ensures)
+pub plan_by_terms-requires-clause-room : goal.plan_by_terms-requires-clause-room
+plan_by_terms-requires-clause-room c = c.requires.into ∙ sym (c.add_asked.ensures.size ∙ ap (λ (row : List ℕ). length row) c.copy_pieces.ensures)
 
 pub returns-clause-gross : goal.returns-clause-gross
-returns-clause-gross c = ap (λ (row : List ℕ). length row) (c.plan_with_firm_orders.ensures.room) ∙ c.requires.into ∙ sym c.requires.gross
+returns-clause-gross c = ap (λ (row : List ℕ). length row) (c.plan_by_terms.ensures.room) ∙ c.requires.into ∙ sym c.requires.gross

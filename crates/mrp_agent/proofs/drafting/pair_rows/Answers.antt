@@ -1,10 +1,9 @@
-use Rattle.std.proofs.Common.{ℕ, ◌+◌, ◌<◌, ◌≤◌, List, length, map, slice_index, ◌∙◌, ap, subst, sym}
+use Rattle.std.proofs.Common.{ℕ, ◌+◌, ◌<◌, ◌≤◌, List, length, map, slice_index, ◌∙◌, ap}
 use Rattle.mrp_grouping.specs.Starts.{IsGrouped}
 use Rattle.mrp_grouping.proofs.Sorting.{IsGrouped-within}
 use Rattle.mrp_plant_view.specs.View.{PlantRows}
 use Rattle.mrp_agent.specs.declared.edges.ParentEdge.{ParentEdge}
 use Rattle.mrp_agent.specs.Kept.{parent_edge}
-use Rattle.mrp_plant_view.specs.declared.view.PlantPair.{PlantPair}
 use Rattle.mrp_agent.specs.Rows.{part_at}
 use Rattle.mrp_agent.proofs.drafting.pair_rows.Goals as goal
 
@@ -21,11 +20,8 @@ get-requires-clause-rises c = (edges_rise c.args.view.now c.requires.edges c.req
 pub get-requires-clause-within : goal.get-requires-clause-within
 get-requires-clause-within c = (edges_rise c.args.view.now c.requires.edges c.requires.place).1
 
-pub bounds-pairs-place : goal.bounds-pairs-place
-bounds-pairs-place c = subst (λ (z : List PlantPair). c.args.place < length z) (sym c.pairs.ensures) c.requires.place
-
-pub returns-clause-receipts : goal.returns-clause-receipts
-returns-clause-receipts c = c.part_of.ensures ∙ ap (λ (h : ℕ). part_at h c.args.place c.args.receipts.now) (c.get-periods.ensures.value ∙ c.horizon.ensures)
+pub returns-clause-incoming : goal.returns-clause-incoming
+returns-clause-incoming c = c.part_of.ensures ∙ ap (λ (h : ℕ). part_at h c.args.place c.args.receipts.now) (c.get-periods.ensures.value ∙ c.horizon.ensures)
 
 pub returns-clause-demand : goal.returns-clause-demand
 returns-clause-demand c = c.part_of-2.ensures ∙ ap (λ (h : ℕ). part_at h c.args.place c.args.demand.now) (c.get-periods.ensures.value ∙ c.horizon.ensures)

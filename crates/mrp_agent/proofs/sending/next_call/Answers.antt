@@ -1,4 +1,4 @@
-use Rattle.std.proofs.Common.{◌≡◌, ℕ, sym, ap, ◌∙◌, arith, refl}
+use Rattle.std.proofs.Common.{◌≡◌, sym, ap, ◌∙◌, arith, refl}
 use Rattle.mrp_protocol.specs.Goods.{share}
 use Rattle.mrp_agent.specs.Sending.{called_by}
 use Rattle.mrp_agent.proofs.Calling.{call_later}

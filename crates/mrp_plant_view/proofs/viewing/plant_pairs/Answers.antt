@@ -20,7 +20,7 @@ loop-x-preserved c = elim c.if-row-plant.branch [
   | then-row-plant+in_ok-push w ↦
       at_plant_pushed (plant_pair c.args.network.now) (pair_at c.args.network.now)
       (λ (z : PairRow). z.plant.0) c.args.plant.0 c.loop-x.x _ _ c.pair-row.result _ c.pair-row.ensures w.if-row-plant.true c.loop-x.invariant
-      (ap (λ z. z.items) w.pairs-is ∙ w.in_ok-push.ensures.items) (cc (w.params.ensures, c.pair-row.ensures))
+      (ap (λ z. z.items) w.pairs-is ∙ w.in_ok-push.ensures.items) (cc (w.params.ensures, w.policy.ensures, c.pair-row.ensures))
   | else-row-plant w ↦
       at_plant_passed (plant_pair c.args.network.now) (pair_at c.args.network.now)
       (λ (z : PairRow). z.plant.0) c.args.plant.0 c.loop-x.x _ _ c.pair-row.result c.pair-row.ensures w.if-row-plant.false c.loop-x.invariant

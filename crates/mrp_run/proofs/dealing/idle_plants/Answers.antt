@@ -1,11 +1,13 @@
-use denote.Param.Send.{sendable}
+use denote.Exit.{no}
+use denote.Param.Send.{arg_sync, param_sync, sendable, shr_sync}
 use Rattle.std.proofs.Common.{◌≡◌, [], Ok, Result, length, map, ap, arith}
 use Rattle.std.proofs.lemmas.List.{length-map}
 use Rattle.std.proofs.lemmas.Result.{IfOk-weaker}
+use Rattle.std.proofs.alloc.Global.TheSendSync as allocator
 use Rattle.mrp_qty.specs.declared.memory.Memory.{Memory}
 use Rattle.mrp_run.specs.declared.plant.Plant.{Plant}
 use Rattle.mrp_run.specs.Ends.{AreIdle, IsIdle}
-use Rattle.mrp_run.proofs.Crossing.{made_send}
+use Rattle.mrp_run.proofs.Crossing.{made_send, pair_closure_sync, network_sync}
 use Rattle.mrp_run.proofs.DealtLists.{each_made}
 use Rattle.mrp_run.proofs.dealing.idle_plants.Goals as goal
 
@@ -22,3 +24,8 @@ returns g c =
 
 pub map_indices-requires-send-X : goal.map_indices-requires-send-X
 map_indices-requires-send-X g c κs within = search (made_send, sendable)
+
+-- a search through all that a network owns meets its limit
+pub map_indices-requires-sync-F : goal.map_indices-requires-sync-F
+map_indices-requires-sync-F g c κs within =
+    param_sync 3 _ (arg_sync _ no _ (pair_closure_sync _ _ _ (shr_sync _ _ _ allocator.the_sync) (shr_sync _ _ _ network_sync)))

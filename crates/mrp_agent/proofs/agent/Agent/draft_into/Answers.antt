@@ -3,7 +3,7 @@ use Rattle.mrp_agent.specs.Drafts.{drafted}
 use Rattle.mrp_agent.specs.Fields.{indexes_of}
 use Rattle.mrp_agent.specs.State.{AgentState}
 use Rattle.mrp_agent.specs.contracts.agent.Agent.{the_view}
-use Rattle.mrp_agent.proofs.DraftReads.{HasRead, demand_periods, draft_asked, draft_made, firms_fit, rows_read}
+use Rattle.mrp_agent.proofs.DraftReads.{HasRead, demand_periods, draft_asked, draft_made, orders_fit, rows_read}
 use Rattle.mrp_agent.proofs.Placing.{IsAtPlace, can_before, own_is_found, place_is_found, place_within}
 use Rattle.mrp_agent.proofs.agent.Agent.draft_into.Goals as goal
 use Rattle.mrp_agent.proofs.agent.Agent.draft_into.Goals.{After-deref-3, In-Some}
@@ -18,12 +18,11 @@ pub pair_rows-rows-requires-clause-place : goal.pair_rows-rows-requires-clause-p
 pair_rows-rows-requires-clause-place c = place_within (placed (goal.at.pair_rows-rows-requires-clause-place c).In-Some)
 
 read : (c : After-deref-3) → IsAtPlace (the_view c.self.inside) (indexes_of c.self.inside) c.args.x c.in-Some.place
-    → HasRead (the_view c.self.inside) (indexes_of c.self.inside) c.args.x c.in-Some.place c.pair_rows-rows.result.params c.pair_rows-rows.result.firms.now
-    c.pair_rows-rows.result.receipts.now
-    c.pair_rows-rows.result.demand.now c.pair_rows-rows.result.edges.now c.deref-3.result.now
+    → HasRead (the_view c.self.inside) (indexes_of c.self.inside) c.args.x c.in-Some.place c.planning_terms-terms.result
+    c.pair_rows-rows.result.incoming.now c.pair_rows-rows.result.demand.now c.pair_rows-rows.result.edges.now c.deref-3.result.now
 read c at =
     rows_read at (can_before c.self.view_is c.requires.can) c.deref.ensures.value c.deref-2.ensures.value c.deref-3.ensures.value
-    c.pair_rows-rows.ensures.params c.pair_rows-rows.ensures.firms c.pair_rows-rows.ensures.receipts c.pair_rows-rows.ensures.demand c.pair_rows-rows.ensures.edges
+    c.planning_terms-terms.ensures.terms c.planning_terms-terms.ensures.orders c.pair_rows-rows.ensures.incoming c.pair_rows-rows.ensures.demand c.pair_rows-rows.ensures.edges
 
 same_horizon : (c : In-Some) → (the_view c.self.inside).view.horizon ≡ c.args.self.now.view.horizon
 same_horizon c = ap (λ (a : AgentState). a.view.horizon) c.self.view_is
@@ -31,11 +30,17 @@ same_horizon c = ap (λ (a : AgentState). a.view.horizon) c.self.view_is
 pub draft_from-requires-clause-draft : goal.draft_from-requires-clause-draft
 draft_from-requires-clause-draft c = let at = goal.at.draft_from-requires-clause-draft c in draft_asked (read at.After-deref-3 (placed at.In-Some))
 
-pub pair_rows-rows-requires-clause-firms : goal.pair_rows-rows-requires-clause-firms
-pair_rows-rows-requires-clause-firms c = c.self.invariant.view.firms_by_pair
+pub planning_terms-terms-requires-clause-place : goal.planning_terms-terms-requires-clause-place
+planning_terms-terms-requires-clause-place c = place_within (placed (goal.at.planning_terms-terms-requires-clause-place c).In-Some)
 
-pub draft_from-requires-clause-firms : goal.draft_from-requires-clause-firms
-draft_from-requires-clause-firms c = let at = goal.at.draft_from-requires-clause-firms c in firms_fit (read at.After-deref-3 (placed at.In-Some))
+pub planning_terms-terms-requires-clause-firms : goal.planning_terms-terms-requires-clause-firms
+planning_terms-terms-requires-clause-firms c = c.self.invariant.view.firms_by_pair
+
+pub planning_terms-terms-requires-clause-sooner : goal.planning_terms-terms-requires-clause-sooner
+planning_terms-terms-requires-clause-sooner c = c.self.invariant.view.sooner_by_pair
+
+pub draft_from-requires-clause-orders : goal.draft_from-requires-clause-orders
+draft_from-requires-clause-orders c = let at = goal.at.draft_from-requires-clause-orders c in orders_fit (read at.After-deref-3 (placed at.In-Some))
 
 pub draft_from-requires-clause-gross : goal.draft_from-requires-clause-gross
 draft_from-requires-clause-gross c =

@@ -3,7 +3,7 @@ use Rattle.mrp_netting.specs.PlanRows.{PlanRows}
 use Rattle.mrp_agent.specs.Fields.{indexes_of}
 use Rattle.mrp_agent.specs.contracts.agent.Agent.{the_view}
 use Rattle.mrp_agent.proofs.Rooms.{kept_written, old_periods, plans_written, same_periods}
-use Rattle.mrp_agent.proofs.DraftReads.{HasRead, demand_periods, draft_asked, draft_made, firms_fit, placed_at, rows_read}
+use Rattle.mrp_agent.proofs.DraftReads.{HasRead, demand_periods, draft_asked, draft_made, orders_fit, placed_at, rows_read}
 use Rattle.mrp_agent.proofs.Placing.{can_before, place_within}
 use Rattle.mrp_agent.proofs.agent.Agent.write_plan.Goals as goal
 use Rattle.mrp_agent.proofs.agent.Agent.write_plan.Goals.{After-deref-3}
@@ -11,22 +11,27 @@ use Rattle.mrp_agent.proofs.agent.Agent.write_plan.Goals.{After-deref-3}
 pub pair_rows-rows-requires-clause-place : goal.pair_rows-rows-requires-clause-place
 pair_rows-rows-requires-clause-place c = place_within (placed_at c.self.view_is c.self.invariant c.requires.can c.requires.place)
 
-read : (c : After-deref-3) → HasRead (the_view c.self.inside) (indexes_of c.self.inside) c.args.x c.args.place c.pair_rows-rows.result.params
-    c.pair_rows-rows.result.firms.now c.pair_rows-rows.result.receipts.now
-    c.pair_rows-rows.result.demand.now c.pair_rows-rows.result.edges.now c.deref-3.result.now
+read : (c : After-deref-3) → HasRead (the_view c.self.inside) (indexes_of c.self.inside) c.args.x c.args.place c.planning_terms-terms.result
+    c.pair_rows-rows.result.incoming.now c.pair_rows-rows.result.demand.now c.pair_rows-rows.result.edges.now c.deref-3.result.now
 read c =
     rows_read (placed_at c.self.view_is c.self.invariant c.requires.can c.requires.place) (can_before c.self.view_is c.requires.can)
     c.deref.ensures.value c.deref-2.ensures.value c.deref-3.ensures.value
-    c.pair_rows-rows.ensures.params c.pair_rows-rows.ensures.firms c.pair_rows-rows.ensures.receipts c.pair_rows-rows.ensures.demand c.pair_rows-rows.ensures.edges
+    c.planning_terms-terms.ensures.terms c.planning_terms-terms.ensures.orders c.pair_rows-rows.ensures.incoming c.pair_rows-rows.ensures.demand c.pair_rows-rows.ensures.edges
 
 pub draft_rows-requires-clause-draft : goal.draft_rows-requires-clause-draft
 draft_rows-requires-clause-draft c = draft_asked (read (goal.at.draft_rows-requires-clause-draft c).After-deref-3)
 
-pub pair_rows-rows-requires-clause-firms : goal.pair_rows-rows-requires-clause-firms
-pair_rows-rows-requires-clause-firms c = c.self.invariant.view.firms_by_pair
+pub planning_terms-terms-requires-clause-place : goal.planning_terms-terms-requires-clause-place
+planning_terms-terms-requires-clause-place c = place_within (placed_at c.self.view_is c.self.invariant c.requires.can c.requires.place)
 
-pub draft_rows-requires-clause-firms : goal.draft_rows-requires-clause-firms
-draft_rows-requires-clause-firms c = firms_fit (read (goal.at.draft_rows-requires-clause-firms c).After-deref-3)
+pub planning_terms-terms-requires-clause-firms : goal.planning_terms-terms-requires-clause-firms
+planning_terms-terms-requires-clause-firms c = c.self.invariant.view.firms_by_pair
+
+pub planning_terms-terms-requires-clause-sooner : goal.planning_terms-terms-requires-clause-sooner
+planning_terms-terms-requires-clause-sooner c = c.self.invariant.view.sooner_by_pair
+
+pub draft_rows-requires-clause-orders : goal.draft_rows-requires-clause-orders
+draft_rows-requires-clause-orders c = orders_fit (read (goal.at.draft_rows-requires-clause-orders c).After-deref-3)
 
 pub draft_rows-requires-clause-periods : goal.draft_rows-requires-clause-periods
 draft_rows-requires-clause-periods c = c.self.invariant.indexes.room ∙ sym (demand_periods (read (goal.at.draft_rows-requires-clause-periods c).After-deref-3))

@@ -1,0 +1,18 @@
+use Rattle.std.proofs.Common.{ℕ, ◌++◌, ◌∷◌, [], map, ap, ◌∙◌, List}
+use Rattle.mrp_net.specs.Sums.{received_sooner}
+use Rattle.mrp_plant_view.specs.declared.view.PlantPair.{PlantPair}
+use Rattle.mrp_plant_view.proofs.Pushing.{map_pushed, taken_all}
+use Rattle.mrp_plant_view.proofs.viewing.plant_sooner.Goals as goal
+
+pub loop-pair-init : goal.loop-pair-init
+loop-pair-init c = c.new-sooner.ensures
+
+pub loop-pair-preserved : goal.loop-pair-preserved
+loop-pair-preserved c =
+    map_pushed (λ (p : PlantPair). received_sooner c.args.network.now p.number.0) c.args.pairs.now c.loop-pair.pair-index c.pair-item.result _ _
+    c.loop-pair-test.true c.pair-item.is c.loop-pair.invariant
+    (c.in_ok-push.ensures ∙ ap (λ (z : List ℕ). c.loop-pair.sooner ++ z ∷ []) c.terms-terms.ensures.receipts)
+
+pub returns : goal.returns
+returns c = taken_all (map (λ (p : PlantPair). received_sooner c.args.network.now p.number.0)) c.args.pairs.now c.loop-pair.pair-index _ c.loop-pair-test.false
+    c.loop-pair.invariant
