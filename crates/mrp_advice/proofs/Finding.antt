@@ -1,6 +1,6 @@
 -- The first period that passes a test.
 use Rattle.std.proofs.Common.{◌≡◌, ℕ, zero, suc, ◌+◌, ◌<◌, ◌≤◌, Bool, true, false, cond, inl, inr, refl, sym, ap, ◌∙◌, arith}
-use Rattle.std.specs.Prelude.{Some, None}
+use Rattle.std.specs.Prelude.{Option, Some, None}
 use Rattle.std.specs.List.{find, range_with_len}
 use Rattle.std.proofs.lemmas.Bool.{cases_Bool, cases_eq, false≢true, leb-true, le-leb, true≢false}
 use Rattle.mrp_advice.specs.Needed.{is_needed_by}
@@ -40,6 +40,13 @@ module _ (p : ℕ → Bool) where
     | inr fails ↦ fails
   ]
 
+  -- nor does one before t
+  pub passed_before : (n u t : ℕ) → u < n → u ≤ t → is_needed_by t (find p (range_with_len 0 n)) ≡ false → p u ≡ false
+  passed_before n u t within early is = elim (cases_Bool (p u)) [
+    | inl passes ↦ absurd (true≢false (sym (found_in 0 n u t (omega arith) (omega arith) early passes) ∙ is))
+    | inr fails ↦ fails
+  ]
+
   -- the first that passes is found, where those before it don't
   find_first : (a n k : ℕ) → a ≤ k → k < a + n → p k ≡ true → ((u : ℕ) → a ≤ u → u < k → p u ≡ false) → find p (range_with_len a n) ≡ Some k
   find_first a zero k low high passes before = absurd (omega arith)
@@ -60,3 +67,13 @@ module _ (p : ℕ → Bool) where
 
   pub none_is : (n : ℕ) → ((u : ℕ) → u < n → p u ≡ false) → find p (range_with_len 0 n) ≡ None
   none_is n fails = find_none 0 n (λ u low high. fails u (omega arith))
+
+-- tests that agree on each period find the same one
+same_from : (p q : ℕ → Bool) (a n : ℕ) → ((u : ℕ) → u < a + n → p u ≡ q u) → find p (range_with_len a n) ≡ find q (range_with_len a n)
+same_from p q a zero same = refl
+same_from p q a (suc n) same =
+    ap (λ (b : Bool). cond b (Some a) (find p (range_with_len (a + 1) n))) (same a (omega arith))
+    ∙ ap (λ (o : Option ℕ). cond (q a) (Some a) o) (same_from p q (a + 1) n (λ u h. same u (omega (arith, h))))
+
+pub find_same : (p q : ℕ → Bool) (n : ℕ) → ((u : ℕ) → u < n → p u ≡ q u) → find p (range_with_len 0 n) ≡ find q (range_with_len 0 n)
+find_same p q n same = same_from p q 0 n (λ u h. same u (omega (arith, h)))

@@ -9,23 +9,21 @@ use Rattle.std.proofs.lemmas.List.Elements.{All-cons, All-nil, filter_passes}
 use Rattle.std.proofs.lemmas.List.Sorted.{IsPermutation-filter_both}
 use Rattle.mrp_grouping.proofs.Sorting.{filter_whole}
 use Rattle.mrp_netting.specs.PlanRows.{PlanRows}
-use Rattle.mrp_master_data.specs.declared.rows.PairRow.{PairRow}
 use Rattle.mrp_master_data.specs.Table.{Table, horizon}
-use Rattle.mrp_net.specs.Plan.{rows_at}
-use Rattle.mrp_net.specs.Sums.{pair_at}
+use Rattle.mrp_net.specs.Plan.{pair_data}
 use Rattle.mrp_advice.specs.declared.advice.Advice.{Advice}
 use Rattle.mrp_advice.specs.declared.orders.OpenOrder.{OpenOrder}
-use Rattle.mrp_advice.specs.Advice.{action_for, advice_at, messages, no_order, open_order_at}
+use Rattle.mrp_advice.specs.Advice.{action_for, advice_for, messages, messages_of}
 use Rattle.mrp_advice.specs.AdviceLaws.{AllAreAdvised, HorizonDropsNone, NoneComesLater, OthersAreKept}
 use Rattle.mrp_advice.specs.AdviceLines.{IsOpenOrder}
 use Rattle.mrp_advice.specs.Needed.{needed}
-use Rattle.mrp_advice.specs.OpenOrders.{comes_by, open_orders}
+use Rattle.mrp_advice.specs.OpenOrders.{comes_by, no_order, open_order_at, open_orders}
 use Rattle.mrp_advice.proofs.Coming.{open_in_table}
 use Rattle.mrp_advice.proofs.LineFacts.{said}
 
 -- all messages of a pair
 abbrev pair_messages : Table → List PlanRows → ℕ → List Advice
-pair_messages N table x = messages (pair_at N x) (rows_at table x).gross (open_orders N x)
+pair_messages N table x = messages (pair_data N table x) (open_orders N x)
 
 pub all_are_advised : AllAreAdvised
 all_are_advised N table x = filter_whole (λ (a : Advice). comes_by None a.order) (pair_messages N table x) (λ k d h. refl)
@@ -59,19 +57,19 @@ all_found P f a (suc n) each =
     all_more P (f a) (filter_map f (range_with_len (a + 1) n)) (each a (omega arith)) (all_found P f (a + 1) n (λ i h. each i (omega arith)))
 
 -- the messages of open orders in the horizon are for periods of it
-messages_within : (N : Table) (pair : PairRow) (gross : List ℕ) (orders : List OpenOrder) → All (IsOpenOrder N) orders
-    → All (λ a. a.order.period < horizon N) (messages pair gross orders)
-messages_within N pair gross orders are =
-    all_found (λ a. a.order.period < horizon N) (advice_at pair gross orders) 0 (length orders)
+messages_within : (N : Table) (needs : ℕ → Option ℕ) (orders : List OpenOrder) → All (IsOpenOrder N) orders
+    → All (λ a. a.order.period < horizon N) (messages_of needs orders)
+messages_within N needs orders are =
+    all_found (λ a. a.order.period < horizon N) (λ i. advice_for (open_order_at orders i) (needs i)) 0 (length orders)
     (λ i h. said (λ a. a.order.period < horizon N) (λ action. record {
       action = action;
       order = open_order_at orders i;
-      needed = needed pair gross orders i;
-    }) (action_for (open_order_at orders i).period (needed pair gross orders i)) (λ action. (are i no_order (omega arith)).due))
+      needed = needs i;
+    }) (action_for (open_order_at orders i).period (needs i)) (λ action. (are i no_order (omega arith)).due))
 
 pub horizon_drops_none : HorizonDropsNone
 horizon_drops_none until N is end table x =
-    let within = messages_within N (pair_at N x) (rows_at table x).gross (open_orders N x) (open_in_table N is x) in
+    let within = messages_within N (needed (pair_data N table x) (open_orders N x)) (open_orders N x) (open_in_table N is x) in
     filter_whole (λ (a : Advice). comes_by (Some until) a.order) (pair_messages N table x)
     (λ k d h. let period = within k d h in le-leb _ until (omega (arith, period, end)))
     ∙ sym (all_are_advised N table x)

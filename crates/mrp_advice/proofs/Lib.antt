@@ -1,7 +1,16 @@
 pub mod Finding
 pub mod Needing
 pub mod Coming
-pub mod CoverFacts
+pub mod Sorts
+pub mod Rising
+pub mod SortNeeds
+pub mod Cancelled
+pub mod Kept
+pub mod Planned
+pub mod Messages
+pub mod PlainFacts
+pub mod LackFacts
+pub mod ReachFacts
 pub mod LineFacts
 pub mod Later
 pub mod SheetFacts

@@ -1,35 +1,40 @@
 -- The rows of a pair's messages, open order by open order.
-use Rattle.std.proofs.Common.{◌≡◌, ◌∙◌, ℕ, zero, suc, ◌+◌, ◌<◌, ◌≤◌, Bool, true, false, cond, List, [], ◌∷◌, ◌++◌, length, refl, sym, ap, subst, arith, add-one, append_assoc}
+use Rattle.std.proofs.Common.{◌≡◌, ◌∙◌, ℕ, zero, suc, ◌+◌, ◌<◌, ◌≤◌, nat_lt, Bool, true, false, cond, List, [], ◌∷◌, ◌++◌, length, take, slice_index}
+use Rattle.std.proofs.Common.{refl, sym, ap, subst, arith, add-one, append_assoc}
 use Rattle.std.specs.Prelude.{Option, Some, None, IfSome, filter_map, option_map}
-use Rattle.std.specs.List.{cons_option, filter, find, flat_map, range_with_len}
+use Rattle.std.specs.List.{cons_option, filter, find, flat_map, range_with_len, sum_by}
 use Rattle.std.proofs.lemmas.Bool.{cond_both}
 use Rattle.std.proofs.lemmas.Grind.{flat_map-append}
 use Rattle.std.proofs.lemmas.List.{append-nil}
 use Rattle.std.proofs.lemmas.List.Elements.{filter-append, filter_map-append}
 use Rattle.std.proofs.lemmas.List.FromFn.{length-map-range_with_len}
+use Rattle.std.proofs.lemmas.List.Sums.{sum_by_more_le}
+use Rattle.mrp_qty.specs.declared.quantity.TheConstants.{MOST}
 use Rattle.mrp_grouping.proofs.Grouping.{range-suc}
 use Rattle.mrp_netting.specs.PlanRows.{PlanRows}
-use Rattle.mrp_master_data.specs.declared.rows.PairRow.{PairRow}
+use Rattle.mrp_netting.specs.declared.planning_data.Policy.{Policy}
 use Rattle.mrp_master_data.specs.Table.{Table, IsPair, horizon}
-use Rattle.mrp_net.specs.Plan.{gross as required_in, rows_at}
-use Rattle.mrp_net.specs.PlanLaws.{Fits}
-use Rattle.mrp_net.specs.Sums.{pair_at}
+use Rattle.mrp_net.specs.Plan.{pair_data}
+use Rattle.mrp_net.specs.Policies.{policy_of}
 use Rattle.mrp_loops.specs.Sized.{IsSized}
-use Rattle.mrp_loops.proofs.Within.{gross_within_need}
-use Rattle.mrp_plan.proofs.Pegs.{fitting_gross}
 use Rattle.mrp_csv_out.specs.Dates.{dates_of, period_date}
 use Rattle.mrp_csv_out.specs.Names.{item_of, plant_of}
 use Rattle.mrp_advice.specs.declared.advice.Action.{Action}
 use Rattle.mrp_advice.specs.declared.advice.Advice.{Advice}
+use Rattle.mrp_advice.specs.declared.lacks.Lacks.{Lacks}
 use Rattle.mrp_advice.specs.declared.orders.OpenOrder.{OpenOrder}
 use Rattle.mrp_advice.specs.declared.advice_report.AdviceLine.{AdviceLine}
-use Rattle.mrp_advice.specs.Advice.{action_for, advice_at, advice_for, messages_by, open_order_at}
+use Rattle.mrp_advice.specs.declared.reach.Reaches.{Reaches}
+use Rattle.mrp_advice.specs.Advice.{action_for, advice_for, messages_by}
 use Rattle.mrp_advice.specs.AdviceLines.{IsAdvice, IsAdvised, IsAdviceLine, IsOpenOrder, advice_line_row, advice_line_text, message_text}
-use Rattle.mrp_advice.specs.Needed.{first_short, had_before, is_short}
-use Rattle.mrp_advice.specs.OpenOrders.{comes_by, open_orders}
+use Rattle.mrp_advice.specs.Lacking.{AreLacks, HaveRoom, first_lacking, lacks_of, needed_by, reach_of}
+use Rattle.mrp_advice.specs.Needed.{may_come_sooner, needed, pieces_of}
+use Rattle.mrp_advice.specs.OpenOrders.{comes_by, no_order, open_order_at, open_orders}
 use Rattle.mrp_advice.specs.AdviceRows.{advice_row, pair_advice_text}
 use Rattle.mrp_advice.proofs.Coming.{open_in_table, orders-le}
-use Rattle.mrp_advice.proofs.Needing.{had_more}
+use Rattle.mrp_advice.proofs.LackFacts.{needed_by_is}
+use Rattle.mrp_advice.proofs.Messages.{messages_same}
+use Rattle.mrp_advice.proofs.Sorts.{pieces_more, some-le, weight}
 
 -- ---- a message names periods of the horizon
 
@@ -44,15 +49,21 @@ pub said : (P : Advice → Type 0) (f : Action → Advice) (o : Option Action) �
 said P f None each = tt
 said P f (Some a) each = each a
 
-pub advice_is : (N : Table) (order : OpenOrder) (safety : ℕ) (gross : List ℕ) (had : ℕ) (advice : Option Advice) → length gross ≡ horizon N
+pub advice_is : (N : Table) (order : OpenOrder) (row : List ℕ) (pieces : ℕ) (advice : Option Advice) → length row ≡ horizon N
     → IsOpenOrder N order
-    → advice ≡ advice_for order (first_short safety gross had) → IfSome advice (IsAdvice N)
-advice_is N order safety gross had advice periods is same =
-    let t = first_short safety gross had in
-    let within : IfSome t (λ u. u < horizon N) = find_within (is_short safety gross had) 0 (length gross) (horizon N) (omega (arith, periods)) in
+    → advice ≡ advice_for order (first_lacking row pieces) → IfSome advice (IsAdvice N)
+advice_is N order row pieces advice periods is same =
+    let t = first_lacking row pieces in
+    let within : IfSome t (λ u. u < horizon N) =
+    find_within (λ u. nat_lt pieces (slice_index row u)) 0 (length row) (horizon N) (omega (arith, periods)) in
     subst (λ (o : Option Advice). IfSome o (IsAdvice N)) (sym same)
     (said (IsAdvice N) (λ action. record { action = action; order = order; needed = t }) (action_for order.period t)
     (λ action. record { order = is; needed = within }))
+
+-- the row of either sort has the periods of the horizon
+pub sort_periods : (N : Table) (lacks : Lacks) (s : Bool) → HaveRoom (horizon N) lacks → length (lacks_of lacks s) ≡ horizon N
+sort_periods N lacks true room = room.receipts
+sort_periods N lacks false room = room.others
 
 -- ---- one open order more
 
@@ -68,35 +79,72 @@ one_row : (line : AdviceLine) (o : Option Advice) → flat_map (advice_line_row 
 one_row line None = refl
 one_row line (Some advice) = row_of_one (advice_line_row line) advice (has_row line advice)
 
-module _ (line : AdviceLine) (pair : PairRow) (gross : List ℕ) (orders : List OpenOrder) (i : ℕ) (order : OpenOrder)
+module _ (line : AdviceLine) (policy : Policy) (lacks : Lacks) (orders : List OpenOrder) (i : ℕ) (order : OpenOrder)
     (same : order ≡ open_order_at orders i) where
-  pub had_next : (had after : ℕ) → i < length orders → had ≡ had_before pair orders i → after ≡ had + order.quantity → after ≡ had_before pair orders (i + 1)
-  had_next had after within now grown =
-      let quantity = ap (λ (o : OpenOrder). o.quantity) same in
-      omega (arith, now, grown, quantity, had_more pair orders i within)
+  -- there is room for one order more
+  pub room_next : (s : Bool) (now : ℕ) → i < length orders → now ≡ pieces_of policy s (take i orders) → sum_by (λ o. o.quantity) orders ≤ MOST
+      → now + order.quantity ≤ MOST
+  room_next s now within is few =
+      omega (
+        arith,
+        is,
+        ap (λ (o : OpenOrder). o.quantity) same,
+        some-le policy s (take i orders),
+        sum_by_more_le (λ (o : OpenOrder). o.quantity) orders i no_order within,
+        few,
+      )
+
+  -- the pieces of each sort, one order further
+  pub receipts_next : (now after : ℕ) → i < length orders → now ≡ pieces_of policy true (take i orders)
+      → after ≡ now + cond (may_come_sooner policy order) order.quantity 0 → after ≡ pieces_of policy true (take (i + 1) orders)
+  receipts_next now after within is grown =
+      omega (arith, is, grown, ap (weight policy true) same, pieces_more policy true orders i within)
+
+  pub others_next : (now after : ℕ) → i < length orders → now ≡ pieces_of policy false (take i orders)
+      → after ≡ now + cond (may_come_sooner policy order) 0 order.quantity → after ≡ pieces_of policy false (take (i + 1) orders)
+  others_next now after within is grown =
+      omega (arith, is, grown, ap (weight policy false) same, pieces_more policy false orders i within)
+
+  abbrev advised : ℕ → Option Advice
+  advised k = advice_for (open_order_at orders k) (needed_by policy lacks orders k)
 
   abbrev so_far : ℕ → List Advice
-  so_far n = filter (has_row line) (filter_map (advice_at pair gross orders) (range_with_len 0 n))
+  so_far n = filter (has_row line) (filter_map advised (range_with_len 0 n))
 
-  one_more : so_far (i + 1) ≡ so_far i ++ filter (has_row line) (cons_option (advice_at pair gross orders i) [])
+  one_more : so_far (i + 1) ≡ so_far i ++ filter (has_row line) (cons_option (advised i) [])
   one_more =
       ap so_far (add-one i)
-      ∙ ap (λ (is : List ℕ). filter (has_row line) (filter_map (advice_at pair gross orders) is)) (range-suc i)
-      ∙ ap (filter (has_row line)) (filter_map-append (advice_at pair gross orders) (range_with_len 0 i) (i ∷ []))
-      ∙ filter-append (has_row line) (filter_map (advice_at pair gross orders) (range_with_len 0 i)) (cons_option (advice_at pair gross orders i) [])
+      ∙ ap (λ (is : List ℕ). filter (has_row line) (filter_map advised is)) (range-suc i)
+      ∙ ap (filter (has_row line)) (filter_map-append advised (range_with_len 0 i) (i ∷ []))
+      ∙ filter-append (has_row line) (filter_map advised (range_with_len 0 i)) (cons_option (advised i) [])
 
-  pub rows_next : (had : ℕ) (before now after : List ℕ) → had ≡ had_before pair orders i → now ≡ before ++ flat_map (advice_line_row line) (so_far i)
-      → after ≡ now ++ message_text line (advice_for order (first_short pair.safety gross had))
+  reached : (reaches : Reaches) → reaches.receipts.pieces ≡ pieces_of policy true (take i orders)
+      → reaches.others.pieces ≡ pieces_of policy false (take i orders) → (s : Bool) → (reach_of reaches s).pieces ≡ pieces_of policy s (take i orders)
+  reached reaches receipts others true = receipts
+  reached reaches receipts others false = others
+
+  -- the message for the order, by what was reached before it
+  message : (reaches : Reaches) → reaches.receipts.pieces ≡ pieces_of policy true (take i orders)
+      → reaches.others.pieces ≡ pieces_of policy false (take i orders)
+      → advice_for order (first_lacking (lacks_of lacks (may_come_sooner policy order)) (reach_of reaches (may_come_sooner policy order)).pieces)
+      ≡ advised i
+  message reaches receipts others =
+      let by : Bool → Option ℕ = λ s. first_lacking (lacks_of lacks s) (pieces_of policy s (take i orders)) in
+      let sort = may_come_sooner policy order in
+      ap (λ (n : ℕ). advice_for order (first_lacking (lacks_of lacks sort) n)) (reached reaches receipts others sort)
+      ∙ ap (λ (o : OpenOrder). advice_for o (by (may_come_sooner policy o))) same
+
+  pub rows_next : (reaches : Reaches) (before now after : List ℕ) → reaches.receipts.pieces ≡ pieces_of policy true (take i orders)
+      → reaches.others.pieces ≡ pieces_of policy false (take i orders) → now ≡ before ++ flat_map (advice_line_row line) (so_far i)
+      → after ≡ now ++ message_text line (advice_for order (first_lacking (lacks_of lacks (may_come_sooner policy order))
+      (reach_of reaches (may_come_sooner policy order)).pieces))
       → after ≡ before ++ flat_map (advice_line_row line) (so_far (i + 1))
-  rows_next had before now after has written grown =
-      let advice = advice_at pair gross orders i in
+  rows_next reaches before now after receipts others written grown =
+      let advice = advised i in
       let rows = flat_map (advice_line_row line) in
-      let text : advice_for order (first_short pair.safety gross had) ≡ advice =
-      ap (λ (o : OpenOrder). advice_for o (first_short pair.safety gross had)) same
-      ∙ ap (λ (n : ℕ). advice_for (open_order_at orders i) (first_short pair.safety gross n)) has in
       grown
-      ∙ ap (λ (z : List ℕ). z ++ message_text line (advice_for order (first_short pair.safety gross had))) written
-      ∙ ap (λ (o : Option Advice). (before ++ rows (so_far i)) ++ message_text line o) text
+      ∙ ap (λ (o : Option Advice). now ++ message_text line o) (message reaches receipts others)
+      ∙ ap (λ (z : List ℕ). z ++ message_text line advice) written
       ∙ append_assoc before (rows (so_far i)) (message_text line advice)
       ∙ ap (λ (z : List ℕ). before ++ (rows (so_far i) ++ z)) (sym (one_row line advice))
       ∙ ap (λ (z : List ℕ). before ++ z) (sym (flat_map-append (advice_line_row line) (so_far i) (filter (has_row line) (cons_option advice []))))
@@ -104,23 +152,33 @@ module _ (line : AdviceLine) (pair : PairRow) (gross : List ℕ) (orders : List 
 
 -- ---- the rows of a line are those of its pair
 
-pub line_is_pair : (N : Table) (table : List PlanRows) (x : ℕ) (until : Option ℕ) (line : AdviceLine) (pair : PairRow) (gross : List ℕ)
+pub line_is_pair : (N : Table) (table : List PlanRows) (x : ℕ) (until : Option ℕ) (line : AdviceLine) (policy : Policy) (lacks : Lacks)
     (orders : List OpenOrder) → IsAdviceLine N x until line
-    → pair ≡ pair_at N x → gross ≡ (rows_at table x).gross → orders ≡ open_orders N x
-    → advice_line_text line pair gross orders ≡ pair_advice_text until N table x
+    → policy ≡ policy_of N x → AreLacks (pair_data N table x) lacks → orders ≡ open_orders N x
+    → advice_line_text line (needed_by policy lacks orders) orders ≡ pair_advice_text until N table x
 unfolding pair_advice_text
-line_is_pair N table x until line pair gross orders is at required mine =
-    let rows : Table → List ℕ → List ℕ → List (List ℕ) → Option ℕ → List ℕ = λ n p i d u. flat_map (advice_row n p i d) (messages_by u pair gross orders) in
-    let own : PairRow → List ℕ → List OpenOrder → List ℕ =
-    λ p g o. flat_map (advice_row N (plant_of N x) (item_of N x) (dates_of N.calendar)) (messages_by until p g o) in
+line_is_pair N table x until line policy lacks orders is policy_is are mine =
+    let needs = needed_by policy lacks orders in
+    let rows : Table → List ℕ → List ℕ → List (List ℕ) → Option ℕ → List ℕ = λ n p i d u. flat_map (advice_row n p i d) (messages_by u needs orders) in
+    let own : List Advice → List ℕ = flat_map (advice_row N (plant_of N x) (item_of N x) (dates_of N.calendar)) in
     ap (λ (n : Table). rows n line.plant.now line.item.now line.dates.now line.until) is.network
     ∙ ap (λ (p : List ℕ). rows N p line.item.now line.dates.now line.until) is.plant
     ∙ ap (λ (i : List ℕ). rows N (plant_of N x) i line.dates.now line.until) is.item
     ∙ ap (λ (d : List (List ℕ)). rows N (plant_of N x) (item_of N x) d line.until) is.dates
     ∙ ap (λ (u : Option ℕ). rows N (plant_of N x) (item_of N x) (dates_of N.calendar) u) is.by_then
-    ∙ ap (λ (p : PairRow). own p gross orders) at
-    ∙ ap (λ (g : List ℕ). own (pair_at N x) g orders) required
-    ∙ ap (λ (o : List OpenOrder). own (pair_at N x) (rows_at table x).gross o) mine
+    ∙ ap (λ (p : Policy). own (messages_by until (needed_by p lacks orders) orders)) policy_is
+    ∙ ap own (messages_same until (needed_by (policy_of N x) lacks orders) (needed (pair_data N table x) orders) orders
+    (λ i. needed_by_is (pair_data N table x) orders i lacks are))
+    ∙ ap (λ (o : List OpenOrder). own (messages_by until (needed (pair_data N table x) o) o)) mine
+
+-- a pair without open orders has no rows
+pub no_messages : (N : Table) (table : List PlanRows) (x : ℕ) (until : Option ℕ) (orders : List OpenOrder) → orders ≡ open_orders N x → length orders ≡ 0
+    → pair_advice_text until N table x ≡ []
+unfolding pair_advice_text
+no_messages N table x until [] mine none =
+    ap (λ (o : List OpenOrder). flat_map (advice_row N (plant_of N x) (item_of N x) (dates_of N.calendar))
+    (messages_by until (needed (pair_data N table x) o) o)) (sym mine)
+no_messages N table x until (o ∷ os) mine none = absurd (omega (arith, none))
 
 -- a date for each period
 pub line_has_dates : (N : Table) (x : ℕ) (until : Option ℕ) (line : AdviceLine) → IsAdviceLine N x until line
@@ -130,21 +188,15 @@ line_has_dates N x until line is =
     ∙ length-map-range_with_len (period_date N.calendar) 0 (horizon N)
     ∙ sym (ap (λ (n : Table). horizon n) is.network)
 
--- what a plan that fits a sized network requires of a pair is within the bound, and so is what the pair has
-pub pair_is_advised : (N : Table) (table : List PlanRows) (x : ℕ) (until : Option ℕ) (line : AdviceLine) (pair : PairRow) (gross : List ℕ)
-    (orders : List OpenOrder) → IsSized N → Fits N table → IsPair N x
-    → IsAdviceLine N x until line → pair ≡ pair_at N x → gross ≡ (rows_at table x).gross → orders ≡ open_orders N x → IsAdvised line.network.now pair gross orders
-pair_is_advised N table x until line pair gross orders sized fits in_table is at required mine =
-    let within = gross_within_need N sized sized.needs sized.are_needs table fits x in_table in
+-- what a pair of a sized network has is within the bound
+pub pair_is_advised : (N : Table) (x : ℕ) (until : Option ℕ) (line : AdviceLine) (lacks : Lacks) (orders : List OpenOrder) → IsSized N → IsPair N x
+    → IsAdviceLine N x until line → HaveRoom (horizon N) lacks → orders ≡ open_orders N x → IsAdvised line.network.now lacks orders
+pair_is_advised N x until line lacks orders sized in_table is room mine =
     let bound = sized.within x in_table in
-    let own : IsAdvised N (pair_at N x) (rows_at table x).gross (open_orders N x) = record {
-      periods = ap (λ (row : List ℕ). length row) (fitting_gross N table x fits in_table) ∙ length-map-range_with_len (required_in N table x) 0 (horizon N);
-      required = omega (arith, within, bound);
-      had = omega (arith, orders-le N x sized.table, bound);
+    let own : IsAdvised N lacks (open_orders N x) = record {
+      room = room;
+      pieces = omega (arith, orders-le N x sized.table, bound);
       each = open_in_table N sized.table x;
     } in
-    let A : Table → PairRow → List ℕ → List OpenOrder → Type 0 = λ n p g o. IsAdvised n p g o in
-    subst (λ (n : Table). A n pair gross orders) (sym is.network)
-    (subst (λ (p : PairRow). A N p gross orders) (sym at)
-    (subst (λ (g : List ℕ). A N (pair_at N x) g orders) (sym required)
-    (subst (λ (o : List OpenOrder). A N (pair_at N x) (rows_at table x).gross o) (sym mine) own)))
+    subst (λ (n : Table). IsAdvised n lacks orders) (sym is.network)
+    (subst (λ (o : List OpenOrder). IsAdvised N lacks o) (sym mine) own)

@@ -1,9 +1,8 @@
 -- The rows of one pair's messages, open order by open order.
-use Rattle.std.specs.Prelude.{◌≡◌, ℕ, ◌+◌, ◌<◌, ◌≤◌, if◌then◌else◌, List, [], length, sum, sum_by, All, Option, Some}
-use Rattle.std.specs.Prelude.{None, IfSome}
+use Rattle.std.specs.Prelude.{◌≡◌, ℕ, ◌<◌, ◌≤◌, if◌then◌else◌, List, [], length, sum_by, All, Option, Some, None}
+use Rattle.std.specs.Prelude.{IfSome}
 use Rattle.std.specs.List.{flat_map}
 use Rattle.mrp_qty.specs.declared.quantity.TheConstants.{MOST}
-use Rattle.mrp_master_data.specs.declared.rows.PairRow.{PairRow}
 use Rattle.mrp_master_data.specs.Table.{Table, horizon}
 use Rattle.mrp_csv_out.specs.Dates.{dates_of}
 use Rattle.mrp_csv_out.specs.Names.{item_of, plant_of}
@@ -12,8 +11,10 @@ use Rattle.mrp_advice.specs.declared.orders.OpenOrder.{OpenOrder}
 use Rattle.mrp_advice.specs.declared.orders.OrderKind.{OrderKind}
 use Rattle.mrp_advice.specs.declared.orders.OrderKind.TheVariants.{Firm, Receipt, Ship}
 use Rattle.mrp_advice.specs.declared.advice_report.AdviceLine.{AdviceLine}
+use Rattle.mrp_advice.specs.declared.lacks.Lacks.{Lacks}
 use Rattle.mrp_advice.specs.Advice.{messages_by}
 use Rattle.mrp_advice.specs.AdviceRows.{advice_row}
+use Rattle.mrp_advice.specs.Lacking.{HaveRoom}
 use Rattle.mrp_advice.specs.OpenOrders.{comes_by}
 
 -- what the rows of a pair's messages have in common
@@ -32,9 +33,9 @@ abbrev pub message_text : AdviceLine → Option Advice → List ℕ
 message_text line None = []
 message_text line (Some advice) = if comes_by line.until advice.order then advice_line_row line advice else []
 
--- those of all messages of a pair for orders that come by then
-abbrev pub advice_line_text : AdviceLine → PairRow → List ℕ → List OpenOrder → List ℕ
-advice_line_text line pair gross orders = flat_map (advice_line_row line) (messages_by line.until pair gross orders)
+-- those of all messages of a pair for orders that come by then, where each order is needed in some period or in none
+abbrev pub advice_line_text : AdviceLine → (ℕ → Option ℕ) → List OpenOrder → List ℕ
+advice_line_text line needs orders = flat_map (advice_line_row line) (messages_by line.until needs orders)
 
 -- a shipment comes from a plant of the table
 abbrev pub HasSender : Table → OrderKind → Type 0
@@ -52,9 +53,8 @@ pub record IsAdvice (N : Table) (advice : Advice) : Type 0 where
   pub order : IsOpenOrder N advice.order
   pub needed : IfSome advice.needed (λ t. t < horizon N)
 
--- safety stock and gross requirements of a pair, and what it has on hand and of its open orders, are each within 10^15
-pub record IsAdvised (N : Table) (pair : PairRow) (gross : List ℕ) (orders : List OpenOrder) : Type 0 where
-  pub periods : length gross ≡ horizon N
-  pub required : pair.safety + sum gross ≤ MOST
-  pub had : pair.on_hand + sum_by (λ o. o.quantity) orders ≤ MOST
+-- there is what each period lacks, and the open orders of a pair are together within 10^15
+pub record IsAdvised (N : Table) (lacks : Lacks) (orders : List OpenOrder) : Type 0 where
+  pub room : HaveRoom (horizon N) lacks
+  pub pieces : sum_by (λ o. o.quantity) orders ≤ MOST
   pub each : All (IsOpenOrder N) orders

@@ -1,9 +1,11 @@
 pub mod OpenOrders
 pub mod Needed
+pub mod PlainNeeds
 pub mod Advice
-pub mod Covered
+pub mod Lacking
 pub mod Gathered
 pub mod AdviceRows
 pub mod AdviceLines
 pub mod AdviceSheets
 pub mod AdviceLaws
+pub mod WorkedOrders

@@ -1,12 +1,14 @@
 -- The open orders of a pair: the receipts and the shipments of the table, which are still to come in, and its firm
 -- planned orders.
-use Rattle.std.specs.Prelude.{ℕ, ◌==◌, ◌&&◌, nat_le, Bool, true, List, ◌++◌, map, filter, Option, Some, None}
+use Rattle.std.specs.Prelude.{ℕ, ◌==◌, ◌&&◌, nat_le, Bool, true, false, List, ◌++◌, map, filter, slice_index_or, Option}
+use Rattle.std.specs.Prelude.{Some, None}
 use Rattle.std.specs.List.{flat_map, range_with_len}
 use Rattle.mrp_master_data.specs.declared.rows.FirmRow.{FirmRow}
 use Rattle.mrp_master_data.specs.declared.rows.ReceiptRow.{ReceiptRow}
 use Rattle.mrp_master_data.specs.declared.rows.ShipRow.{ShipRow}
 use Rattle.mrp_master_data.specs.Table.{Table, horizon}
 use Rattle.mrp_advice.specs.declared.orders.OpenOrder.{OpenOrder}
+use Rattle.mrp_advice.specs.declared.orders.OrderKind.{OrderKind}
 use Rattle.mrp_advice.specs.declared.orders.OrderKind.TheVariants.{Firm, Receipt, Ship}
 
 -- a receipt, a shipment and a firm planned order as open orders; a firm planned order comes when it is due
@@ -47,3 +49,16 @@ all_orders N = map receipt_order N.receipts ++ map ship_order N.ships ++ map fir
 abbrev pub comes_by : Option ℕ → OpenOrder → Bool
 comes_by None order = true
 comes_by (Some until) order = nat_le order.period until
+
+abbrev pub is_receipt : OrderKind → Bool
+is_receipt Receipt = true
+is_receipt (Ship from) = false
+is_receipt Firm = false
+
+-- what a look-up past the orders reads
+abbrev pub no_order : OpenOrder
+no_order = record { kind = Receipt; pair = record { 0 = 0 }; period = 0; quantity = 0 }
+
+-- the i-th of the open orders
+abbrev pub open_order_at : List OpenOrder → ℕ → OpenOrder
+open_order_at orders i = slice_index_or orders i no_order

@@ -1,29 +1,64 @@
 //! Laws of open orders, of when they are needed, and of the report of their messages. Each is the contract of
 //! a function that does nothing.
 
-ghost use Rattle.mrp_advice.specs.AdviceLaws.{AdviceIsReadBack, NeedsRise, OrdersComeIn, OrdersAreKept};
-ghost use Rattle.mrp_advice.specs.AdviceLaws.{TimelyOrdersSuffice, AllAreAdvised, NoneComesLater, OthersAreKept};
-ghost use Rattle.mrp_advice.specs.AdviceLaws.{HorizonDropsNone, OrdersArePlanned};
+ghost use Rattle.mrp_advice.specs.AdviceLaws.{AdviceIsReadBack, AllAreAdvised, CancelledOrdersChangeNothing};
+ghost use Rattle.mrp_advice.specs.AdviceLaws.{CountedSoonerIsExpedited};
+ghost use Rattle.mrp_advice.specs.AdviceLaws.{HorizonDropsNone, NeedsRise, NoneComesLater, OrdersAreAllPlanned};
+ghost use Rattle.mrp_advice.specs.AdviceLaws.{OrdersAreKept, OrdersAreOfPlan, OrdersArePlanned, OrdersComeIn};
+ghost use Rattle.mrp_advice.specs.AdviceLaws.{OthersAreKept, PlainNeedsRise, PlainOrdersSuffice};
+ghost use Rattle.mrp_advice.specs.AdviceLaws.{PlainPairsAreAdvised, TimelyOrdersSuffice};
+ghost use Rattle.mrp_advice.specs.WorkedOrders.{FourAreNeeded, FourAreNeededByBalance, SixtyAreExpedited};
 
 /// If each open order of a pair came in the period in which it is needed, and one that is needed in none never,
-/// then without any planned order the projected available balance would be at safety stock or above in each
-/// period before one in which an order is needed.
+/// then without any planned order what is on hand and has come would be as much as safety stock and gross requirements
+/// ask, those of the periods of cover among them, in each period before one in which an order is needed. So without
+/// such periods the projected available balance would be at safety stock or above.
 pub fn timely_orders_suffice()
-    ensures { TimelyOrdersSuffice }
+    ensures orders { TimelyOrdersSuffice }
+    ensures plain { PlainOrdersSuffice }
 {}
 
-/// What is needed never moves back from one open order to the next: by the period in which one is needed, all
-/// orders before it are needed too.
+/// What is needed never moves back from one open order to the next of its sort, which are receipts that may be counted
+/// sooner than they come, and the others: by the period in which one is needed, all before it are needed too. Where
+/// receipts count when they come, all open orders are of one sort.
 pub fn needs_rise()
-    ensures { NeedsRise }
+    ensures sorts { NeedsRise }
+    ensures plain { PlainNeedsRise }
 {}
 
-/// The open orders of all pairs are the receipts, the shipments and the firm planned orders of the table, each once,
-/// and those of a pair in a period add up to what comes in for it there, which is the plan's incoming.
+/// A receipt of which the plan counts a piece before the period in which it comes is to be expedited.
+pub fn receipts_counted_sooner_are_expedited()
+    ensures { CountedSoonerIsExpedited }
+{}
+
+/// Without the open orders that are to be cancelled a pair's planned orders are the same.
+pub fn cancelled_orders_change_nothing()
+    ensures { CancelledOrdersChangeNothing }
+{}
+
+/// Where receipts count when they come and there are no periods of cover, as without a policy, an open order is needed
+/// in the first period in which what is on hand and the open orders before it leave the projected available balance
+/// below safety stock.
+pub fn plain_pairs_are_advised_by_balance()
+    ensures { PlainPairsAreAdvised }
+{}
+
+/// Open orders of pairs that were worked by hand are needed when they were found to be.
+pub fn worked_orders_are_needed()
+    ensures expedited { SixtyAreExpedited }
+    ensures sooner { FourAreNeeded }
+    ensures when_due { FourAreNeededByBalance }
+{}
+
+/// The open orders of all pairs are the receipts, the shipments and the firm planned orders of the table, each once.
+/// Those of a pair in a period add up to what comes in for it there, and each sort to what the pair is planned from.
+/// Where receipts count when they come, that is the plan's incoming of the period; elsewhere it is over all periods.
 pub fn open_orders_come_in()
     ensures kept { OrdersAreKept }
     ensures sums { OrdersComeIn }
+    ensures sorts { OrdersAreOfPlan }
     ensures plan { OrdersArePlanned }
+    ensures all_planned { OrdersAreAllPlanned }
 {}
 
 /// A last period leaves out the messages for open orders that come after it, and no others: without one the report has

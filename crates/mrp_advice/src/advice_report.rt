@@ -1,6 +1,6 @@
 //! The advice rows: each open order that isn't due in the period in which it is needed.
 
-ghost use Rattle.std.specs.Prelude.{◌≡◌, ◌+◌, ◌≤◌, ◌++◌, Err, OnOk, IfOk, IfErr, IfSome, length, sum};
+ghost use Rattle.std.specs.Prelude.{◌≡◌, ◌+◌, ◌≤◌, ◌++◌, Err, OnOk, IfOk, IfErr, IfSome, if◌then◌else◌, length};
 ghost use Rattle.mrp_qty.specs.declared.quantity.TheConstants.{MOST};
 ghost use Rattle.mrp_master_data.specs.Table.{IsPair, horizon};
 ghost use Rattle.mrp_net.specs.PlanLaws.{Fits};
@@ -11,14 +11,15 @@ ghost use Rattle.mrp_csv_out.specs.Sent.{SendsReport};
 ghost use Rattle.mrp_advice.specs.Advice.{advice_for};
 ghost use Rattle.mrp_advice.specs.AdviceLines.{HasSender, IsAdvice, IsAdvised, IsAdviceLine, IsOpenOrder};
 ghost use Rattle.mrp_advice.specs.AdviceLines.{advice_line_row, advice_line_text, message_text};
-ghost use Rattle.mrp_advice.specs.Covered.{Covers};
 ghost use Rattle.mrp_advice.specs.Gathered.{AreOpenOrders};
-ghost use Rattle.mrp_advice.specs.Needed.{first_short};
+ghost use Rattle.mrp_advice.specs.Lacking.{AreReaches, HaveRoom, first_lacking, lacks_of, needed_by, reach_of};
+ghost use Rattle.mrp_advice.specs.Needed.{may_come_sooner};
 ghost use Rattle.mrp_advice.specs.AdviceRows.{action_word, advice_text, order_kind_word};
 ghost use Rattle.mrp_advice.specs.AdviceRows.{messages_text, pair_advice_text, sender_name};
 
-use crate::cover::{Cover, next_advice};
 use crate::gathering::open_orders;
+use crate::lacks::{Lacks, find_lacks};
+use crate::reach::{Reach, Reaches, next_advice};
 use crate::{Action, Advice, OpenOrder, OrderKind};
 use csv::Writer;
 use itoa::Buffer;
@@ -29,10 +30,10 @@ use mrp_csv_out::{
 };
 use mrp_grouping::Groups;
 use mrp_loops::SizedNet;
-use mrp_master_data::{PairNo, PairRow};
+use mrp_master_data::PairNo;
 use mrp_net::Network;
+use mrp_netting::Policy;
 use mrp_plan::Plan;
-use mrp_qty::{Qty, Row};
 use std::alloc::Global;
 use std::io::Write;
 
@@ -71,7 +72,14 @@ pub(crate) struct AdviceLine<'a> {
 /// says so.
 ///
 /// An order is needed in the first period in which what is on hand and the open orders before it are less
-/// than safety stock and the gross requirements of the plan up to that period, that one included.
+/// than safety stock and the gross requirements of the plan up to that period, that one and the periods of cover
+/// included.
+///
+/// Where the pair's policy lets receipts be counted sooner than they come, receipts and the other orders go by
+/// themselves: before a receipt are had what is on hand, the receipts before it, and the shipments and firm planned
+/// orders that are due by the period; before another order what is on hand, the shipments and firm planned orders
+/// before it, and of the receipts that may be counted by the period those that are short. So each receipt that the
+/// plan counts sooner has `expedite`.
 ///
 /// With `until`, a period from 0, an open order that is due after it has no row, and nothing else changes. A
 /// period past the horizon leaves nothing out.
@@ -142,12 +150,13 @@ fn advice_text(
             b"needed_date",
         ],
     )?;
-    put_all_messages(&mut rows, report)?;
+    put_all_messages(alloc, &mut rows, report)?;
     text_of(rows)
 }
 
 /// Adds the rows of all pairs.
 fn put_all_messages(
+    alloc: Global,
     rows: &mut Writer<Vec<u8>>,
     report: &AdviceReport<'_>,
 ) -> Result<(), ReportFault>
@@ -162,8 +171,32 @@ fn put_all_messages(
     ensures between { OnOk result (IsBetweenRows rows.new) }
     ensures fault { IfErr result (λ fault. fault ≡ ReportFault.Memory) }
 {
+    match Lacks::room(alloc, report.network.horizon()) {
+        Ok(mut lacks) => put_pairs(rows, report, &mut lacks),
+        Err(_) => Err(ReportFault::Memory),
+    }
+}
+
+/// Adds the rows of all pairs, one after the other.
+fn put_pairs(
+    rows: &mut Writer<Vec<u8>>,
+    report: &AdviceReport<'_>,
+    lacks: &mut Lacks,
+) -> Result<(), ReportFault>
+    requires between { IsBetweenRows rows.old }
+    requires sized { IsSized report.now.network.now }
+    requires fits { Fits report.now.network.now report.now.plan.now }
+    requires orders { AreOpenOrders report.now.network.now report.now.orders.now.rows.items
+        report.now.orders.now.starts.items }
+    requires dates { report.now.dates.now ≡ dates_of report.now.network.now.calendar }
+    requires room { HaveRoom (horizon report.now.network.now) lacks.old }
+    ensures rows { OnOk result (written rows.new ≡ written rows.old
+        ++ messages_text report.now.until report.now.network.now report.now.plan.now) }
+    ensures between { OnOk result (IsBetweenRows rows.new) }
+    ensures fault { IfErr result (λ fault. fault ≡ ReportFault.Memory) }
+{
     'pairs: for x in 0..report.network.pairs() {
-        put_pair_messages(rows, report, PairNo(x))?;
+        put_pair_messages(rows, report, lacks, PairNo(x))?;
     }
     Ok(())
 }
@@ -172,6 +205,7 @@ fn put_all_messages(
 fn put_pair_messages(
     rows: &mut Writer<Vec<u8>>,
     report: &AdviceReport<'_>,
+    lacks: &mut Lacks,
     x: PairNo,
 ) -> Result<(), ReportFault>
     requires between { IsBetweenRows rows.old }
@@ -180,16 +214,21 @@ fn put_pair_messages(
     requires orders { AreOpenOrders report.now.network.now report.now.orders.now.rows.items
         report.now.orders.now.starts.items }
     requires dates { report.now.dates.now ≡ dates_of report.now.network.now.calendar }
+    requires room { HaveRoom (horizon report.now.network.now) lacks.old }
     requires pair { IsPair report.now.network.now x.0 }
     ensures rows { OnOk result (written rows.new ≡ written rows.old
         ++ pair_advice_text report.now.until report.now.network.now report.now.plan.now x.0) }
     ensures between { OnOk result (IsBetweenRows rows.new) }
     ensures fault { IfErr result (λ fault. fault ≡ ReportFault.Memory) }
+    ensures room { HaveRoom (horizon report.now.network.now) lacks.new }
 {
+    let orders = report.orders.get(x.0);
+    if orders.is_empty() {
+        return Ok(());
+    }
     let line = line_of(report, x);
-    let pair = report.network.pair(x);
-    let gross = report.plan.pair(x).gross();
-    put_messages(rows, &line, pair, gross, report.orders.get(x.0))
+    find_lacks(report.network, report.plan, x, lacks);
+    put_messages(rows, &line, report.network.policy(x), lacks, orders)
 }
 
 /// What the rows of a pair's messages have in common.
@@ -212,25 +251,24 @@ fn line_of<'a>(report: &AdviceReport<'a>, x: PairNo) -> AdviceLine<'a>
 fn put_messages<'a>(
     rows: &mut Writer<Vec<u8>>,
     line: &'a AdviceLine<'a>,
-    pair: PairRow,
-    gross: &Row,
+    policy: Policy,
+    lacks: &Lacks,
     orders: &[OpenOrder],
 ) -> Result<(), ReportFault>
     requires between { IsBetweenRows rows.old }
     requires dates { length line.now.dates.now ≡ horizon line.now.network.now }
-    requires advised { IsAdvised line.now.network.now pair gross.now orders.now }
+    requires advised { IsAdvised line.now.network.now lacks.now orders.now }
     ensures rows { OnOk result (written rows.new ≡ written rows.old
-        ++ advice_line_text line.now pair gross.now orders.now) }
+        ++ advice_line_text line.now (needed_by policy lacks.now orders.now) orders.now) }
     ensures between { OnOk result (IsBetweenRows rows.new) }
     ensures fault { IfErr result (λ fault. fault ≡ ReportFault.Memory) }
 {
-    let mut cover = Cover {
-        had: pair.on_hand.get(),
-        period: 0,
-        required: 0,
+    let mut reaches = Reaches {
+        receipts: Reach::START,
+        others: Reach::START,
     };
     'orders: for i in 0..orders.len() {
-        put_next(rows, line, pair.safety, gross, &mut cover, orders[i])?;
+        put_next(rows, line, policy, lacks, &mut reaches, orders[i])?;
     }
     Ok(())
 }
@@ -239,26 +277,30 @@ fn put_messages<'a>(
 fn put_next<'a>(
     rows: &mut Writer<Vec<u8>>,
     line: &'a AdviceLine<'a>,
-    safety: Qty,
-    gross: &Row,
-    cover: &mut Cover,
+    policy: Policy,
+    lacks: &Lacks,
+    reaches: &mut Reaches,
     order: OpenOrder,
 ) -> Result<(), ReportFault>
     requires between { IsBetweenRows rows.old }
     requires dates { length line.now.dates.now ≡ horizon line.now.network.now }
-    requires periods { length gross.now ≡ horizon line.now.network.now }
-    requires covers { Covers safety gross.now cover.old }
-    requires required { safety + sum gross.now ≤ MOST }
-    requires had { cover.old.had + order.quantity ≤ MOST }
+    requires room { HaveRoom (horizon line.now.network.now) lacks.now }
+    requires reaches { AreReaches lacks.now reaches.old }
+    requires room_of_receipts { reaches.old.receipts.pieces + order.quantity ≤ MOST }
+    requires room_of_others { reaches.old.others.pieces + order.quantity ≤ MOST }
     requires order { IsOpenOrder line.now.network.now order }
     ensures row { OnOk result (written rows.new ≡ written rows.old
-        ++ message_text line.now (advice_for order (first_short safety gross.now cover.old.had))) }
+        ++ message_text line.now (advice_for order (first_lacking (lacks_of lacks.now (may_come_sooner policy order))
+        (reach_of reaches.old (may_come_sooner policy order)).pieces))) }
     ensures between { OnOk result (IsBetweenRows rows.new) }
     ensures fault { IfErr result (λ fault. fault ≡ ReportFault.Memory) }
-    ensures covers { Covers safety gross.now cover.new }
-    ensures had { cover.new.had ≡ cover.old.had + order.quantity }
+    ensures reaches { AreReaches lacks.now reaches.new }
+    ensures receipts { reaches.new.receipts.pieces
+        ≡ reaches.old.receipts.pieces + (if may_come_sooner policy order then order.quantity else 0) }
+    ensures others { reaches.new.others.pieces
+        ≡ reaches.old.others.pieces + (if may_come_sooner policy order then 0 else order.quantity) }
 {
-    let advice = next_advice(safety, gross, cover, order);
+    let advice = next_advice(policy, lacks, reaches, order);
     put_message(rows, line, advice)
 }
 

@@ -1,9 +1,11 @@
 //! Open orders: what is to come in, firm planned orders among it.
 
 ghost use Rattle.std.specs.Prelude.{◌≡◌};
+ghost use Rattle.mrp_advice.specs.Needed.{may_come_sooner};
 ghost use Rattle.mrp_advice.specs.OpenOrders.{comes_by, firm_order, receipt_order, ship_order};
 
 use mrp_master_data::{FirmRow, PairNo, PlantNo, ReceiptRow, ShipRow};
+use mrp_netting::Policy;
 use mrp_qty::Qty;
 
 /// What kind of open order it is.
@@ -75,5 +77,11 @@ impl OpenOrder {
             None => true,
             Some(period) => self.period as u64 <= period,
         }
+    }
+    /// Whether the order is a receipt that may be counted sooner than it comes, by the policy of its pair.
+    pub(crate) fn may_come_sooner(&self, policy: Policy) -> bool
+        ensures { result ≡ may_come_sooner policy self.now }
+    {
+        policy.sooner > 0 && matches!(self.kind, OrderKind::Receipt)
     }
 }

@@ -1,3 +1,4 @@
 mod WorkedFacts
 mod FirmOrderFacts
+mod PolicyFacts
 mod PumpsFacts

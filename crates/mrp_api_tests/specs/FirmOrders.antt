@@ -49,6 +49,7 @@ firm_and_planned = record {
   cums = [];
   resets = [];
   firms = record { pair = record { 0 = 0 }; start = 0; due = 3; quantity = 20 } ∷ [];
+  policies = [];
 }
 
 abbrev pub FirmAndPlannedIsWritten : Type 0
@@ -130,6 +131,7 @@ firm_call = record {
   cums = record { from = record { 0 = 1 }; pair = record { 0 = 0 }; figure = 500 } ∷ [];
   resets = [];
   firms = record { pair = record { 0 = 0 }; start = 0; due = 1; quantity = 30 } ∷ [];
+  policies = [];
 }
 
 -- the firm order is a call in the period of its release, and the cumulative figure has it

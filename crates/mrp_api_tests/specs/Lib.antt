@@ -1,4 +1,5 @@
 pub mod Worked
 pub mod FirmOrders
+pub mod Policies
 pub mod Pumps
 pub mod PumpsReports

@@ -172,6 +172,7 @@ pumps = record {
       ∷ record { from = record { 0 = 1 }; pair = record { 0 = 9 }; period = 5 }
       ∷ [];
   firms = [];
+  policies = [];
 }
 
 -- its rows, field by field

@@ -42,6 +42,7 @@ bicycle = record {
   cums = [];
   resets = [];
   firms = [];
+  policies = [];
 }
 
 -- its rows, field by field
@@ -104,6 +105,7 @@ firm_of_two = record {
   cums = record { from = record { 0 = 1 }; pair = record { 0 = 0 }; figure = 100 } ∷ [];
   resets = [];
   firms = [];
+  policies = [];
 }
 
 abbrev pub FirmOfTwoIsWritten : Type 0

@@ -3,6 +3,8 @@
 
 ghost use Rattle.mrp_api_tests.specs.FirmOrders.{FirmAndPlannedIsOrdered, FirmAndPlannedIsPlanned};
 ghost use Rattle.mrp_api_tests.specs.FirmOrders.{FirmAndPlannedIsWritten, FirmCallIsScheduled};
+ghost use Rattle.mrp_api_tests.specs.Policies.{ByPolicyIsAdvised, ByPolicyIsOrdered};
+ghost use Rattle.mrp_api_tests.specs.Policies.{ByPolicyIsPlanned, ByPolicyIsWritten};
 ghost use Rattle.mrp_api_tests.specs.Pumps.{PumpsArePlanned, PumpsAreWritten};
 ghost use Rattle.mrp_api_tests.specs.PumpsReports.{PumpsAreAdvised, PumpsAreCounted, PumpsAreOrdered, PumpsAreScheduled};
 ghost use Rattle.mrp_api_tests.specs.Worked.{BicycleIsPlanned, BicycleIsWritten, FirmOfTwoIsPlanned, FirmOfTwoIsWritten};
@@ -80,4 +82,25 @@ pub fn firm_and_planned_is_ordered()
 /// the cumulative figures have it.
 pub fn firm_call_is_scheduled()
     ensures { FirmCallIsScheduled }
+{}
+
+/// The rows that are written of a plant with policies, field by field.
+pub fn by_policy_is_written()
+    ensures { ByPolicyIsWritten }
+{}
+
+/// Its plan report, to the byte: a planned order that waits for the fence, an open order that counts two periods
+/// sooner, and requirements that are in stock a period ahead.
+pub fn by_policy_is_planned()
+    ensures { ByPolicyIsPlanned }
+{}
+
+/// Its orders, to the byte: the late one is released with the next, a lead time before the fence.
+pub fn by_policy_is_ordered()
+    ensures { ByPolicyIsOrdered }
+{}
+
+/// Its messages, to the byte: the open order that counts sooner than it comes is to be expedited.
+pub fn by_policy_is_advised()
+    ensures { ByPolicyIsAdvised }
 {}

@@ -49,7 +49,8 @@ receipt,PLANT,ITEM,PERIOD,QUANTITY,,,\n  \
 ship,FROM,TO,ITEM,PERIOD,QUANTITY,,\n  \
 cum,FROM,TO,ITEM,FIGURE,,,\n  \
 reset,FROM,TO,ITEM,PERIOD,,,\n  \
-firm,PLANT,ITEM,START,DUE,QUANTITY,,\n\n\
+firm,PLANT,ITEM,START,DUE,QUANTITY,,\n  \
+policy,PLANT,ITEM,FENCE,SOONER,COVER,LEAST,MULTIPLE\n\n\
 SUPPLY is make, buy, from:PLANT, or from: with two to four plants and their\n\
 shares in thousandths, as from:B:600:C:400. RULE is lot, fixed:Q, periods:K or\n\
 min:M:K. Periods count from 0.\n\n\
@@ -62,7 +63,7 @@ const PLAN: &str = "Write the plan of each pair, period by period, and the late 
 const PLAN_LONG: &str =
     "Writes the plan: for each pair of a plant and an item, period by period, a row\n\n  \
 plan,PLANT,ITEM,PERIOD,DATE,GROSS,INCOMING,ORDER,RELEASE,AVAILABLE\n\n\
-and then, for each order that should have been released before period 0, a row\n\n  \
+and then, for each planned order that can't come in time, a row\n\n  \
 late,PLANT,ITEM,PERIOD,QUANTITY,BY";
 
 const PLAN_EXAMPLE: &str = "Example: mrp plan < bicycle.csv > bicycle.plan.csv";
@@ -96,12 +97,12 @@ lane,KIND,SENDER,RECEIVER,ITEM,OPENING,SHIPPED,RECEIVED,TRANSIT";
 
 const CUMS_EXAMPLE: &str = "Example: mrp cums < firm.csv";
 
-const ORDERS: &str = "Write the planned orders, with their releases and how they are supplied";
+const ORDERS: &str = "Write planned and firm orders, with releases and how they are supplied";
 
 const ORDERS_LONG: &str =
-    "Writes the planned orders of each pair, those alone that are released in PERIOD\n\
-or before it where it is given. SUPPLY is that of the pair's row of the table,\n\
-and LATE how many periods are missing. The row of a firm order begins with firm.\n\n  \
+    "Writes planned and firm orders of each pair, those alone that are released in\n\
+PERIOD or before it where it is given. SUPPLY is that of the pair's row of the\n\
+table, and LATE how many periods are missing. A firm order's row begins with firm.\n\n  \
 order,PLANT,ITEM,SUPPLY,QUANTITY,RELEASE,RELEASE_DATE,DUE,DUE_DATE,LATE";
 
 const ORDERS_EXAMPLE: &str = "Example: mrp orders --until 0 < bicycle.csv";

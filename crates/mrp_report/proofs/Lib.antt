@@ -1,3 +1,4 @@
+pub mod Crossing
 pub mod DigitFacts
 pub mod RowFacts
 pub mod PartFacts

@@ -17,7 +17,7 @@ use Rattle.mrp_master_data.specs.Table.{horizon, IsFirmRow, IsPair, Table}
 use Rattle.mrp_net.specs.Plan.{gross, pair_data, rows_at}
 use Rattle.mrp_net.specs.PlanLaws.{Fits}
 use Rattle.mrp_net.specs.FirmOrders.{firms_of}
-use Rattle.mrp_net.specs.Sums.{params_at}
+use Rattle.mrp_net.specs.Sums.{earliest_at, params_at}
 use Rattle.mrp_csv_out.specs.Dates.{dates_of, period_date}
 use Rattle.mrp_report.specs.OrderLines.{HasDates, IsOrderLine, due_text, firm_text, order_line_row, order_line_text, planned_text, released_text}
 use Rattle.mrp_report.specs.Orders.{listed_order_row, pair_orders_text, spelled_supply}
@@ -63,9 +63,9 @@ firms_due line t (f ∷ fs) =
 -- and that of the planned order
 planned_due : (line : OrderLine) (rows : PlanRows) (t : ℕ)
     → planned_text line rows t
-    ≡ flat_map (released_text line) (if has_order rows t then order_of_plan (planned_order line.lead rows t) ∷ [] else [])
+    ≡ flat_map (released_text line) (if has_order rows t then order_of_plan (planned_order line.lead line.earliest rows t) ∷ [] else [])
 planned_due line rows t =
-    let order = order_of_plan (planned_order line.lead rows t) in
+    let order = order_of_plan (planned_order line.lead line.earliest rows t) in
     let text = released_text line order in
     elim (has_order rows t) as (λ b. cond b text [] ≡ flat_map (released_text line) (cond b (order ∷ []) [])) [
       | true ↦ sym (append-nil text)
@@ -73,19 +73,19 @@ planned_due line rows t =
     ]
 
 due_is : (line : OrderLine) (rows : PlanRows) (t : ℕ)
-    → due_text line rows t ≡ flat_map (released_text line) (orders_due line.firms.now line.lead rows t)
+    → due_text line rows t ≡ flat_map (released_text line) (orders_due line.firms.now line.lead line.earliest rows t)
 due_is line rows t =
-    let planned = if has_order rows t then order_of_plan (planned_order line.lead rows t) ∷ [] else [] in
+    let planned = if has_order rows t then order_of_plan (planned_order line.lead line.earliest rows t) ∷ [] else [] in
     ap (λ (text : List ℕ). text ++ planned_text line rows t) (firms_due line t line.firms.now)
     ∙ ap (λ (text : List ℕ). flat_map (released_text line) (map firm_order (filter (λ f. f.due == t) line.firms.now)) ++ text) (planned_due line rows t)
     ∙ sym (flat_map-append (released_text line) (map firm_order (filter (λ f. f.due == t) line.firms.now)) planned)
 
 -- the rows of the periods are those of the orders
 dues_are : (line : OrderLine) (rows : PlanRows) (ts : List ℕ)
-    → flat_map (due_text line rows) ts ≡ flat_map (released_text line) (flat_map (orders_due line.firms.now line.lead rows) ts)
+    → flat_map (due_text line rows) ts ≡ flat_map (released_text line) (flat_map (orders_due line.firms.now line.lead line.earliest rows) ts)
 dues_are line rows [] = refl
 dues_are line rows (t ∷ ts) =
-    let due = orders_due line.firms.now line.lead rows in
+    let due = orders_due line.firms.now line.lead line.earliest rows in
     ap (λ (text : List ℕ). text ++ flat_map (due_text line rows) ts) (due_is line rows t)
     ∙ ap (λ (text : List ℕ). flat_map (released_text line) (due t) ++ text) (dues_are line rows ts)
     ∙ sym (flat_map-append (released_text line) (due t) (flat_map due ts))
@@ -98,16 +98,17 @@ unfolding pair_orders_text
 line_is_pair N table x until line rows same is =
     let size : length line.dates.now ≡ horizon N = ap (λ (l : List (List ℕ)). length l) is.dates
     ∙ length-map-range_with_len (period_date N.calendar) 0 (horizon N) in
-    let orders : Option ℕ → List FirmRow → ℕ → PlanRows → List ListedOrder = λ u fs l r. filter (λ o. is_released_by u o.order)
-    (flat_map (orders_due fs l r) (range_with_len 0 (horizon N))) in
-    let own = orders until (firms_of N x) (params_at N x).lead (rows_at table x) in
+    let orders : Option ℕ → List FirmRow → ℕ → ℕ → PlanRows → List ListedOrder = λ u fs l e r. filter (λ o. is_released_by u o.order)
+    (flat_map (orders_due fs l e r) (range_with_len 0 (horizon N))) in
+    let own = orders until (firms_of N x) (params_at N x).lead (earliest_at N x) (rows_at table x) in
     ap (λ n. flat_map (due_text line rows) (range_with_len 0 n)) size
     ∙ dues_are line rows (range_with_len 0 (horizon N))
-    ∙ released line (flat_map (orders_due line.firms.now line.lead rows) (range_with_len 0 (horizon N)))
-    ∙ ap (λ r. flat_map (order_line_row line) (orders line.until line.firms.now line.lead r)) same
-    ∙ ap (λ fs. flat_map (order_line_row line) (orders line.until fs line.lead (rows_at table x))) is.firms
-    ∙ ap (λ l. flat_map (order_line_row line) (orders line.until (firms_of N x) l (rows_at table x))) is.lead
-    ∙ ap (λ u. flat_map (order_line_row line) (orders u (firms_of N x) (params_at N x).lead (rows_at table x))) is.by_then
+    ∙ released line (flat_map (orders_due line.firms.now line.lead line.earliest rows) (range_with_len 0 (horizon N)))
+    ∙ ap (λ r. flat_map (order_line_row line) (orders line.until line.firms.now line.lead line.earliest r)) same
+    ∙ ap (λ fs. flat_map (order_line_row line) (orders line.until fs line.lead line.earliest (rows_at table x))) is.firms
+    ∙ ap (λ l. flat_map (order_line_row line) (orders line.until (firms_of N x) l line.earliest (rows_at table x))) is.lead
+    ∙ ap (λ e. flat_map (order_line_row line) (orders line.until (firms_of N x) (params_at N x).lead e (rows_at table x))) is.earliest
+    ∙ ap (λ u. flat_map (order_line_row line) (orders u (firms_of N x) (params_at N x).lead (earliest_at N x) (rows_at table x))) is.by_then
     ∙ ap (λ (p : List ℕ). flat_map (listed_order_row p line.item.now line.supply.now line.dates.now) own) is.plant
     ∙ ap (λ (i : List ℕ). flat_map (listed_order_row (plant_of N x) i line.supply.now line.dates.now) own) is.item
     ∙ ap (λ (s : List ℕ). flat_map (listed_order_row (plant_of N x) (item_of N x) s line.dates.now) own) is.supply

@@ -5,7 +5,7 @@ use Rattle.mrp_netting.specs.PlanRows.{PlanRows}
 use Rattle.mrp_master_data.specs.declared.rows.FirmRow.{FirmRow}
 use Rattle.mrp_master_data.specs.Table.{Table}
 use Rattle.mrp_net.specs.FirmOrders.{firms_of}
-use Rattle.mrp_net.specs.Sums.{params_at}
+use Rattle.mrp_net.specs.Sums.{earliest_at, params_at}
 use Rattle.mrp_plan.specs.Orders.{firm_order, has_order, is_released_by, order_of_plan, planned_order}
 use Rattle.mrp_plan.specs.declared.orders.ListedOrder.{ListedOrder}
 use Rattle.mrp_report.specs.declared.orders.OrderLine.{OrderLine}
@@ -21,6 +21,7 @@ pub record IsOrderLine (N : Table) (x : ℕ) (until : Option ℕ) (line : OrderL
   pub dates : line.dates.now ≡ dates_of N.calendar
   pub firms : line.firms.now ≡ firms_of N x
   pub lead : line.lead ≡ (params_at N x).lead
+  pub earliest : line.earliest ≡ earliest_at N x
   pub by_then : line.until ≡ until
 
 -- a firm planned order is released and due in periods that have dates
@@ -42,7 +43,7 @@ firm_text line t f = if f.due == t then released_text line (firm_order f) else [
 
 abbrev pub planned_text : OrderLine → PlanRows → ℕ → List ℕ
 planned_text line rows t =
-    if has_order rows t then released_text line (order_of_plan (planned_order line.lead rows t)) else []
+    if has_order rows t then released_text line (order_of_plan (planned_order line.lead line.earliest rows t)) else []
 
 -- those of the orders that are due in a period
 abbrev pub due_text : OrderLine → PlanRows → ℕ → List ℕ

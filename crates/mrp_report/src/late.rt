@@ -1,4 +1,4 @@
-//! The late rows: each order that should have been released before period 0.
+//! The late rows: each planned order that is due before the earliest period in which one can come in.
 
 ghost use Rattle.std.specs.Prelude.{◌≡◌, ◌++◌, Err, OnOk, IfOk, IfErr};
 ghost use Rattle.std.specs.List.{flat_map};
@@ -22,8 +22,9 @@ use std::io::Write;
 /// each, a quantity of 16, the commas and the line feed.
 const LONGEST_ROW: usize = 72;
 
-/// Writes a row for each order that is late, pairs in table order and periods in rising order:
-/// `late`, plant, item, the period of the order's receipt, its quantity and the missing periods.
+/// Writes a row for each planned order that is late, due before its pair's lead time or planning time fence, pairs in
+/// table order and periods in rising order: `late`, plant, item, the period of the order's receipt, its quantity and the
+/// missing periods.
 ///
 /// # Errors
 ///

@@ -1,6 +1,6 @@
 //! The order rows: each order, firm and planned, with where its pair comes from and when it is released and due.
 
-ghost use Rattle.std.specs.Prelude.{◌≡◌, ◌<◌, ◌++◌, All, Err, OnOk, IfOk, IfErr, length};
+ghost use Rattle.std.specs.Prelude.{◌≡◌, ◌+◌, ◌<◌, ◌++◌, All, Err, OnOk, IfOk, IfErr, length};
 ghost use Rattle.std.specs.List.{flat_map};
 ghost use Rattle.mrp_master_data.specs.Table.{IsFirmRow, IsPair};
 ghost use Rattle.mrp_net.specs.PlanLaws.{Fits};
@@ -9,7 +9,7 @@ ghost use Rattle.mrp_csv_out.specs.Headings.{header_row};
 ghost use Rattle.mrp_report.specs.Headings.{order_names};
 ghost use Rattle.mrp_report.specs.Orders.{order_text, order_word, orders_text, pair_orders_text, spelled_supply};
 ghost use Rattle.mrp_report.specs.OrderLines.{HasDates, IsOrderLine, due_text, firm_text, order_line_row};
-ghost use Rattle.mrp_report.specs.OrderLines.{order_line_text, planned_text, released_text};
+ghost use Rattle.mrp_report.specs.OrderLines.{order_line_text, released_text};
 ghost use Rattle.mrp_csv_out.specs.Writing.{IsBetweenRows, written};
 ghost use Rattle.mrp_csv_out.specs.Sent.{SendsReport};
 
@@ -43,7 +43,8 @@ struct OrderReport<'a> {
 }
 
 /// What the rows of a pair's orders have in common: the names of its plant and item, where it comes
-/// from, the text of each period's date, its firm planned orders, its lead time and the last period of a release.
+/// from, the text of each period's date, its firm planned orders, its lead time, the earliest period in which planned
+/// orders can come in, and the last period of a release.
 #[derive(Clone, Copy)]
 pub(crate) struct OrderLine<'a> {
     pub(crate) plant: &'a str,
@@ -52,14 +53,16 @@ pub(crate) struct OrderLine<'a> {
     pub(crate) dates: &'a [[u8; 10]],
     pub(crate) firms: &'a [FirmRow],
     pub(crate) lead: u64,
+    pub(crate) earliest: u64,
     pub(crate) until: Option<u64>,
 }
 
 /// Writes a row for each order that is released in period `until` or before it, without it for each, pairs in table
 /// order and due periods in rising order, and in one period the firm planned orders in table order before the planned
-/// one: `firm` or `order`, plant, item, where the pair comes from, the quantity in pieces, the period of the release and its first day, the period in which
-/// it is due and its first day, and how many periods are missing, 0 where none is. The names of the
-/// columns stand above them where `heading` says so.
+/// one: `firm` or `order`, plant, item, where the pair comes from, the quantity in pieces, the period of the release and
+/// its first day, the period in which it is due and its first day, and how many periods are missing, 0 where none is: of
+/// a planned order so many as it is due before the earliest period in which one can come in, the lead time or the
+/// planning time fence. The names of the columns stand above them where `heading` says so.
 ///
 /// # Errors
 ///
@@ -175,7 +178,9 @@ fn line_of<'a>(report: &OrderReport<'a>, x: PairNo, supply: &'a [u8]) -> OrderLi
     requires supply { supply.now ≡ spelled_supply report.now.network.now x.0 }
     ensures line { IsOrderLine report.now.network.now x.0 report.now.until result }
     ensures firms { All (IsFirmRow report.now.network.now) result.firms.now }
+    ensures earliest { result.earliest < result.lead + length result.dates.now }
 {
+    let _pairs = report.network.pairs();
     let (plant, item) = report.network.pair_name(x);
     OrderLine {
         plant,
@@ -184,6 +189,7 @@ fn line_of<'a>(report: &OrderReport<'a>, x: PairNo, supply: &'a [u8]) -> OrderLi
         dates: report.dates,
         firms: report.network.firm_orders(x),
         lead: report.network.pair(x).lead,
+        earliest: report.network.earliest(x),
         until: report.until,
     }
 }
@@ -197,6 +203,7 @@ fn put_orders<'a>(
     requires between { IsBetweenRows rows.old }
     requires periods { length plan.now.order ≡ length line.now.dates.now }
     requires firms { All (HasDates line.now) line.now.firms.now }
+    requires earliest { line.now.earliest < line.now.lead + length line.now.dates.now }
     ensures rows { OnOk result (written rows.new ≡ written rows.old ++ order_line_text line.now plan.now) }
     ensures between { OnOk result (IsBetweenRows rows.new) }
     ensures fault { IfErr result (λ fault. fault ≡ ReportFault.Memory) }
@@ -218,12 +225,16 @@ fn put_due<'a>(
     requires period { t < length plan.now.order }
     requires date { t < length line.now.dates.now }
     requires firms { All (HasDates line.now) line.now.firms.now }
+    requires earliest { line.now.earliest < line.now.lead + length line.now.dates.now }
     ensures rows { OnOk result (written rows.new ≡ written rows.old ++ due_text line.now plan.now t) }
     ensures between { OnOk result (IsBetweenRows rows.new) }
     ensures fault { IfErr result (λ fault. fault ≡ ReportFault.Memory) }
 {
     put_firms_due(rows, line, t)?;
-    put_planned_due(rows, line, plan, t)
+    match planned_order(plan, line.lead, line.earliest, t) {
+        Some(order) => put_released(rows, line, ListedOrder::planned(order)),
+        None => Ok(()),
+    }
 }
 
 /// Adds the rows of the firm planned orders that are due in period `t` and are released by then, in table order.
@@ -240,49 +251,11 @@ fn put_firms_due<'a>(
     ensures fault { IfErr result (λ fault. fault ≡ ReportFault.Memory) }
 {
     'orders: for firm in line.firms {
-        put_firm_due(rows, line, firm, t)?;
+        if firm.due == t {
+            put_released(rows, line, ListedOrder::firm(firm))?;
+        }
     }
     Ok(())
-}
-
-/// Adds the row of a firm planned order, if it is due in period `t` and is released by then.
-fn put_firm_due<'a>(
-    rows: &mut Writer<Vec<u8>>,
-    line: &'a OrderLine<'a>,
-    firm: &FirmRow,
-    t: usize,
-) -> Result<(), ReportFault>
-    requires between { IsBetweenRows rows.old }
-    requires dates { HasDates line.now firm.now }
-    ensures rows { OnOk result (written rows.new ≡ written rows.old ++ firm_text line.now t firm.now) }
-    ensures between { OnOk result (IsBetweenRows rows.new) }
-    ensures fault { IfErr result (λ fault. fault ≡ ReportFault.Memory) }
-{
-    if firm.due == t {
-        put_released(rows, line, ListedOrder::firm(firm))
-    } else {
-        Ok(())
-    }
-}
-
-/// Adds the row of the planned order that is due in period `t`, if there is one and it is released by then.
-fn put_planned_due<'a>(
-    rows: &mut Writer<Vec<u8>>,
-    line: &'a OrderLine<'a>,
-    plan: &PairPlan,
-    t: usize,
-) -> Result<(), ReportFault>
-    requires between { IsBetweenRows rows.old }
-    requires period { t < length plan.now.order }
-    requires date { t < length line.now.dates.now }
-    ensures rows { OnOk result (written rows.new ≡ written rows.old ++ planned_text line.now plan.now t) }
-    ensures between { OnOk result (IsBetweenRows rows.new) }
-    ensures fault { IfErr result (λ fault. fault ≡ ReportFault.Memory) }
-{
-    match planned_order(plan, line.lead, t) {
-        Some(order) => put_released(rows, line, ListedOrder::planned(order)),
-        None => Ok(()),
-    }
 }
 
 /// Adds the row of an order, if it is released by then.

@@ -1,0 +1,66 @@
+-- What periods lack beside open orders, and how far the open orders of a sort reach while they are gone through.
+use Rattle.std.specs.Prelude.{◌≡◌, ℕ, ◌+◌, ◌-◌, ◌<◌, ◌≤◌, suc, nat_lt, Bool, true, false, List, length, sum, take}
+use Rattle.std.specs.Prelude.{slice_index, Option}
+use Rattle.std.specs.List.{find, range_with_len}
+use Rattle.mrp_netting.specs.declared.params.PairParams.{PairParams}
+use Rattle.mrp_netting.specs.declared.planning_data.Policy.{Policy}
+use Rattle.mrp_netting.specs.PlanningData.{PairData}
+use Rattle.mrp_advice.specs.declared.lacks.Lacks.{Lacks}
+use Rattle.mrp_advice.specs.declared.orders.OpenOrder.{OpenOrder}
+use Rattle.mrp_advice.specs.declared.reach.Reach.{Reach}
+use Rattle.mrp_advice.specs.declared.reach.Reaches.{Reaches}
+use Rattle.mrp_advice.specs.Needed.{asked_by, may_come_sooner, pieces_of, there_beside}
+use Rattle.mrp_advice.specs.OpenOrders.{open_order_at}
+
+-- what a period lacks beside the open orders of a sort
+abbrev pub lacking : PairData → Bool → ℕ → ℕ
+lacking d sooner t = asked_by d t - (d.params.on_hand + there_beside d sooner t)
+
+-- what a period lacks where receipts count when they come: what safety stock and gross requirements ask beyond what is
+-- on hand
+abbrev pub lack_of_stock : PairParams → ℕ → List ℕ → ℕ → ℕ
+lack_of_stock params cover gross t = (params.safety + sum (take (suc t + cover) gross)) - params.on_hand
+
+-- the rows have so many periods
+pub record HaveRoom (periods : ℕ) (lacks : Lacks) : Type 0 where
+  pub receipts : length lacks.receipts ≡ periods
+  pub others : length lacks.others ≡ periods
+
+-- the row has what each period lacks beside the open orders of a sort
+pub record LacksBeside (d : PairData) (sooner : Bool) (row : List ℕ) : Type 0 where
+  pub size : length row ≡ length d.gross
+  pub each : (t : ℕ) → t < length d.gross → slice_index row t ≡ lacking d sooner t
+
+-- both rows have; that of receipts where these may be counted sooner
+pub record AreLacks (d : PairData) (lacks : Lacks) : Type 0 where
+  pub receipts : 0 < d.policy.sooner → LacksBeside d true lacks.receipts
+  pub others : LacksBeside d false lacks.others
+
+-- the first period that lacks more than so many pieces
+abbrev pub first_lacking : List ℕ → ℕ → Option ℕ
+first_lacking row pieces = find (λ t. nat_lt pieces (slice_index row t)) (range_with_len 0 (length row))
+
+-- the row of a sort, and the pieces of its open orders so far
+abbrev pub lacks_of : Lacks → Bool → List ℕ
+lacks_of lacks true = lacks.receipts
+lacks_of lacks false = lacks.others
+
+abbrev pub reach_of : Reaches → Bool → Reach
+reach_of reaches true = reaches.receipts
+reach_of reaches false = reaches.others
+
+-- the period in which the i-th open order is needed, by the row of its sort
+abbrev pub needed_by : Policy → Lacks → List OpenOrder → ℕ → Option ℕ
+needed_by policy lacks orders i =
+    let sooner = may_come_sooner policy (open_order_at orders i) in
+    first_lacking (lacks_of lacks sooner) (pieces_of policy sooner (take i orders))
+
+-- the periods before one lack no more than so many pieces
+pub record IsReach (row : List ℕ) (reach : Reach) : Type 0 where
+  pub within : reach.period ≤ length row
+  pub enough : (t : ℕ) → t < reach.period → slice_index row t ≤ reach.pieces
+
+-- so it is of both sorts
+pub record AreReaches (lacks : Lacks) (reaches : Reaches) : Type 0 where
+  pub receipts : IsReach lacks.receipts reaches.receipts
+  pub others : IsReach lacks.others reaches.others
