@@ -188,9 +188,32 @@ class Firm(NamedTuple):
         return self.plant, self.item
 
 
+class Policy(NamedTuple):
+    """How a pair is planned beyond its own row. Each is 0 where there is none of it.
+
+    No planned order is released in periods below `fence` less the lead time. Receipts count where requirements lack them, up
+    to `sooner` periods before they come. Orders cover what is required in their period and in `cover` more. They have at least
+    `least` pieces, and are multiples of `multiple`.
+    """
+
+    plant: NAME
+    item: NAME
+    # (so many periods, and not one of them)
+    fence: NUMBER
+    sooner: NUMBER
+    cover: NUMBER
+    least: NUMBER
+    multiple: NUMBER
+
+    @property
+    def pair(self):
+        """The pair that is planned so."""
+        return self.plant, self.item
+
+
 # The kinds of rows, by the names of their lists in a table.
 LISTS = {"runs": Run, "plants": Plant, "pairs": Pair, "bills": Bill, "demands": Demand}
-LISTS |= {"receipts": Receipt, "ships": Ship, "cums": Cum, "resets": Reset, "firms": Firm}
+LISTS |= {"receipts": Receipt, "ships": Ship, "cums": Cum, "resets": Reset, "firms": Firm, "policies": Policy}
 KINDS = tuple(LISTS.values())
 
 

@@ -90,12 +90,14 @@ def each_name_is_tested(program):
     around += ("demand,{},X,0,1,,,", "demand,A,{},0,1,,,", "receipt,{},X,0,1,,,", "receipt,A,{},0,1,,,")
     around += ("ship,{},A,Y,0,1,,", "ship,B,{},Y,0,1,,", "ship,B,A,{},0,1,,", "cum,{},A,Y,1,,,", "cum,B,{},Y,1,,,", "cum,B,A,{},1,,,")
     around += ("reset,{},A,Y,1,,,", "reset,B,{},Y,1,,,", "reset,B,A,{},1,,,", "firm,{},X,0,0,1,,", "firm,A,{},0,0,1,,")
+    around += ("policy,{},X,0,0,0,0,0", "policy,A,{},0,0,0,0,0")
     for name in ("", "A/B", "A:B", "A B", "X!", "?", "@A", "A[", "A`B", "{A", '"A,B"', "Ü", "NAME-OF-21-CHARACTERS"):
         refused(program, f"run,2026-01-05,7,4,,,,\nplant,{name},,,,,,\n", "row 2: BadName", ("check",))
         for row in around:
             refused(program, f"{HEAD}{row.replace('{}', name)}\n", "row 7: BadName", ("check",))
     plants, items = ("Plant-of-20.letters1", "Plant-of-20.letters2"), ("ITEM_OF_MORE_LETTERS", "ITEM_OF_20_LETTERS.Z")
     table = HEAD + "bill,A,X,Y,1,,,\ndemand,A,X,0,1,,,\nreceipt,A,X,0,1,,,\nship,B,A,Y,0,1,,\ncum,B,A,Y,1,,,\nreset,B,A,Y,1,,,\nfirm,A,X,0,1,1,,\n"
+    table += "policy,A,X,1,0,0,0,0\n"
     for short, long in zip("ABXY", (*plants, *reversed(items))):
         table = re.sub(rf"(?<=[,:]){short}(?=,)", long, table)
     expect(program, "check", table, "accepted\n")
@@ -119,6 +121,7 @@ def rows_that_are_no_text(program):
     refused(program, b"run,2026-01-05,7,4,,,,\nplant,\xff,,,,,,\n", "row 2: NotUtf8")
     refused(program, b"\xff,2026-01-05,7,4,,,,\n", "row 1: NotUtf8")
     refused(program, HEAD.encode() + b"firm,A,X,0,\xff,0,,\n", "row 7: NotUtf8")
+    refused(program, HEAD.encode() + b"policy,A,X,0,0,0,0,\xff\n", "row 7: NotUtf8")
 
 
 def tables_of_other_programs(program):
@@ -134,13 +137,13 @@ def tables_of_other_programs(program):
 
 def tables_cut_within_a_row(program):
     """A firm of two plants, cut behind each of its characters that neither ends a row nor stands before the end of one."""
-    rows = "demand,A,X,2,30,,,\nship,B,A,X,2,8,,\ncum,B,A,X,100,,,\nreset,B,A,X,2,,,\nfirm,A,X,0,1,12,,\n"
+    rows = "demand,A,X,2,30,,,\nship,B,A,X,2,8,,\ncum,B,A,X,100,,,\nreset,B,A,X,2,,,\nfirm,A,X,0,1,12,,\npolicy,A,X,1,2,0,30,5\n"
     firm = "run,2026-01-05,7,4,,,,\nplant,A,,,,,,\nplant,B,,,,,,\npair,A,X,from:B,lot,1,0,0\npair,B,X,buy,lot,0,0,0\n" + rows
     for count in range(1, len(firm)):
         if "\n" not in firm[count - 1 : count + 1]:
             row = firm.count("\n", 0, count) + 1
-            # (where the last digit of a pair row is cut off its last field is empty, and there are eight)
-            fault = "BadNumber" if row in (4, 5) and firm[count + 1] == "\n" else "FieldCount"
+            # (where the last digit of a row of eight fields is cut off its last field is empty)
+            fault = "BadNumber" if row in (4, 5, 11) and firm[count + 1] == "\n" else "FieldCount"
             refused(program, firm[:count], f"row {row}: {fault}", ("plan --single",))
 
 
@@ -223,6 +226,14 @@ def each_of_20000_pairs_has_a_late_order(program):
         expect(program, words, table, report)
 
 
+def each_of_20000_pairs_has_a_policy(program):
+    """Their orders for a safety stock may not be released in period 0, and are a period late."""
+    table = ONE_PLANT.replace("7,1", "7,2") + numbered(20_000, "pair,A,F", ",buy,lot,0,0,1") + numbered(20_000, "policy,A,F", ",1,0,0,0,0")
+    rows = (f"plan,A,F{it},0,2026-01-05,0,0,1,0,1\nplan,A,F{it},1,2026-01-12,0,0,0,1,1\n" for it in range(20_000))
+    expect(program, "plan --single", table, "".join(rows) + numbered(20_000, "late,A,F", ",0,1,1"))
+    refused(program, f"{table}policy,A,F0,0,0,0,0,0\n", "row 40003: Repeated", ("check",))
+
+
 def plants_take_from_each_other(program):
     """64 plants of which each takes an item from each other, for a safety stock of 1, and a chain of 64."""
     table = "run,2026-01-05,7,1,,,,\n" + numbered(64, "plant,P", ",,,,,,")
@@ -303,6 +314,7 @@ MADE = (
     faults_are_named_in_large_tables,
     a_part_goes_into_all_others,
     each_of_20000_pairs_has_a_late_order,
+    each_of_20000_pairs_has_a_policy,
     plants_take_from_each_other,
     long_names_make_long_reports,
     pegs_are_those_of_each_pair_and_period,

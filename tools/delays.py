@@ -25,7 +25,7 @@ class Waits:
         lead = self.firm.pairs[pair].lead
         for due, quantity in enumerate(self.firm.plans[pair].order):
             if quantity:
-                yield lead + self.taken(pair, max(0, due - lead)), quantity
+                yield lead + self.taken(pair, release_of(self.firm, pair, due)), quantity
         for it in self.firm.firm_orders[pair]:
             yield it.due - it.start + self.taken(pair, it.start), it.quantity
 
@@ -50,9 +50,14 @@ class Waits:
         return self.firm.pairs[pair].on_hand + came + sum(it for comes, it in orders if comes <= period)
 
 
+def release_of(firm, pair, due):
+    """Returns when a planned order of a pair is released: none is in frozen periods."""
+    return max(due, firm.earliest(pair)) - firm.pairs[pair].lead
+
+
 def open_orders(firm, pair):
-    """Returns what comes in of a pair in each period without its firm orders."""
-    found = [*firm.plans[pair].incoming]
+    """Returns what comes in of a pair in each period without its firm orders, whenever the plan counts it."""
+    found = [*firm.incoming[pair]]
     for it in firm.firm_orders[pair]:
         found[it.due] -= it.quantity
     return found
@@ -100,17 +105,20 @@ def played(firm, chance):
 
 
 def demands_above(firm, pair):
-    """Returns the demands that are found from what a pair releases in period 0 up: an order is for the requirements up to the next one."""
-    found, seen, left = set(), set(), [(pair, 0)]
+    """Returns the demands that are found from what a pair releases first up: an order is for the requirements up to the next one, or
+    for those that are as much later as the periods that a policy covers.
+    """
+    found, seen, left = set(), set(), [(pair, release_of(firm, pair, 0))]
     while left:
         pair, release = left.pop()
         if (pair, release) in seen:
             continue
         seen.add((pair, release))
-        due = [t for t, quantity in enumerate(firm.plans[pair].order) if quantity]
+        due, cover = [t for t, quantity in enumerate(firm.plans[pair].order) if quantity], firm.policy(pair).cover
         for first, end in zip(due, [*due[1:], firm.periods]):
-            if max(0, first - firm.pairs[pair].lead) == release:
-                terms = [(t, mrp.Term(*it)) for t in range(first, end) for it in firm.terms(pair, t)]
+            if release_of(firm, pair, first) == release:
+                periods = range(first + cover if first else 0, min(end + cover, firm.periods))
+                terms = [(t, mrp.Term(*it)) for t in periods for it in firm.terms(pair, t)]
                 found.update((*pair, t) for t, it in terms if it.source == "demand")
                 left += [((it.plant, it.item), t) for t, it in terms if it.source != "demand"]
     return found

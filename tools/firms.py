@@ -1,13 +1,17 @@
 """Firms made from a source of chance, and damage to their tables: for tools/torture."""
 import crates  # noqa: F401  (which lets the modules of bin/ be found)
 import mrp
+from pair_cases import TERMS
+
+# The columns of a policy that may say something: in turn each alone, all, or some.
+POLICIES = TERMS[1:]
 
 NAMES = ("A", "B", "S", "NORTH", "south", "P-1", "-", "--help", ".", "_x", "007", "1E5", "plan", "a.b-c_d", "X" * 20, "Q2", "Y", "z9", "W", "from")
 QUANTITIES = (1, 2, 5, 7, 30, 99, 1000, 10**6)
 # What is put in the place of a field or of a byte.
 FIELDS = ("", "0", "1", "31", "32", "104", "105", "02", "+1", "1.5", "1000000000000", "1000000000001", "9999999999999999")
 FIELDS += ("A", "B", "X" * 21, "a b", "make", "buy", "lot", "fixed:0", "fixed:7", "periods:105", "min:3:2", "min:1")
-FIELDS += ("from:A", "from:A:500:B:500", "from:B:600:A:300", "2026-02-30", "2199-12-31", '"A"', '"')
+FIELDS += ("from:A", "from:A:500:B:500", "from:B:600:A:300", "2026-02-30", "2199-12-31", '"A"', '"', "103", "policy")
 BYTES = b',,,"\r\n\n019ABXx:-._ \x00\x7f\xc3\xff'
 
 
@@ -23,6 +27,7 @@ def table(chance, plants=12, pairs=30):
     rows = [run, *map(mrp.Plant, names), *firm.pair_rows(), *firm.bill_rows()]
     rows += [*firm.period_rows(mrp.Demand, kept), *firm.period_rows(mrp.Receipt, kept), *firm.lane_rows()]
     rows += [*firm.firm_rows([(it.receiver, it.item) for it in rows if isinstance(it, mrp.Reset)])]
+    rows += [*firm.policy_rows([it for it in rows if isinstance(it, mrp.Pair)], [it.pair for it in rows if isinstance(it, mrp.Receipt)])]
     return bytes(mrp.Table(rows))
 
 
@@ -104,6 +109,26 @@ class Draft:
             yield from [row] * self.chance.choice((1, 1, 2))
             if self.chance.random() < 0.3:
                 yield row._replace(start=self.chance.randint(0, due), quantity=self.chance.choice(self.quantities))
+
+    def policy_rows(self, pairs, received):
+        """Yields policies, but in some firms none: of each pair one column alone, all, some, or none; more of those with receipts."""
+        often = self.chance.choice((0, 0, 0.3, 0.9))
+        for row in self.chance.sample(pairs, len(pairs)):
+            pair = row.plant, row.item
+            if self.chance.random() < often or often and pair in received:
+                some = [it for it in POLICIES if self.chance.random() < 0.5]
+                columns = self.chance.choice((*((it,) for it in POLICIES), POLICIES, some))
+                yield mrp.Policy(*pair, *(self.policy(it, row.lead) if it in columns else 0 for it in POLICIES))
+
+    def policy(self, column, lead):
+        """Returns a figure of a policy: a fence about the lead time or anywhere, periods, or pieces."""
+        if column == "fence":
+            last = self.periods - 1
+            near = min(max(0, lead + self.chance.randint(-1, 3)), last)
+            return self.chance.choice((near, near, self.chance.randint(0, last)))
+        if column in ("sooner", "cover"):
+            return self.chance.choice((1, 1, 2, 3, self.periods - 1, self.periods, 104))
+        return self.chance.choice(self.quantities)
 
 
 def damaged(chance, text):

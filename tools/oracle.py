@@ -7,17 +7,17 @@ It is written for shortness from the manual (docs/tables.md, docs/reports.md, do
 tools/oracle.py --cases N [--seed S] prints N cases of one pair's planning data and plan, for tools/pairs. They are made
 from a seed, and planned by the definitions alone: no sum is kept from period to period.
 """
-import random
 import re
 import sys
 from bisect import bisect_right
 from datetime import date, timedelta
-from itertools import accumulate
+from itertools import accumulate, islice
 from typing import NamedTuple
 
 sys.dont_write_bytecode = True
 import crates  # noqa: E402,F401  (which lets the modules of bin/ be found)
 import reports  # noqa: E402
+from pair_cases import LIMIT, PairData, csv_text, data_text, pair_cases  # noqa: E402,F401
 
 COLUMNS = {
     "run": ("date", "days", "periods"),
@@ -30,19 +30,20 @@ COLUMNS = {
     "cum": ("name", "name", "name", "figure"),
     "reset": ("name", "name", "name", "period"),
     "firm": ("name", "name", "period", "period", "quantity"),
+    "policy": ("name", "name", "period", "ahead", "ahead", "stock", "stock"),
 }
 KINDS = list(COLUMNS)
 RANGES = {
     "days": (0, 10**16 - 1),
     "periods": (1, 104),
     "lead": (0, 104),
+    "ahead": (0, 104),
     "stock": (0, 10**12),
     "per": (1, 10**6),
     "quantity": (1, 10**12),
     "figure": (0, 10**15),
 }
 MOST = {"plant": 64, "pair": 20_000, "bill": 200_000, **dict.fromkeys(("demand", "receipt", "ship", "cum", "firm"), 10**6)}
-LIMIT = 10**15
 # The names of the columns, as --header writes them above a report.
 HEADERS = {
     "check": "row,plant,item,code",
@@ -100,6 +101,19 @@ class FirmOrder(NamedTuple):
     start: int
     due: int
     quantity: int
+
+
+class Policy(NamedTuple):
+    """How a pair is planned beyond its own row."""
+
+    fence: int
+    sooner: int
+    cover: int
+    least: int
+    multiple: int
+
+
+NO_POLICY = Policy(0, 0, 0, 0, 0)
 
 
 class Plan(NamedTuple):
@@ -182,7 +196,7 @@ class Firm:
     def __init__(self, table):
         self.periods, self.kind, self.counts, self.said = 0, None, {}, set()
         self.plants, self.pairs, self.bills, self.cums, self.ships, self.resets = [], {}, {}, {}, [], {}
-        self.demand, self.incoming, self.open_orders, self.firm_orders = {}, {}, {}, {}
+        self.demand, self.incoming, self.receipts, self.open_orders, self.firm_orders, self.policies = {}, {}, {}, {}, {}, {}
         count = 0
         for count, fields in enumerate(rows(table), 1):
             fault = self.spelling_fault(fields) or self.fault([it.decode() for it in fields])
@@ -259,7 +273,7 @@ class Firm:
     @staticmethod
     def key(texts):
         """Returns what no second row says again, or nothing where rows may."""
-        sizes = {"plant": 2, "pair": 3, "bill": 4, "cum": 4, "reset": 4}
+        sizes = {"plant": 2, "pair": 3, "bill": 4, "cum": 4, "reset": 4, "policy": 3}
         return tuple(texts[: sizes[texts[0]]]) if texts[0] in sizes else None
 
     def add(self, count, *texts):
@@ -275,6 +289,7 @@ class Firm:
         elif kind == "pair":
             self.pairs[first, second] = Pair(count, third, sources_of(third), rule_of(more[0]), *map(int, more[1:4]))
             self.demand[first, second], self.incoming[first, second] = [0] * self.periods, [0] * self.periods
+            self.receipts[first, second] = [0] * self.periods
             self.open_orders[first, second], self.firm_orders[first, second] = [], []
         elif kind == "bill":
             self.bills[first, second, third] = int(more[0])
@@ -282,6 +297,7 @@ class Firm:
             self.demand[first, second][int(third)] += int(more[0])
         elif kind == "receipt":
             self.incoming[first, second][int(third)] += int(more[0])
+            self.receipts[first, second][int(third)] += int(more[0])
             self.open_orders[first, second].append((int(third), kind, "", int(more[0])))
         elif kind == "ship":
             self.ships.append(((first, second, third), int(more[0]), int(more[1])))
@@ -296,6 +312,16 @@ class Firm:
             self.firm_orders[first, second].append(order)
             self.incoming[first, second][order.due] += order.quantity
             self.open_orders[first, second].append((order.due, kind, "", order.quantity))
+        elif kind == "policy":
+            self.policies[first, second] = Policy(int(third), *map(int, more[:4]))
+
+    def policy(self, pair):
+        """Returns the policy of a pair."""
+        return self.policies.get(pair, NO_POLICY)
+
+    def earliest(self, pair):
+        """Returns the first period in which a planned order can be due that isn't late."""
+        return max(self.pairs[pair].lead, self.policy(pair).fence)
 
     def find_edges(self):
         """Finds the demanders of each pair, in table order."""
@@ -337,7 +363,8 @@ class Firm:
             row = self.pairs[pair]
             asked = sum(it.per * need[it.pair] for it in self.demanders[pair])
             firm = sum(it.quantity for it in self.firm_orders[pair])
-            need[pair] = sum(self.demand[pair]) + asked + row.safety + firm + (0 if row.rule[0] == "periods" else sum(row.rule[1:]))
+            lots = sum(self.policy(pair)[3:]) + (0 if row.rule[0] == "periods" else sum(row.rule[1:]))
+            need[pair] = sum(self.demand[pair]) + asked + row.safety + firm + lots
             if supply[pair] + need[pair] > LIMIT:
                 raise Refused("mrp: NeedTooLarge " + "/".join(pair))
 
@@ -347,32 +374,61 @@ class Firm:
         for pair in sorted(self.pairs, key=self.codes.get):
             edges = [(it, plans[it.pair].release) for it in self.demanders[pair]]
             gross = [self.demand[pair][t] + sum(it.per * it.part(release[t]) for it, release in edges) for t in range(self.periods)]
-            plans[pair] = self.plan_of(self.pairs[pair], gross, self.incoming[pair], self.firm_orders[pair])
+            plans[pair] = self.plan_of(pair, gross)
         return plans
 
-    def plan_of(self, row, gross, incoming, firm_orders):
-        """Plans one pair. Its firm orders are in what comes in already."""
-        order, release, available, before = [], [0] * self.periods, [], row.on_hand
-        for it in firm_orders:
+    def plan_of(self, pair, gross):
+        """Plans one pair."""
+        row, policy, earliest = self.pairs[pair], self.policy(pair), self.earliest(pair)
+        order, release, available, before, incoming = [], [0] * self.periods, [], row.on_hand, self.counted(pair, gross)
+        for it in self.firm_orders[pair]:
             release[it.start] += it.quantity
         for t in range(self.periods):
-            net = row.safety + gross[t] - before - incoming[t]
-            order.append(self.lot(row, t, net, gross, incoming) if net > 0 else 0)
+            net = row.safety + sum(gross[t : t + policy.cover + 1]) - before - incoming[t]
+            order.append(self.lot(row.rule, policy, t, net, gross, incoming) if net > 0 else 0)
             before += incoming[t] + order[t] - gross[t]
             available.append(before)
-            release[max(0, t - row.lead)] += order[t]
+            if order[t]:
+                release[max(t, earliest) - row.lead] += order[t]
         return Plan(gross, incoming, order, release, available)
 
-    def lot(self, row, t, net, gross, incoming):
-        """Returns the planned order that covers a net requirement."""
-        word, *given = row.rule
-        if word == "lot":
-            return net
+    def lot(self, rule, policy, t, net, gross, incoming):
+        """Returns the planned order that covers a net requirement: by the lot rule, and then by the policy's least and multiple."""
+        word, *given = rule
+        found = net
         if word == "periods":
-            ends = range(t + 1, min(t + given[0], self.periods) + 1)
-            return max(net + sum(gross[t + 1 : it]) - sum(incoming[t + 1 : it]) for it in ends)
-        lot = given[-1]
-        return -(-max(net, *given[:-1], 0) // lot) * lot
+            more = (gross[it + policy.cover] if it + policy.cover < self.periods else 0 for it in range(t + 1, self.periods))
+            needs = accumulate(map(int.__sub__, more, incoming[t + 1 :]), initial=net)
+            found = max(islice(needs, given[0]))
+        elif word != "lot":
+            found = -(-max(net, *given[:-1], 0) // given[-1]) * given[-1]
+        multiple = policy.multiple or 1
+        return -(-max(found, policy.least) // multiple) * multiple
+
+    def short(self, pair, gross):
+        """Returns by period how many pieces requirements have lacked at most up to it, without receipts and planned orders."""
+        row, cover, required = self.pairs[pair], self.policy(pair).cover, [*accumulate(gross)]
+        surely = accumulate(map(int.__sub__, self.incoming[pair], self.receipts[pair]))
+        ends = (required[min(t + cover, self.periods - 1)] for t in range(self.periods))
+        lacks = (row.safety + end - row.on_hand - came for end, came in zip(ends, surely))
+        return [*accumulate(lacks, max, initial=0)][1:]
+
+    def near(self, pair):
+        """Returns by period the receipts that may be counted by then."""
+        due, sooner = [*accumulate(self.receipts[pair])], self.policy(pair).sooner
+        return [due[min(t + sooner, self.periods - 1)] for t in range(self.periods)]
+
+    def counted(self, pair, gross):
+        """Returns what comes in of a pair by period, where receipts count up to SOONER periods before they come, as far as
+        requirements lack them.
+        """
+        due, found, before = 0, [], 0
+        for t, (short, near) in enumerate(zip(self.short(pair, gross), self.near(pair))):
+            due += self.receipts[pair][t]
+            had = max(due, min(near, short))
+            found.append(self.incoming[pair][t] - self.receipts[pair][t] + had - before)
+            before = had
+        return found
 
     def day(self, period):
         """Returns the first day of a period."""
@@ -384,17 +440,17 @@ class Firm:
             for t, figures in enumerate(zip(*plan)):
                 yield "plan", *pair, t, self.day(t), *figures
         for pair, plan in self.plans.items():
-            for t, quantity in enumerate(plan.order[: self.pairs[pair].lead]):
+            for t, quantity in enumerate(plan.order[: self.earliest(pair)]):
                 if quantity:
-                    yield "late", *pair, t, quantity, self.pairs[pair].lead - t
+                    yield "late", *pair, t, quantity, self.earliest(pair) - t
 
     def order_report(self, until=103):
         """Yields the fields of the firm and the order rows: of each order that is released in that period or before it."""
         for pair, plan in self.plans.items():
-            row = self.pairs[pair]
+            row, earliest = self.pairs[pair], self.earliest(pair)
             for due, quantity in enumerate(plan.order):
                 found = [("firm", it.quantity, it.start, 0) for it in self.firm_orders[pair] if it.due == due]
-                found += [("order", quantity, max(0, due - row.lead), max(0, row.lead - due))] if quantity else []
+                found += [("order", quantity, max(due, earliest) - row.lead, max(0, earliest - due))] if quantity else []
                 for word, ordered, release, late in found:
                     if release <= int(until):
                         yield word, *pair, row.supply, ordered, release, self.day(release), due, self.day(due), late
@@ -475,20 +531,36 @@ class Firm:
         return [("opening", "", "", transit, opening), *((kind, t, self.day(t), *it) for t, _, kind, *it in sorted(found))]
 
     def advice_report(self, until=103):
-        """Yields the fields of the advice rows, of open orders that come in that period or before it: one is needed where what comes
-        before it, whenever that is, no longer covers requirements and safety stock.
+        """Yields the fields of the advice rows, of open orders that come in that period or before it: one is needed where what is
+        had before it no longer covers requirements and safety stock.
         """
-        for pair, plan in self.plans.items():
-            row, required = self.pairs[pair], [*accumulate(plan.gross)]
-            covered = row.on_hand - row.safety
-            # (receipts stand before shipments in the table, and these before firm orders)
-            for period, kind, supplier, quantity in sorted(self.open_orders[pair], key=lambda it: it[0]):
-                needed = bisect_right(required, covered)
-                covered += quantity
+        for pair in self.plans:
+            for period, kind, supplier, quantity, needed in self.needed(pair):
                 if needed != period and period <= int(until):
                     action = "cancel" if needed == self.periods else "expedite" if needed < period else "defer"
                     when = ("", "") if action == "cancel" else (needed, self.day(needed))
                     yield "advice", action, kind, *pair, supplier, period, self.day(period), quantity, *when
+
+    def needed(self, pair):
+        """Yields the open orders of a pair, by period, each with the period in which it is needed, or the end of the plan."""
+        lacks, is_one, before = self.lacked(pair), self.policy(pair).sooner == 0, {True: 0, False: 0}
+        # (receipts stand before shipments in the table, and these before firm orders)
+        for period, kind, supplier, quantity in sorted(self.open_orders[pair], key=lambda it: it[0]):
+            own = is_one or kind == "receipt"
+            yield period, kind, supplier, quantity, bisect_right(lacks[own], before[own])
+            before[own] += quantity
+
+    def lacked(self, pair):
+        """Returns what is lacked at most up to each period: without open orders; where receipts may count sooner, without receipts
+        (True), and with those that may be counted and without the others (False).
+        """
+        row, policy, gross = self.pairs[pair], self.policy(pair), self.plans[pair].gross
+        required = [row.safety + sum(gross[: t + policy.cover + 1]) - row.on_hand for t in range(self.periods)]
+        if not policy.sooner:
+            return {True: required}
+        others = accumulate(map(int.__sub__, self.incoming[pair], self.receipts[pair]))
+        beside = {True: others, False: map(min, self.near(pair), self.short(pair, gross))}
+        return {it: [*accumulate(map(int.__sub__, required, came), max)] for it, came in beside.items()}
 
 
 REPORTS = {"plan": Firm.plan_report, "check": Firm.code_report, "peg": Firm.peg_report, "cums": Firm.lane_report, "orders": Firm.order_report}
@@ -520,27 +592,6 @@ class Oracle:
 
 def refusal(line):
     return Answer(1, b"", f"{line}\n".encode())
-
-
-class PairData(NamedTuple):
-    """What the plan of one pair is made from. A row has the pieces of periods 0, 1, ..; gross has all periods, and a
-    shorter row has nothing in those that it doesn't reach.
-    """
-
-    rule: tuple
-    lead: int
-    on_hand: int
-    safety: int
-    fence: int
-    sooner: int
-    cover: int
-    least: int
-    multiple: int
-    receipts: list
-    arrivals: list
-    firm_start: list
-    firm_due: list
-    gross: list
 
 
 class PairPlan:
@@ -627,108 +678,10 @@ def multiple_of(lot, quantity):
     return -(-quantity // lot) * lot
 
 
-def data_text(given):
-    """Returns the lines of a pair's planning data."""
-    rule, *numbers = given[:9]
-    rows = zip(PairData._fields[9:], given[9:])
-    return csv_text([("pair", ":".join(map(str, rule)), *numbers), *((name, *row) for name, row in rows)])
-
-
 def plan_text(plan):
     """Returns the lines of a pair's plan."""
     rows = ((name, *getattr(plan, name)) for name in ("incoming", "order", "release", "available"))
     return csv_text([*rows, *(("late", *it) for it in plan.late), ("end",)])
-
-
-def csv_text(lines):
-    return "".join(",".join(map(str, it)) + "\n" for it in lines)
-
-
-# What planning data has beside the rows of a plain pair: in turn each case has nothing of it, one of these alone, all
-# of it, or some.
-TERMS = ("firm", "fence", "sooner", "cover", "least", "multiple")
-TURNS = ((), *((it,) for it in TERMS), TERMS, TERMS, None)
-
-
-class PairDraft:
-    """Planning data of a pair in the making, with some of the terms."""
-
-    def __init__(self, chance, terms):
-        self.chance, self.terms = chance, terms
-        others = 1, 2, chance.randint(13, 103), 104
-        self.periods = chance.randint(3, 12) if chance.random() < 0.9 else chance.choice(others)
-        self.most = chance.choice((1, 3, 10, 10, 40, 40, 1000, 10**12))
-
-    def quantity(self):
-        some = self.chance.randint(1, self.most)
-        return self.chance.choice((some, some, self.most))
-
-    def stock(self):
-        return self.chance.choice((0, 0, self.quantity(), min(3 * self.quantity(), 10**12)))
-
-    def row(self, *shares):
-        """Returns a row that has something in one of these shares of its periods."""
-        share = self.chance.choice(shares)
-        return [self.quantity() if self.chance.random() < share else 0 for _ in range(self.periods)]
-
-    def firm_rows(self):
-        """Returns the rows of firm orders by start and by due."""
-        start, due = [0] * self.periods, [0] * self.periods
-        for _ in range(self.chance.randint(1, 6) if "firm" in self.terms else 0):
-            first, last = sorted(self.chance.randrange(self.periods) for _ in "12")
-            quantity = self.quantity()
-            start[first] += quantity
-            due[last] += quantity
-        return start, due
-
-    def rule(self):
-        one, other = self.quantity(), self.quantity()
-        ahead = "periods", self.chance.choice((1, 2, 3, self.periods, 104))
-        return self.chance.choice((("lot",), ("fixed", one), ahead, ahead, ("min", one, other)))
-
-    def ahead(self, term):
-        """Returns a number of periods, which may go beyond the horizon."""
-        return self.chance.choice((1, 1, 2, 3, self.periods - 1, self.periods, 104)) if term in self.terms else 0
-
-    def fence(self, lead):
-        """Returns a fence in the horizon, about the lead time or anywhere."""
-        near = max(0, min(lead + self.chance.randint(-1, 3), self.periods - 1))
-        return self.chance.choice((near, near, self.chance.randrange(self.periods))) if "fence" in self.terms else 0
-
-    def policy(self, lead):
-        """Returns fence, sooner, cover, least and multiple."""
-        most = [min(self.quantity() * self.chance.choice((1, 1, 3)), 10**12) for _ in "12"]
-        lots = [quantity if it in self.terms else 0 for it, quantity in zip(TERMS[4:], most)]
-        return self.fence(lead), self.ahead("sooner"), self.ahead("cover"), *lots
-
-    def data(self):
-        """Returns the planning data. All quantities together are at most the limit, and in some cases of large ones
-        they are just that.
-        """
-        lead = self.chance.choice((0, 0, 1, 1, 2, 3, self.periods - 1, self.periods, 104))
-        rule, stocks, policy = self.rule(), [self.stock(), self.stock()], self.policy(lead)
-        rows = [self.row(0, 0.2, 0.3, 0.6, 1), self.row(0, 0.2, 0.3, 1), *self.firm_rows()]
-        gross = self.row(0, 0.2, 0.5, 0.5, 1, 1)
-        quantities = sum(rule[1:]) if rule[0] != "periods" else 0
-        left = LIMIT - sum((quantities, *stocks, *policy[3:], *rows[0], *rows[1], *rows[3], *gross))
-        if self.most == 10**12 and self.chance.random() < 0.3:
-            self.chance.choice((gross, gross, rows[0], rows[1]))[self.chance.randrange(self.periods)] += left
-        shown = [it if self.chance.random() < 0.7 else without_last_zeros(it) for it in rows]
-        return PairData(rule, lead, *stocks, *policy, *shown, gross)
-
-
-def without_last_zeros(row):
-    """Returns a row up to its last quantity."""
-    return row[: max((t + 1 for t, quantity in enumerate(row) if quantity), default=0)]
-
-
-def pair_cases(count, seed):
-    """Yields so many pairs' planning data, the same from the same seed."""
-    chance = random.Random(seed)
-    for number in range(count):
-        some = tuple(it for it in TERMS if chance.random() < 0.5)
-        terms = TURNS[number % len(TURNS)]
-        yield PairDraft(chance, some if terms is None else terms).data()
 
 
 def main():

@@ -260,7 +260,7 @@ def test_both_sheets_or_none(tmp_path, monkeypatch):
     assert (tmp_path / "receipts.csv").read_text() == NO_RECEIPTS
 
 
-KINDS = "run", "plant", "pair", "bill", "demand", "receipt", "ship", "cum", "reset", "firm"
+KINDS = "run", "plant", "pair", "bill", "demand", "receipt", "ship", "cum", "reset", "firm", "policy"
 
 
 def planned(rows):
@@ -275,19 +275,35 @@ def booked(order):
     return f"receipt,{plant},{item},{due},{quantity},,," if supply == "buy" else f"firm,{plant},{item},{release},{due},{quantity},,"
 
 
+def with_those_before(chosen, orders, rows):
+    """Returns the orders that are chosen; of what is bought and has receipts that count sooner, those that are due before them too."""
+    policies = (it.split(",") for it in rows if it.startswith("policy,"))
+    sooner = {(plant, item) for _, plant, item, _, periods, *_ in policies if periods != "0"}
+    last = {}
+    for it in chosen:
+        _, plant, item, supply, *_, due, _, _ = it.split(",")
+        if supply == "buy" and (plant, item) in sooner:
+            last[plant, item] = max(int(due), last.get((plant, item), 0))
+    return [it for it in orders if it in chosen or int(it.split(",")[7]) < last.get((*it.split(",")[1:3],), 0)]
+
+
 def test_no_order_that_is_booked_moves_another():
-    """In random firms, of which one order, some, or all are booked as they are, the late ones too."""
-    tried = 0
-    for seed in range(120):
+    """In random firms, of which one order, some, or all are booked as they are, the late ones too: but for those that releases which
+    are frozen let start behind their due date only.
+    """
+    tried, sooner = 0, 0
+    for seed in range(240):
         chance = random.Random(seed)
         rows = firms.table(chance, 5, 10).decode().splitlines()
         # (a row has no more than 10**12 pieces)
-        orders = [it for it in planned(rows) if int(it.split(",")[4]) <= 10**12]
-        for chosen in ([chance.choice(orders)], [it for it in orders if chance.random() < 0.5], orders) if orders else ():
+        orders = [it for it in planned(rows) if int(it.split(",")[4]) <= 10**12 and int(it.split(",")[5]) <= int(it.split(",")[7])]
+        for some in ([chance.choice(orders)], [it for it in orders if chance.random() < 0.5], orders) if orders else ():
+            chosen = with_those_before(some, orders, rows)
             left = planned([*rows, *map(booked, chosen)])
             assert Counter(left) == Counter(planned(rows)) - Counter(chosen), seed
-            tried += bool(chosen)
-    assert tried > 200
+            tried, sooner = tried + bool(chosen), sooner + (len(chosen) > len(some))
+    assert tried > 400
+    assert sooner > 2
 
 
 def test_calls_of_a_plant_stay_by_the_second_planner():
@@ -296,3 +312,23 @@ def test_calls_of_a_plant_stay_by_the_second_planner():
     head = f"run,{day},7,4,,,,\nplant,A,,,,,,\nplant,B,,,,,,\npair,A,X,buy,lot,0,0,0\npair,B,X,from:A,lot,1,0,0\ndemand,B,X,2,5,,,\n"
     calls = [oracle.Oracle((head + it).encode()).answer("schedule").out.decode().count(",call,") for it in ("", "firm,B,X,1,2,5,,\n", "receipt,B,X,2,5,,,\n")]
     assert calls == [1, 1, 0]
+
+
+def test_orders_start_behind_frozen_releases(desk):
+    """By hand. Releases of the works' pumps are frozen for two weeks: with a lead time of one the 4 of period 2 are released in period 2
+    and come a week late. Booked they start then, and what the plan has of them stays; due sooner they start when they are due.
+    """
+    desk.run("sed -i '1s/$/,Frozen releases (weeks)/; 2s/$/,2/; 3,$s/$/,/' firm/items.csv")
+    before = report(desk)
+    frozen = PUMPS.replace("1,2026-12-07,2,2026-12-14,0", "2,2026-12-14,2,2026-12-14,1")
+    assert frozen.replace("/", "_") in before
+    rows(desk, frozen)
+    said = "firm_orders.csv: FA-21, 4 of WORKS 100/250-A, due 2026-12-14; late, it comes 2026-12-21\n"
+    assert desk.run("bin/book orders.csv firm") == said
+    assert read(desk, "firm_orders.csv").splitlines()[2] == "FA-21,WORKS,100/250-A,2026-12-14,2026-12-14,4,2026-12-21"
+    firm = frozen.replace("/", "_").replace("order,", "firm,")[:-1] + "0"
+    assert Counter(report(desk)) == Counter(firm if it == frozen.replace("/", "_") else it for it in before)
+    desk.run("cp examples/sheets/firm_orders.csv firm")
+    rows(desk, frozen.replace("2,2026-12-14,1", "2,2026-12-09,1"))
+    desk.run("bin/book orders.csv firm")
+    assert read(desk, "firm_orders.csv").splitlines()[2] == "FA-21,WORKS,100/250-A,2026-12-07,2026-12-09,4,2026-12-21"

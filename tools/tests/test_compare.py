@@ -235,3 +235,13 @@ def two_weeks(chance):
     rows = [(*it[:5], plans[it[:2]].available[0], it[6]) for it in rows]
     new = firm_of("2026-01-12", rows, [(*it[:2], it[2] - 1, it[3]) for it in demands], released)
     return [it.answer("plan").out.decode() for it in (old, new)]
+
+
+def test_compare_takes_receipts_where_they_are_counted(room):
+    """A late order that is on order now, and counted when it is due or when it comes, is no change; in between it is."""
+    none, late = (0,) * 5, [(it, 1, 2) for it in "PQR"]
+    room.write("old.csv", plan_rows("2026-01-05", 7, {it: (0, 7, 0, 0, 0) for it in "PQR"}, late))
+    comes = {"P": (0, 7, 0, 0, 0), "Q": (0, 0, 0, 7, 0), "R": (0, 0, 7, 0, 0)}
+    room.write("new.csv", plan_rows("2026-01-05", 7, dict.fromkeys("PQR", none), incoming=comes))
+    said = room.run("bin/compare old.csv new.csv")
+    assert said.startswith("A R\n  2026-01-12  went    7, 2 periods late before\n1 change in 1 pair;")

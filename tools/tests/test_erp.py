@@ -1,4 +1,5 @@
 """The queries of examples/erp/, and the run at night of docs/integrate.md."""
+import oracle
 from support import postgresql, skip, TOP, wants, write_from_recipe
 
 
@@ -51,6 +52,36 @@ def test_firm_orders_end_the_table(room):
     assert room.run("head -n $(wc -l < examples/three_plants.csv) table.csv | diff - examples/three_plants.csv") == ""
     assert room.run(f"{added} table.csv") == FIRM_ROWS
     assert room.run(f'sqlite3 firm.db "{WRONG_FIRM}"; {table} | {added}') == FIRM_ROWS + WRONG_FIRM_ROWS
+
+
+# Policies: of each column, and of none; then such as mrp refuses, of an item that isn't planned, and with a figure below 0.
+POLICIES = """INSERT INTO policies VALUES ('SOUTH', 'TUBE', 3, NULL, NULL, NULL, NULL),
+    ('NORTH', 'RIM', NULL, 2, 1, 100, 20), ('EAST', 'BIKE', NULL, NULL, NULL, NULL, NULL)"""
+POLICY_ROWS = "policy,SOUTH,TUBE,3,0,0,0,0\npolicy,NORTH,RIM,0,2,1,100,20\npolicy,EAST,BIKE,0,0,0,0,0\n"
+WRONG_POLICIES = "INSERT INTO policies VALUES ('NORTH', 'TUBE', 1, 0, 0, 0, 0), ('SOUTH', 'FRAME', -1, 0, 0, 0, 0)"
+WRONG_POLICY_ROWS = "policy,NORTH,TUBE,1,0,0,0,0\npolicy,SOUTH,FRAME,-1,0,0,0,0\n"
+
+
+def test_policies_end_the_table(room):
+    """They stand behind the firm orders, as they were entered."""
+    wants("sqlite3")
+    table = "sqlite3 -bail -list -separator , firm.db < examples/erp/table.sql"
+    added = "tail -n +$(($(wc -l < examples/three_plants.csv) + 1))"
+    room.run(f'sqlite3 firm.db < examples/erp/firm.sql; sqlite3 firm.db "{POLICIES}; {FIRM}"; {table} > table.csv')
+    assert room.run("head -n $(wc -l < examples/three_plants.csv) table.csv | diff - examples/three_plants.csv") == ""
+    assert room.run(f"{added} table.csv") == FIRM_ROWS + POLICY_ROWS
+    assert oracle.Oracle(room.run("cat table.csv").encode()).refused is None
+    assert room.run(f'sqlite3 firm.db "{WRONG_POLICIES}"; {table} | {added}') == FIRM_ROWS + POLICY_ROWS + WRONG_POLICY_ROWS
+    assert "UNIQUE" in room.run(f'sqlite3 firm.db "{POLICIES}" 2>&1 || true')
+
+
+def test_policies_end_the_table_of_postgresql(room):
+    """By their names."""
+    with postgresql(room):
+        room.run(f'createdb firm && psql -qd firm -f examples/erp/firm.sql && psql -qd firm -c "{POLICIES}; {FIRM}; {WRONG_POLICIES}"')
+        rows = room.run("psql -qd firm -f examples/erp/table.postgresql.sql | grep -vxFf examples/three_plants.csv").splitlines(keepends=True)
+        firm, policies = (sorted(it.splitlines(keepends=True)) for it in (FIRM_ROWS, POLICY_ROWS + WRONG_POLICY_ROWS))
+        assert rows == firm + policies
 
 
 # A firm order that comes a period too soon, in the reports of a table of five periods: 5 of P are on hand, and 30 and 10

@@ -2,6 +2,7 @@
 import array
 import datetime
 import random
+import tempfile
 
 import delays
 import firms
@@ -10,6 +11,7 @@ import mrp
 import oracle
 import reports
 from support import DELAYED, reports_from_files
+from test_oracle import COVERED, FENCED, SOONER
 from test_record import FIRM, FIRM_ORDERS, FIRM_PEGS, FIRM_PLAN
 
 # By hand, with the orders of DELAYED_PLAN. X has 10 for the 11 of period 1 and the 16 of period 2, until the 3 and the
@@ -64,8 +66,8 @@ def test_hits_are_what_others_find(room):
         found = [*waiting.hits()]
         for pair, also in waiting.others(found).items():
             # (what its late orders alone would hit waits for them)
-            alone = [*firm_of_hits(table, pair).hits()]
-            assert {it[:3] for it in alone} - {it[:3] for it in also} == set(), (seed, pair)
+            alone = {it[:3] for it in firm_of_hits(table, pair).hits()} - {it[:3] for it in firm_of_hits(table, ()).hits()}
+            assert alone - {it[:3] for it in also} == set(), (seed, pair)
             shared += len(alone)
         waits = {(it.plant, it.item, it.period): it.late_at_worst for it in found}
         assert waits == delays.Waits(firm).demands(), seed
@@ -73,8 +75,10 @@ def test_hits_are_what_others_find(room):
             (firm.day(it.period), firm.demand[it.plant, it.item][it.period]) for it in found
         ], seed
         # (where a source of several has no part of a release, its order may come before one that is due before, and so may
-        # a planned order, or a firm one, where a firm one isn't given the lead time)
-        if all(len(it.sources) < 2 for it in firm.pairs.values()) and b"\nfirm," not in table:
+        # a planned order, or a firm one, where a firm one isn't given the lead time; and what waits for a receipt that counts
+        # sooner may wait for no release)
+        is_plain = b"\nfirm," not in table and not any(it.sooner for it in firm.policies.values())
+        if all(len(it.sources) < 2 for it in firm.pairs.values()) and is_plain:
             assert [it for it in found if it[:3] not in delays.demands_above(firm, it[-2:])] == [], seed
             followed += len(found)
         played = delays.played(firm, random.Random(seed))
@@ -86,7 +90,7 @@ def test_hits_are_what_others_find(room):
     # (nearly all wait as long as they may, in one play)
     assert count > 400
     assert longest > 0.9 * count
-    assert followed > 100
+    assert followed > 60
     assert shared > 200
 
 
@@ -180,16 +184,50 @@ def test_hit_follows_firm_orders_through_plants(room):
     assert room.run("MRP=words/files bin/hit < table.csv") == "hit,W,X,1,2026-01-12,20,1,B,X\n"
 
 
+def test_receipts_that_count_sooner_are_there_when_they_come(room):
+    """By hand. Of the 60 that come in period 3 the plan counts 40 in period 1, and no order is late. 10 - 5 are there for the 40 of
+    period 1 until they come, two periods later; with them 70 - 45 are there for the 30 of period 3, and the 10 that are ordered.
+    Expedited, nothing waits. A firm P of which the 40 X are taken in period 1 comes two periods later too.
+    """
+    reports_from_files(room, SOONER, "orders", "plan")
+    assert room.run("cat plan.csv | grep late || echo none") == "none\n"
+    assert room.run("MRP=words/files bin/hit < table.csv") == "hit,A,X,1,2026-01-12,40,2,A,X\n"
+    reports_from_files(room, SOONER.replace("receipt,A,X,3", "receipt,A,X,1"), "orders", "plan")
+    assert room.run("MRP=words/files bin/hit < table.csv") == ""
+    taken = SOONER.replace("pair,A,X", "pair,A,P,make,lot,1,0,0\npair,A,X").replace("demand,A,X,1,40", "demand,A,P,2,40")
+    taken = taken.replace("demand,A,X,0", "bill,A,P,X,1,,,\ndemand,A,X,0")
+    for table in (taken, taken.replace("policy", "firm,A,P,1,2,40,,\npolicy")):
+        reports_from_files(room, table, "orders", "plan")
+        assert room.run("MRP=words/files bin/hit < table.csv") == "hit,A,P,2,2026-01-19,40,2,A,X\n"
+
+
+def test_orders_behind_a_fence_hit_demands(room):
+    """By hand. The 8 of period 2 are released in period 2, behind the fence, and come in period 3: the 2 on hand there aren't the 10.
+    The 10 of period 3 are there then. With a period covered the orders are for the demands of the period behind: the 10 on hand
+    are not the 5 and the 5, and 20 more, until the 20 that are due in period 1 come in period 2, in time.
+    """
+    reports_from_files(room, FENCED, "orders", "plan")
+    assert room.run("MRP=words/files bin/hit < table.csv") == "hit,A,P,2,2026-01-19,10,1,A,P\n"
+    reports_from_files(room, COVERED.replace("X,0,0,1,0,0", "X,2,0,1,0,0"), "orders", "plan")
+    assert "late,A,X,1,20,1\n" in room.run("cat plan.csv")
+    assert room.run("MRP=words/files bin/hit < table.csv") == ""
+    reports_from_files(room, COVERED.replace("X,0,0,1,0,0", "X,3,0,1,0,0"), "orders", "plan")
+    assert room.run("MRP=words/files bin/hit < table.csv") == "hit,A,X,2,2026-01-19,20,1,A,X\n"
+
+
 def firm_of_hits(table, late=None):
     """Returns the firm of a table for its hits, by the reports of tools/oracle.py; with the late orders of one pair
-    alone where it is given.
+    alone where it is given, or of none.
     """
     answers = [oracle.Oracle(table).answer(it).out.splitlines(keepends=True) for it in ("orders", "plan")]
     orders = hits.Orders(answers[0])
-    for pair in orders.late - {late} if late else ():
+    for pair in orders.late - {late} if late is not None else ():
         orders.of[pair][3::4] = array.array("q", [0] * (len(orders.of[pair]) // 4))
-    orders.late = {late} if late else orders.late
-    firm = hits.Firm(table.decode().splitlines(keepends=True), orders)
+    orders.late = orders.late if late is None else orders.late & {late}
+    with tempfile.NamedTemporaryFile() as file:
+        file.write(table)
+        file.flush()
+        firm = hits.Firm(table.decode().splitlines(keepends=True), orders, reports.Policies(file.name))
     firm.take_plan(answers[1])
     return firm
 

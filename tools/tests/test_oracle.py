@@ -4,6 +4,7 @@ import itertools
 import random
 import re
 
+import cases
 import firms
 import mrp
 import oracle
@@ -92,25 +93,34 @@ def firm_rows(starts, dues):
 
 
 def table_of(given):
-    """Returns a table of one pair that has this planning data without policy."""
-    pair = f"pair,A,X,buy,{':'.join(map(str, given.rule))},{given.lead},{given.on_hand},{given.safety}"
-    rows = [f"run,2026-01-05,7,{len(given.gross)},,,,", "plant,A,,,,,,", pair, *period_rows("demand", given.gross)]
-    rows += itertools.chain(period_rows("receipt", given.receipts), period_rows("receipt", given.arrivals))
+    """Returns a table of one pair that has this planning data."""
+    pair = f"pair,A,X,from:B,{':'.join(map(str, given.rule))},{given.lead},{given.on_hand},{given.safety}"
+    rows = [f"run,2026-01-05,7,{len(given.gross)},,,,", "plant,A,,,,,,", "plant,B,,,,,,", pair, "pair,B,X,buy,lot,0,0,0"]
+    rows += itertools.chain(period_rows("demand", given.gross), period_rows("receipt", given.receipts))
+    rows += (it.replace("receipt,A,X", "ship,B,A,X")[:-1] for it in period_rows("receipt", given.arrivals))
     rows += firm_rows(given.firm_start, given.firm_due)
-    return "".join(f"{it}\n" for it in rows).encode()
+    policy = [f"policy,A,X,{','.join(map(str, given[4:9]))}"] * any(given[4:9])
+    return "".join(f"{it}\n" for it in rows + policy).encode()
 
 
-def test_plain_pairs():
-    """Without policy the plan is that of a table with one pair."""
-    judged = [(it, oracle.Oracle(table_of(it))) for it in oracle.pair_cases(6000, 1) if not any(it[4:9])]
-    # (a table's bound counts firm orders twice: they are there, and they may be needed)
-    assert all(any(it.firm_start) and max(it.firm_start) > 10**11 for it, judge in judged if judge.refused)
-    plain = [(it, judge.firm) for it, judge in judged if not judge.refused]
-    assert min(sum(any(it.firm_start) == has for it, _ in plain) for has in (False, True)) > 300
-    for given, firm in plain:
+def bound(given):
+    """Returns what the bound of a table counts of a pair: what is firm twice, for it is there, and it may be needed."""
+    quantities = given.rule[1:] if given.rule[0] != "periods" else ()
+    rows = (*given.receipts, *given.arrivals, *given.firm_due, *given.firm_due, *given.gross)
+    return sum((*quantities, *given[2:4], *given[7:9], *rows))
+
+
+def test_plans_of_tables():
+    """The plan of a pair is that of a table with it, and with a plant that it is taken from."""
+    judged = [(it, oracle.Oracle(table_of(it))) for it in oracle.pair_cases(1500, 1)]
+    assert all((judge.refused is not None) == (bound(it) > oracle.LIMIT) for it, judge in judged)
+    planned = [(it, judge.firm) for it, judge in judged if not judge.refused]
+    terms = [frozenset(place for place in range(4, 9) if it[place]) for it, _ in planned]
+    assert min(map(terms.count, map(frozenset, ([], [4], [5], [6], [7], [8], range(4, 9))))) > 100
+    for given, firm in planned:
         plan = oracle.PairPlan(given)
         rows = given.gross, plan.incoming, plan.order, plan.release, plan.available
-        late = [tuple(it[3:]) for it in firm.plan_report() if it[0] == "late"]
+        late = [tuple(it[3:]) for it in firm.plan_report() if it[:2] == ("late", "A")]
         assert (rows, plan.late) == (tuple(firm.plans["A", "X"]), late), oracle.data_text(given)
 
 
@@ -228,30 +238,44 @@ def asked(table, plans, pair, t):
     return found
 
 
+def policy_of(table, pair):
+    """Returns how a pair is planned beyond its own row."""
+    found = [oracle.Policy(*it[2:]) for it in table.policies if it.pair == pair]
+    return found[0] if found else oracle.NO_POLICY
+
+
+def data_of(table, row, gross):
+    """Returns the planning data of a pair of a table with this gross requirement."""
+    pair, periods, (rule, *numbers) = (row.plant, row.item), table.run.periods, row.rule.split(":")
+    firm = [it for it in table.firms if it.pair == pair]
+    return oracle.PairData(
+        rule=(rule, *map(int, numbers)),
+        **dict(zip(("lead", "on_hand", "safety"), row[4:])),
+        **policy_of(table, pair)._asdict(),
+        receipts=row_of(periods, ((it.period, it.quantity) for it in table.receipts if it.pair == pair)),
+        arrivals=row_of(periods, ((it.period, it.quantity) for it in table.ships if it.pair == pair)),
+        firm_start=row_of(periods, ((it.start, it.quantity) for it in firm)),
+        firm_due=row_of(periods, ((it.due, it.quantity) for it in firm)),
+        gross=gross,
+    )
+
+
 def test_plans_of_firms():
     """Each pair's gross requirement is what its demands and the releases of its demanders say, and its plan that of its own
     planning data, by definitions that keep no sums.
     """
-    kinds = set()
+    kinds, policies = set(), set()
     for table, judge in some_firms():
         periods, plans = table.run.periods, judge.firm.plans
+        policies |= {frozenset(place for place, figure in enumerate(it[2:]) if figure) for it in table.policies}
         for it in table.pairs:
-            pair, (rule, *numbers) = (it.plant, it.item), it.rule.split(":")
-            firm = [order for order in table.firms if order.pair == pair]
-            kinds |= {(it.supply[:4], len(firm) > 1)}
-            given = oracle.PairData(
-                rule=(rule, *map(int, numbers)),
-                **dict(zip(("lead", "on_hand", "safety"), it[4:])),
-                **dict.fromkeys(("fence", "sooner", "cover", "least", "multiple"), 0),
-                receipts=row_of(periods, ((row.period, row.quantity) for row in table.receipts if row.pair == pair)),
-                arrivals=row_of(periods, ((row.period, row.quantity) for row in table.ships if row.pair == pair)),
-                firm_start=row_of(periods, ((row.start, row.quantity) for row in firm)),
-                firm_due=row_of(periods, ((row.due, row.quantity) for row in firm)),
-                gross=[asked(table, plans, pair, t) for t in range(periods)],
-            )
+            pair = it.plant, it.item
+            kinds |= {(it.supply[:4], sum(order.pair == pair for order in table.firms) > 1)}
+            given = data_of(table, it, [asked(table, plans, pair, t) for t in range(periods)])
             plan = oracle.PairPlan(given)
             assert (given.gross, plan.incoming, plan.order, plan.release, plan.available) == tuple(plans[pair]), pair
     assert kinds == {*itertools.product(("make", "buy", "from"), (False, True))}
+    assert policies >= {*(frozenset([it]) for it in range(5)), frozenset(range(5))}
 
 
 def rows_of(judge, command, *words):
@@ -280,8 +304,8 @@ def test_orders_of_firms():
 
 
 def test_messages_of_firms():
-    """Up to a period stand those for orders that come up to it. Once all are obeyed, what is required is there in time, or no
-    order comes later.
+    """Up to a period stand those for orders that come up to it. Once all are obeyed, what is required is there in time, also for
+    the periods that a policy covers, or no order comes later.
     """
     kinds = set()
     for table, judge in some_firms():
@@ -296,9 +320,170 @@ def test_messages_of_firms():
             for it in (it for it in found if (it.plant, it.item) == pair):
                 orders.remove((it.period, it.quantity))
                 orders += [(it.needed, it.quantity)] if it.needed is not None else []
-            gross = judge.firm.plans[pair].gross
+            gross, cover = judge.firm.plans[pair].gross, policy_of(table, pair).cover
             for t in range(table.run.periods):
                 there = row.on_hand + sum(quantity for period, quantity in orders if period <= t)
-                lacks = there < row.safety + sum(gross[: t + 1])
+                lacks = there < row.safety + sum(gross[: t + cover + 1])
                 assert not lacks or all(period <= t for period, _ in orders), (pair, t)
     assert kinds == {*itertools.product(("expedite", "defer", "cancel"), ("receipt", "ship", "firm"))}
+
+
+def without_cancelled(table, judge):
+    """Returns a table without the open orders that are never needed."""
+    left, rows = [it for it in rows_of(judge, "advice") if it.action == "cancel"], []
+    for word, *fields in table.rows:
+        row = mrp.TABLE_FORMS[word].row(fields)
+        if word in ("receipt", "ship", "firm"):
+            period = row.due if word == "firm" else row.period
+            said = (word, *row.pair, period, row.quantity)
+            found = next((it for it in left if (it.kind, it.plant, it.item, it.period, it.quantity) == said), None)
+            if found and found.supplier in (None, fields[0]):
+                left.remove(found)
+                continue
+        rows.append((word, *fields))
+    assert left == []
+    return mrp.Table(rows)
+
+
+def counted_by(table, judge, pair):
+    """Returns how many of a pair's receipts the plan counts up to each period."""
+    others = [(it.period, it.quantity) for it in table.ships if it.pair == pair]
+    others += [(it.due, it.quantity) for it in table.firms if it.pair == pair]
+    return [*itertools.accumulate(map(int.__sub__, judge.firm.plans[pair].incoming, row_of(table.run.periods, others)))]
+
+
+def test_receipts_that_count_sooner():
+    """Each that the plan counts sooner is to be expedited, to where it is first counted or sooner. Without all that is to be cancelled a
+    pair orders the same.
+    """
+    sooner, cancelled = 0, 0
+    for table, judge in some_firms():
+        messages, less = rows_of(judge, "advice"), without_cancelled(table, judge)
+        for row in table.pairs:
+            pair, due = (row.plant, row.item), 0
+            own = [it for it in messages if it.kind == "receipt" and (it.plant, it.item) == pair]
+            had, plan = counted_by(table, judge, pair), judge.firm.plans[pair]
+            # (of receipts of a period the first in the table comes first)
+            for it in sorted((it for it in table.receipts if it.pair == pair), key=lambda it: it.period):
+                first = next(t for t, counted in enumerate(had) if counted > due)
+                due += it.quantity
+                if first < it.period:
+                    found = next(row for row in own if (row.period, row.quantity) == (it.period, it.quantity))
+                    assert (found.action, found.needed <= first) == ("expedite", True)
+                    own.remove(found)
+                    sooner += 1
+            assert oracle.PairPlan(data_of(less, row, plan.gross)).order == plan.order
+            cancelled += any(it.action == "cancel" and (it.plant, it.item) == pair for it in messages) and any(plan.order)
+    assert sooner > 50
+    assert cancelled > 50
+
+
+# Tables of worked figures, with what the program has to answer.
+HEAD = "run,2026-01-05,7,5,,,,\nplant,A,,,,,,\n"
+FENCED = HEAD + "pair,A,P,make,lot,1,0,0\n" + "".join(f"demand,A,P,{t},10,,,\n" for t in range(1, 5))
+FENCED += "firm,A,P,0,1,12,,\npolicy,A,P,3,0,0,0,0\n"
+SOONER = HEAD + "pair,A,X,buy,lot,1,10,5\ndemand,A,X,0,5,,,\ndemand,A,X,1,40,,,\ndemand,A,X,3,30,,,\nreceipt,A,X,3,60,,,\n"
+SOONER += "policy,A,X,0,2,0,0,0\n"
+COVERED = HEAD + "pair,A,X,buy,lot,1,10,0\ndemand,A,X,0,5,,,\ndemand,A,X,1,5,,,\ndemand,A,X,2,20,,,\ndemand,A,X,3,5,,,\n"
+COVERED += "policy,A,X,0,0,1,0,0\n"
+DAYS = ("2026-01-05", "2026-01-12", "2026-01-19", "2026-01-26", "2026-02-02")
+
+
+def plan_lines(item, *figures):
+    """Returns the lines of a plan of five weeks: gross requirements, what comes in, orders, releases, and what is available."""
+    rows = ((f"plan,A,{item},{t},{DAYS[t]}", *them) for t, them in enumerate(zip(*figures)))
+    return "".join(",".join(map(str, it)) + "\n" for it in rows)
+
+
+WORKED = {
+    # With a fence of 3 the 8 of period 2 come a period late; nothing that is planned is released before period 2.
+    (FENCED, "plan"): plan_lines("P", (0, 10, 10, 10, 10), (0, 12, 0, 0, 0), (0, 0, 8, 10, 10), (12, 0, 18, 10, 0), (0, 2, 0, 0, 0))
+    + "late,A,P,2,8,1\n",
+    (FENCED, "orders"): "firm,A,P,make,12,0,2026-01-05,1,2026-01-12,0\norder,A,P,make,8,2,2026-01-19,2,2026-01-19,1\n"
+    "order,A,P,make,10,2,2026-01-19,3,2026-01-26,0\norder,A,P,make,10,3,2026-01-26,4,2026-02-02,0\n",
+    (FENCED, "advice"): "",
+    # 40 of the 60 count in period 1, and the 20 others when they come.
+    (SOONER, "plan"): plan_lines("X", (5, 40, 0, 30, 0), (0, 40, 0, 20, 0), (0, 0, 0, 10, 0), (0, 0, 10, 0, 0), (5, 5, 5, 5, 5)),
+    (SOONER, "orders"): "order,A,X,buy,10,2,2026-01-19,3,2026-01-26,0\n",
+    (SOONER, "advice"): "advice,expedite,receipt,A,X,,3,2026-01-26,60,1,2026-01-12\n",
+    (COVERED, "plan"): plan_lines("X", (5, 5, 20, 5, 0), (0, 0, 0, 0, 0), (0, 20, 5, 0, 0), (20, 5, 0, 0, 0), (5, 20, 5, 0, 0)),
+    (COVERED, "orders"): "order,A,X,buy,20,0,2026-01-05,1,2026-01-12,0\norder,A,X,buy,5,1,2026-01-12,2,2026-01-19,0\n",
+}
+
+
+@pytest.mark.parametrize("table, report", WORKED, ids=lambda it: it if len(it) < 10 else "")
+def test_worked_tables(table, report):
+    """The worked figures as tables, byte for byte."""
+    assert oracle.Oracle(table.encode()).answer(report) == oracle.Answer(0, WORKED[table, report].encode(), b"")
+
+
+@pytest.mark.parametrize("table, report", WORKED, ids=lambda it: it if len(it) < 10 else "")
+def test_worked_tables_by_the_program(program, table, report):
+    """The worked figures as tables, byte for byte."""
+    cases.expect(program, report, table, WORKED[table, report])
+
+
+def test_messages_with_shipments_and_cover():
+    """By hand. X has 4, wants 10 in each of 1 to 3, and covers a period more: 10, 20, 30 and 30 have to be there up to each period.
+    7 are under way for 1, and a firm 6 come in 2, so that 6, 9, 13 and 13 are lacked. Of the receipts of 2, which are 5 and 8, as
+    many are counted up to each period. The 5 are needed in 0, and so are the 8, for 4 + 5 are below 10. With what is counted of
+    receipts 4 + 9 are below 20 in 1, when the 7 come, and 4 + 13 + 7 below 30 in 2, when the firm 6 do.
+    """
+    table = HEAD.replace("7,5", "7,4") + "plant,B,,,,,,\npair,A,X,from:B,lot,0,4,0\npair,B,X,buy,lot,0,0,0\n"
+    table += "".join(f"demand,A,X,{t},10,,,\n" for t in range(1, 4)) + "receipt,A,X,2,5,,,\nreceipt,A,X,2,8,,,\n"
+    table += "ship,B,A,X,1,7,,\nfirm,A,X,2,2,6,,\n"
+    judge = oracle.Oracle(f"{table}policy,A,X,0,2,1,0,0\n".encode())
+    plan = judge.firm.plans["A", "X"]
+    assert (plan.incoming, plan.order, plan.available) == ([6, 10, 10, 0], [0] * 4, [10, 10, 10, 0])
+    expedite = "advice,expedite,receipt,A,X,,2,2026-01-19,{},0,2026-01-05\n"
+    assert judge.answer("advice").out.decode() == expedite.format(5) + expedite.format(8)
+
+
+# The faults of a row, first come, behind HEAD and two pairs.
+TWO = HEAD + "pair,A,X,buy,lot,1,0,0\npair,A,Y,buy,lot,1,0,0\npolicy,A,Y,0,0,0,0,0\n"
+FAULTS = {
+    "policy,A,X,0,0,0,0,": "BadNumber",
+    "policy,A,X,0,0,0,0": "FieldCount",
+    "policies,A,X,0,0,0,0,0": "UnknownKind",
+    "Policy,A,X,0,0,0,0,0": "UnknownKind",
+    "firm,A,X,0,0,1,,": "KindOrder",
+    "policy,,X,5,0,0,0,0": "BadName",
+    "policy,A,X!,0,0,0,0,0": "BadName",
+    "policy,B,X,5,0,0,0,0": "BadNumber",
+    "policy,A,X,-1,0,0,0,0": "BadNumber",
+    "policy,A,X,04,0,0,0,0": "BadNumber",
+    "policy,A,X,2026-01-12,0,0,0,0": "BadNumber",
+    "policy,A,X,0,105,0,0,0": "BadNumber",
+    "policy,A,X,0,0,105,0,0": "BadNumber",
+    "policy,A,X,0,0,0,1000000000001,0": "BadNumber",
+    "policy,A,X,0,0,0,0,1000000000001": "BadNumber",
+    "policy,A,Y,0,0,0,0,1000000000001": "BadNumber",
+    "policy,A,Y,4,104,104,1,1": "Repeated",
+    "policy,B,Y,0,0,0,0,0": "UnknownPlant",
+    "policy,A,Z,0,0,0,0,0": "UnknownPair",
+    "policy,A,X,4,104,104,1000000000000,1000000000000": None,
+}
+
+
+@pytest.mark.parametrize("row", FAULTS)
+def test_faults_of_policies(row):
+    """The first in the order of tests; the greatest figures have none."""
+    said = oracle.Oracle(f"{TWO}{row}\n".encode()).refused
+    assert said == (FAULTS[row] and f"mrp: row 6: {FAULTS[row]}")
+
+
+@pytest.mark.parametrize("row", FAULTS)
+def test_faults_of_policies_by_the_program(program, row):
+    """By each command."""
+    if FAULTS[row]:
+        cases.refused(program, f"{TWO}{row}\n", f"row 6: {FAULTS[row]}")
+    else:
+        cases.expect(program, "check", f"{TWO}{row}\n", "code,A,X,0\ncode,A,Y,0\n")
+
+
+def test_bound_of_policies():
+    """The least order and the multiple count in what may be needed, also of what a pair takes: 10^15, and a piece more."""
+    table = HEAD + "pair,A,X,make,lot,1,0,0\npair,A,Y,buy,lot,1,0,0\nbill,A,X,Y,1000,,,\npolicy,A,X,0,0,0,400000000000,600000000000\n"
+    assert oracle.Oracle(table.encode()).refused is None
+    for more in ("policy,A,Y,0,0,0,1,0\n", "policy,A,Y,0,0,0,0,1\n"):
+        assert oracle.Oracle(f"{table}{more}".encode()).refused == "mrp: NeedTooLarge A/Y"

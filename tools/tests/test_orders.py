@@ -3,6 +3,8 @@ import csv
 import re
 
 import named
+from support import reports_from_files
+from test_oracle import COVERED
 
 # The sheets of the example without receipts, with a vendor and the vendor's part number for what is bought or taken.
 ITEMS = """\
@@ -230,3 +232,13 @@ def test_headings_of_vendors():
     names = named.reports.Names()
     names.take("pair", "A", "X", "", "", "", "x", "", "Buyer Smith, Vendor One, Vendor code 77, Vendor part P 1")
     assert named.Items(names).noted(("A", "X")) == ("One", "P 1")
+
+
+def test_orders_are_for_what_they_cover(room):
+    """By hand. Of the worked figure with a period covered the 20 are for the demand of period 2, and the 5 for that of period 3."""
+    reports_from_files(room, COVERED, "orders")
+    room.run("sed -i '1i row,plant,item,supply,quantity,release,release_date,due,due_date,late' orders.csv")
+    heads = "row,plant,item,period,date,quantity,name,description,note\n"
+    room.write("names.csv", heads + "".join(f"demand,A,X,{it},,{it + 1},,,Order {it}\n" for it in range(5)))
+    found = csv.DictReader(room.run("MRP=words/files bin/orders --names names.csv < table.csv").splitlines())
+    assert [it["notes"] for it in found] == ["3 of : Order 2", "4 of : Order 3; 5 of : Order 4"]

@@ -3,7 +3,8 @@ import datetime
 import re
 
 import reports
-from support import DELAYED_PLAN, listed, plan_rows, Tags, wants, WITH_DELAYS
+from support import DELAYED_PLAN, listed, plan_rows, reports_from_files, Tags, wants, WITH_DELAYS
+from test_oracle import FENCED, SOONER
 from test_record import FIRM, FIRM_ORDERS, FIRM_PLAN
 
 
@@ -353,3 +354,33 @@ def test_page_has_200_pairs_at_once(room):
     text = room.run("bin/page < large.csv | tee page.html")
     assert "The page has 200 of 201 pairs" in text
     assert "200 of 200 records" in open_page(room, "page.html")
+
+
+def test_page_marks_frozen_releases(room):
+    """By hand, of the worked figure: the two periods below the fence, of which the first has a firm order that starts."""
+    reports_from_files(room, FENCED, "plan", "orders", "advice", "schedule")
+    text = room.run("MRP=words/files bin/page < table.csv")
+    Tags(text)
+    cell = '<td class="frozen" title="frozen: no planned order is released">'
+    assert f'releases</th>{cell}12</td>{cell}</td><td>18</td><td>10</td><td></td></tr>' in text
+    assert "lead time 1 week, 0 on hand, releases frozen: none is planned before <time datetime=\"2026-01-19\">" in text
+    assert [it[:4] for it in listed(text, "late")] == [["A", "P", "1 week", "8 due 19 Jan W04"]]
+    assert 'class="frozen"' not in room.run("bin/page < plan.csv")
+
+
+def test_page_has_receipts_when_they_come(room):
+    """By hand, of the worked figure: no order is late, and the 40 of period 1 wait two weeks for what is to be expedited."""
+    reports_from_files(room, SOONER, "plan", "orders", "advice", "schedule")
+    text = room.run("MRP=words/files bin/page < table.csv")
+    Tags(text)
+    assert listed(text, "late") == [["A", "X", "2 weeks", "expedite 60 of 26 Jan W05", "1", "40 A X of 12 Jan W03, 2 weeks"]]
+    assert "receipts that the plan counts sooner than they come: they are to be expedited" in text
+    assert "Available with delays</th><td>5</td><td class=\"late\">-35</td><td class=\"late\">-35</td><td>5</td><td>5</td>" in text
+    assert "receipts count up to 2 weeks sooner</span>" in text
+    assert "when they are due, and receipts sooner than they come where a policy says so; available with delays" in text
+    # (once it is expedited nothing waits)
+    reports_from_files(room, SOONER.replace("receipt,A,X,3", "receipt,A,X,1"), "plan", "orders", "advice", "schedule")
+    text = room.run("MRP=words/files bin/page < table.csv")
+    assert "No order is late." in text
+    assert "Available with delays</th>" not in text
+    assert "to be expedited" not in room.run("MRP=words/files bin/page --plant A < table.csv")

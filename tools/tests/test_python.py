@@ -33,6 +33,8 @@ def test_python_writes_tables(room):
     ]
     rows += [mrp.Bill("A", "X", "Y", 2), mrp.Receipt(*one, 1, 2), mrp.Ship("B", *one, first, 8), mrp.Cum("B", *one, 9)]
     rows += [mrp.Reset("B", *one, datetime.date(2026, 2, 1)), mrp.Firm(*one, first, datetime.date(2026, 1, 20), 12)]
+    # (how many periods a policy says is none of them)
+    rows += [mrp.Policy(*one, 2, 1, 0, 30, 12), mrp.Policy("B", "X", first, 0, 0, 0, 0)]
     assert bytes(mrp.Table(rows)).decode() == WRITTEN
     assert (
         bytes(
@@ -66,6 +68,8 @@ ship,B,A,X,0,8,,
 cum,B,A,X,9,,,
 reset,B,A,X,3,,,
 firm,A,X,0,2,12,,
+policy,A,X,2,1,0,30,12
+policy,B,X,2026-01-05,0,0,0,0
 """
 RUN_AS_TEXT = """\
 run,2026-01-05,7,4,,,,

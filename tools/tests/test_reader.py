@@ -93,6 +93,7 @@ cum,B,A,Y,500,,,
 reset,B,A,Y,2,,,
 firm,A,X,1,3,20,,
 firm,A,Y,0,0,5,,
+policy,A,Y,3,1,2,40,8
 """
 
 
@@ -120,6 +121,10 @@ def test_table_is_read_by_names(tmp_path, text):
     assert (table.cums[0].figure, table.resets[0].period) == (500, 2)
     assert table.firms == [("A", "X", 1, 3, 20), ("A", "Y", 0, 0, 5)]
     assert (table.firms[0].pair, table.firms[0].start, table.firms[0].due) == (("A", "X"), 1, 3)
+    assert table.policies == [("A", "Y", 3, 1, 2, 40, 8)]
+    policy = table.policies[0]
+    assert (policy.pair, policy.fence, policy.sooner, policy.cover) == (("A", "Y"), 3, 1, 2)
+    assert (policy.least, policy.multiple) == (40, 8)
     assert bytes(table).decode() == ROWS
 
 
@@ -132,7 +137,7 @@ def test_some_kinds_are_read_alone(text):
 
 def test_rows_of_no_kind_are_refused():
     lines = [*ROWS.splitlines(keepends=True), "demands,A,X,2,30,,,\n"]
-    with pytest.raises(mrp.Refused, match="row 15: no kind of row is 'demands'"):
+    with pytest.raises(mrp.Refused, match="row 16: no kind of row is 'demands'"):
         mrp.Table.read(lines)
     with pytest.raises(mrp.Refused, match="no kind of row is 'demands'"):
         list(mrp.table_rows(lines, mrp.Run))

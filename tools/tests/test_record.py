@@ -1,6 +1,7 @@
 """bin/record."""
 import reports
-from support import DELAYED, DELAYED_PLAN, WITH_DELAYS
+from support import DELAYED, DELAYED_PLAN, reports_from_files, WITH_DELAYS
+from test_oracle import FENCED, SOONER
 
 # P takes two weeks and has 5; 30 are wanted in period 3 and 10 in period 4, and 20 are firm, from period 0 to 3.
 # So 5 and 10 are planned. Each takes two C: 40 in period 0, and C takes a week, so these come late. All of it by hand.
@@ -157,3 +158,71 @@ def test_record_sums_firm_orders_of_a_period(room):
     assert firm == [["20"], ["12", "8"]]
     said = ["  period 3: 12 of 2026-01-28: Start 2026-01-05, Order F-1", "  period 3: 4 of 2026-01-29: Start 2026-01-12"]
     assert lines[-4:] == ["", "Firm orders", *said]
+
+
+# The records of worked figures, whose tables test_oracle.py has.
+FENCED_RECORD = """\
+A P: 0 on hand before 2026-01-05
+
+Period                           0           1           2           3           4
+First day               2026-01-05  2026-01-12  2026-01-19  2026-01-26  2026-02-02
+Gross requirements                          10          10          10          10
+Scheduled receipts                          12
+  of which firm orders                      12
+Projected available              0           2           0           0           0
+Available with delays            0           2         !-8           0           0
+Planned order receipts                                   8          10          10
+Planned order releases          12      frozen          18          10
+  of which firm orders          12
+
+Policy
+  no planned order is released before period 2 (2026-01-19)
+
+Late orders
+  8 due in period 2 (2026-01-19), 1 period late: released in period 2, they come in period 3
+"""
+SOONER_RECORD = """\
+A X: 10 on hand before 2026-01-05
+
+Period                           0           1           2           3           4
+First day               2026-01-05  2026-01-12  2026-01-19  2026-01-26  2026-02-02
+Gross requirements               5          40                      30
+Scheduled receipts                          40                      20
+Projected available              5           5           5           5           5
+Available with delays            5        !-35        !-35           5           5
+Planned order receipts                                              10
+Planned order releases                                  10
+
+Policy
+  receipts count up to 2 periods sooner
+
+Receipts that count sooner than they come
+  40 counted in period 1 (2026-01-12) come in period 3: to be expedited
+"""
+
+
+def test_record_says_what_a_policy_says(room):
+    """By hand, from the table behind --table: the frozen periods, and receipts when they come. A record without a policy is what it was."""
+    reports_from_files(room, FENCED, "plan", "orders")
+    assert room.run("cat plan.csv orders.csv | bin/record --table table.csv A P") == FENCED_RECORD
+    # (without the table nobody knows when the 8 are released, but that it isn't now)
+    said = room.run("cat plan.csv orders.csv | bin/record A P")
+    assert said.endswith(", 1 period late: released when they may be, they come in period 3\n")
+    assert "frozen" not in said
+    reports_from_files(room, SOONER, "plan")
+    assert room.run("bin/record --table table.csv A X < plan.csv") == SOONER_RECORD
+    assert "delays" not in room.run("bin/record A X < plan.csv")
+    said = room.run("bin/record --table table.csv A X < examples/pumps.plan.csv", status=1)
+    assert said.startswith("bin/record: the report has no pair A X")
+    room.run("sed 's/^receipt,A,X,3,60/receipt,A,X,3,61/' table.csv > other.csv")
+    said = room.run("bin/record --table other.csv A X < plan.csv", status=1)
+    assert said == "bin/record: other.csv isn't the table of this report\n"
+    said = room.run("sed 's/policy,A,X,0/policy,A,X,x/' table.csv > other.csv; bin/record --table other.csv A X < plan.csv", status=1)
+    assert said == "bin/record: other.csv is no table of mrp\n"
+    assert "none.csv" in room.run("bin/record --table none.csv A X < plan.csv", status=1)
+    wheel = "bin/record {} NORTH WHEEL < examples/three_plants.plan.csv"
+    assert room.run(wheel.format("--table examples/three_plants.csv")) == room.run(wheel.format(""))
+    table = SOONER.replace("A,X,0,2,0,0,0", "A,X,0,0,2,1000,40")
+    reports_from_files(room, table, "plan")
+    said = room.run("bin/record --table table.csv A X < plan.csv")
+    assert "\nPolicy\n  orders cover what is required in 2 periods more\n  orders at least 1,000, in multiples of 40\n\nLate orders\n" in said

@@ -25,6 +25,9 @@ SHEETS = {
             ("On hand", "Stock on hand", "Qty on hand"),
             ("Safety stock", "Safety Stock Qty"),
         ),
+        # (what policies say)
+        *(("Fence (periods)", "Planning time fence in days"), ("Sooner (periods)", "Sooner in days"), ("Cover (Perioden)", "Safety time (days)")),
+        *(("Least", "Minimum order quantity"), ("Multiple", "Rounding value")),
     ),
     "bill": ("bills", ("Plant", "Works"), ("Parent", "Parent item"), ("Component", "Component no"), ("Per", "Qty per")),
     "demand": ("demands", ("Plant", "Site"), ("Item", "Material"), ("Due", "Need date"), ("Quantity", "Order qty")),
@@ -60,6 +63,8 @@ def sheets_of(chance, table):
     """
     rows = [it.split(",") for it in table.decode().splitlines()]
     found, first, days = {}, datetime.date.fromisoformat(rows[0][1]), int(rows[0][2])
+    policies = {(*it[1:3],): it[3:] for it in rows if it[0] == "policy"}
+    rows = [it + policies.get((*it[1:3],), ["0"] * 5) if it[0] == "pair" else it for it in rows]
     for kind, (name, *columns) in SHEETS.items():
         heads = [chance.choice(it) for it in columns] + ["Remark", "Customer name"]
         cells = [
@@ -91,8 +96,12 @@ def cell_of(chance, kind, head, text, first, days):
     """Returns what a sheet has for a field of a table: a day of its period, before the first one too, and days of a
     lead time.
     """
-    if head == "Lead time in days" and text != "0":
+    if head == "Sooner in days":
+        return str(int(text) * days + chance.randrange(days)) if text != "104" else str(104 * days)
+    if head in ("Lead time in days", "Planning time fence in days", "Safety time (days)") and text != "0":
         return str(int(text) * days - chance.randrange(days))
+    if any(head in it for it in SHEETS["pair"][-5:]) and text == "0":
+        return chance.choice(("", " ", "0"))
     if kind == "firm" and head in ("Start", "Start date", "Basic start date", "Due", "Finish date", "End date"):
         # (no order starts behind the day on which it is due: so on the first day of a period or before, and is due on the last)
         day = -chance.choice((0, 1, 400)) if "tart" in head and text == "0" else 0 if "tart" in head else days - 1
@@ -135,7 +144,7 @@ def test_sheets_give_the_table_back(room, firms_tried=40):
     """Random firms, turned into sheets and back."""
     for seed in range(firms_tried):
         chance = random.Random(seed)
-        table = with_firm_orders(chance, firms.table(chance))
+        table = in_order_of_sheets(with_firm_orders(chance, firms.table(chance)))
         write_sheets(room, "firm", sheets_of(chance, table))
         status, written, said = table_of_sheets(room, "--dates", "m/d/y", "firm")
         assert (status, written.decode(), said if status else "") == (0, table.decode(), ""), seed
@@ -149,6 +158,15 @@ def with_firm_orders(chance, table):
         start, due = sorted(chance.randrange(periods) for _ in "12")
         table += f"firm,{','.join(chance.choice(pairs))},{start},{due},{chance.choice((1, 30, 10**12))},,\n".encode()
     return table
+
+
+def in_order_of_sheets(table):
+    """Returns a table with its policies behind all other rows, in the order of its pairs, without those that say nothing."""
+    rows = [it.split(",") for it in table.decode().splitlines()]
+    pairs = [it[1:3] for it in rows if it[0] == "pair"]
+    policies = [it for it in rows if it[0] == "policy" and {*it[3:]} != {"0"}]
+    rows = [it for it in rows if it[0] != "policy"] + sorted(policies, key=lambda it: pairs.index(it[1:3]))
+    return "".join(",".join(it) + "\n" for it in rows).encode()
 
 
 def test_sheets_are_refused_whole(room, program, trials=60):

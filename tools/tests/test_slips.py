@@ -628,3 +628,72 @@ def test_hit_says_what_it_does_not_know(tmp_path):
     status, out, _ = run(tmp_path, "bin/hit", "--help")
     assert status == 0
     assert "A firm order written as a receipt, with demands for what it takes, breaks the chain:" in " ".join(out.split())
+
+
+# What sheets say of policies.
+
+
+def with_policies(items):
+    """Returns the sheets of the bicycle in six weeks with these rows of items."""
+    return {**BICYCLE, "firm.csv": BICYCLE["firm.csv"].replace("7,4", "7,6"), "items.csv": items}
+
+
+ITEM_HEADS = "Plant,Item,Supply,Lot rule,Lead (days),On hand,Safety stock"
+ITEM_ROWS = "P1,BIKE,make,lot,8,0,0{}\nP1,WHEEL,buy,lot,1,0,0{}\n"
+
+
+@pytest.mark.parametrize(
+    "heads, bike, wheel, said",
+    [
+        ("Fence (periods),Sooner (periods),Cover (periods),Least,Multiple", "5,104,104,20,6", "0,0,0,0,0", ["BIKE,5,104,104,20,6"]),
+        # (8 days are a week and a day: two weeks, but receipts count one sooner; and 6 days none)
+        ("Fence (days),Sooner (days),Cover (days)", "8,8,8", "6,6,6", ["BIKE,2,1,2,0,0", "WHEEL,1,0,1,0,0"]),
+        ("Planning time fence (weeks),Receipts sooner in weeks,Safety time (Wochen)", "2,2,2", ",3,", ["BIKE,2,2,2,0,0", "WHEEL,0,3,0,0,0"]),
+        # (with lead times of two weeks and of one)
+        ("Frozen releases (periods)", "3", "", ["BIKE,5,0,0,0,0"]),
+        ("Frozen releases (days)", "8", "7", ["BIKE,4,0,0,0,0", "WHEEL,2,0,0,0,0"]),
+        ("Frozen zone (weeks),MOQ", "0,100", "1,", ["BIKE,0,0,0,100,0", "WHEEL,2,0,0,0,0"]),
+        ("Minimum order qty,Rounding value", "1000000000000,", ",12", ["BIKE,0,0,0,1000000000000,0", "WHEEL,0,0,0,0,12"]),
+        ("Cover (weeks),Remark", ",red", ",", []),
+    ],
+)
+def test_policies_are_columns_of_items(tmp_path, heads, bike, wheel, said):
+    """Each column or none. Lead time, fence and cover count a part of a period as one, and what counts sooner as none; what is frozen is
+    counted behind the lead time.
+    """
+    rows = ITEM_ROWS.format(*(f",{it}" for it in (bike, wheel)))
+    status, table, errors = sheets(tmp_path, with_policies(f"{ITEM_HEADS},{heads}\n{rows}"), "--names", "names.csv")
+    policies = "".join(f"policy,P1,{it}\n" for it in said)
+    assert (status, errors, table[table.index("demand,") :]) == (0, "", f"demand,P1,BIKE,3,10,,,\n{policies}")
+    notes = (tmp_path / "names.csv").read_text(encoding="utf-8")
+    assert [it for it in notes.splitlines() if it.endswith(("20", "8", "12"))] == []
+    assert ("Remark red" in notes) == ("Remark" in heads)
+
+
+LEAD_OF_2 = "behind a lead time of 2 periods are beyond the plan of 6"
+
+
+@pytest.mark.parametrize(
+    "heads, bike, place, told",
+    [
+        ("Fence (periods),Frozen releases (periods)", "2,1", "1", "Fence (periods) and Frozen releases (periods) both say the fence; delete one of the columns"),
+        ("Fence (periods)", "6", "2, Fence (periods)", "'6' is not from 0 to 5"),
+        ("Fence (days)", "36", "2, Fence (days)", "'36' is not from 0 to 35"),
+        ("Fence (weeks)", "1.5", "2, Fence (weeks)", "'1.5' is no whole number; round it up, or head the column Fence (days)"),
+        ("Sooner (weeks)", "1.5", "2, Sooner (weeks)", "'1.5' is no whole number; round it down, or head the column Sooner (days)"),
+        ("Cover (periods)", "105", "2, Cover (periods)", "'105' is not from 0 to 104"),
+        ("Least", "1000000000001", "2, Least", "'1000000000001' is not from 0 to 1000000000000"),
+        ("Multiple", "-1", "2, Multiple", "'-1' is not from 0 to 1000000000000"),
+        ("Multiple", "2.5", "2, Multiple", f"'2.5' is no whole number; {SMALLER}"),
+        ("Frozen releases (weeks)", "4", "2, Frozen releases (weeks)", f"4 periods {LEAD_OF_2}; at most 3 can be frozen"),
+        *((it, "1", f"1, {it}", f"in which unit? Head it {it} (periods), {it} (weeks) or {it} (days)") for it in ("Fence", "Sooner", "Cover")),
+        ("Frozen", "1", "", ""),
+        ("MOQ,Least", "1,1", "1", "Least stands twice, as MOQ and Least"),
+        ("Mulitple", "1", "1", "it has no column Multiple (Mulitple?)"),
+    ],
+)
+def test_slips_of_policies(tmp_path, heads, bike, place, told):
+    """Each in a line; a heading that is none of these is another column."""
+    rows = ITEM_ROWS.format(f",{bike}", "," * (heads.count(",") + 1))
+    status, _, said = sheets(tmp_path, with_policies(f"{ITEM_HEADS},{heads}\n{rows}"))
+    assert (status, said) == ((1, f"items.csv row {place}: {told}\n{REFUSED}") if told else (0, ""))

@@ -1,6 +1,7 @@
 """bin/why."""
 import reports
 from support import reports_from_files, TOP
+from test_oracle import COVERED
 from test_record import FIRM, FIRM_ORDERS, FIRM_PEGS
 
 
@@ -181,3 +182,32 @@ def test_why_names_the_nearest(room):
     for words, meant in (("WORKS SEAL", "SEAL_25"), ("--names names.csv WORKS SEAL", "SEAL 25")):
         said = room.run(f"MRP=words/files bin/why {words} 0 < table.csv", status=1)
         assert said == f"bin/why: the table has no pair WORKS SEAL (WORKS {meant}?)\n"
+
+
+def test_why_goes_from_orders_to_what_they_cover(room):
+    """By hand. With a period covered the 20 of period 1 are for the demand of period 2, and the 5 of period 2 for that of 3. What is
+    ordered for period 0 is for its demands too; safety stock is covered by receipts that count sooner, and then by the order.
+    """
+    reports_from_files(room, COVERED, "orders", "pegs")
+    assert room.run("MRP=words/files bin/why A X 0 < table.csv") == """\
+A X: 20 released in period 0, due in period 1 (2026-01-12)
+  20 required in period 2
+    20 demand
+"""
+    assert "5 required in period 3\n" in room.run("MRP=words/files bin/why A X 1 < table.csv")
+    # (8 are missing of 9 and of the 5 and 5 of periods 0 and 1, for which 1 and the 10 of period 1 are there; then 20 of period 2)
+    table = COVERED.replace("buy,lot,1,10,0", "buy,lot,0,1,9").replace("policy,A,X,0,0", "receipt,A,X,1,10,,,\npolicy,A,X,0,1")
+    reports_from_files(room, table, "orders", "pegs")
+    assert room.run("MRP=words/files bin/why A X 0 < table.csv") == """\
+A X: 8 released in period 0, due in period 0 (2026-01-05)
+  5 required in period 0
+    5 demand
+  5 required in period 1
+    5 demand
+"""
+    reports_from_files(room, table.replace("1,10,,", "1,3,,"), "orders", "pegs")
+    assert room.run("MRP=words/files bin/why A X 0 < table.csv").splitlines()[:3] == [
+        "A X: 15 released in period 0, due in period 0 (2026-01-05)",
+        "  5 for safety stock",
+        "  5 required in period 0",
+    ]
