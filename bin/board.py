@@ -13,10 +13,13 @@ MONTH = 31
 KINDS = {"receipt": "receipt", "firm": "firm order"}
 RULES = {"lot": "lot for lot", "fixed": "lots of {}", "periods": "for {} {}s", "min": "at least {}, by {}"}
 IN_TIME = (
-    f'<p id="delays">{reports.LABELS[2]} counts late orders as if they came when they are due; '
+    f'<p id="delays">{reports.LABELS[2]} counts late orders as if they came when they are due{{}}; '
     f"{reports.WITH_DELAYS.lower()} counts each one from when it comes, and is red where it is below zero. "
     "Late orders are marked where they are due, and requirements by how late a demand in them is at worst.</p>"
 )
+SOONER = ", and receipts sooner than they come where a policy says so"
+# What stands behind late orders of items that have none.
+EXPEDITE = "<p>An item that has no late order here has receipts that the plan counts sooner than they come: they are to be expedited.</p>"
 
 
 def is_firm(order):
@@ -128,6 +131,11 @@ class Board:
 
     # The lists.
 
+    def in_time(self):
+        """Returns what is said of late orders above the records."""
+        sooner = SOONER * any(it.sooner for it in self.outline.policies.of.values())
+        return IN_TIME.format(sooner) if self.outline.rows[mrp.Late] or sooner else ""
+
     def summary(self):
         """Returns how many there are of what the page is about."""
         rows = self.outline.rows
@@ -167,12 +175,22 @@ class Board:
             if others := self.outline.others.get(pair):
                 ends = [("", 0), self.others(others)]
             rows.append([self.plant(pair[0]), self.item(*pair), self.lateness(orders[0].by), self.due(pair, orders), *ends])
+        expedited = self.expedited()
+        for pair in expedited:
+            hits = self.hits[pair]
+            ends = [len(hits), folded([self.demand(it) for it in hits])]
+            rows.append([self.plant(pair[0]), self.item(*pair), self.lateness(hits[0].late_at_worst), self.due(pair, []), *ends])
         if not rows:
             return self.section("late", "Late orders", "", "No order is late.")
         title, heads = ("Late orders, and the demands that they hit", ["Demands", "Worst by this order"]) if hits_known else ("Late orders", [])
         note = "A demand stands by the late order that delays it most, with how late it is at worst; <em>also</em> counts those that wait for this one too."
-        note = f"<p>{note}</p>" if hits_known else ""
+        note = f"<p>{note}</p>" + EXPEDITE * bool(expedited) if hits_known else ""
         return self.section("late", title, sortable(["Plant", "Item", "Late", "Orders", *heads], rows, " stack") + note, "")
+
+    def expedited(self):
+        """Returns the pairs without late orders for which demands wait: for receipts that the plan counts sooner than they come."""
+        comes = self.outline.policies.comes
+        return [it for it in self.hits if it in comes and it not in self.late and self.outline.asked(*it)]
 
     def due(self, pair, orders):
         """Returns the late orders of a pair, and which open orders could come in their place; many open below their sum."""
@@ -184,7 +202,7 @@ class Board:
             whole = f"{sum(it.quantity for it in orders):,} in {len(orders):,} orders, the first due {days[0]}"
             lines = [folded([whole, *lines])]
         found = [it for it in self.messages.rows(pair) if it.action == "expedite"]
-        instead = [f"or expedite {self.open_order(it)}" for it in found]
+        instead = [f"{'or ' * bool(orders)}expedite {self.open_order(it)}" for it in found]
         return "<br>".join([*lines, *instead]) if len(instead) <= MOST_ORDERS else "<br>".join([*lines, folded(instead)])
 
     def open_order(self, message):
@@ -248,6 +266,11 @@ class Board:
 
     # The records.
 
+    def delayed(self, record):
+        """Returns the late orders of a record, and what the plan counts of its receipts sooner than they come, as late orders are."""
+        pair = record.plant, record.item
+        return [*self.late.get(pair, []), *self.outline.policies.sooner(pair, record.incoming)]
+
     def picture(self, record, late):
         """Returns what is available over the periods as a drawing: with delays, projected, safety stock, and a line where a late order is due."""
         delayed, periods, safety = record.with_delays(late), len(record.dates), self.safety(record)
@@ -289,6 +312,10 @@ class Board:
         rule = RULES[kind].format(*(f"{int(it):,}" for it in sizes), self.unit)
         ends = [f"safety stock {found.safety:,}"] if found.safety else []
         lead = f"lead time {reports.counted(found.lead, self.unit)}"
+        policies = self.outline.policies
+        if frozen := policies.frozen(found):
+            ends.append(f"releases frozen: none is planned before {self.day(self.dates[frozen])}")
+        ends += reports.policy_words(policies.policy((record.plant, record.item)), self.unit)
         return ", ".join([self.supply(found.supply), rule, lead, stock, *ends])
 
     def to_do(self, record):
@@ -317,9 +344,9 @@ class Board:
     def lines(self, record, late):
         """Returns the rows of a record. Late orders are marked where they are due, demands that are hit, and what is below zero."""
 
-        def line(label, figures, kind="", late=None):
-            cells = []
-            for period, it in enumerate(figures):
+        def line(label, figures, kind="", late=None, frozen=0):
+            cells = [f'<td class="frozen" title="frozen: no planned order is released">{f"{it:,}" if it else ""}</td>' for it in figures[:frozen]]
+            for period, it in enumerate(figures[frozen:], frozen):
                 mark = f"<small>{reports.counted(late[period], self.unit).replace(' ', '&nbsp;')} late</small>" if late and period in late else ""
                 style = ' class="late"' if mark or it < 0 else ""
                 cells.append(f"<td{style}>{f'{it:,}' if it or kind else ''}{mark}</td>")
@@ -332,11 +359,12 @@ class Board:
         # (what is due of firm orders stands below scheduled receipts, and what is released of them below releases)
         lines = [line(reports.LABELS[0], record.gross, late=hit), line(reports.LABELS[1], record.incoming), *firm[:1]]
         lines.append(line(reports.LABELS[2], record.available, stock))
-        if late:
+        if delayed := self.delayed(record):
             # (below projected available)
-            lines.append(line(reports.WITH_DELAYS, record.with_delays(late), stock))
-        due = {it.period: it.by for it in late}
-        return "\n".join([*lines, line(reports.LABELS[3], record.order, late=due), line(reports.LABELS[4], record.release), *firm[1:]])
+            lines.append(line(reports.WITH_DELAYS, record.with_delays(delayed), stock))
+        due, row = {it.period: it.by for it in late}, (self.outline.facts or {}).get(pair)
+        release = line(reports.LABELS[4], record.release, frozen=self.outline.policies.frozen(row) if row else 0)
+        return "\n".join([*lines, line(reports.LABELS[3], record.order, late=due), release, *firm[1:]])
 
     def article(self, record):
         """Returns the record of a pair as a part of the page."""
@@ -349,7 +377,7 @@ class Board:
         return (
             f'<article id="r{self.outline.places[pair]}" data-plant="{plant}" data-item="{item}"{" data-late" if late else ""}><details{unfolded}>\n'
             f"<summary><h3>{plant} {item}</h3><span>{facts}</span></summary>\n"
-            f'<div class="top"><p>{self.to_do(record)}</p>{self.picture(record, late)}</div>\n'
+            f'<div class="top"><p>{self.to_do(record)}</p>{self.picture(record, self.delayed(record))}</div>\n'
             f'<div class="scroll"><table><thead><tr><th class="name">{self.unit.capitalize()}</th>{self.heads()}</tr></thead><tbody>\n'
             f"{self.lines(record, late)}\n</tbody></table></div>\n</details></article>"
         )

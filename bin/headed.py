@@ -46,11 +46,26 @@ LEAD = "lead leadtime transit transittime vorlauf vorlaufzeit wiederbeschaffungs
 LEAD += " delai delaidelivraison delaidapprovisionnement plazo plazodeentrega tiempodeentrega"
 UNITS = {"period periods periode perioden periodes periodo periodos": 0, "week weeks woche wochen semaine semaines semana semanas": 7}
 UNITS |= {"day days tag tage tagen jour jours dia dias": 1}
-LEADS = {front + link + unit: days for units, days in UNITS.items() for front, link, unit in itertools.product(LEAD.split(), ("", "in", "en"), units.split())}
+
+
+def units(fronts):
+    """Returns how a column is headed in front of its unit and with it, each with the days of the unit, or 0 for periods."""
+    words = ((unit, days) for texts, days in UNITS.items() for unit in texts.split())
+    return {front + link + unit: days for (unit, days), front, link in itertools.product(words, fronts.split(), ("", "in", "en"))}
+
+
+# The columns with a time, and how they are headed with each unit: the days of that unit, or 0 for periods. What a policy says
+# of periods is headed so too.
+FENCE = "fence timefence planningfence planningtimefence fixierungshorizont planungszaun horizonferme horizonfige horizontefijo"
+FROZEN = "frozenreleases releasesfrozen frozenzone frozenhorizon freigabenfixiert fixierteauftragsstarts lancementsgeles lanzamientoscongelados"
+SOONER = "sooner countsooner receiptssooner receiptscountsooner reschedulinghorizon umterminierungshorizont horizondereordonnancement"
+COVER = "cover covers safetytime sicherheitszeit delaidesecurite tiempodeseguridad"
+TIMES = {"Lead": LEAD, "Fence": FENCE, "Frozen releases": FROZEN, "Sooner": SOONER, "Cover": COVER}
+TIME_UNITS = {column: units(fronts) for column, fronts in TIMES.items()}
 # The columns that name things. A row in which two cells are empty, and one of these is, may be a sum.
 NAMING = {"Plant", "Item", "Parent", "Component", "From", "To", "Customer"}
 # The columns that a sheet may lack. Their cells may be empty.
-OPTIONAL = {"Starts again", "Backward consumption", "Forward consumption"}
+OPTIONAL = {"Starts again", "Backward consumption", "Forward consumption", "Fence", "Frozen releases", "Sooner", "Cover", "Least", "Multiple"}
 # What stands for yes and for no in a cell, as `plain` has it.
 YES, NO = {*"x yes y ja j oui o si s true wahr vrai verdadero 1".split()}, {*"no n nein non false falsch faux falso 0 -".split(), ""}
 # How the periods are headed in which orders consume forecasts, in front of a word for periods, and without it.
@@ -74,9 +89,17 @@ SHEETS = {
         "Item": ITEM,
         "Supply": "source sourcing procurement makeorbuy makebuy procurementtype beschaffung beschaffungsart bezug approvisionnement aprovisionamiento abastecimiento",
         "Lot rule": "rule lotsize lotsizing lotsizingrule orderpolicy losgroesse losregel tailledelot regledelot tamanodelote regladelote",
-        "Lead": " ".join(LEADS),
+        "Lead": " ".join(TIME_UNITS["Lead"]),
         "On hand": "stock stockonhand quantityonhand onhandquantity inventory unrestricted bestand lagerbestand bestandfrei freiverwendbar enstock quantiteenstock existencias inventario",
         "Safety stock": "safety safetystockquantity sicherheitsbestand stockdesecurite stockdeseguridad existenciasdeseguridad",
+        "Fence": " ".join(TIME_UNITS["Fence"]),
+        "Frozen releases": " ".join(TIME_UNITS["Frozen releases"]),
+        "Sooner": " ".join(TIME_UNITS["Sooner"]),
+        "Cover": " ".join(TIME_UNITS["Cover"]),
+        "Least": "leastorder minimumorder minimumorderquantity minorderquantity moq minimumlotsize minlotsize mindestbestellmenge mindestlosgroesse "
+        "quantiteminimale quantiteminimaledecommande tailledelotminimale cantidadminima cantidadminimadepedido loteminimo",
+        "Multiple": "ordermultiple lotmultiple roundingvalue rundungswert bestellvielfaches multipledecommande valeurdarrondi multiplo multiplodepedido "
+        "valorderedondeo",
     },
     "bills.csv": {
         "Plant": PLANT,
@@ -110,7 +133,7 @@ DESCRIBED = "description itemdescription partdescription materialdescription ite
 DESCRIBED += "artikelbezeichnung materialkurztext designation libelle descripcion denominacion".split()
 # Headings that could mean two things, and what is asked of them.
 UNCLEAR = {
-    "Lead": (LEAD, "in which unit? Head it Lead (periods), Lead (weeks) or Lead (days)"),
+    **{it: (fronts, f"in which unit? Head it {it} (periods), {it} (weeks) or {it} (days)") for it, fronts in TIMES.items()},
     "Cum received": (
         "cum cumulative cumshipped cumulativeshipped fortschrittszahl lieferfortschrittszahl cumul acumulado",
         "with what is on its way? Give the figure without it, headed Cum received",

@@ -1,7 +1,8 @@
 """Which demands late orders hit: what waits for what, from each late order up to the demands. For bin/hit and bin/page.
 
 What waits for what is what the table says: a receipt waits for nothing, be it of an order whose components stand among the demands.
-A firm order waits for what it takes in the period of its start, as a release does.
+A firm order waits for what it takes in the period of its start, as a release does. A receipt that the plan counts sooner is there
+when it comes, so that what it covers waits for it as for a late order.
 """
 import graphlib
 import subprocess
@@ -34,8 +35,9 @@ def hits(table):
 def firm_of(table, plan):
     """Returns the Firm of the table at a path, and of the lines of its plan."""
     orders = Orders(report("orders", table))
+    policies = reports.Policies(table)
     with mrp.open_table(table) as lines:
-        firm = Firm(lines, orders)
+        firm = Firm(lines, orders, policies)
     firm.take_plan(plan)
     return firm
 
@@ -77,11 +79,11 @@ class Firm:
     """
 
     # What stands behind the pairs and the bills of a table.
-    BEHIND = tuple(f"{it.__name__.lower()}," for it in (mrp.Demand, mrp.Receipt, mrp.Ship, mrp.Cum, mrp.Reset, mrp.Firm))
+    BEHIND = tuple(f"{it.__name__.lower()}," for it in (mrp.Demand, mrp.Receipt, mrp.Ship, mrp.Cum, mrp.Reset, mrp.Firm, mrp.Policy))
 
-    def __init__(self, lines, orders):
-        """Takes the lines of the table, and its Orders."""
-        self.orders, self.rows, self.takes, self.ends = orders, {}, {}, {}
+    def __init__(self, lines, orders, policies):
+        """Takes the lines of the table, its Orders, and its policies."""
+        self.orders, self.policies, self.rows, self.takes, self.ends = orders, policies, {}, {}, {}
         front = takewhile(lambda it: not it.startswith(self.BEHIND), lines)
         for row in mrp.table_rows(front, mrp.Run, mrp.Pair, mrp.Bill):
             self.take(row)
@@ -108,12 +110,19 @@ class Firm:
         self.order = [*graphlib.TopologicalSorter(self.takes).static_order()]
         self.taken = {pair: {} for pair in self.pairs}
         for pair in self.order:
-            # (nothing waits longer than the lead times from a late order up to it, and the times of firm orders)
+            # (nothing waits longer than until the last late order and the last receipt of what is below, and then the lead time, and
+            # the times of firm orders)
             self.taken[pair] = {it: 0 for it in self.takes[pair] if self.ends[it]}
             below = max((self.ends[it] for it in self.taken[pair]), default=0)
             firm = [due - start for due, _, start in self.orders.firm.get(pair, ())] if below else []
-            longest = max(self.rows[pair].lead, *firm, 0)
-            self.ends[pair] = longest + below if below or pair in self.orders.late else 0
+            longest = max(self.rows[pair].lead, *firm, 0) + below if below else 0
+            self.ends[pair] = max(longest, self.own_end(pair))
+
+    def own_end(self, pair):
+        """Returns the first period from which on nothing waits for a pair's own late orders, or for receipts that count sooner."""
+        end = self.policies.earliest(self.rows[pair]) if pair in self.orders.late else 0
+        comes = self.policies.comes.get(pair)
+        return max(end, *(period for period, it in enumerate(comes.receipts, 1) if it), 0) if comes else end
 
     PLAN = staticmethod(mrp.columns(mrp.Plan, "plant", "item", "period", "gross", "incoming", "release"))
 
@@ -163,28 +172,34 @@ class Firm:
         """Returns how many periods the requirements of a pair wait at worst, by period, and the place of the pair whose late order makes it so.
 
         A requirement waits until as many pieces have come as it and those before it ask for. It waits for the order that bin/why has below it: the last
-        one due by then; where a split source or a firm order's dates let that one come before, for the last one that comes later.
+        one due by then, or as much sooner as COVER says; where a split source, a firm order's dates or a receipt that counts sooner let that one come
+        before, for the last one that comes later.
         """
-        came, coming = self.came_in(pair), []
+        came, cover = self.came_in(pair), self.policies.policy(pair).cover
+        sooner = self.policies.sooner(pair, self.incoming[pair])
+        coming = [(it.period, it.period + it.by, self.places[pair]) for it in sooner]
         for due, quantity, release, late in self.orders.rows(pair):
             if due < self.ends[pair]:
                 held, place = self.held(pair, release, waits)
                 comes = due + late + held
                 coming.append((due, comes, place if held else self.places[pair]))
                 came[comes] = came.get(comes, 0) + quantity
+        coming.sort(key=lambda it: it[0])
         times = sorted(came)
         supply, found = [*accumulate(map(came.get, times))], [array("q", [0]) * len(self.gross[pair]) for _ in "12"]
         for period, required in enumerate(accumulate(self.gross[pair])):
             until = times[bisect_left(supply, required)] if self.gross[pair][period] else 0
             if until > period:
                 found[0][period] = until - period
-                due_by_then = coming[: bisect_left(coming, (period + 1,))]
+                due_by_then = coming[: bisect_left(coming, (max(0, period - cover) + 1,))]
                 found[1][period] = next(place for _, comes, place in reversed(due_by_then) if comes >= until)
         return found
 
     def came_in(self, pair):
         """Returns what is there of a pair, and what open orders bring that aren't firm, by period."""
-        came = {period: it for period, it in enumerate(self.incoming[pair]) if it}
+        comes = self.policies.comes.get(pair)
+        incoming = map(sum, zip(*comes)) if comes else self.incoming[pair]
+        came = {period: it for period, it in enumerate(incoming) if it}
         came[0] = came.get(0, 0) + self.rows[pair].on_hand
         for due, quantity, _ in self.orders.firm.get(pair, ()):
             if due < self.ends[pair]:
@@ -215,13 +230,15 @@ class Firm:
     def behind_pair(self, pair, late, behind):
         """Returns which late pairs the requirements of a pair wait for. What waits between when an order is due and when it comes waits for it."""
         found, waits = [0] * len(self.gross[pair]), self.waiting[pair][0]
+        # (an order covers what stock before it doesn't; where receipts come late it may cover more)
+        cover = 0 if pair in self.policies.comes else self.policies.policy(pair).cover
         for due, _, release, by in self.orders.rows(pair):
             if due < self.ends[pair]:
                 bits = late.get(pair, 0) if by else 0
                 for it, periods in self.taken[pair].items():
                     bits |= behind[it][release] if periods >> release & 1 else 0
                 comes = due + by + self.held(pair, release, self.waiting)[0]
-                for period in range(due, min(comes, len(found))):
+                for period in range(due + cover if due else 0, min(comes, len(found))):
                     found[period] |= bits if waits[period] else 0
         return found
 

@@ -1,14 +1,18 @@
 """The reports of mrp as the tools for planners read them, and how all tools speak. What a row is python/mrp.py says."""
 import argparse
 import contextlib
+import csv
 import difflib
+import functools
 import heapq
 import mmap
 import os
 import re
 import subprocess
 import sys
+from bisect import bisect_left
 from datetime import timedelta
+from itertools import accumulate
 from typing import NamedTuple
 
 HERE = os.path.dirname(os.path.realpath(__file__))
@@ -49,7 +53,7 @@ class Record(NamedTuple):
 
     def with_delays(self, late):
         """Returns available with delays: projected available without the pair's late orders, each from where it is due
-        until it comes."""
+        until it comes, and so without receipts that count sooner."""
         left = list(self.available)
         for it in late:
             for period in range(it.period, min(it.period + it.by, len(left))):
@@ -80,6 +84,95 @@ class FirmOrders:
     def figures(self, pair, periods):
         """Returns what is due of a pair's firm orders and what is released, each by period; or nothing where it has none."""
         return [[sums.get(period, 0) for period in range(periods)] for sums in self.of.get(pair, ())]
+
+
+class Comes(NamedTuple):
+    """What open orders and firm orders of a pair bring by their rows, a list of each kind with an entry for each period."""
+
+    receipts: list
+    ships: list
+    firm: list
+
+
+class Policies:
+    """How a table says that pairs are planned beyond their own rows. Without a table it says nothing."""
+
+    NONE = mrp.Policy("", "", 0, 0, 0, 0, 0)
+    LISTS = {mrp.Receipt: "receipts", mrp.Ship: "ships", mrp.Firm: "firm"}
+
+    def __init__(self, path=None):
+        self.path, self.of, self.periods = path, {}, 0
+        for row in self.rows(mrp.Run, mrp.Policy) if path and self.may_have_some() else ():
+            if isinstance(row, mrp.Run):
+                self.periods = row.periods
+            else:
+                self.of[row.pair] = row
+
+    def may_have_some(self):
+        """Tells whether the table may have policies, so that one without isn't read for them."""
+        with open(self.path, "rb") as file:
+            if os.fstat(file.fileno()).st_size == 0:
+                return False
+            with mmap.mmap(file.fileno(), 0, access=mmap.ACCESS_READ) as text:
+                # (in quotes words may be spelled otherwise)
+                return text.find(b"policy,") >= 0 or text.find(b'"') >= 0
+
+    def rows(self, *kinds):
+        """Yields the rows of some kinds in the table."""
+        try:
+            with mrp.open_table(self.path) as lines:
+                yield from mrp.table_rows(lines, *kinds)
+        except (IndexError, TypeError, ValueError, csv.Error) as fault:
+            raise Refused(f"{self.path} is no table of mrp") from fault
+
+    def policy(self, pair):
+        """Returns the policy of a pair."""
+        return self.of.get(pair, self.NONE)
+
+    def earliest(self, row):
+        """Returns the first period in which a planned order can be due that isn't late, of a pair's row."""
+        return max(row.lead, self.policy((row.plant, row.item)).fence)
+
+    def frozen(self, row):
+        """Returns in how many periods no planned order is released, from the first on, of a pair's row."""
+        return self.earliest(row) - row.lead
+
+    @functools.cached_property
+    def comes(self):
+        """What comes in by rows, of each pair whose receipts may count sooner."""
+        found = {pair: Comes(*([0] * self.periods for _ in "123")) for pair, it in self.of.items() if it.sooner}
+        for row in self.rows(*self.LISTS) if found else ():
+            if row.pair in found:
+                period = row.due if isinstance(row, mrp.Firm) else row.period
+                getattr(found[row.pair], self.LISTS[type(row)])[period] += row.quantity
+        return found
+
+    def sooner(self, pair, incoming):
+        """Returns what a pair's plan counts of receipts before they come, from what comes in by the plan, as late orders are: the period
+        in which it is counted, the pieces, and by how many periods later they come.
+        """
+        comes = self.comes.get(pair)
+        if not comes:
+            return []
+        had = [*accumulate(it - ship - firm for it, ship, firm in zip(incoming, comes.ships, comes.firm))]
+        due = [*accumulate(comes.receipts)]
+        if had[-1:] != due[-1:]:
+            raise Refused(f"{self.path} isn't the table of this report")
+        ends = sorted({*had, *due} - {0})
+        # (of receipts the pieces that come first are counted first)
+        parts = ((bisect_left(had, end), end - before, bisect_left(due, end)) for before, end in zip([0, *ends], ends))
+        return [mrp.Late(*pair, counted, pieces, period - counted) for counted, pieces, period in parts if counted < period]
+
+
+def policy_words(policy, unit):
+    """Yields what a policy says besides its fence, in words."""
+    if policy.sooner:
+        yield f"receipts count up to {counted(policy.sooner, unit)} sooner"
+    if policy.cover:
+        yield f"orders cover what is required in {counted(policy.cover, unit)} more"
+    if policy.least or policy.multiple:
+        least = [f"at least {policy.least:,}"] if policy.least else []
+        yield "orders " + ", ".join([*least, *([f"in multiples of {policy.multiple:,}"] if policy.multiple else [])])
 
 
 def notes_of_firm(names, row):

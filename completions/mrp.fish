@@ -6,7 +6,7 @@ complete -c mrp -n __fish_use_subcommand -a plan -d 'Write the plan of each pair
 complete -c mrp -n __fish_use_subcommand -a check -d 'Write the low-level code of each pair'
 complete -c mrp -n __fish_use_subcommand -a peg -d 'Write what the gross requirement of a pair in a period consists of'
 complete -c mrp -n __fish_use_subcommand -a cums -d 'Write the cumulative figures of the lanes between plants'
-complete -c mrp -n __fish_use_subcommand -a orders -d 'Write the planned orders, with their releases and how they are supplied'
+complete -c mrp -n __fish_use_subcommand -a orders -d 'Write planned and firm orders, with releases and how they are supplied'
 complete -c mrp -n __fish_use_subcommand -a schedule -d 'Write the delivery schedules between plants'
 complete -c mrp -n __fish_use_subcommand -a pegs -d 'Write what each gross requirement of the plan consists of'
 complete -c mrp -n __fish_use_subcommand -a advice -d 'Write which open orders to expedite, to defer and to cancel'

@@ -8,6 +8,8 @@ CREATE TABLE forecasts (plant TEXT, item TEXT, due TEXT, quantity INTEGER);
 CREATE TABLE open_orders (plant TEXT, item TEXT, due TEXT, quantity INTEGER);
 -- (orders whose parts aren't issued yet, and whose dates stand; there is none this morning)
 CREATE TABLE firm_orders (plant TEXT, item TEXT, start TEXT, due TEXT, quantity INTEGER);
+-- (how an item is planned beyond its row: times in periods, NULL or 0 where it is planned as ever; there is none this morning)
+CREATE TABLE policies (plant TEXT, item TEXT, fence INTEGER, sooner INTEGER, cover INTEGER, least INTEGER, multiple INTEGER, PRIMARY KEY (plant, item));
 CREATE TABLE shipments (supplier TEXT, customer TEXT, item TEXT, shipped TEXT, arrives TEXT, received TEXT, quantity INTEGER);
 
 INSERT INTO calendar VALUES ('2026-01-05', 7, 6);

@@ -53,7 +53,8 @@ DELETE FROM pegs_rows WHERE "row" = 'row';
 DELETE FROM advice_rows WHERE "row" = 'row';
 
 -- the record of each pair, period by period; with delays a late order counts from when it comes. Scheduled receipts and planned order
--- releases have firm orders too, and what comes in of these stands in the last column
+-- releases have firm orders too, and what comes in of these stands in the last column; receipts that a policy counts sooner stand where the
+-- plan counts them, with delays too (bin/record --table has them when they come)
 DROP VIEW IF EXISTS record;
 CREATE VIEW record AS
 SELECT plant, item, period, date AS first_day, gross AS gross_requirements, incoming AS scheduled_receipts, available AS projected_available,
@@ -86,7 +87,7 @@ DROP VIEW IF EXISTS to_release;
 CREATE VIEW to_release AS
 SELECT plant, item, supply, quantity, due_date, late AS periods_late, "row" AS kind FROM order_rows WHERE release = 0;
 
--- late orders: when they are due, and when they come if they are released now
+-- late orders: when they are due, and when they come if they are released now, or as soon as releases aren't frozen
 DROP VIEW IF EXISTS late;
 CREATE VIEW late AS
 SELECT plant, item, due AS period, due_date AS due, quantity, late AS periods_late, due + late AS comes_in

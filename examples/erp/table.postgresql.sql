@@ -1,7 +1,7 @@
 -- Writes the table of mrp from PostgreSQL: psql -qd firm -f table.postgresql.sql
 -- What was due before the first day counts in period 0, and so does the start of a firm order. What is due after the last period is
 -- left out, a firm order too, and then nothing asks for what it takes; a shipment that arrives then counts in the cumulative figure.
--- Lead times are in periods. A date is 2026-12-16: where it is none the period is empty, and where stock is of no item the row is a
+-- Lead times, fence, sooner and cover are in periods. A date is 2026-12-16: where it is none the period is empty, and where stock is of no item the row is a
 -- receipt of now. mrp refuses both, and a firm order that is due in a period before its start.
 \set ON_ERROR_STOP on
 SET datestyle = ISO, YMD;
@@ -63,6 +63,10 @@ COPY (
         SELECT 9, 'firm', plant, item, start::text, due::text, quantity::text, NULL, NULL
         FROM firm, calendar
         WHERE coalesce(due, 0) < periods
+        UNION ALL
+        SELECT 10, 'policy', plant, item, coalesce(fence, 0)::text, coalesce(sooner, 0)::text, coalesce(cover, 0)::text, coalesce(least, 0)::text,
+            coalesce(multiple, 0)::text
+        FROM policies
     ) AS rows
     ORDER BY place, b, c, d, e, f
 ) TO STDOUT (FORMAT csv);

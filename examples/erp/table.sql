@@ -1,7 +1,7 @@
 -- Writes the table of mrp: sqlite3 -list -separator , firm.db < table.sql
 -- What was due before the first day counts in period 0, and so does the start of a firm order. What is due after the last period is
 -- left out, a firm order too, and then nothing asks for what it takes; a shipment that arrives then counts in the cumulative figure.
--- Lead times are in periods. A date is 2026-12-16: where it is none the period is empty, and where stock is of no item the row is a
+-- Lead times, fence, sooner and cover are in periods. A date is 2026-12-16: where it is none the period is empty, and where stock is of no item the row is a
 -- receipt of now. mrp refuses both, and a firm order that is due in a period before its start.
 CREATE TEMP VIEW wanted AS
 SELECT 'demand' AS kind, plant, item,
@@ -68,5 +68,8 @@ FROM (
     SELECT 9, row, 'firm', plant, item, coalesce(start, ''), coalesce(due, ''), quantity, '', ''
     FROM firm, calendar
     WHERE coalesce(due, 0) < periods
+    UNION ALL
+    SELECT 10, rowid, 'policy', plant, item, coalesce(fence, 0), coalesce(sooner, 0), coalesce(cover, 0), coalesce(least, 0), coalesce(multiple, 0)
+    FROM policies
 )
 ORDER BY place, row;
