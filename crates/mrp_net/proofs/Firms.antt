@@ -119,10 +119,3 @@ firms_read N M rows starts x is are table pair =
     let here : IsPair N x = subst (λ (z : Table). IsPair z x) (sym is) pair in
     let ends = IsGrouped-within (λ (f : FirmRow). f.pair.0) (length N.pairs) N.firms rows starts x are here in
     subst (λ (z : Table). FirmsOf z rows starts x) is (record { rises = ends.0; within = ends.1; value = are.slices x here; each = firms_in N x table })
-
--- firm rows put into groups by as many groups as pairs
-pub firms_grouped : (N : Table) (groups : ℕ) (read places : List FirmRow) (begins : List ℕ) → groups ≡ length N.pairs → read ≡ N.firms
-    → IsGrouped (λ f. f.pair.0) groups read places begins → AreFirms N places begins
-firms_grouped N groups read places begins same_groups same_rows is =
-    subst (λ (n : ℕ). IsGrouped (λ (f : FirmRow). f.pair.0) n N.firms places begins) same_groups
-    (subst (λ (z : List FirmRow). IsGrouped (λ (f : FirmRow). f.pair.0) groups z places begins) same_rows is)

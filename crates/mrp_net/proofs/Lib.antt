@@ -23,3 +23,4 @@ pub mod Awaiting
 pub mod PolicyRows
 pub mod Sooner
 pub mod Firms
+pub mod Crossing

@@ -61,7 +61,7 @@ pub fn plans_look_at_demanders()
 {}
 
 /// A pair without a policy and firm planned orders is planned from what comes in and from its gross requirements.
-pub fn plain_pairs_have_no_firm_orders()
+pub fn plain_pairs_are_planned_by_two_rows()
     ensures { PlainPairs }
 {}
 

@@ -1,21 +1,14 @@
 -- A plant may go to another thread with what it owns, and so may what its thread brings back, or the thread that made it.
 -- A network, of which plants are made, may be shared by threads.
-use denote.Param.Send.{IsSend, IsSync, recorded_send, recorded_sync, struct_send, struct_sync, view_sync}
+use denote.Param.Send.{IsSend, IsSync, recorded_send, recorded_sync, struct_send, struct_sync}
 use denote.RattleType.{RattleType}
 use denote.Struct.Declared.{shape}
 use denote.Struct.Tuple.{TupleAt, field_at, type_at}
 use Rattle.std.proofs.Common.{ℕ, List, [], ◌∷◌}
-use Rattle.std.proofs.Crossing.{Vec-send, crosses}
+use Rattle.std.proofs.Crossing.{Vec-send}
 use Rattle.std.proofs.result.Result.TheSendSync as result
 use Rattle.std.specs.contracts.result.Result as Result
-use Rattle.mrp_master_data.proofs.tables.Tables.TheSendSync as tables
-use Rattle.mrp_net.proofs.build.Amounts.TheSendSync as amounts
-use Rattle.mrp_net.proofs.build.Edges.TheSendSync as edges
-use Rattle.mrp_net.proofs.lanes.LaneLists.TheSendSync as lanes
-use Rattle.mrp_net.specs.contracts.kept.Kept as Kept
-use Rattle.mrp_net.specs.contracts.kept.Kept.TheInside as kept
-use Rattle.mrp_net.specs.contracts.network.Network as Network
-use Rattle.mrp_net.specs.contracts.network.Network.TheInside as inside
+use Rattle.mrp_net.proofs.Crossing.{network_sync}
 use Rattle.mrp_agent.proofs.Crossing.{agent_send}
 use Rattle.mrp_lane.proofs.send.SendEnd.TheSendSync as send
 use Rattle.mrp_lane.proofs.take.TakeEnd.TheSendSync as take
@@ -48,18 +41,6 @@ module _ (name : List ℕ) (A B C D E F G H : RattleType) where
   closure_send a b c d e f g h =
       recorded_send (field_at name captures).row _ _ (type_at name captures).to_one
       (struct_send (shape (type_at name captures)) (a, (b, (c, (d, (e, (f, (g, (h, tt)))))))))
-
-kept_fields : IsSync kept.the_field.row
-kept_fields = struct_sync (shape kept.the_type) (search crosses, (tables.the_sync, tt))
-
-kept_sync : IsSync Kept.the_row
-kept_sync = view_sync kept.the_row _ _ _ _ (recorded_sync kept.the_field.row _ _ kept.the_type.to_one kept_fields)
-
-network_fields : IsSync inside.the_field.row
-network_fields = struct_sync (shape inside.the_type) (kept_sync, (edges.the_field_sync, (amounts.the_field_sync, (lanes.the_field_sync, tt))))
-
-pub network_sync : IsSync Network.the_row
-network_sync = view_sync inside.the_row _ _ _ _ (recorded_sync inside.the_field.row _ _ inside.the_type.to_one network_fields)
 
 -- a closure with one capture, or with two, as each of them may
 module _ (name : List ℕ) (A B : RattleType) where
