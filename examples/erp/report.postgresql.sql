@@ -4,7 +4,7 @@
 -- is as it was, and the status is 3. Others read the old plan until the new one is whole; a second run waits.
 \set ON_ERROR_STOP on
 BEGIN;
-SELECT to_regclass('firm_order') IS NULL AS is_first \gset
+SELECT to_regclass('run') IS NULL AS is_first \gset
 \if :is_first
 SET LOCAL client_min_messages = warning;
 CREATE TABLE IF NOT EXISTS plan_rows ("row" TEXT, plant TEXT, item TEXT, period INTEGER, date DATE,
@@ -19,6 +19,8 @@ CREATE TABLE IF NOT EXISTS pegs_rows ("row" TEXT, plant TEXT, item TEXT, period 
     release BIGINT, per BIGINT, quantity BIGINT);
 CREATE TABLE IF NOT EXISTS advice_rows ("row" TEXT, action TEXT, kind TEXT, plant TEXT, item TEXT, supplier TEXT,
     period INTEGER, date DATE, quantity BIGINT, needed INTEGER, needed_date DATE);
+CREATE TABLE IF NOT EXISTS run (first_day DATE, made_at TIMESTAMPTZ, "rows" BIGINT, pairs BIGINT, orders BIGINT, late BIGINT,
+    seconds NUMERIC);
 CREATE INDEX IF NOT EXISTS late_orders ON order_rows (plant, item) WHERE late > 0;
 CREATE INDEX IF NOT EXISTS firm_orders_due ON order_rows (plant, item) WHERE "row" = 'firm';
 
@@ -72,6 +74,7 @@ DELETE FROM order_rows;
 DELETE FROM schedule_rows;
 DELETE FROM pegs_rows;
 DELETE FROM advice_rows;
+DELETE FROM run;
 -- (grep fails where it finds nothing, and then so does the run)
 \copy plan_rows FROM PROGRAM 'grep ^plan, plan.csv' (FORMAT csv)
 \copy lane_rows FROM 'cums.csv' (FORMAT csv)
@@ -79,4 +82,5 @@ DELETE FROM advice_rows;
 \copy schedule_rows FROM PROGRAM 'grep . schedule.csv' (FORMAT csv, HEADER MATCH)
 \copy pegs_rows FROM PROGRAM 'grep . pegs.csv' (FORMAT csv, HEADER MATCH)
 \copy advice_rows FROM PROGRAM 'grep . advice.csv' (FORMAT csv, HEADER MATCH)
+\copy run FROM PROGRAM 'grep . run.csv' (FORMAT csv, HEADER MATCH)
 COMMIT;

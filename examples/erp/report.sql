@@ -1,6 +1,6 @@
 -- Reads the reports of mrp and shows them: sqlite3 firm.db < report.sql
 -- plan.csv and cums.csv are those of mrp plan and mrp cums; orders.csv, schedule.csv, pegs.csv and advice.csv have the names of
--- their columns above them (--header).
+-- their columns above them (--header). run.csv has a line for each run, the last of them for plan.csv (bin/renew --run).
 -- All or nothing: where a report is missing, plan.csv has no rows, or another has no names, the database is as it was, and the
 -- status is 1.
 .bail on
@@ -12,6 +12,7 @@ DROP TABLE IF EXISTS order_rows;
 DROP TABLE IF EXISTS schedule_rows;
 DROP TABLE IF EXISTS pegs_rows;
 DROP TABLE IF EXISTS advice_rows;
+DROP TABLE IF EXISTS run;
 CREATE TABLE plan_rows ("row" TEXT, plant TEXT, item TEXT, period INTEGER, date TEXT,
     gross INTEGER, incoming INTEGER, "order" INTEGER, release INTEGER, available INTEGER);
 CREATE TABLE lane_rows ("row" TEXT, kind TEXT, sender TEXT, receiver TEXT, item TEXT,
@@ -24,12 +25,15 @@ CREATE TABLE pegs_rows ("row" TEXT, plant TEXT, item TEXT, period INTEGER, sourc
     release INTEGER, per INTEGER, quantity INTEGER);
 CREATE TABLE advice_rows ("row" TEXT, action TEXT, kind TEXT, plant TEXT, item TEXT, supplier TEXT,
     period INTEGER, date TEXT, quantity INTEGER, needed INTEGER, needed_date TEXT);
+-- how old the plan is: the last row is of this plan, and those before it are of earlier ones
+CREATE TABLE run (first_day TEXT, made_at TEXT, "rows" INTEGER, pairs INTEGER, orders INTEGER, late INTEGER, seconds REAL);
 .import "|grep '^plan,' plan.csv" plan_rows
 .import cums.csv lane_rows
 .import orders.csv order_rows
 .import schedule.csv schedule_rows
 .import pegs.csv pegs_rows
 .import advice.csv advice_rows
+.import run.csv run
 CREATE INDEX late_orders ON order_rows (plant, item) WHERE late > 0;
 CREATE INDEX firm_orders_due ON order_rows (plant, item) WHERE "row" = 'firm';
 
@@ -39,18 +43,21 @@ CREATE TEMP TABLE found (
     orders TEXT CONSTRAINT "orders.csv has no names of columns" CHECK (orders = 'supply'),
     schedule TEXT CONSTRAINT "schedule.csv has no names of columns" CHECK (schedule = 'customer'),
     pegs TEXT CONSTRAINT "pegs.csv has no names of columns" CHECK (pegs = 'by_plant'),
-    advice TEXT CONSTRAINT "advice.csv has no names of columns" CHECK (advice = 'action')
+    advice TEXT CONSTRAINT "advice.csv has no names of columns" CHECK (advice = 'action'),
+    run TEXT CONSTRAINT "run.csv has no names of columns" CHECK (run = 'made_at')
 );
 INSERT INTO found SELECT
     (SELECT count(*) FROM plan_rows),
     coalesce((SELECT supply FROM order_rows WHERE "row" = 'row'), ''),
     coalesce((SELECT customer FROM schedule_rows WHERE "row" = 'row'), ''),
     coalesce((SELECT by_plant FROM pegs_rows WHERE "row" = 'row'), ''),
-    coalesce((SELECT action FROM advice_rows WHERE "row" = 'row'), '');
+    coalesce((SELECT action FROM advice_rows WHERE "row" = 'row'), ''),
+    coalesce((SELECT made_at FROM run WHERE first_day = 'first_day'), '');
 DELETE FROM order_rows WHERE "row" = 'row';
 DELETE FROM schedule_rows WHERE "row" = 'row';
 DELETE FROM pegs_rows WHERE "row" = 'row';
 DELETE FROM advice_rows WHERE "row" = 'row';
+DELETE FROM run WHERE first_day = 'first_day';
 
 -- the record of each pair, period by period; with delays a late order counts from when it comes. Scheduled receipts and planned order
 -- releases have firm orders too, and what comes in of these stands in the last column; receipts that a policy counts sooner stand where the

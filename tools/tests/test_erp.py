@@ -124,6 +124,11 @@ pegs,A,C,2,bill,A,P,10,2,20
 row,action,kind,plant,item,supplier,period,date,quantity,needed,needed_date
 advice,defer,firm,A,P,,2,2026-01-19,20,3,2026-01-26
 """,
+    "run": """\
+first_day,made_at,rows,pairs,orders,late,seconds
+2025-12-29,2025-12-29T04:30:09+01:00,9,2,5,0,0.012
+2026-01-05,2026-01-05T04:30:08+01:00,9,2,5,1,0.011
+""",
 }
 # (the C that should have been ordered a week ago are missing until period 1)
 FIRM_VIEWS = {
@@ -156,6 +161,9 @@ def test_views_tell_firm_orders_from_planned_ones(room):
     room.run("sqlite3 firm.db < examples/erp/report.sql")
     for name, rows in FIRM_VIEWS.items():
         assert room.run(f"sqlite3 firm.db 'SELECT * FROM {name}'") == rows, name
+    # (how old the plan is)
+    age = "SELECT first_day, made_at, late, seconds FROM run ORDER BY made_at DESC LIMIT 1"
+    assert room.run(f"sqlite3 firm.db '{age}'") == "2026-01-05|2026-01-05T04:30:08+01:00|1|0.011\n"
 
 
 def test_postgresql_tells_firm_orders_too(room):
@@ -170,13 +178,15 @@ def test_postgresql_tells_firm_orders_too(room):
         assert room.run("tail -n 6 table.csv | sort") == wanted
         for name, text in FIRM_REPORTS.items():
             room.write(f"{name}.csv", text)
-        earlier = "DROP VIEW firm_order, to_release, record; DROP INDEX firm_orders_due; CREATE VIEW to_release AS "
+        earlier = "DROP TABLE run; DROP VIEW firm_order, to_release, record; DROP INDEX firm_orders_due; CREATE VIEW to_release AS "
         earlier += "SELECT plant, item, supply, quantity, due_date, periods_late "
         earlier += "FROM planned_order WHERE release_period = 0"
         for before in ("SELECT", earlier):
             assert room.run(f"psql -qd firm -Atc '{before}'; {read}").strip() == ""
             for name, rows in FIRM_VIEWS.items():
                 assert room.run(f"psql -d firm -Atc 'SELECT * FROM {name}'") == rows, name
+            age = "SELECT first_day, rows, pairs, orders, late, seconds FROM run ORDER BY made_at DESC LIMIT 1"
+            assert room.run(f"psql -d firm -Atc '{age}'") == "2026-01-05|9|2|5|1|0.011\n"
 
 
 def test_no_row_of_the_database_is_lost(room):
@@ -246,6 +256,9 @@ def test_bad_table_keeps_plan_and_database(room):
             # (who has no lanes has no figures)
             assert f"{it} has {fault}" in room.run(f"touch {it}; {report}", status=1)
     assert "pegs.csv has no names of columns" in room.run(f"cp good/* .; sed -i 1d pegs.csv; {report}", status=1)
+    assert "run.csv" in room.run(f"cp good/* .; mv run.csv kept; {report}", status=1)
+    assert "run.csv has no names of columns" in room.run(f"sed 1d kept > run.csv; {report}", status=1)
+    room.run("mv kept run.csv")
     assert "advice.csv has no names of columns" in room.run(
         f"cp good/* .; cp orders.csv advice.csv; {report}", status=1
     )
@@ -301,6 +314,7 @@ def test_postgresql_has_the_same_rows(room):
         room.needs_program()
         for it in NIGHT:
             room.run(f"mrp {it} < table.csv > {it.split()[0]}.csv")
+        room.write("run.csv", FIRM_REPORTS["run"])
         assert "advice.csv" in room.run(f"rm advice.csv; {read}", status=3)
         assert "late" in room.run("psql -d firm -c 'SELECT * FROM late'", status=1)
         room.run(f"mrp advice --header < table.csv > advice.csv; {read}; sqlite3 firm.db < examples/erp/report.sql")

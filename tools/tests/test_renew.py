@@ -1,5 +1,7 @@
 """bin/renew."""
 
+import re
+
 
 def test_renew_keeps_the_old_report(room):
     """Where the table is refused, with its row and without one, and where the program fails after it has written
@@ -38,3 +40,25 @@ def test_renew_keeps_the_old_report(room):
     said = room.run("bin/renew plan.csv plam < slip.csv", status=2)
     assert "error: unrecognized subcommand 'plam'" in said
     assert kept in said
+
+
+def test_renew_tells_of_each_run(room):
+    """With --run a line for each plan that took the place of the old one, and none where the table or the file is refused."""
+    room.stand_in("words/planning", "planning")
+    room.write("report.csv", "plan,A,X,0,2026-01-05,5,0,5,5,0\nplan,A,X,1,2026-01-12,0,0,0,0,0\nlate,A,X,0,5,1\n")
+    room.write("table.csv", '"run",2026-01-05,7,2,,,,\n\nplant,A,,,,,,\npair,A,X,buy,lot,1,0,0\ndemand,A,X,0,5,,,\n')
+    renew = "MRP=words/planning bin/renew --run run.csv plan.csv plan < table.csv"
+    line = r"2026-01-05,20[0-9-]{8}T[0-9:]{8}[+-][0-9:]{5},4,1,1,1,[0-9]+\.[0-9]{3}\n"
+    names = "first_day,made_at,rows,pairs,orders,late,seconds\n"
+    for times in (1, 2):
+        assert room.run(f"{renew}; cmp plan.csv report.csv; ls *.new 2>&1 || true") == "ls: cannot access '*.new': No such file or directory\n"
+        assert re.fullmatch(names + line * times, room.run("cat run.csv"))
+    room.stand_in("words/failing", "failing")
+    kept = room.run("cp run.csv kept; MRP=words/failing bin/renew --run run.csv plan.csv plan < table.csv; cat kept", status=3)
+    assert "plan.csv is as it was" in kept
+    assert room.run("cmp run.csv kept; cmp plan.csv report.csv") == ""
+    room.run("echo last week | tee plan.csv > run.csv")
+    said = "bin/renew: run.csv is no file that --run has written; it and plan.csv are as they were\n"
+    assert room.run(renew, status=1) == said
+    assert room.run("cat plan.csv run.csv") == "last week\nlast week\n"
+    assert room.run("bin/renew --run run.csv cums.csv cums < table.csv", status=2) == "bin/renew: --run is of mrp plan alone\n"
