@@ -68,7 +68,7 @@ Awaits A taken = AreCounts A.progress.waits (joins_of A.view) A.progress.planned
 abbrev pub up_to_last : ℕ → ℕ
 up_to_last sum = min sum (2 ^ 64 - 1)
 
--- what comes in and what is asked for beside the parents, as far as it has come
+-- what comes in at its time and what is asked for beside the parents, as far as it has come
 abbrev pub HasScheduledReceipts : AgentState → (ℕ → List Record) → PlantPair → Type 0
 HasScheduledReceipts A taken p = (t : ℕ) → t < A.view.horizon → amount_at A.view A.scheduled_receipts p.number t
     ≡ up_to_last (local_incoming A.view taken p t)

@@ -74,8 +74,8 @@ impl Agent {
         Agent::of_parts(alloc, frame, demands, receipts)
     }
 
-    /// The agent of the parts of a view: the sums of its demand rows and receipt rows become the demand
-    /// from outside and the scheduled receipts.
+    /// The agent of the parts of a view: the sums of its demand rows become the demand from outside, those of its receipt
+    /// rows what comes in at its time. Receipts that may be counted sooner stay apart, in the view.
     fn of_parts(
         alloc: Global,
         view: PlantFrame,

@@ -1,4 +1,4 @@
-//! How the plan of a pair is drafted from what planners say of it, its scheduled receipts, the demand from outside and
+//! How the plan of a pair is drafted from what planners say of it, what comes in at its time, the demand from outside and
 //! its parents' plans.
 
 ghost use Rattle.std.specs.Prelude.{◌≡◌, ◌<◌, ◌≤◌, ◌+◌, ◌*◌, ℕ, [], All, length, map, slice_index, slice_index_or};
@@ -122,7 +122,7 @@ fn part_of(amounts: &[u64], periods: usize, place: usize) -> &[u64]
     &amounts[begin..begin + periods]
 }
 
-/// Writes the plan of a pair from what planners say of it, its scheduled receipts, the demand from outside, and the
+/// Writes the plan of a pair from what planners say of it, what comes in at its time, the demand from outside, and the
 /// plans of its parents.
 pub(crate) fn draft_from(
     terms: &PlanningTerms<'_>,

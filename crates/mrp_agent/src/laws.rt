@@ -12,7 +12,7 @@ pub fn planned_pairs_have_the_plan()
 
 /// In a sized network what such an agent drafts for a pair is the network's plan of it, once nothing is
 /// missing for the pair; and what the pair has on hand, what comes in, what is asked for, safety stock and
-/// the quantities of its lot rule are together at most 10^15 pieces.
+/// the quantities of its lot rule and its policy are together at most 10^15 pieces.
 pub fn drafts_are_the_plan()
     ensures within { AgentDraftsAreWithin }
     ensures plan { AgentDraftsAreThePlan }

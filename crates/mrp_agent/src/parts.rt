@@ -164,7 +164,7 @@ impl Amounts {
     ghost use Rattle.mrp_netting.specs.Plan.{nothing_planned};
     ghost use Rattle.mrp_agent.specs.Making.{AreFit};
 
-    /// The scheduled receipts and the demand from outside by the view's sums, which are taken over, and no plans.
+    /// What comes in at its time and the demand from outside by the view's sums, which are taken over, and no plans.
     pub(crate) fn new(
         alloc: Global,
         view: &PlantFrame,

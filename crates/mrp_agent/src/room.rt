@@ -66,7 +66,7 @@ impl Room {
         &self.plan
     }
 
-    /// Drafts the plan of a pair from what planners say of it, its scheduled receipts, the demand from outside, and
+    /// Drafts the plan of a pair from what planners say of it, what comes in at its time, the demand from outside, and
     /// the plans of its parents.
     pub(crate) fn draft_rows(
         &mut self,

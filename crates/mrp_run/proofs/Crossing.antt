@@ -1,5 +1,4 @@
 -- A plant may go to another thread with what it owns, and so may what its thread brings back, or the thread that made it.
--- A network, of which plants are made, may be shared by threads.
 use denote.Param.Send.{IsSend, IsSync, recorded_send, recorded_sync, struct_send, struct_sync}
 use denote.RattleType.{RattleType}
 use denote.Struct.Declared.{shape}
@@ -8,7 +7,6 @@ use Rattle.std.proofs.Common.{ℕ, List, [], ◌∷◌}
 use Rattle.std.proofs.Crossing.{Vec-send}
 use Rattle.std.proofs.result.Result.TheSendSync as result
 use Rattle.std.specs.contracts.result.Result as Result
-use Rattle.mrp_net.proofs.Crossing.{network_sync}
 use Rattle.mrp_agent.proofs.Crossing.{agent_send}
 use Rattle.mrp_lane.proofs.send.SendEnd.TheSendSync as send
 use Rattle.mrp_lane.proofs.take.TakeEnd.TheSendSync as take

@@ -7,7 +7,8 @@ use Rattle.std.proofs.alloc.Global.TheSendSync as allocator
 use Rattle.mrp_qty.specs.declared.memory.Memory.{Memory}
 use Rattle.mrp_run.specs.declared.plant.Plant.{Plant}
 use Rattle.mrp_run.specs.Ends.{AreIdle, IsIdle}
-use Rattle.mrp_run.proofs.Crossing.{made_send, pair_closure_sync, network_sync}
+use Rattle.mrp_net.proofs.Crossing.{network_sync}
+use Rattle.mrp_run.proofs.Crossing.{made_send, pair_closure_sync}
 use Rattle.mrp_run.proofs.DealtLists.{each_made}
 use Rattle.mrp_run.proofs.dealing.idle_plants.Goals as goal
 
