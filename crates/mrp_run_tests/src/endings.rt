@@ -1,8 +1,9 @@
 //! What the tables come to.
 
 use crate::tables::{
-    FOUR_PLANTS, IDLE_RING, LONG_RING, NO_LANES, NO_PLANTS, ONE_SHARED, RESET_AT_RELEASE,
-    RESET_LATER, RING, SHARED, SHARED_AFTER_SHIPMENT, TWO_CUSTOMERS, TWO_PLANTS, TWO_SHIPMENTS,
+    COUNTED_SOONER, COVERED, FENCED, FIVE_ARTICLES_BY_POLICY, FOUR_PLANTS, FOUR_PLANTS_BY_POLICY,
+    IDLE_RING, LONG_RING, NO_LANES, NO_PLANTS, ONE_SHARED, RESET_AT_RELEASE, RESET_LATER, RING,
+    ROUNDED_UP, SHARED, SHARED_AFTER_SHIPMENT, TWO_CUSTOMERS, TWO_PLANTS, TWO_SHIPMENTS,
 };
 
 /// What a table comes to, whoever plans it and in whatever order.
@@ -147,6 +148,98 @@ pub const FOUR_PLANTS_ENDING: Ending = Ending {
         &[2, 0, 0, 4],
         &[7, 0, 0, 0],
         &[4, 0, 5, 0],
+    ],
+};
+
+/// What [`COUNTED_SOONER`] comes to. In period 1 A is short of 30 and counts all 20 of its open order; B is short
+/// of 10 in period 0 and counts 6.
+pub const COUNTED_SOONER_ENDING: Ending = Ending {
+    table: COUNTED_SOONER,
+    records: &[3, 4],
+    figures: &[&[(100, 108)], &[(108, 120)]],
+    orders: &[&[0, 10, 2, 0], &[4, 2, 0, 0]],
+};
+
+/// What [`FENCED`] comes to. A's 10 for period 1 are released in 1, a period late, but its firm 5 in 0. B's orders
+/// for 0 and 1 are released in 2, three and two periods late, and its 15 for 4 in 3.
+pub const FENCED_ENDING: Ending = Ending {
+    table: FENCED,
+    records: &[2, 5],
+    figures: &[&[(0, 0)], &[(0, 30)]],
+    orders: &[
+        &[0, 10, 0, 0, 0, 15],
+        &[5, 10, 0, 0, 15, 0],
+        &[0, 0, 30, 30, 0, 0],
+    ],
+};
+
+/// What [`COVERED`] comes to. A orders in period 1 what it wants in 2 too; B in 0 what it wants up to 2, and in 1
+/// what its own customers want in 3.
+pub const COVERED_ENDING: Ending = Ending {
+    table: COVERED,
+    records: &[2, 4],
+    figures: &[&[(0, 0)], &[(0, 25)]],
+    orders: &[&[0, 20, 5, 0, 0], &[21, 7, 0, 0, 0]],
+};
+
+/// What [`ROUNDED_UP`] comes to. A wants 7, 1 and 16, and orders 15, 15 and 20. B wants 13, 8 and 8: its rule makes
+/// 14 of each, the least quantity 18, and fours 20.
+pub const ROUNDED_UP_ENDING: Ending = Ending {
+    table: ROUNDED_UP,
+    records: &[2, 5],
+    figures: &[&[(0, 0)], &[(0, 50)]],
+    orders: &[&[0, 15, 15, 20], &[20, 20, 20, 0]],
+};
+
+/// What [`FOUR_PLANTS_BY_POLICY`] comes to. Releases, period by period, are 3 4 0 0 10 0 of A's X, 0 2 0 10 0 0 of
+/// B's, 0 0 24 0 0 0 of B's Y, 0 0 7 0 0 0 of C's X, 5 0 12 0 0 0 of D's, and 52 of D's Z in period 3.
+pub const FOUR_PLANTS_BY_POLICY_ENDING: Ending = Ending {
+    table: FOUR_PLANTS_BY_POLICY,
+    records: &[4, 6, 2, 5, 3, 5, 2, 3, 4, 4, 4, 4, 2, 3],
+    figures: &[
+        &[(40, 42)],
+        &[(42, 50)],
+        &[(0, 0)],
+        &[(0, 5)],
+        &[(0, 3)],
+        &[(3, 7)],
+        &[(0, 0)],
+        &[(0, 6)],
+        &[(0, 2)],
+        &[(2, 20)],
+        &[(900, 901)],
+        &[(901, 908)],
+        &[(0, 0)],
+        &[(0, 52)],
+    ],
+    orders: &[
+        &[0, 4, 0, 0, 0, 10],
+        &[0, 10, 0, 0, 0, 0],
+        &[0, 10, 0, 52, 0, 0],
+        &[0, 0, 0, 0, 10, 0],
+        &[6, 6, 12, 0, 0, 0],
+        &[2, 0, 3, 2, 0, 0],
+        &[0, 0, 21, 0, 0, 0],
+        &[6, 0, 0, 6, 0, 0],
+        &[16, 36, 0, 0, 0, 0],
+    ],
+};
+
+/// What [`FIVE_ARTICLES_BY_POLICY`] comes to. What the articles ask of the parts is 20 60 30 0 of B1 and 16 36 60 0
+/// of B2, and the parts ask 50 210 0 0 of C.
+pub const FIVE_ARTICLES_BY_POLICY_ENDING: Ending = Ending {
+    table: FIVE_ARTICLES_BY_POLICY,
+    records: &[],
+    figures: &[],
+    orders: &[
+        &[0, 0, 30, 0],
+        &[20, 0, 0, 0],
+        &[16, 0, 0, 0],
+        &[0, 20, 0, 0],
+        &[0, 0, 0, 9],
+        &[30, 30, 30, 0],
+        &[50, 30, 0, 0],
+        &[180, 0, 0, 0],
     ],
 };
 

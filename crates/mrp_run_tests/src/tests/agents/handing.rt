@@ -2,8 +2,8 @@
 
 use super::deeds::{Deed, go};
 use crate::{
-    NO_LANES, ONE_SHARED, RESET_AT_RELEASE, RESET_LATER, RING, SHARED, SHARED_AFTER_SHIPMENT,
-    TWO_CUSTOMERS, TWO_PLANTS, TWO_SHIPMENTS,
+    COUNTED_SOONER, COVERED, FENCED, NO_LANES, ONE_SHARED, RESET_AT_RELEASE, RESET_LATER, RING,
+    ROUNDED_UP, SHARED, SHARED_AFTER_SHIPMENT, TWO_CUSTOMERS, TWO_PLANTS, TWO_SHIPMENTS,
 };
 use std::test::Fail;
 
@@ -179,8 +179,48 @@ const FIGURES_START_ANEW_WITH_THE_RELEASE: &[Deed] = &[
     Deed::Done(1),
 ];
 
+const OPEN_ORDERS_COUNT_SOONER: &[Deed] = &[
+    Deed::Line(0, 1, 0, 2, 8, 108),
+    Deed::End(0, 2, 0, 1, 108),
+    Deed::Plan(0, &[0, 10, 2, 0]),
+    Deed::Line(1, 1, 0, 0, 10, 118),
+    Deed::Line(1, 2, 0, 1, 2, 120),
+    Deed::End(1, 3, 0, 2, 120),
+    Deed::Plan(1, &[4, 2, 0, 0]),
+];
+
+const ORDERS_WAIT_FOR_THE_FENCE: &[Deed] = &[
+    Deed::End(0, 1, 0, 0, 0),
+    Deed::Plan(0, &[0, 10, 0, 0, 0, 15]),
+    Deed::Line(1, 1, 0, 0, 5, 5),
+    Deed::Line(1, 2, 0, 1, 10, 15),
+    Deed::Line(1, 3, 0, 4, 15, 30),
+    Deed::End(1, 4, 0, 3, 30),
+    Deed::Plan(1, &[5, 10, 0, 0, 15, 0]),
+    Deed::Plan(2, &[0, 0, 30, 30, 0, 0]),
+];
+
+const ORDERS_COVER_LATER_PERIODS: &[Deed] = &[
+    Deed::End(0, 1, 0, 0, 0),
+    Deed::Plan(0, &[0, 20, 5, 0, 0]),
+    Deed::Line(1, 1, 0, 0, 20, 20),
+    Deed::Line(1, 2, 0, 1, 5, 25),
+    Deed::End(1, 3, 0, 2, 25),
+    Deed::Plan(1, &[21, 7, 0, 0, 0]),
+];
+
+const ORDERS_ARE_ROUNDED_UP: &[Deed] = &[
+    Deed::End(0, 1, 0, 0, 0),
+    Deed::Plan(0, &[0, 15, 15, 20]),
+    Deed::Line(1, 1, 0, 0, 15, 15),
+    Deed::Line(1, 2, 0, 1, 15, 30),
+    Deed::Line(1, 3, 0, 2, 20, 50),
+    Deed::End(1, 4, 0, 3, 50),
+    Deed::Plan(1, &[20, 20, 20, 0]),
+];
+
 /// The agents of each of these tables, and what is done with them.
-const CASES: [(&str, &[Deed]); 10] = [
+const CASES: [(&str, &[Deed]); 14] = [
     (NO_LANES, A_PLANT_WITHOUT_LANES),
     (TWO_PLANTS, TWO_PLANTS_DEEDS),
     (TWO_SHIPMENTS, TWO_SHIPMENTS_DEEDS),
@@ -191,6 +231,10 @@ const CASES: [(&str, &[Deed]); 10] = [
     (SHARED_AFTER_SHIPMENT, PARTS_AFTER_A_SHIPMENT),
     (RESET_LATER, FIGURES_START_ANEW_WITH_THE_SHIPMENT),
     (RESET_AT_RELEASE, FIGURES_START_ANEW_WITH_THE_RELEASE),
+    (COUNTED_SOONER, OPEN_ORDERS_COUNT_SOONER),
+    (FENCED, ORDERS_WAIT_FOR_THE_FENCE),
+    (COVERED, ORDERS_COVER_LATER_PERIODS),
+    (ROUNDED_UP, ORDERS_ARE_ROUNDED_UP),
 ];
 
 #[test]

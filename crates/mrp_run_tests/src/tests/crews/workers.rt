@@ -2,7 +2,7 @@
 
 use super::gates::{Counting, Meeting, ShutTo};
 use super::plans;
-use crate::{FIVE_ARTICLES, TWO_CUSTOMERS};
+use crate::{FIVE_ARTICLES, FIVE_ARTICLES_BY_POLICY, TWO_CUSTOMERS};
 use mrp_crew::CrewFault;
 use std::test::Fail;
 
@@ -28,13 +28,20 @@ fn a_shut_gate_leaves_pairs_for_later(rt: HostRuntime) -> Result<(), Fail> {
     Ok(())
 }
 
-/// Five articles, then two parts, then the stuff: one worker goes pair by pair, and 64 in waves of 5, 2 and
-/// 1, whose numbers add up to 15, 3 and 1. Each pair is asked for once.
+/// Five articles, then two parts, then the stuff, with policies or without: one worker goes pair by pair, and 64
+/// in waves of 5, 2 and 1, whose numbers add up to 15, 3 and 1. Each pair is asked for once.
 #[test]
 fn crews_of_any_size_plan_the_same(rt: HostRuntime) -> Result<(), Fail> {
-    for (workers, numbers) in [(1, 8), (2, 0), (64, 15 + 3 + 1)] {
+    for (table, workers, numbers) in [
+        (FIVE_ARTICLES, 1, 8),
+        (FIVE_ARTICLES, 2, 0),
+        (FIVE_ARTICLES, 64, 15 + 3 + 1),
+        (FIVE_ARTICLES_BY_POLICY, 1, 8),
+        (FIVE_ARTICLES_BY_POLICY, 2, 0),
+        (FIVE_ARTICLES_BY_POLICY, 64, 15 + 3 + 1),
+    ] {
         let gate = Counting::new();
-        let calls = plans(&rt, rt.alloc(), FIVE_ARTICLES, workers, &gate)?;
+        let calls = plans(&rt, rt.alloc(), table, workers, &gate)?;
         assert!(rt; calls.first == Ok(8) && calls.before == Some(8) && calls.left == 0);
         assert!(rt; gate.was_asked(8, numbers));
     }

@@ -4,7 +4,10 @@ ghost use Rattle.std.specs.Prelude.{◌≡◌, length};
 
 use super::trials::{Trial, holds_of};
 use super::{are_received, follows, is_at_the_end, is_planned_whole};
-use crate::{FOUR_PLANTS, RESET_AT_RELEASE, RESET_LATER, RING, SHARED_AFTER_SHIPMENT};
+use crate::{
+    COUNTED_SOONER, COVERED, FENCED, FOUR_PLANTS, FOUR_PLANTS_BY_POLICY, RESET_AT_RELEASE,
+    RESET_LATER, RING, ROUNDED_UP, SHARED_AFTER_SHIPMENT,
+};
 use mrp_book::LaneFigure;
 use mrp_loops::SizedNet;
 use mrp_net::{LaneNo, Network, PairNo};
@@ -215,6 +218,20 @@ fn firms_keep_the_laws_in_any_order(rt: HostRuntime) -> Result<(), Fail> {
         RESET_LATER,
         RESET_AT_RELEASE,
         FOUR_PLANTS,
+    ] {
+        assert!(rt; table_keeps_on(&rt, table, ORDERS)?, "{table}");
+    }
+    Ok(())
+}
+
+#[test]
+fn firms_with_policies_keep_the_laws_in_any_order(rt: HostRuntime) -> Result<(), Fail> {
+    for table in [
+        COUNTED_SOONER,
+        FENCED,
+        COVERED,
+        ROUNDED_UP,
+        FOUR_PLANTS_BY_POLICY,
     ] {
         assert!(rt; table_keeps_on(&rt, table, ORDERS)?, "{table}");
     }
