@@ -79,7 +79,8 @@ pub record IsPlannedFrom (d e : PairData) (orders : List OpenOrder) : Type 0 whe
   pub receipts : (t : ℕ) → due e t ≡ pieces_of d.policy true (filter (comes_by (Some t)) orders)
   pub others : (t : ℕ) → there_beside e true t ≡ pieces_of d.policy false (filter (comes_by (Some t)) orders)
 
--- without the orders that are to be cancelled a pair's planned orders are those of the plan
+-- without the orders that are to be cancelled a pair's planned orders are those of the plan, by the same gross
+-- requirements
 abbrev pub CancelledOrdersChangeNothing : Type 0
 CancelledOrdersChangeNothing =
     (N : Table) → IsSized N → (table : List PlanRows) → Fits N table → (x : ℕ) → IsPair N x

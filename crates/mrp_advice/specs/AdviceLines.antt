@@ -53,7 +53,8 @@ pub record IsAdvice (N : Table) (advice : Advice) : Type 0 where
   pub order : IsOpenOrder N advice.order
   pub needed : IfSome advice.needed (λ t. t < horizon N)
 
--- there is what each period lacks, and the open orders of a pair are together within 10^15
+-- the rows of what is lacking are as long as the horizon; the open orders of a pair are orders of it, and together
+-- within 10^15
 pub record IsAdvised (N : Table) (lacks : Lacks) (orders : List OpenOrder) : Type 0 where
   pub room : HaveRoom (horizon N) lacks
   pub pieces : sum_by (λ o. o.quantity) orders ≤ MOST

@@ -16,8 +16,8 @@ use Rattle.mrp_advice.specs.OpenOrders.{open_order_at}
 abbrev pub lacking : PairData → Bool → ℕ → ℕ
 lacking d sooner t = asked_by d t - (d.params.on_hand + there_beside d sooner t)
 
--- what a period lacks where receipts count when they come: what safety stock and gross requirements ask beyond what is
--- on hand
+-- what a period lacks where receipts count when they come: what safety stock and the gross requirements up to it, and
+-- those of the periods of cover, ask beyond what is on hand
 abbrev pub lack_of_stock : PairParams → ℕ → List ℕ → ℕ → ℕ
 lack_of_stock params cover gross t = (params.safety + sum (take (suc t + cover) gross)) - params.on_hand
 

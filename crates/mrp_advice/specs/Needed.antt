@@ -1,6 +1,7 @@
 -- When an open order is needed: in the first period in which what the pair has before it is less than what is asked.
 -- Receipts that may be counted sooner than they come go by themselves, and so do the other open orders: before one of
--- a sort are had those of its sort that come before it, and of the other sort what is there by the period.
+-- a sort are had those of its sort that come before it. Of the other sort are had before a receipt those that come by
+-- the period, and before another order as many as are short of the receipts that may be counted by then.
 use Rattle.std.specs.Prelude.{ℕ, ◌+◌, suc, ◌&&◌, nat_le, nat_lt, Bool, true, false, if◌then◌else◌, min, List, length}
 use Rattle.std.specs.Prelude.{take, sum, sum_by, Option, Some, None}
 use Rattle.std.specs.List.{find, range_with_len}
@@ -24,7 +25,8 @@ abbrev pub asked_by : PairData → ℕ → ℕ
 asked_by d t = d.params.safety + sum (take (suc t + d.policy.cover) d.gross)
 
 -- what is there by a period beside open orders of a sort: beside receipts that may be counted sooner, what arrives and
--- what is firmly ordered by then; beside the others, of the receipts that may be counted by then those that are short
+-- what is due of firm planned orders by then; beside the others, of the receipts that may be counted by then as many as
+-- are short
 abbrev pub there_beside : PairData → Bool → ℕ → ℕ
 there_beside d true t = sum (take (suc t) d.arrivals) + sum (take (suc t) d.firm_due)
 there_beside d false t = min (due d (t + d.policy.sooner)) (short d t)

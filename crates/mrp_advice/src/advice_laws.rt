@@ -11,8 +11,8 @@ ghost use Rattle.mrp_advice.specs.WorkedOrders.{FourAreNeeded, FourAreNeededByBa
 
 /// If each open order of a pair came in the period in which it is needed, and one that is needed in none never,
 /// then without any planned order what is on hand and has come would be as much as safety stock and gross requirements
-/// ask, those of the periods of cover among them, in each period before one in which an order is needed. So without
-/// such periods the projected available balance would be at safety stock or above.
+/// ask, those of the periods of cover among them, in each period before one in which an order is needed. So where there
+/// are no periods of cover, the projected available balance would be at safety stock or above.
 pub fn timely_orders_suffice()
     ensures orders { TimelyOrdersSuffice }
     ensures plain { PlainOrdersSuffice }
@@ -31,7 +31,8 @@ pub fn receipts_counted_sooner_are_expedited()
     ensures { CountedSoonerIsExpedited }
 {}
 
-/// Without the open orders that are to be cancelled a pair's planned orders are the same.
+/// Without the open orders that are to be cancelled a pair's planned orders are the same, by the same gross
+/// requirements. Those of its components may change, since a cancelled firm planned order takes none.
 pub fn cancelled_orders_change_nothing()
     ensures { CancelledOrdersChangeNothing }
 {}

@@ -20,7 +20,7 @@ use std::alloc::Global;
 /// What each period of a pair lacks, in pieces.
 #[derive(Drop)]
 pub(crate) struct Lacks {
-    /// Beside receipts that may be counted sooner than they come. Where a pair has none it says nothing.
+    /// Beside receipts that may be counted sooner than they come. It says nothing where the policy's `sooner` is 0.
     pub(crate) receipts: Row,
     /// Beside the other open orders.
     pub(crate) others: Row,
@@ -100,7 +100,7 @@ fn find_both(given: &PlanningData<'_>, gross: &Row, lacks: &mut Lacks)
     }
 }
 
-/// Writes what safety stock and gross requirements, those of the periods of cover among them, ask in each period beyond
+/// Writes what safety stock and gross requirements, those of the periods of cover among them, ask by each period beyond
 /// what is on hand.
 fn find_lack_of_stock(params: PairParams, cover: u64, gross: &Row, lacks: &mut Row)
     requires asked { params.safety + sum gross.now ≤ MOST }

@@ -7,8 +7,9 @@
 //!
 //! Used by `mrp_api`, which writes the report.
 //! Keeps true: an order is needed in the first period that what comes before it doesn't cover; one that is due
-//! then has no message. Receipts that the plan counts sooner are expedited, and without the orders that are to be
-//! cancelled it orders the same.
+//! then has no message. Receipts that the plan counts sooner are expedited. Without the orders that are to be cancelled
+//! a pair orders the same by the same gross requirements; a cancelled firm planned order takes no components, so theirs
+//! may change.
 #![tactic(auto)]
 
 mod advice;

@@ -78,6 +78,7 @@ impl OpenOrder {
             Some(period) => self.period as u64 <= period,
         }
     }
+
     /// Whether the order is a receipt that may be counted sooner than it comes, by the policy of its pair.
     pub(crate) fn may_come_sooner(&self, policy: Policy) -> bool
         ensures { result ≡ may_come_sooner policy self.now }

@@ -39,7 +39,7 @@ pub(crate) struct Reaches {
 /// The message for the next open order of a pair, where there is something to do. The orders of its sort then reach
 /// further by it.
 ///
-/// The pieces of all orders of a sort are together at most 10^15.
+/// The pieces of each sort so far, and those of the order whichever its sort, are together at most 10^15.
 pub(crate) fn next_advice(
     policy: Policy,
     lacks: &Lacks,

@@ -1,7 +1,7 @@
 -- The names of each report's columns.
 use Rattle.std.specs.Prelude.{ℕ, List, [], ◌∷◌, codes as text_bytes}
 
--- the columns of the planned orders
+-- the columns of the orders, firm and planned
 abbrev pub order_names : List (List ℕ)
 order_names =
     text_bytes "row" ∷ text_bytes "plant" ∷ text_bytes "item" ∷ text_bytes "supply" ∷ text_bytes "quantity"

@@ -61,7 +61,7 @@ pub(crate) struct OrderLine<'a> {
 /// order and due periods in rising order, and in one period the firm planned orders in table order before the planned
 /// one: `firm` or `order`, plant, item, where the pair comes from, the quantity in pieces, the period of the release and
 /// its first day, the period in which it is due and its first day, and how many periods are missing, 0 where none is: of
-/// a planned order so many as it is due before the earliest period in which one can come in, the lead time or the
+/// a planned order so many as it is due before the earliest period in which one can come in, the later of lead time and
 /// planning time fence. The names of the columns stand above them where `heading` says so.
 ///
 /// # Errors
@@ -214,7 +214,8 @@ fn put_orders<'a>(
     Ok(())
 }
 
-/// Adds the rows of the orders that are due in period `t` and are released by then, first those of firm planned orders.
+/// Adds the rows of the orders that are due in period `t` and released by the last period of a release, first those of
+/// firm planned orders.
 fn put_due<'a>(
     rows: &mut Writer<Vec<u8>>,
     line: &'a OrderLine<'a>,
@@ -237,7 +238,8 @@ fn put_due<'a>(
     }
 }
 
-/// Adds the rows of the firm planned orders that are due in period `t` and are released by then, in table order.
+/// Adds the rows of the firm planned orders that are due in period `t` and released by the last period of a release, in
+/// table order.
 fn put_firms_due<'a>(
     rows: &mut Writer<Vec<u8>>,
     line: &'a OrderLine<'a>,
@@ -258,7 +260,7 @@ fn put_firms_due<'a>(
     Ok(())
 }
 
-/// Adds the row of an order, if it is released by then.
+/// Adds the row of an order, if it is released by the last period of a release.
 fn put_released<'a>(
     rows: &mut Writer<Vec<u8>>,
     line: &'a OrderLine<'a>,
