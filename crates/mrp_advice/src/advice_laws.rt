@@ -7,7 +7,9 @@ ghost use Rattle.mrp_advice.specs.AdviceLaws.{HorizonDropsNone, NeedsRise, NoneC
 ghost use Rattle.mrp_advice.specs.AdviceLaws.{OrdersAreKept, OrdersAreOfPlan, OrdersArePlanned, OrdersComeIn};
 ghost use Rattle.mrp_advice.specs.AdviceLaws.{OthersAreKept, PlainNeedsRise, PlainOrdersSuffice};
 ghost use Rattle.mrp_advice.specs.AdviceLaws.{PlainPairsAreAdvised, TimelyOrdersSuffice};
-ghost use Rattle.mrp_advice.specs.WorkedOrders.{FourAreNeeded, FourAreNeededByBalance, SixtyAreExpedited};
+ghost use Rattle.mrp_advice.specs.WorkedOrders.{CoveredAheadAreNeeded, CoveredSoonerAreNeeded, FourAreNeeded};
+ghost use Rattle.mrp_advice.specs.WorkedOrders.{FourAreNeededByBalance, OthersAreNeededBehindReceipts};
+ghost use Rattle.mrp_advice.specs.WorkedOrders.{ReceiptsAreNeededBehindOthers, SixtyAreExpedited};
 
 /// If each open order of a pair came in the period in which it is needed, and one that is needed in none never,
 /// then without any planned order what is on hand and has come would be as much as safety stock and gross requirements
@@ -49,6 +51,10 @@ pub fn worked_orders_are_needed()
     ensures expedited { SixtyAreExpedited }
     ensures sooner { FourAreNeeded }
     ensures when_due { FourAreNeededByBalance }
+    ensures cover { CoveredAheadAreNeeded }
+    ensures cover_sooner { CoveredSoonerAreNeeded }
+    ensures behind_others { ReceiptsAreNeededBehindOthers }
+    ensures behind_receipts { OthersAreNeededBehindReceipts }
 {}
 
 /// The open orders of all pairs are the receipts, the shipments and the firm planned orders of the table, each once.
