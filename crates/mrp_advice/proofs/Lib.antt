@@ -4,6 +4,7 @@ pub mod Coming
 pub mod Sorts
 pub mod Rising
 pub mod SortNeeds
+pub mod PlanNeeds
 pub mod Cancelled
 pub mod Kept
 pub mod Planned

@@ -145,6 +145,23 @@ module _ (N : Table) (x : ℕ) where
         ap (pieces_of policy s) front,
       )
 
+  -- an order that comes in the first n periods is among the orders of these
+  pub with-le : (policy : Policy) (s : Bool) (i n : ℕ) → i < length (open_orders N x) → (open_order_at (open_orders N x) i).period < n
+      → n ≤ horizon N → pieces_of policy s (take (i + 1) (open_orders N x)) ≤ pieces_of policy s (first n)
+  with-le policy s i n there early few =
+      let orders = open_orders N x in
+      let parts = longer_to n (horizon N) few in
+      let front : take (length (first n)) orders ≡ first n = ap (take (length (first n))) parts.split ∙ take-append_seam (first n) parts.rest in
+      elim (cases_lt i (length (first n))) as (λ _. pieces_of policy s (take (i + 1) orders) ≤ pieces_of policy s (first n)) [
+        | inl among ↦
+            omega (
+              arith,
+              pieces-le policy s orders (i + 1) (length (first n)) (omega (arith, among)),
+              ap (pieces_of policy s) front,
+            )
+        | inr behind ↦ let later = stand_behind n i few there behind in absurd (omega (arith, later, early))
+      ]
+
   -- the orders of the first periods that come by t
   pub first_by : (n t : ℕ) → filter (comes_by (Some t)) (first n) ≡ first (min n (suc t))
   first_by zero t = ap first (let e : zero ≡ min zero (suc t) = omega arith in e)

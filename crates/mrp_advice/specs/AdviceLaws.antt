@@ -1,7 +1,8 @@
 -- Laws of open orders, of when they are needed, and of the report of their messages.
-use Rattle.std.specs.Prelude.{◌≡◌, ℕ, ◌+◌, ◌<◌, ◌≤◌, nat_lt, true, false, if◌then◌else◌, List, ◌++◌, length, filter}
+use Rattle.std.specs.Prelude.{◌≡◌, ℕ, ◌+◌, ◌<◌, ◌≤◌, ◌↔◌, nat_lt, true, false, if◌then◌else◌, List, ◌++◌, length, filter}
 use Rattle.std.specs.Prelude.{map, sum, sum_by, slice_index, take, All, IsPermutation, Option, Some, None, is_some}
 use Rattle.std.specs.List.{flat_map, range_with_len}
+use Rattle.mrp_netting.specs.OpenOrders.{IsOtherNeeded, IsReceiptNeeded}
 use Rattle.mrp_netting.specs.PlanRows.{PlanRows}
 use Rattle.mrp_netting.specs.PlanningBound.{IsWithinData}
 use Rattle.mrp_netting.specs.PlanningData.{PairData, due, had, one}
@@ -64,6 +65,42 @@ abbrev pub CountedSoonerIsExpedited : Type 0
 CountedSoonerIsExpedited =
     (N : Table) (table : List PlanRows) (x i : ℕ) → i < length (open_orders N x) → IsCountedSooner N table x i
     → action_for (open_order_at (open_orders N x) i).period (needed_at N table x i) ≡ Some Expedite
+
+-- and of a pair whose receipts may be counted sooner no other receipt is
+abbrev pub ExpeditedIsCountedSooner : Type 0
+ExpeditedIsCountedSooner =
+    (N : Table) → IsTable N → (table : List PlanRows) (x i : ℕ) → i < length (open_orders N x)
+    → may_come_sooner (policy_of N x) (open_order_at (open_orders N x) i) ≡ true
+    → action_for (open_order_at (open_orders N x) i).period (needed_at N table x i) ≡ Some Expedite
+    → IsCountedSooner N table x i
+
+-- the plan counts a piece of such a receipt by a period before the one in which it comes exactly if it is needed by that
+-- period and comes within SOONER periods of it
+abbrev pub NeededIsCountedSooner : Type 0
+NeededIsCountedSooner =
+    (N : Table) → IsTable N → (table : List PlanRows) (x i t : ℕ) → i < length (open_orders N x)
+    → may_come_sooner (policy_of N x) (open_order_at (open_orders N x) i) ≡ true
+    → t < (open_order_at (open_orders N x) i).period
+    → pieces_of (policy_of N x) true (take i (open_orders N x)) < had (pair_data N table x) t
+    ↔ ((is_needed_by t (needed_at N table x i) ≡ true)
+    × ((open_order_at (open_orders N x) i).period ≤ t + (policy_of N x).sooner))
+
+-- a receipt that may be counted sooner is needed by a period exactly if the plan needs it in a period up to that one,
+-- behind those before it
+abbrev pub ReceiptsAreNeeded : Type 0
+ReceiptsAreNeeded =
+    (d : PairData) (orders : List OpenOrder) (t i : ℕ) → t < length d.gross
+    → may_come_sooner d.policy (open_order_at orders i) ≡ true
+    → is_needed_by t (needed d orders i) ≡ true
+    ↔ ((s : ℕ) × s ≤ t × IsReceiptNeeded d (pieces_of d.policy true (take i orders)) s)
+
+-- and so is any other open order
+abbrev pub OthersAreNeeded : Type 0
+OthersAreNeeded =
+    (d : PairData) (orders : List OpenOrder) (t i : ℕ) → t < length d.gross
+    → may_come_sooner d.policy (open_order_at orders i) ≡ false
+    → is_needed_by t (needed d orders i) ≡ true
+    ↔ ((s : ℕ) × s ≤ t × IsOtherNeeded d (pieces_of d.policy false (take i orders)) s)
 
 -- ---- the plan without open orders that are to be cancelled
 

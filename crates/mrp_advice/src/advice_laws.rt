@@ -2,11 +2,12 @@
 //! a function that does nothing.
 
 ghost use Rattle.mrp_advice.specs.AdviceLaws.{AdviceIsReadBack, AllAreAdvised, CancelledOrdersChangeNothing};
-ghost use Rattle.mrp_advice.specs.AdviceLaws.{CountedSoonerIsExpedited};
-ghost use Rattle.mrp_advice.specs.AdviceLaws.{HorizonDropsNone, NeedsRise, NoneComesLater, OrdersAreAllPlanned};
-ghost use Rattle.mrp_advice.specs.AdviceLaws.{OrdersAreKept, OrdersAreOfPlan, OrdersArePlanned, OrdersComeIn};
-ghost use Rattle.mrp_advice.specs.AdviceLaws.{OthersAreKept, PlainNeedsRise, PlainOrdersSuffice};
-ghost use Rattle.mrp_advice.specs.AdviceLaws.{PlainPairsAreAdvised, TimelyOrdersSuffice};
+ghost use Rattle.mrp_advice.specs.AdviceLaws.{CountedSoonerIsExpedited, ExpeditedIsCountedSooner};
+ghost use Rattle.mrp_advice.specs.AdviceLaws.{HorizonDropsNone, NeededIsCountedSooner, NeedsRise, NoneComesLater};
+ghost use Rattle.mrp_advice.specs.AdviceLaws.{OrdersAreAllPlanned, OrdersAreKept, OrdersAreOfPlan, OrdersArePlanned};
+ghost use Rattle.mrp_advice.specs.AdviceLaws.{OrdersComeIn, OthersAreKept, OthersAreNeeded, PlainNeedsRise};
+ghost use Rattle.mrp_advice.specs.AdviceLaws.{PlainOrdersSuffice, PlainPairsAreAdvised, ReceiptsAreNeeded};
+ghost use Rattle.mrp_advice.specs.AdviceLaws.{TimelyOrdersSuffice};
 ghost use Rattle.mrp_advice.specs.WorkedOrders.{CoveredAheadAreNeeded, CoveredSoonerAreNeeded, FourAreNeeded};
 ghost use Rattle.mrp_advice.specs.WorkedOrders.{FourAreNeededByBalance, OthersAreNeededBehindReceipts};
 ghost use Rattle.mrp_advice.specs.WorkedOrders.{ReceiptsAreNeededBehindOthers, SixtyAreExpedited};
@@ -28,9 +29,25 @@ pub fn needs_rise()
     ensures plain { PlainNeedsRise }
 {}
 
-/// A receipt of which the plan counts a piece before the period in which it comes is to be expedited.
+/// A receipt of which the plan counts a piece before the period in which it comes is to be expedited, and no other one is
+/// of a pair whose receipts may be counted sooner.
 pub fn receipts_counted_sooner_are_expedited()
-    ensures { CountedSoonerIsExpedited }
+    ensures counted { CountedSoonerIsExpedited }
+    ensures expedited { ExpeditedIsCountedSooner }
+{}
+
+/// Of a receipt that may be counted sooner than it comes the plan counts a piece by a period before that exactly if the
+/// receipt is needed by the period and comes within SOONER periods of it. So within these none is needed sooner than the
+/// plan counts it.
+pub fn needed_receipts_are_counted_sooner()
+    ensures { NeededIsCountedSooner }
+{}
+
+/// An open order is needed by a period exactly if a period up to that one needs it in the words of the laws of
+/// `mrp_netting`, by which the plan counts needed receipts and orders the same without needless orders.
+pub fn open_orders_are_needed_by_the_plan()
+    ensures receipts { ReceiptsAreNeeded }
+    ensures others { OthersAreNeeded }
 {}
 
 /// Without the open orders that are to be cancelled a pair's planned orders are the same, by the same gross

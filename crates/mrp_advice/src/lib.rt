@@ -7,7 +7,7 @@
 //!
 //! Used by `mrp_api`, which writes the report.
 //! Keeps true: an order is needed in the first period that what comes before it doesn't cover; one that is due
-//! then has no message. Receipts that the plan counts sooner are expedited. Without the orders that are to be cancelled
+//! then has no message. Receipts that the plan counts sooner, and no others of their pairs, are expedited. Without the orders that are to be cancelled
 //! a pair orders the same by the same gross requirements; a cancelled firm planned order takes no components, so theirs
 //! may change.
 #![tactic(auto)]
@@ -22,7 +22,8 @@ mod reach;
 
 pub use advice::{Action, Advice};
 pub use advice_laws::{
-    advice_is_read_back, cancelled_orders_change_nothing, later_messages_are_dropped, needs_rise,
+    advice_is_read_back, cancelled_orders_change_nothing, later_messages_are_dropped,
+    needed_receipts_are_counted_sooner, needs_rise, open_orders_are_needed_by_the_plan,
     open_orders_come_in, plain_pairs_are_advised_by_balance, receipts_counted_sooner_are_expedited,
     timely_orders_suffice, worked_orders_are_needed,
 };
