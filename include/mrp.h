@@ -58,6 +58,10 @@ uint32_t mrp_cums(const uint8_t *table, size_t table_size, bool header,
 uint32_t mrp_advice(const uint8_t *table, size_t table_size, bool limited, uint64_t until, bool header,
                     uint8_t *buffer, size_t buffer_size, size_t *size);
 
+/* Which requirements of period 0 lack parts, and how many pieces, as mrp shortages. */
+uint32_t mrp_shortages(const uint8_t *table, size_t table_size, bool header,
+                       uint8_t *buffer, size_t buffer_size, size_t *size);
+
 #ifdef __cplusplus
 }
 #endif

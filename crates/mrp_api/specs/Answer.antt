@@ -3,7 +3,7 @@ use Rattle.std.specs.Prelude.{◌≢◌, ◌≤◌, ℕ, true, false, List, Resu
 use Rattle.mrp_master_data.specs.Table.{Table}
 use Rattle.mrp_commands.specs.declared.choice.Choice.{Choice}
 use Rattle.mrp_commands.specs.declared.choice.Choice.TheVariants.{Plan, Check, Peg, Cums}
-use Rattle.mrp_commands.specs.declared.choice.Choice.TheVariants.{Orders, Schedule, Pegs, Advice}
+use Rattle.mrp_commands.specs.declared.choice.Choice.TheVariants.{Orders, Schedule, Pegs, Advice, Shortages}
 use Rattle.mrp_commands.specs.declared.choice.TheConstants.{MOST_CAPACITY}
 use Rattle.mrp_api.specs.declared.fault.TextFault.{TextFault}
 use Rattle.mrp_api.specs.declared.fault.TextFault.TheVariants.{GateShut, WriteFault}
@@ -12,7 +12,7 @@ use Rattle.mrp_report.specs.Headings.{code_names, lane_names, peg_names, pegs_na
 use Rattle.mrp_api.specs.Text.{IsPlanReport}
 use Rattle.mrp_api.specs.Reports.{IsCodeReport, IsPegReport, IsCumReport, IsOrderReport, IsHeaded}
 use Rattle.mrp_api.specs.Refusals.{Question, AskWhole, AskByThreads, AskPair, AskPlants}
-use Rattle.mrp_api.specs.Reports.{IsScheduleReport, IsPegsReport, IsAdviceReport, name_of}
+use Rattle.mrp_api.specs.Reports.{IsScheduleReport, IsPegsReport, IsAdviceReport, IsShortagesReport, name_of}
 
 -- what one thread can be asked for: every report but a plan by threads; a plan with mailboxes for 1 to MOST_CAPACITY
 -- records
@@ -31,6 +31,7 @@ IsAnswer (Orders until heading) = IsOrderReport until heading
 IsAnswer (Schedule from to heading) = IsScheduleReport (name_of from) (name_of to) heading
 IsAnswer (Pegs heading) = λ N. IsHeaded heading pegs_names (IsPegsReport N)
 IsAnswer (Advice until heading) = IsAdviceReport until heading
+IsAnswer (Shortages heading) = IsShortagesReport heading
 
 -- what a choice asks of a table
 abbrev pub question_of : Choice → Question
@@ -43,6 +44,7 @@ question_of (Orders until heading) = AskWhole
 question_of (Schedule from to heading) = AskPlants (name_of from) (name_of to)
 question_of (Pegs heading) = AskWhole
 question_of (Advice until heading) = AskWhole
+question_of (Shortages heading) = AskWhole
 
 -- the faults after which nothing of the report is written: of a plan those that are met before its first byte,
 -- of every other report all but a failed write
@@ -55,6 +57,7 @@ IsBeforeReport (Orders until heading) fault = fault ≢ WriteFault
 IsBeforeReport (Schedule from to heading) fault = fault ≢ WriteFault
 IsBeforeReport (Pegs heading) fault = fault ≢ WriteFault
 IsBeforeReport (Advice until heading) fault = fault ≢ WriteFault
+IsBeforeReport (Shortages heading) fault = fault ≢ WriteFault
 
 -- no shut gate
 abbrev pub IsNoShutGate : TextFault → Type 0

@@ -19,6 +19,7 @@ use Rattle.mrp_report.specs.Terms.{peg_text}
 use Rattle.mrp_report.specs.Pegs.{pegs_text}
 use Rattle.mrp_schedules.specs.ScheduleRows.{schedule_text}
 use Rattle.mrp_advice.specs.AdviceRows.{advice_text}
+use Rattle.mrp_shortages.specs.ShortageRows.{shortage_text}
 use Rattle.mrp_world.specs.Figures.{last_figures}
 use Rattle.mrp_api.specs.declared.fault.TextFault.{TextFault}
 use Rattle.mrp_api.specs.declared.fault.TextFault.TheVariants as fault
@@ -78,6 +79,10 @@ IsPegsReport N text = IsSized N × OfPlan N (λ plans. text ≡ pegs_text N plan
 -- columns above them where they are asked for
 abbrev pub IsAdviceReport : Option ℕ → Heading → Table → List ℕ → Type 0
 IsAdviceReport until heading N text = IsSized N × OfPlan N (λ plans. text ≡ advice_text heading until N plans)
+
+-- the shortage rows of the plan of the network, with the names of their columns above them where they are asked for
+abbrev pub IsShortagesReport : Heading → Table → List ℕ → Type 0
+IsShortagesReport heading N text = IsSized N × OfPlan N (λ plans. text ≡ shortage_text heading N plans)
 
 -- rows of a report, with the names of its columns above them where they are asked for
 abbrev pub IsHeaded : Heading → List (List ℕ) → (List ℕ → Type 0) → List ℕ → Type 0

@@ -7,7 +7,7 @@
 //! and [`drive_text`] the same plan on one thread; [`check_text`] writes the low-level codes, [`peg_text`] what a gross
 //! requirement consists of, and [`pegs_text`] so of the whole plan, [`cums_text`] the cumulative figures of the lanes
 //! between plants, [`orders_text`] the planned and firm orders, [`schedule_text`] the delivery schedules between plants,
-//! and [`advice_text`] which open orders to move. [`report_text`] writes the report that a `Choice` of `mrp_commands`
+//! [`advice_text`] which open orders to move, and [`shortages_text`] which requirements lack parts. [`report_text`] writes the report that a `Choice` of `mrp_commands`
 //! asks for on one thread, and [`answer`] that and a plan by threads. A [`Heading`] says whether the names of the
 //! columns stand above the rows; for codes, terms and figures a `Choice` has one.
 //! Where a text was not written whole, a [`TextFault`] says why: [`write_fault`] writes the line that
@@ -46,5 +46,5 @@ pub use mrp_report::ReportFault;
 pub use mrp_run::{Gate, NoGate, Settings};
 pub use text::{
     advice_text, check_text, cums_text, drive_text, orders_text, peg_text, pegs_text, plan_text,
-    report_text, schedule_text,
+    report_text, schedule_text, shortages_text,
 };

@@ -15,7 +15,7 @@ ghost use Rattle.mrp_api.specs.Text.{Writes, OfTable, IsPlanReport};
 ghost use Rattle.mrp_api.specs.Reports.{WritesRows, IsPlanRows, IsCodeReport};
 ghost use Rattle.mrp_report.specs.Headings.{pegs_names};
 ghost use Rattle.mrp_api.specs.Reports.{IsPegReport, IsCumReport, IsOrderReport, IsHeaded};
-ghost use Rattle.mrp_api.specs.Reports.{IsAdviceReport, IsPegsReport, IsScheduleReport, name_of};
+ghost use Rattle.mrp_api.specs.Reports.{IsAdviceReport, IsPegsReport, IsScheduleReport, IsShortagesReport, name_of};
 ghost use Rattle.mrp_api.specs.Refusals.{Refuses, AskWhole, AskByThreads, AskPair, AskPlants};
 ghost use Rattle.mrp_api.specs.Gates.{GateExplains};
 ghost use Rattle.mrp_commands.specs.declared.choice.TheConstants.{MOST_CAPACITY};
@@ -283,6 +283,28 @@ pub fn advice_text<R: Read + Drop, W: Write>(
     ensures untouched { IfErr result (λ fault. fault ≢ TextFault.WriteFault → writer.new ≡ writer.old) }
 {
     report_text(alloc, reader, writer, Choice::Advice { until, heading })
+}
+
+/// Reads a table and writes which requirements of its plan in period 0 lack parts: a row for each that gets less than it
+/// asks for of what is there of its pair, and how many pieces are missing, with the names of the columns above them where
+/// `heading` says so.
+///
+/// # Errors
+///
+/// As [`TextFault`] says. After [`TextFault::WriteFault`] a prefix of the text is written, and nothing
+/// after every other fault.
+pub fn shortages_text<R: Read + Drop, W: Write>(
+    alloc: Global,
+    reader: R,
+    writer: &mut W,
+    heading: Heading,
+) -> Result<(), TextFault>
+    ensures text { Writes (W.contents writer.old) (W.contents writer.new) result
+        (λ text. OfTable (R.remaining reader) (λ N. IsShortagesReport heading N text)) }
+    ensures refusal { IfErr result (Refuses (R.remaining reader) AskWhole) }
+    ensures untouched { IfErr result (λ fault. fault ≢ TextFault.WriteFault → writer.new ≡ writer.old) }
+{
+    report_text(alloc, reader, writer, Choice::Shortages { heading })
 }
 
 /// Reads a table and writes the report that one thread is asked for: what each text function but [`plan_text`] does.

@@ -13,7 +13,7 @@ ghost use Rattle.mrp_api.specs.Reports.{WritesRows, IsPlanRows, IsCodeReport};
 ghost use Rattle.mrp_report.specs.Headings.{code_names, lane_names, peg_names, pegs_names};
 ghost use Rattle.mrp_api.specs.Reports.{IsPegReport, IsCumReport, IsPegs, IsOrderReport, IsHeaded};
 ghost use Rattle.mrp_api.specs.Reports.{AreSchedules, IsAdviceReport, IsChosenPlant};
-ghost use Rattle.mrp_api.specs.Reports.{IsPegsReport, IsScheduleReport};
+ghost use Rattle.mrp_api.specs.Reports.{IsPegsReport, IsScheduleReport, IsShortagesReport};
 ghost use Rattle.mrp_api.specs.Reports.{name_of};
 ghost use Rattle.mrp_api.specs.Refusals.{IsNoPlant, RefusesTable, AskPair, AskPlants};
 ghost use Rattle.mrp_commands.specs.declared.choice.TheConstants.{MOST_CAPACITY};
@@ -28,6 +28,7 @@ use mrp_net::{Network, PairNo, PlantNo};
 use mrp_plan::{Plan, peg, plan_all};
 use mrp_report::{code_rows, lane_rows, late_rows, order_rows, peg_rows, pegs_rows, plan_rows};
 use mrp_schedules::schedule_rows;
+use mrp_shortages::shortage_rows;
 use mrp_world::last_figures;
 use std::alloc::Global;
 use std::io::Write;
@@ -83,6 +84,7 @@ fn report<W: Write>(
         }
         Choice::Pegs { heading } => report_all_pegs(alloc, net, writer, heading),
         Choice::Advice { until, heading } => report_advice(alloc, net, writer, until, heading),
+        Choice::Shortages { heading } => report_shortages(alloc, net, writer, heading),
     }
 }
 
@@ -316,5 +318,23 @@ fn report_advice<W: Write>(
 {
     let plan = plan_all(alloc, net)?;
     advice_rows(alloc, net, &plan, until, heading, writer)?;
+    Ok(())
+}
+
+/// Writes the shortage rows of the plan.
+fn report_shortages<W: Write>(
+    alloc: Global,
+    net: &SizedNet<'_>,
+    writer: &mut W,
+    heading: Heading,
+) -> Result<(), TextFault>
+    requires { IsSized net.now.network }
+    ensures text { Writes (W.contents writer.old) (W.contents writer.new) result
+        (IsShortagesReport heading net.now.network) }
+    ensures fault { IfErr result IsLate }
+    ensures untouched { IfErr result (λ fault. fault ≢ TextFault.WriteFault → writer.new ≡ writer.old) }
+{
+    let plan = plan_all(alloc, net)?;
+    shortage_rows(alloc, net, &plan, heading, writer)?;
     Ok(())
 }

@@ -26,6 +26,7 @@ ghost use Rattle.mrp_c_api.specs.Options.{heading_of, limit_of};
 ghost use Rattle.mrp_report.specs.Headings.{code_names, lane_names};
 ghost use Rattle.mrp_api.specs.Refusals.{AskWhole};
 ghost use Rattle.mrp_api.specs.Reports.{IsAdviceReport, IsCodeReport, IsCumReport, IsHeaded, IsOrderReport};
+ghost use Rattle.mrp_api.specs.Reports.{IsShortagesReport};
 ghost use Rattle.mrp_api.specs.Text.{IsPlanReport};
 
 use crate::buffer::{answer, refuse_name};
@@ -187,4 +188,25 @@ pub extern "C" fn mrp_advice(
     let heading = heading(header);
     let choice = Choice::Advice { until, heading };
     answer(alloc, table, choice, buffer, size)
+}
+
+/// Writes which requirements of a table's plan in period 0 lack parts, and how many pieces.
+///
+/// Where `header` is true the names of the columns stand above the rows. The text is that of `mrp shortages`.
+///
+/// # Errors
+///
+/// Status 1 where the table is refused, and 3 where memory was refused; the text is the line of the fault.
+#[unsafe(no_mangle)]
+pub extern "C" fn mrp_shortages(
+    alloc: Global,
+    table: &[u8],
+    header: bool,
+    buffer: &mut [u8],
+    size: &mut usize,
+) -> u32
+    ensures { Answers table.now AskWhole (IsShortagesReport (heading_of header)) result buffer.old buffer.new size.new }
+{
+    let heading = heading(header);
+    answer(alloc, table, Choice::Shortages { heading }, buffer, size)
 }

@@ -10,7 +10,7 @@ use Rattle.clap.specs.declared.error.kind.ErrorKind.TheVariants.{OutOfMemory}
 use Rattle.mrp_command_line.specs.CommandLine.{mrp}
 use Rattle.mrp_commands.specs.declared.choice.Choice.{Choice}
 use Rattle.mrp_commands.specs.declared.choice.Choice.TheVariants.{Plan, Check, Peg, Cums}
-use Rattle.mrp_commands.specs.declared.choice.Choice.TheVariants.{Orders, Schedule, Pegs, Advice}
+use Rattle.mrp_commands.specs.declared.choice.Choice.TheVariants.{Orders, Schedule, Pegs, Advice, Shortages}
 use Rattle.mrp_commands.specs.declared.choice.Heading.{Heading}
 use Rattle.mrp_commands.specs.declared.choice.Heading.TheVariants.{Without, Names}
 use Rattle.mrp_command_line.specs.declared.words.ChooseFault.{ChooseFault}
@@ -67,6 +67,7 @@ IsCommand name rows (Schedule from to heading) =
 IsCommand name rows (Pegs heading) = (name ≡ codes "pegs") × IsHeadedBy rows heading
 IsCommand name rows (Advice until heading) =
     (name ≡ codes "advice") × (number_value (codes "until") rows ≡ until) × IsHeadedBy rows heading
+IsCommand name rows (Shortages heading) = (name ≡ codes "shortages") × IsHeadedBy rows heading
 
 -- the same, where there is a subcommand
 abbrev pub IsMeantBy : Option (Text × List Row) → Choice → Type 0

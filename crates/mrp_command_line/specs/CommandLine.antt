@@ -106,6 +106,10 @@ pegs_words = with_rule (new_app (codes "pegs")) header
 abbrev pub advice_words : App
 advice_words = with_rule (with_rule (new_app (codes "advice")) until) header
 
+-- `shortages [--header]`
+abbrev pub shortages_words : App
+shortages_words = with_rule (new_app (codes "shortages")) header
+
 -- a program of that name, which has a version and has to be given a subcommand
 abbrev pub program_words : Text → App
 program_words name =
@@ -133,9 +137,12 @@ up_to_schedule = with_subcommand up_to_orders schedule_words.top
 abbrev pub up_to_pegs : App
 up_to_pegs = with_subcommand up_to_schedule pegs_words.top
 
+abbrev pub up_to_advice : App
+up_to_advice = with_subcommand up_to_pegs advice_words.top
+
 -- the command line
 unfoldable pub mrp : App
-mrp = with_subcommand up_to_pegs advice_words.top
+mrp = with_subcommand up_to_advice shortages_words.top
 
 -- the argument has this rule, at its own command alone
 abbrev pub IsRuled : Rule → Arg → Type 0

@@ -57,14 +57,15 @@ pub record HasOrderValues (rows : List Row) : Type 0 where
   pub until_within : MayBeWithin 0 LAST_PERIOD (number_value (codes "until") rows)
   pub header : HasFlag (codes "header") rows
 
--- the command is a report of orders, with its values
+-- the command is a report on the whole plan, with its values
 abbrev pub IsWholeReport : Text → List Row → Type 0
 IsWholeReport name rows = ((name ≡ codes "orders") × HasOrderValues rows)
     ⊎ (((name ≡ codes "schedule") × HasFlag (codes "header") rows)
     ⊎ (((name ≡ codes "pegs") × HasFlag (codes "header") rows)
-    ⊎ ((name ≡ codes "advice") × HasOrderValues rows)))
+    ⊎ (((name ≡ codes "advice") × HasOrderValues rows)
+    ⊎ ((name ≡ codes "shortages") × HasFlag (codes "header") rows))))
 
--- the command is one of the eight, with its values
+-- the command is one of the nine, with its values
 abbrev pub HasCommandValues : Text → List Row → Type 0
 HasCommandValues name rows = ((name ≡ codes "plan") × HasPlanValues rows)
     ⊎ (((name ≡ codes "check") × HasFlag (codes "header") rows)

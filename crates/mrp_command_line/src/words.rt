@@ -142,6 +142,18 @@ const ADVICE_EXAMPLE: &str = "Example: mrp advice --until 3 < firm.csv";
 
 const ADVICE_UNTIL: &str = "The last period in which an open order comes, 0 to 103; without it all";
 
+const SHORTAGES: &str = "Write which requirements of period 0 lack parts";
+
+const SHORTAGES_LONG: &str =
+    "Writes what of the gross requirements of period 0 isn't there, so that no order is\n\
+started that lacks parts: the terms of a pair take, one after the other, of what is\n\
+on hand and comes in period 0, and each that gets less than QUANTITY has a row.\n\
+SHORT is what it lacks. Planned and firm orders aren't there, but for those of a\n\
+made pair without lead time and fence, whose own components say what they lack.\n\n  \
+shortage,PLANT,ITEM,SOURCE,BY_PLANT,BY_ITEM,QUANTITY,SHORT";
+
+const SHORTAGES_EXAMPLE: &str = "Example: mrp shortages < bicycle.csv";
+
 /// Reads the words of a command line, of which the first is the program's name: the choice is the
 /// subcommand that `clap` reads in them, with its values. It is made only of words in which `clap`
 /// finds no fault.
@@ -199,7 +211,15 @@ fn program<'a>(alloc: Global) -> Result<Command<'a>, AllocError>
         ADVICE_EXAMPLE,
         ADVICE_UNTIL,
     );
-    with(line, advice)
+    let line = with(line, advice);
+    let shortages = headed_command(
+        alloc,
+        "shortages",
+        SHORTAGES,
+        SHORTAGES_LONG,
+        SHORTAGES_EXAMPLE,
+    );
+    with(line, shortages)
 }
 
 /// The command line with one command more, where both were made.
@@ -487,7 +507,7 @@ fn chosen<'a>(matches: &ArgMatches<'a>) -> Choice<'a>
     }
 }
 
-/// The choice of a report on the whole plan: its orders, schedules, pegs or advice.
+/// The choice of a report on the whole plan: its orders, schedules, pegs, advice or shortages.
 fn reporting<'a>(name: &str, values: &ArgMatches<'a>) -> Choice<'a>
     requires { IsWholeReport name.now (rows_of (found_of values.now)) }
     ensures range { IsInRange result }
@@ -501,8 +521,12 @@ fn reporting<'a>(name: &str, values: &ArgMatches<'a>) -> Choice<'a>
         Choice::Pegs {
             heading: heading(values),
         }
-    } else {
+    } else if name == "advice" {
         advising(values)
+    } else {
+        Choice::Shortages {
+            heading: heading(values),
+        }
     }
 }
 

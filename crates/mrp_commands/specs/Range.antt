@@ -2,7 +2,7 @@
 use Rattle.std.specs.Prelude.{◌≤◌, IfSome}
 use Rattle.mrp_commands.specs.declared.choice.Choice.{Choice}
 use Rattle.mrp_commands.specs.declared.choice.Choice.TheVariants.{Plan, Check, Peg, Cums}
-use Rattle.mrp_commands.specs.declared.choice.Choice.TheVariants.{Orders, Schedule, Pegs, Advice}
+use Rattle.mrp_commands.specs.declared.choice.Choice.TheVariants.{Orders, Schedule, Pegs, Advice, Shortages}
 use Rattle.mrp_commands.specs.declared.choice.TheConstants.{MOST_WORKERS, MOST_CAPACITY, LAST_PERIOD}
 
 -- the numbers of a choice are in their ranges
@@ -16,3 +16,4 @@ IsInRange (Orders until heading) = IfSome until (λ period. period ≤ LAST_PERI
 IsInRange (Schedule from to heading) = Unit {0}
 IsInRange (Pegs heading) = Unit {0}
 IsInRange (Advice until heading) = IfSome until (λ period. period ≤ LAST_PERIOD)
+IsInRange (Shortages heading) = Unit {0}

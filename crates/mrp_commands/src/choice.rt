@@ -81,4 +81,9 @@ pub enum Choice<'a> {
         /// Whether the names of the columns stand above them.
         heading: Heading,
     },
+    /// Write which requirements of period 0 lack parts.
+    Shortages {
+        /// Whether the names of the columns stand above them.
+        heading: Heading,
+    },
 }

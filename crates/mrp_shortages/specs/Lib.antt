@@ -1,0 +1,4 @@
+pub mod Shortages
+pub mod ShortageRows
+pub mod ShortageLines
+pub mod ShortageLaws
