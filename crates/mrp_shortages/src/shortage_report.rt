@@ -101,11 +101,7 @@ fn shortage_text(
 }
 
 /// Adds the rows of all pairs.
-fn put_pairs(
-    rows: &mut Writer<Vec<u8>>,
-    network: &Network,
-    plan: &Plan,
-) -> Result<(), ReportFault>
+fn put_pairs(rows: &mut Writer<Vec<u8>>, network: &Network, plan: &Plan) -> Result<(), ReportFault>
     requires between { IsBetweenRows rows.old }
     requires sized { IsSized network.now }
     requires fits { Fits network.now plan.now }
