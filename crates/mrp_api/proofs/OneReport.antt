@@ -29,9 +29,10 @@ use Rattle.mrp_report.specs.Terms.{peg_text}
 use Rattle.mrp_report.specs.Orders.{order_text}
 use Rattle.mrp_report.specs.Pegs.{pegs_text}
 use Rattle.mrp_advice.specs.AdviceRows.{advice_text}
+use Rattle.mrp_shortages.specs.ShortageRows.{shortage_text}
 use Rattle.mrp_schedules.specs.ScheduleRows.{schedule_text}
 use Rattle.mrp_commands.specs.declared.choice.Choice.{Choice}
-use Rattle.mrp_commands.specs.declared.choice.Choice.TheVariants.{Plan, Check, Peg, Cums, Orders, Schedule, Pegs, Advice}
+use Rattle.mrp_commands.specs.declared.choice.Choice.TheVariants.{Plan, Check, Peg, Cums, Orders, Schedule, Pegs, Advice, Shortages}
 use Rattle.mrp_api.specs.declared.fault.TextFault.{TextFault}
 use Rattle.mrp_api.specs.declared.fault.TextFault.TheVariants as fault
 use Rattle.mrp_api.specs.Answer.{IsAnswer, question_of}
@@ -120,6 +121,7 @@ one_answer (Orders until heading) N a b table x y = one_of_plan N (order_text he
 one_answer (Schedule from to heading) N a b table x y = one_schedule (name_of from) (name_of to) heading N a b table x y
 one_answer (Pegs heading) N a b table x y = one_headed heading _ (IsPegsReport N) a b (λ c d p q. one_of_plan N (pegs_text N) c d p.0 p.1 q.1) x y
 one_answer (Advice until heading) N a b table x y = one_of_plan N (advice_text heading until N) a b x.0 x.1 y.1
+one_answer (Shortages heading) N a b table x y = one_of_plan N (shortage_text heading N) a b x.0 x.1 y.1
 
 pub one_report : ReportsAreOne
 one_report choice bytes a b x y =
@@ -137,6 +139,7 @@ answer_sized (Orders until heading) N text is = is.0
 answer_sized (Schedule from to heading) N text is = is.4.0
 answer_sized (Pegs heading) N text is = is.1.0
 answer_sized (Advice until heading) N text is = is.0
+answer_sized (Shortages heading) N text is = is.0
 
 -- a report about a pair and a period is of a pair and a period that are there
 pair_known : (choice : Choice) (N : Table) (text : List ℕ) → IsAnswer choice N text → LacksPair (question_of choice) N → ⊥
@@ -149,6 +152,7 @@ pair_known (Orders until heading) N text is unknown = unknown
 pair_known (Schedule from to heading) N text is unknown = unknown
 pair_known (Pegs heading) N text is unknown = unknown
 pair_known (Advice until heading) N text is unknown = unknown
+pair_known (Shortages heading) N text is unknown = unknown
 
 period_known : (choice : Choice) (N : Table) (text : List ℕ) → IsAnswer choice N text → LacksPeriod (question_of choice) N → ⊥
 period_known (Plan workers capacity true) N text is unknown = unknown
@@ -160,6 +164,7 @@ period_known (Orders until heading) N text is unknown = unknown
 period_known (Schedule from to heading) N text is unknown = unknown
 period_known (Pegs heading) N text is unknown = unknown
 period_known (Advice until heading) N text is unknown = unknown
+period_known (Shortages heading) N text is unknown = unknown
 
 -- one about plants is of plants that are there
 name_known : (N : Table) (name : Option (List ℕ)) (f : Option PlantNo) → IsChosenPlant N name f → IsNoPlant N name → ⊥
@@ -178,6 +183,7 @@ plant_known (Orders until heading) N text is unknown = unknown
 plant_known (Schedule from to heading) N text is unknown = ⊎_elim (name_known N (name_of from) is.0 is.2) (name_known N (name_of to) is.1 is.3) unknown
 plant_known (Pegs heading) N text is unknown = unknown
 plant_known (Advice until heading) N text is unknown = unknown
+plant_known (Shortages heading) N text is unknown = unknown
 
 -- so a table of which there is a report isn't refused
 answer_passes : (choice : Choice) (N : Table) (text : List ℕ) (f : TextFault) → IsAnswer choice N text → RefusesTable (question_of choice) N f → status_of f ≡ 3

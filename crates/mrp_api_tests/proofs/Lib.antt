@@ -2,3 +2,4 @@ mod WorkedFacts
 mod FirmOrderFacts
 mod PolicyFacts
 mod PumpsFacts
+pub mod ShortFacts

@@ -3,3 +3,4 @@ pub mod FirmOrders
 pub mod Policies
 pub mod Pumps
 pub mod PumpsReports
+pub mod ShortParts

@@ -7,6 +7,8 @@ ghost use Rattle.mrp_api_tests.specs.Policies.{ByPolicyIsAdvised, ByPolicyIsOrde
 ghost use Rattle.mrp_api_tests.specs.Policies.{ByPolicyIsPlanned, ByPolicyIsWritten};
 ghost use Rattle.mrp_api_tests.specs.Pumps.{PumpsArePlanned, PumpsAreWritten};
 ghost use Rattle.mrp_api_tests.specs.PumpsReports.{PumpsAreAdvised, PumpsAreCounted, PumpsAreOrdered, PumpsAreScheduled};
+ghost use Rattle.mrp_api_tests.specs.ShortParts.{PhantomIsWritten, PhantomLacks};
+ghost use Rattle.mrp_api_tests.specs.ShortParts.{TwoDemandersAreWritten, TwoDemandersLack};
 ghost use Rattle.mrp_api_tests.specs.Worked.{BicycleIsPlanned, BicycleIsWritten, FirmOfTwoIsPlanned, FirmOfTwoIsWritten};
 
 /// The rows that are written of the bicycle, field by field.
@@ -103,4 +105,27 @@ pub fn by_policy_is_ordered()
 /// Its messages, to the byte: the open order that counts sooner than it comes is to be expedited.
 pub fn by_policy_is_advised()
     ensures { ByPolicyIsAdvised }
+{}
+
+/// The rows that are written of a plant with a phantom, and with a pair inside its fence, field by field.
+pub fn phantom_is_written()
+    ensures { PhantomIsWritten }
+{}
+
+/// What lacks parts there, to the byte: the phantom's own orders of period 0 are there, firm and planned, those of the
+/// other pair aren't, and what the two need of their component is short in table order.
+pub fn phantom_is_short_of_parts()
+    ensures { PhantomLacks }
+{}
+
+/// The rows that are written of two plants, one of which takes an item from the other, that also goes into a bill there,
+/// field by field.
+pub fn two_demanders_are_written()
+    ensures { TwoDemandersAreWritten }
+{}
+
+/// What lacks parts there, to the byte: safety stock, and what comes in period 0 by its rows, is taken by demand, by the
+/// other plant and then by the bill, and at the other plant a shipment by demand.
+pub fn two_demanders_are_short_of_parts()
+    ensures { TwoDemandersLack }
 {}

@@ -1,4 +1,4 @@
--- Where no step of the parse fails, the words name one of the eight commands, with its values.
+-- Where no step of the parse fails, the words name one of the nine commands, with its values.
 use Rattle.std.proofs.Common.{◌≡◌, ◌∙◌, ◌&&◌, ◌||◌, inl, inr, ℕ, Bool, cond, true, false, not, List, [], ◌∷◌, Option, Some, None, codes, option_map, refl, sym}
 use Rattle.std.proofs.Common.{ap, ap₂, subst, is_some, true≢false}
 use Rattle.std.specs.Prelude.{unwrap_or}
@@ -21,7 +21,7 @@ use Rattle.clap.proofs.OnLiterals.{clap_on_literals}
 use Rattle.clap.proofs.ValueTestLemmas.{accepts-Accepts}
 use Rattle.mrp_command_line.specs.Choice.{IsCommand, IsMeantBy, number_value}
 use Rattle.mrp_command_line.specs.CommandLine.{advice_words, check_words, cums_words, mrp, orders_words, peg_words, pegs_words, plan_words, program_words}
-use Rattle.mrp_command_line.specs.CommandLine.{schedule_words}
+use Rattle.mrp_command_line.specs.CommandLine.{schedule_words, shortages_words}
 use Rattle.mrp_commands.specs.declared.choice.TheConstants.{MOST_WORKERS, MOST_CAPACITY, LAST_PERIOD}
 use Rattle.mrp_commands.specs.declared.choice.Choice.{Choice}
 use Rattle.mrp_command_line.specs.Values.{HasFlag, HasNumber, HasOrderValues, HasPegValues, HasPlanValues}
@@ -63,13 +63,17 @@ pegs_leaf = leaf pegs_words.top
 abbrev advice_leaf : Shape
 advice_leaf = leaf advice_words.top
 
+abbrev shortages_leaf : Shape
+shortages_leaf = leaf shortages_words.top
+
 abbrev help_leaf : Shape
 help_leaf = built_leaf help_shape
 
 abbrev ready : App
 ready = record {
   top = with_filled_rules (with_version_flag (with_help_flag top));
-  subs = plan_leaf ∷ check_leaf ∷ peg_leaf ∷ cums_leaf ∷ orders_leaf ∷ schedule_leaf ∷ pegs_leaf ∷ advice_leaf ∷ help_leaf ∷ [];
+  subs = plan_leaf ∷ check_leaf ∷ peg_leaf ∷ cums_leaf ∷ orders_leaf ∷ schedule_leaf ∷ pegs_leaf ∷ advice_leaf ∷ shortages_leaf
+      ∷ help_leaf ∷ [];
 }
 
 built_is : built mrp ≡ ready
@@ -212,6 +216,10 @@ orders_whole words e = limited_whole orders_leaf words refl refl (λ v known. on
 advice_whole : (words : List Text) → level_fault advice_leaf [] nothing_held words false [] ≡ [] → HasOrderValues (rows_after advice_leaf.rules [] words)
 advice_whole words e = limited_whole advice_leaf words refl refl (λ v known. only _ known) (λ v known. only _ known) e
 
+shortages_whole : (words : List Text) → level_fault shortages_leaf [] nothing_held words false [] ≡ []
+    → HasFlag (codes "header") (rows_after shortages_leaf.rules [] words)
+shortages_whole words e = header_whole shortages_leaf words refl refl (λ v known. only _ known) e
+
 three : (a b d r : Bool) → (not a || (not b || (not d || r))) ≡ false → (a ≡ true) × (b ≡ true) × (d ≡ true)
 three true true true r e = (refl, refl, refl)
 three true true false r e = absurd (true≢false e)
@@ -241,26 +249,28 @@ peg_whole words e =
 
 -- ---- the command
 
-abbrev pick : Bool → Bool → Bool → Bool → Bool → Bool → Bool → Bool → Bool → Option Shape
-pick plan check peg cums orders schedule pegs advice help =
+abbrev pick : Bool → Bool → Bool → Bool → Bool → Bool → Bool → Bool → Bool → Bool → Option Shape
+pick plan check peg cums orders schedule pegs advice shortages help =
     cond plan (Some plan_leaf) (cond check (Some check_leaf) (cond peg (Some peg_leaf)
     (cond cums (Some cums_leaf) (cond orders (Some orders_leaf)
-    (cond schedule (Some schedule_leaf) (cond pegs (Some pegs_leaf) (cond advice (Some advice_leaf) (cond help (Some help_leaf) None))))))))
+    (cond schedule (Some schedule_leaf) (cond pegs (Some pegs_leaf) (cond advice (Some advice_leaf) (cond shortages (Some shortages_leaf)
+    (cond help (Some help_leaf) None)))))))))
 
-picked : (words : List Text) (plan check peg cums orders schedule pegs advice help : Bool)
-    → option_map_or (λ s. level_fault s [] nothing_held words false []) (pick plan check peg cums orders schedule pegs advice help) [] ≡ []
-    → is_some (option_map (λ s. rows_at s words) (pick plan check peg cums orders schedule pegs advice help)) ≡ true → help ≡ false
-    → IsWholeCommand (option_map (λ s. rows_at s words) (pick plan check peg cums orders schedule pegs advice help))
-picked words true check peg cums orders schedule pegs advice help e some off = inl (refl, plan_whole words e)
-picked words false true peg cums orders schedule pegs advice help e some off = inr (inl (refl, check_whole words e))
-picked words false false true cums orders schedule pegs advice help e some off = inr (inr (inl (refl, peg_whole words e)))
-picked words false false false true orders schedule pegs advice help e some off = inr (inr (inr (inl (refl, cums_whole words e))))
-picked words false false false false true schedule pegs advice help e some off = inr (inr (inr (inr (inl (refl, orders_whole words e)))))
-picked words false false false false false true pegs advice help e some off = inr (inr (inr (inr (inr (inl (refl, schedule_whole words e))))))
-picked words false false false false false false true advice help e some off = inr (inr (inr (inr (inr (inr (inl (refl, pegs_whole words e)))))))
-picked words false false false false false false false true help e some off = inr (inr (inr (inr (inr (inr (inr (refl, advice_whole words e)))))))
-picked words false false false false false false false false true e some off = absurd (true≢false off)
-picked words false false false false false false false false false e some off = absurd (true≢false (sym some))
+picked : (words : List Text) (plan check peg cums orders schedule pegs advice shortages help : Bool)
+    → option_map_or (λ s. level_fault s [] nothing_held words false []) (pick plan check peg cums orders schedule pegs advice shortages help) [] ≡ []
+    → is_some (option_map (λ s. rows_at s words) (pick plan check peg cums orders schedule pegs advice shortages help)) ≡ true → help ≡ false
+    → IsWholeCommand (option_map (λ s. rows_at s words) (pick plan check peg cums orders schedule pegs advice shortages help))
+picked words true check peg cums orders schedule pegs advice shortages help e some off = inl (refl, plan_whole words e)
+picked words false true peg cums orders schedule pegs advice shortages help e some off = inr (inl (refl, check_whole words e))
+picked words false false true cums orders schedule pegs advice shortages help e some off = inr (inr (inl (refl, peg_whole words e)))
+picked words false false false true orders schedule pegs advice shortages help e some off = inr (inr (inr (inl (refl, cums_whole words e))))
+picked words false false false false true schedule pegs advice shortages help e some off = inr (inr (inr (inr (inl (refl, orders_whole words e)))))
+picked words false false false false false true pegs advice shortages help e some off = inr (inr (inr (inr (inr (inl (refl, schedule_whole words e))))))
+picked words false false false false false false true advice shortages help e some off = inr (inr (inr (inr (inr (inr (inl (refl, pegs_whole words e)))))))
+picked words false false false false false false false true shortages help e some off = inr (inr (inr (inr (inr (inr (inr (inl (refl, advice_whole words e))))))))
+picked words false false false false false false false false true help e some off = inr (inr (inr (inr (inr (inr (inr (inr (refl, shortages_whole words e))))))))
+picked words false false false false false false false false false true e some off = absurd (true≢false off)
+picked words false false false false false false false false false false e some off = absurd (true≢false (sym some))
 
 no_help : (name : Text) (aliases : Bool) → (bytes_eq name (codes "help") && true) ≡ false → aliases ≡ false → (bytes_eq (codes "help") name || aliases) ≡ false
 no_help name aliases e none = go (bytes_eq (codes "help") name) refl
@@ -278,7 +288,7 @@ stopped_whole None e some off = absurd (true≢false (sym some))
 stopped_whole (Some p) e some off = picked p.1 (answers_to p.0 (label_of plan_leaf)) (answers_to p.0 (label_of check_leaf)) (answers_to p.0 (label_of peg_leaf))
     (answers_to p.0 (label_of cums_leaf)) (answers_to p.0 (label_of orders_leaf))
     (answers_to p.0 (label_of schedule_leaf)) (answers_to p.0 (label_of pegs_leaf)) (answers_to p.0 (label_of advice_leaf))
-    (answers_to p.0 (label_of help_leaf))
+    (answers_to p.0 (label_of shortages_leaf)) (answers_to p.0 (label_of help_leaf))
     e some (no_help p.0 false off refl)
 
 has_command : (rows : List Row) (has : Bool) → check_fault ready.top rows has ≡ [] → has ≡ true

@@ -1,0 +1,4 @@
+pub mod Lacking
+pub mod There
+pub mod LineFacts
+pub mod SheetFacts

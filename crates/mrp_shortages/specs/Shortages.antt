@@ -19,12 +19,14 @@ is_made Make = true
 is_made Buy = false
 is_made From = false
 
--- the orders of a made pair that are due in period 0, firm and planned, where its planned orders can come in at once;
--- what their own components lack is said there. Orders of every other pair aren't there
+-- the pair is made, and its planned orders can come in in period 0: what is short of it is short of its components, whose
+-- own terms say so
+abbrev pub is_made_at_once : Table → ℕ → Bool
+is_made_at_once N x = is_made (pair_at N x).supply && (earliest_at N x == 0)
+
+-- the orders of such a pair that are due in period 0, firm and planned. Orders of every other pair aren't there
 abbrev pub made_at_once : Table → List PlanRows → ℕ → ℕ
-made_at_once N table x =
-    if is_made (pair_at N x).supply && (earliest_at N x == 0) then firm_due N x 0 + slice_index (rows_at table x).order 0
-    else 0
+made_at_once N table x = if is_made_at_once N x then firm_due N x 0 + slice_index (rows_at table x).order 0 else 0
 
 -- what is there of a pair in period 0: on hand, safety stock with it, its receipts and the shipments to it that come in
 -- the period by their rows, and what is made at once

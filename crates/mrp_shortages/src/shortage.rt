@@ -1,13 +1,11 @@
 //! What is there of a pair in period 0, and what each requirement of the period lacks of it.
 
-ghost use Rattle.std.specs.Prelude.{◌≡◌, ◌≤◌, ◌+◌, ◌-◌, sum_by};
-ghost use Rattle.mrp_qty.specs.declared.quantity.TheConstants.{MOST};
-ghost use Rattle.mrp_master_data.specs.Table.{IsPair};
+ghost use Rattle.std.specs.Prelude.{◌≡◌, ◌==◌, ◌≤◌, ◌+◌, ◌-◌, ◌*◌, ◌^◌, if◌then◌else◌, sum_by};
+ghost use Rattle.mrp_master_data.specs.Table.{IsPair, IsTable};
 ghost use Rattle.mrp_net.specs.FirmOrders.{due_in};
 ghost use Rattle.mrp_net.specs.PlanLaws.{Fits};
 ghost use Rattle.mrp_net.specs.Sums.{received, shipped};
-ghost use Rattle.mrp_loops.specs.Sized.{IsSized};
-ghost use Rattle.mrp_shortages.specs.Shortages.{lack_of, made_at_once, there};
+ghost use Rattle.mrp_shortages.specs.Shortages.{is_made_at_once, lack_of, made_at_once, there};
 
 use mrp_master_data::{FirmRow, PairNo, Supply};
 use mrp_net::Network;
@@ -23,9 +21,9 @@ pub struct Shortage {
 }
 
 /// The pieces of a pair that are there in period 0: on hand, its receipts and the shipments to it that come in the period
-/// by their rows, and what is made of it at once.
+/// by their rows, and its orders that are due in it where it is made at once.
 pub(crate) fn there(network: &Network, plan: &Plan, x: PairNo) -> u64
-    requires sized { IsSized network.now }
+    requires table { IsTable network.now }
     requires fits { Fits network.now plan.now }
     requires pair { IsPair network.now x.0 }
     ensures { result ≡ there network.now plan.now x.0 }
@@ -36,9 +34,10 @@ pub(crate) fn there(network: &Network, plan: &Plan, x: PairNo) -> u64
 /// What comes in for a pair in period 0 by the rows of its receipts and of the shipments to it, whether receipts may be
 /// counted sooner or not.
 fn come(network: &Network, x: PairNo) -> u64
-    requires sized { IsSized network.now }
+    requires table { IsTable network.now }
     requires pair { IsPair network.now x.0 }
-    ensures { result ≡ received network.now x.0 0 + shipped network.now x.0 0 }
+    ensures pieces { result ≡ received network.now x.0 0 + shipped network.now x.0 0 }
+    ensures within { result ≤ 2 * 10 ^ 18 }
 {
     let incoming = network.incoming(x, 0);
     if network.policy(x).sooner > 0 {
@@ -48,32 +47,55 @@ fn come(network: &Network, x: PairNo) -> u64
     }
 }
 
-/// The orders of a made pair that are due in period 0, firm and planned, where its planned orders can come in at once. Of
-/// every other pair there are none.
+/// The orders of a pair that are due in period 0, firm and planned, where it is made at once. Of every other pair there
+/// are none.
 fn made_at_once(network: &Network, plan: &Plan, x: PairNo) -> u64
-    requires sized { IsSized network.now }
+    requires table { IsTable network.now }
     requires fits { Fits network.now plan.now }
     requires pair { IsPair network.now x.0 }
-    ensures { result ≡ made_at_once network.now plan.now x.0 }
+    ensures pieces { result ≡ made_at_once network.now plan.now x.0 }
+    ensures within { result ≤ 2 * 10 ^ 18 }
 {
-    if !matches!(network.pair(x).supply, Supply::Make) || network.earliest(x) > 0 {
-        return 0;
+    if is_made_at_once(network, x) {
+        firm_pieces(network.firm_orders(x)) + plan.pair(x).order().get(0).get()
+    } else {
+        0
     }
-    firm_pieces(network.firm_orders(x)) + plan.pair(x).order().get(0).get()
+}
+
+/// Whether a pair is made, and its planned orders can come in in period 0.
+fn is_made_at_once(network: &Network, x: PairNo) -> bool
+    requires { IsPair network.now x.0 }
+    ensures { result ≡ is_made_at_once network.now x.0 }
+{
+    match network.pair(x).supply {
+        Supply::Make => network.earliest(x) == 0,
+        Supply::Buy | Supply::From => false,
+    }
 }
 
 /// The pieces of firm planned orders that are due in period 0.
 fn firm_pieces(orders: &[FirmRow]) -> u64
-    requires { sum_by (λ f. f.quantity) orders.now ≤ MOST }
-    ensures { result ≡ due_in orders.now 0 }
+    requires { sum_by (λ f. f.quantity) orders.now ≤ 10 ^ 18 }
+    ensures pieces { result ≡ due_in orders.now 0 }
+    ensures within { result ≤ 10 ^ 18 }
 {
     let mut pieces = 0;
     'orders: for order in orders {
-        if order.due == 0 {
-            pieces += order.quantity.get();
-        }
+        pieces += pieces_now(order);
     }
     pieces
+}
+
+/// The pieces of a firm planned order, where it is due in period 0.
+fn pieces_now(order: &FirmRow) -> u64
+    ensures { result ≡ (if order.now.due == 0 then order.now.quantity else 0) }
+{
+    if order.due == 0 {
+        order.quantity.get()
+    } else {
+        0
+    }
 }
 
 /// What a requirement lacks of the pieces that are left, which it takes as far as they go.

@@ -1,11 +1,12 @@
 //! Texts where memory is refused: what is written is the right text, or a prefix of it.
 
 use super::reports::{
-    EARLY, EARLY_ADVICE, TWO_PLANTS_CUMS, TWO_PLANTS_ORDERS, TWO_PLANTS_PEGS, TWO_PLANTS_PLAN,
-    TWO_PLANTS_SCHEDULE,
+    EARLY, EARLY_ADVICE, LACKING, LACKING_SHORTAGES, TWO_PLANTS_CUMS, TWO_PLANTS_ORDERS,
+    TWO_PLANTS_PEGS, TWO_PLANTS_PLAN, TWO_PLANTS_SCHEDULE,
 };
 use mrp_api::{
     TextFault, advice_text, cums_text, drive_text, orders_text, pegs_text, schedule_text,
+    shortages_text,
 };
 use mrp_commands::Heading;
 use mrp_run_tests::TWO_PLANTS;
@@ -83,6 +84,13 @@ fn advice_or_is_refused(alloc: Global) -> Result<bool, Fail> {
     Ok(is_written_or_refused(&answer, advice.as_slice(), EARLY_ADVICE))
 }
 
+/// Whether the shortages are written, or memory was refused.
+fn shortages_or_is_refused(alloc: Global) -> Result<bool, Fail> {
+    let mut shortages = Vec::with_capacity(alloc, ROOM)?;
+    let answer = shortages_text(alloc, LACKING.as_bytes(), &mut shortages, Heading::Names);
+    Ok(is_written_or_refused(&answer, shortages.as_slice(), LACKING_SHORTAGES))
+}
+
 /// With an allocation refused its assertion holds, or the room of the writer is refused.
 #[test]
 fn schedules_where_memory_is_refused(rt: HostRuntime) -> Result<(), Fail> {
@@ -101,6 +109,13 @@ fn pegs_where_memory_is_refused(rt: HostRuntime) -> Result<(), Fail> {
 #[test]
 fn advice_where_memory_is_refused(rt: HostRuntime) -> Result<(), Fail> {
     assert!(rt; advice_or_is_refused(rt.alloc())?);
+    Ok(())
+}
+
+/// With an allocation refused its assertion holds, or the room of the writer is refused.
+#[test]
+fn shortages_where_memory_is_refused(rt: HostRuntime) -> Result<(), Fail> {
+    assert!(rt; shortages_or_is_refused(rt.alloc())?);
     Ok(())
 }
 

@@ -44,3 +44,17 @@ pub(super) const EARLY_ADVICE: &str =
     "row,action,kind,plant,item,supplier,period,date,quantity,needed,needed_date\n\
 advice,defer,receipt,P1,WHEEL,,1,2026-01-12,4,3,2026-01-26\n\
 advice,cancel,receipt,P1,WHEEL,,2,2026-01-19,6,,\n";
+
+/// A frame that is started in period 0 takes a welded part, which is made at once: three of it by a firm order. With two
+/// of the part and ten tubes on hand, safety stock among them, the frames lack tubes.
+pub(super) const LACKING: &str =
+    "run,2026-01-05,7,3,,,,\nplant,P1,,,,,,\npair,P1,FRAME,make,lot,1,0,0\n\
+pair,P1,PART,make,lot,0,2,0\npair,P1,TUBE,buy,lot,2,10,4\nbill,P1,FRAME,PART,1,,,\n\
+bill,P1,FRAME,TUBE,1,,,\nbill,P1,PART,TUBE,2,,,\ndemand,P1,FRAME,1,8,,,\n\
+demand,P1,TUBE,0,1,,,\nfirm,P1,PART,0,0,3,,\n";
+
+/// What lacks parts there, below the names of the columns: one tube is demanded, and of the nine that are left eight go
+/// into the frames and one into the six parts, which take twelve.
+pub(super) const LACKING_SHORTAGES: &str =
+    "row,plant,item,source,by_plant,by_item,quantity,short\n\
+shortage,P1,TUBE,bill,P1,PART,12,11\n";

@@ -5,7 +5,8 @@ ghost use Rattle.mrp_commands.specs.Range.{IsInRange};
 use super::is_report;
 use super::outcomes::outcome;
 use super::reports::{
-    BICYCLE_PLAN, EARLY, EARLY_ADVICE, TWO_PLANTS_CUMS, TWO_PLANTS_PEGS, TWO_PLANTS_SCHEDULE,
+    BICYCLE_PLAN, EARLY, EARLY_ADVICE, LACKING, LACKING_SHORTAGES, TWO_PLANTS_CUMS,
+    TWO_PLANTS_PEGS, TWO_PLANTS_SCHEDULE,
 };
 use mrp_api::{TextFault, answer, check_text, drive_text, status};
 use mrp_commands::{Choice, Heading};
@@ -244,6 +245,7 @@ enum Asked {
     Schedules,
     Pegs,
     Advice,
+    Shortages,
 }
 
 /// The choice that asks for it.
@@ -289,6 +291,9 @@ fn choice_of(asked: Asked) -> Choice<'static>
             until: None,
             heading: Heading::Names,
         },
+        Asked::Shortages => Choice::Shortages {
+            heading: Heading::Names,
+        },
     }
 }
 
@@ -300,7 +305,7 @@ struct Written {
 }
 
 /// A report of each choice, of three writes at least.
-const REPORTS: [Written; 9] = [
+const REPORTS: [Written; 10] = [
     Written {
         asked: Asked::PlanByThreads,
         table: BICYCLE,
@@ -346,6 +351,11 @@ order,P1,BIKE,make,10,2,2026-01-19,3,2026-01-26,0\norder,P1,WHEEL,buy,20,1,2026-
         asked: Asked::Advice,
         table: EARLY,
         report: EARLY_ADVICE,
+    },
+    Written {
+        asked: Asked::Shortages,
+        table: LACKING,
+        report: LACKING_SHORTAGES,
     },
 ];
 

@@ -51,6 +51,9 @@ returns-in-Pegs-clause-text g c = rw (c.in-Pegs.is) c.report_all_pegs.ensures.te
 pub returns-in-Advice-clause-text : goal.returns-in-Advice-clause-text
 returns-in-Advice-clause-text g c = rw (c.in-Advice.is) c.report_advice.ensures.text
 
+pub returns-in-Shortages-clause-text : goal.returns-in-Shortages-clause-text
+returns-in-Shortages-clause-text g c = rw (c.in-Shortages.is) c.report_shortages.ensures.text
+
 pub returns-in-Check-clause-refusal : goal.returns-in-Check-clause-refusal
 returns-in-Check-clause-refusal g c = late-refuses _ _ c.report_codes.result c.report_codes.ensures.fault
 
@@ -86,3 +89,9 @@ returns-in-Advice-clause-refusal g c = late-refuses _ _ c.report_advice.result c
 
 pub returns-in-Advice-clause-rows : goal.returns-in-Advice-clause-rows
 returns-in-Advice-clause-rows g c = rows-kept g.W.Write.contents _ _ c.report_advice.result _ c.report_advice.ensures.untouched
+
+pub returns-in-Shortages-clause-refusal : goal.returns-in-Shortages-clause-refusal
+returns-in-Shortages-clause-refusal g c = late-refuses _ _ c.report_shortages.result c.report_shortages.ensures.fault
+
+pub returns-in-Shortages-clause-rows : goal.returns-in-Shortages-clause-rows
+returns-in-Shortages-clause-rows g c = rows-kept g.W.Write.contents _ _ c.report_shortages.result _ c.report_shortages.ensures.untouched

@@ -20,7 +20,8 @@ planning-requires c =
       | inr (inr (inr (inr (inl p)))) ↦ absurd (true≢false (sym c.if-eq.true ∙ c.eq.ensures ∙ ap (λ n. bytes_eq n (codes "plan")) p.0))
       | inr (inr (inr (inr (inr (inl p))))) ↦ absurd (true≢false (sym c.if-eq.true ∙ c.eq.ensures ∙ ap (λ n. bytes_eq n (codes "plan")) p.0))
       | inr (inr (inr (inr (inr (inr (inl p)))))) ↦ absurd (true≢false (sym c.if-eq.true ∙ c.eq.ensures ∙ ap (λ n. bytes_eq n (codes "plan")) p.0))
-      | inr (inr (inr (inr (inr (inr (inr p)))))) ↦ absurd (true≢false (sym c.if-eq.true ∙ c.eq.ensures ∙ ap (λ n. bytes_eq n (codes "plan")) p.0))
+      | inr (inr (inr (inr (inr (inr (inr (inl p))))))) ↦ absurd (true≢false (sym c.if-eq.true ∙ c.eq.ensures ∙ ap (λ n. bytes_eq n (codes "plan")) p.0))
+      | inr (inr (inr (inr (inr (inr (inr (inr p))))))) ↦ absurd (true≢false (sym c.if-eq.true ∙ c.eq.ensures ∙ ap (λ n. bytes_eq n (codes "plan")) p.0))
     ]
 
 pub heading-requires : goal.heading-requires
@@ -36,7 +37,8 @@ heading-requires c =
       | inr (inr (inr (inr (inl p)))) ↦ absurd (true≢false (sym c.if-eq-2.true ∙ c.eq-else-eq.ensures ∙ ap (λ n. bytes_eq n (codes "check")) p.0))
       | inr (inr (inr (inr (inr (inl p))))) ↦ absurd (true≢false (sym c.if-eq-2.true ∙ c.eq-else-eq.ensures ∙ ap (λ n. bytes_eq n (codes "check")) p.0))
       | inr (inr (inr (inr (inr (inr (inl p)))))) ↦ absurd (true≢false (sym c.if-eq-2.true ∙ c.eq-else-eq.ensures ∙ ap (λ n. bytes_eq n (codes "check")) p.0))
-      | inr (inr (inr (inr (inr (inr (inr p)))))) ↦ absurd (true≢false (sym c.if-eq-2.true ∙ c.eq-else-eq.ensures ∙ ap (λ n. bytes_eq n (codes "check")) p.0))
+      | inr (inr (inr (inr (inr (inr (inr (inl p))))))) ↦ absurd (true≢false (sym c.if-eq-2.true ∙ c.eq-else-eq.ensures ∙ ap (λ n. bytes_eq n (codes "check")) p.0))
+      | inr (inr (inr (inr (inr (inr (inr (inr p))))))) ↦ absurd (true≢false (sym c.if-eq-2.true ∙ c.eq-else-eq.ensures ∙ ap (λ n. bytes_eq n (codes "check")) p.0))
     ]
 
 pub pegging-requires : goal.pegging-requires
@@ -52,7 +54,8 @@ pegging-requires c =
       | inr (inr (inr (inr (inl p)))) ↦ absurd (true≢false (sym c.if-eq-3.true ∙ c.eq-else-eq-2.ensures ∙ ap (λ n. bytes_eq n (codes "peg")) p.0))
       | inr (inr (inr (inr (inr (inl p))))) ↦ absurd (true≢false (sym c.if-eq-3.true ∙ c.eq-else-eq-2.ensures ∙ ap (λ n. bytes_eq n (codes "peg")) p.0))
       | inr (inr (inr (inr (inr (inr (inl p)))))) ↦ absurd (true≢false (sym c.if-eq-3.true ∙ c.eq-else-eq-2.ensures ∙ ap (λ n. bytes_eq n (codes "peg")) p.0))
-      | inr (inr (inr (inr (inr (inr (inr p)))))) ↦ absurd (true≢false (sym c.if-eq-3.true ∙ c.eq-else-eq-2.ensures ∙ ap (λ n. bytes_eq n (codes "peg")) p.0))
+      | inr (inr (inr (inr (inr (inr (inr (inl p))))))) ↦ absurd (true≢false (sym c.if-eq-3.true ∙ c.eq-else-eq-2.ensures ∙ ap (λ n. bytes_eq n (codes "peg")) p.0))
+      | inr (inr (inr (inr (inr (inr (inr (inr p))))))) ↦ absurd (true≢false (sym c.if-eq-3.true ∙ c.eq-else-eq-2.ensures ∙ ap (λ n. bytes_eq n (codes "peg")) p.0))
     ]
 
 pub reporting-requires : goal.reporting-requires

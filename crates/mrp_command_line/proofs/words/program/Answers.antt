@@ -1,8 +1,8 @@
 use Rattle.std.specs.Prelude.{codes}
 use Rattle.clap.specs.Words.{with_subcommand}
 use Rattle.mrp_command_line.specs.CommandLine.{advice_words, check_words, cums_words, mrp, orders_words, peg_words, pegs_words, plan_words}
-use Rattle.mrp_command_line.specs.CommandLine.{program_words, schedule_words}
-use Rattle.mrp_command_line.specs.CommandLine.{up_to_check, up_to_cums, up_to_orders, up_to_peg, up_to_pegs, up_to_schedule}
+use Rattle.mrp_command_line.specs.CommandLine.{program_words, schedule_words, shortages_words}
+use Rattle.mrp_command_line.specs.CommandLine.{up_to_advice, up_to_check, up_to_cums, up_to_orders, up_to_peg, up_to_pegs, up_to_schedule}
 use Rattle.mrp_command_line.proofs.words.program.Goals as goal
 
 pub returns : goal.returns
@@ -15,4 +15,5 @@ returns c =
     let ordered = c.with-line-5.ensures up_to_cums orders_words figured c.limited_command-orders.ensures in
     let scheduled = c.with-line-6.ensures up_to_orders schedule_words ordered c.schedule_command.ensures in
     let traced = c.with-line-7.ensures up_to_schedule pegs_words scheduled c.headed_command-pegs.ensures in
-    c.with.ensures up_to_pegs advice_words traced c.limited_command-advice.ensures
+    let advised = c.with-line-8.ensures up_to_pegs advice_words traced c.limited_command-advice.ensures in
+    c.with.ensures up_to_advice shortages_words advised c.headed_command-shortages.ensures

@@ -1,0 +1,5 @@
+use Rattle.std.proofs.Common.{sym}
+use Rattle.mrp_c_api.proofs.mrp_shortages.Goals as goal
+
+pub returns : goal.returns
+returns c = rw (sym c.heading-heading.ensures) c.answer.ensures
