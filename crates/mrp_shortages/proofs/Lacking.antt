@@ -1,17 +1,14 @@
 -- What terms lack that take one after the other of the same pieces, and what that adds up to.
-use Rattle.std.proofs.Common.{◌≡◌, ◌∙◌, ℕ, zero, suc, ◌+◌, ◌-◌, ◌≤◌, ◌<◌, nat_lt, true, false, List, [], ◌∷◌, ◌++◌, map, take, refl, sym, ap, arith}
+use Rattle.std.proofs.Common.{◌≡◌, ℕ, zero, suc, ◌-◌, ◌≤◌, List, [], ◌∷◌, map, take, refl, ap, arith}
 use Rattle.std.specs.List.{All, filter, sum_by}
 use Rattle.std.proofs.lemmas.Bool.{cond_both, ltb-false, ltb-true}
 use Rattle.std.proofs.lemmas.List.Elements.{All-cons, All-filter, filter_passes}
 use Rattle.std.proofs.lemmas.List.Sums.{sum_by-cons}
-use Rattle.mrp_netting.specs.PlanRows.{PlanRows}
-use Rattle.mrp_master_data.specs.Table.{Table, IsTable, IsPair}
-use Rattle.mrp_net.specs.PlanLaws.{Fits}
 use Rattle.mrp_plan.specs.Peg.{peg_terms}
 use Rattle.mrp_plan.specs.declared.terms.PegTerm.{PegTerm}
 use Rattle.mrp_plan.proofs.Adding.{terms_add_up}
 use Rattle.mrp_shortages.specs.declared.shortage.Shortage.{Shortage}
-use Rattle.mrp_shortages.specs.Shortages.{is_short, lack_of, lacks_of, shortages_of, there}
+use Rattle.mrp_shortages.specs.Shortages.{is_short, lack_of, lacks_of, there}
 use Rattle.mrp_shortages.specs.ShortageLaws.{ShortagesAddUp, ShortagesAddUpSoFar, ShortagesAreOfTerms, ShortagesAreTermsInOrder}
 
 abbrev short_of : Shortage → ℕ
@@ -61,7 +58,7 @@ shorts_sum (s ∷ lacks) =
 pub shortages_add_up : ShortagesAddUp
 shortages_add_up N is table fits x in_table =
     let terms = peg_terms N table x 0 in
-    let total = terms_add_up N table fits x 0 in_table (omega (arith, is.read.some_periods)) in
+    let total = terms_add_up N table fits x 0 in_table (omega (arith, is.read.limits.some_periods)) in
     omega (arith, shorts_sum (lacks_of (there N table x) terms), all_lacks_sum (there N table x) terms, total)
 
 pub shortages_add_up_so_far : ShortagesAddUpSoFar
@@ -76,8 +73,7 @@ lacks_within left (term ∷ terms) =
 
 pub shortages_are_of_terms : ShortagesAreOfTerms
 shortages_are_of_terms N table x i d h =
-    let lacks = lacks_of (there N table x) (peg_terms N table x 0) in
-    (
+    let lacks = lacks_of (there N table x) (peg_terms N table x 0) in (
       ltb-true 0 _ (filter_passes is_short lacks i d h),
       All-filter is_short (λ s. s.short ≤ s.term.quantity) lacks (lacks_within (there N table x) (peg_terms N table x 0)) i d h,
     )

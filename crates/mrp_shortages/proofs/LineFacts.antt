@@ -9,7 +9,7 @@ use Rattle.mrp_net.specs.Edges.{demanders}
 use Rattle.mrp_net.specs.declared.edge.Edge.{Edge}
 use Rattle.mrp_plan.specs.Peg.{demand_term, edge_term, is_asked}
 use Rattle.mrp_plan.specs.declared.terms.PegTerm.{PegTerm}
-use Rattle.mrp_csv_out.specs.Names.{item_of, plant_of}
+use Rattle.mrp_csv_out.specs.Names.{plant_of}
 use Rattle.mrp_shortages.specs.declared.shortage.Shortage.{Shortage}
 use Rattle.mrp_shortages.specs.declared.shortage_report.ShortageLine.{ShortageLine}
 use Rattle.mrp_shortages.specs.Shortages.{is_short, lack_of, lacks_of, there}

@@ -1,5 +1,5 @@
 -- What is there of a pair in period 0, and that it is within 64 bits.
-use Rattle.std.proofs.Common.{◌≡◌, ◌∙◌, ℕ, zero, ◌+◌, ◌*◌, ◌^◌, ◌<◌, ◌≤◌, ◌==◌, cond, List, [], ◌∷◌, length, slice_index, refl, ap, arith}
+use Rattle.std.proofs.Common.{◌≡◌, ◌∙◌, ℕ, ◌+◌, ◌*◌, ◌^◌, ◌<◌, ◌≤◌, ◌==◌, cond, List, [], ◌∷◌, length, ap, arith}
 use Rattle.std.specs.List.{sum_by}
 use Rattle.std.proofs.lemmas.Bool.{cond_both}
 use Rattle.std.proofs.lemmas.List.FromFn.{length-map-range_with_len}
@@ -19,7 +19,7 @@ use Rattle.mrp_net.proofs.Summing.{firm_total_within, received_within, shipped_w
 
 -- there is a period 0
 pub some_period : (N : Table) → IsTable N → 0 < horizon N
-some_period N is = omega (arith, is.read.some_periods)
+some_period N is = omega (arith, is.read.limits.some_periods)
 
 -- of receipts that may be counted sooner none is among what comes in at its time
 pub come_sooner : (N : Table) (x : ℕ) → 0 < (policy_of N x).sooner → incoming N x 0 ≡ shipped N x 0

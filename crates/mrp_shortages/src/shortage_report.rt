@@ -1,6 +1,6 @@
 //! The shortage rows: each requirement of period 0 that lacks pieces.
 
-ghost use Rattle.std.specs.Prelude.{◌≡◌, ◌++◌, All, Err, OnOk, IfOk, IfErr, length, map};
+ghost use Rattle.std.specs.Prelude.{◌≡◌, ◌-◌, ◌++◌, All, Err, OnOk, IfOk, IfErr, length, map};
 ghost use Rattle.mrp_master_data.specs.Table.{IsPair, IsTable};
 ghost use Rattle.mrp_net.specs.PlanLaws.{Fits};
 ghost use Rattle.mrp_plan.specs.Peg.{IsPeggable, edge_term};

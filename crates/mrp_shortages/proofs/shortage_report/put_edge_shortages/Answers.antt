@@ -1,4 +1,4 @@
-use Rattle.std.proofs.Common.{◌≡◌, ◌∙◌, ◌++◌, ◌≤◌, ℕ, List, [], ap, sym, arith, drop, length, map}
+use Rattle.std.proofs.Common.{◌≡◌, ◌∙◌, ◌++◌, List, [], ap, sym, arith, drop, map}
 use Rattle.std.proofs.lemmas.List.{append-nil, drop_all}
 use Rattle.mrp_csv_out.specs.Writing.{written}
 use Rattle.mrp_net.specs.declared.edge.Edge.{Edge}

@@ -1,4 +1,4 @@
-use Rattle.std.proofs.Common.{◌≡◌, ◌∙◌, ◌++◌, ℕ, List, ap, sym, append_assoc, map}
+use Rattle.std.proofs.Common.{◌∙◌, ◌++◌, ℕ, List, ap, append_assoc, map}
 use Rattle.std.proofs.lemmas.Result.{on_ok_weaker}
 use Rattle.mrp_csv_out.specs.Writing.{written}
 use Rattle.mrp_plan.specs.Peg.{edge_term}
