@@ -337,6 +337,18 @@ class Advice(NamedTuple):
     needed_date: DATE.or_empty()
 
 
+class Shortage(NamedTuple):
+    """A requirement of this period of which `short` pieces aren't there: a term of it, and the pair that asks for it."""
+
+    plant: NAME
+    item: NAME
+    source: one_of("demand", "bill", "plant")
+    by_plant: NAME
+    by_item: NAME
+    quantity: NUMBER
+    short: NUMBER
+
+
 class Hit(NamedTuple):
     """A row of bin/hit: a demand that late orders delay, by how many periods at worst, and the pair that does it."""
 
@@ -352,9 +364,9 @@ class Hit(NamedTuple):
 
 # The rows of reports by their words; and of each report whose columns --header names, the kind of its rows.
 ROWS = {"plan": Plan, "late": Late, "order": Order, "firm": FirmOrder, "schedule": Schedule, "code": Code, "lane": Lane}
-ROWS |= {"peg": Term, "pegs": Peg, "advice": Advice, "hit": Hit}
+ROWS |= {"peg": Term, "pegs": Peg, "advice": Advice, "shortage": Shortage, "hit": Hit}
 REPORTS = {"check": Code, "peg": Term, "cums": Lane, "orders": Order, "schedule": Schedule}
-REPORTS |= {"pegs": Peg, "advice": Advice, "hit": Hit}
+REPORTS |= {"pegs": Peg, "advice": Advice, "shortages": Shortage, "hit": Hit}
 
 
 class Form:
@@ -661,7 +673,7 @@ class Library:
         name, flag, size = [ctypes.c_char_p, ctypes.c_size_t], ctypes.c_bool, ctypes.c_size_t
         limited = [flag, ctypes.c_uint64, flag]
         options = {"plan": [], "orders": limited, "advice": limited, "schedule": [*name, *name, flag]}
-        options |= {"check": [flag], "cums": [flag]}
+        options |= {"check": [flag], "cums": [flag], "shortages": [flag]}
         for it, types in options.items():
             call = self.calls[it] = library[f"mrp_{it}"]
             call.argtypes = [*name, *types, ctypes.c_char_p, size, ctypes.POINTER(size)]
@@ -760,3 +772,8 @@ def advice(table, until=None):
     that period.
     """
     return report(library() or program(), "advice", table, until=until)
+
+
+def shortages(table):
+    """Returns which of this period's requirements lack parts, each term that does as a Shortage."""
+    return report(library() or program(), "shortages", table)

@@ -9,9 +9,9 @@ from crates import TOP  # (which lets the modules of bin/ be found)
 
 import mrp
 
-COMMANDS = ("check", "plan", "plan --single", "peg A X 0", "cums", "orders", "schedule --from none", "pegs", "advice")
+COMMANDS = ("check", "plan", "plan --single", "peg A X 0", "cums", "orders", "schedule --from none", "pegs", "advice", "shortages")
 # The words that ask for the reports that are stored beside the tables of examples/, by the ends of their names.
-STORED = {"plan": "plan", "cums": "cums", **{it: f"{it} --header" for it in ("orders", "schedule", "pegs", "advice")}}
+STORED = {"plan": "plan", "cums": "cums", **{it: f"{it} --header" for it in ("orders", "schedule", "pegs", "advice", "shortages")}}
 # With how many workers a plant and records a mailbox a plan is made: the answer is the same.
 SETTINGS = ("", " --single", " --single --capacity 1", " --workers 1 --capacity 1", " --workers 1 --capacity 65536")
 SETTINGS += (" --workers 2 --capacity 1", " --workers 2 --capacity 65536", " --workers 64 --capacity 1", " --workers 64 --capacity 65536")
@@ -211,11 +211,13 @@ def faults_are_named_in_large_tables(program):
 
 
 def a_part_goes_into_all_others(program):
-    """19,999 pairs are made of one part for their safety stocks: its code, and what it is asked for by, alone and in the whole plan."""
+    """19,999 pairs are made of one part for their safety stocks: its code, what asks for it, alone and in the whole plan, and what lacks it."""
     table = ONE_PLANT + numbered(19_999, "pair,A,X", ",make,lot,0,0,1") + "pair,A,F,buy,lot,0,0,0\n" + numbered(19_999, "bill,A,X", ",F,1,,,")
     expect(program, "check", table, numbered(19_999, "code,A,X", ",0") + "code,A,F,1\n")
     expect(program, "peg A F 0", table, numbered(19_999, "peg,bill,A,X", ",1,1,1"))
     expect(program, "pegs", table, numbered(19_999, "pegs,A,F,0,bill,A,X", ",1,1,1"))
+    # (they are made at once, so that of them nothing is lacking)
+    expect(program, "shortages", table, numbered(19_999, "shortage,A,F,bill,A,X", ",1,1"))
 
 
 def each_of_20000_pairs_has_a_late_order(program):

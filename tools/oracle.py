@@ -53,6 +53,7 @@ HEADERS = {
     "schedule": "row,kind,supplier,customer,item,period,date,quantity,cumulative",
     "pegs": "row,plant,item,period,source,by_plant,by_item,release,per,quantity",
     "advice": "row,action,kind,plant,item,supplier,period,date,quantity,needed,needed_date",
+    "shortages": "row,plant,item,source,by_plant,by_item,quantity,short",
 }
 NAME = re.compile(r"[A-Za-z0-9._-]{1,20}")
 NUMBER = re.compile(r"0|[1-9][0-9]{0,15}")
@@ -482,6 +483,24 @@ class Firm:
             for t in range(self.periods):
                 yield from (("pegs", *pair, t, *it) for it in self.terms(pair, t))
 
+    def there(self, pair):
+        """Returns what is there of a pair for its requirements of period 0: on hand, the receipts and shipments of that period by their
+        rows, and of what is made without lead time and fence its firm and planned orders that are due then.
+        """
+        firm = sum(it.quantity for it in self.firm_orders[pair] if it.due == 0)
+        found = self.pairs[pair].on_hand + self.incoming[pair][0] - firm
+        is_phantom = self.pairs[pair].supply == "make" and self.earliest(pair) == 0
+        return found + firm + self.plans[pair].order[0] if is_phantom else found
+
+    def shortage_report(self):
+        """Yields the fields of the shortage rows: of each requirement of period 0 that is there in part or not at all."""
+        for pair in self.pairs:
+            left = self.there(pair)
+            for source, plant, item, _, _, quantity in self.terms(pair, 0):
+                if quantity > left:
+                    yield "shortage", *pair, source, plant, item, quantity, quantity - left
+                left = max(0, left - quantity)
+
     def lanes(self):
         """Yields supplier, customer, and the items of each lane with what the lane has of each: a customer's suppliers in table order."""
         for customer in self.plants:
@@ -565,6 +584,7 @@ class Firm:
 
 REPORTS = {"plan": Firm.plan_report, "check": Firm.code_report, "peg": Firm.peg_report, "cums": Firm.lane_report, "orders": Firm.order_report}
 REPORTS |= {"schedule": Firm.schedule_report, "pegs": Firm.pegs_report, "advice": Firm.advice_report}
+REPORTS |= {"shortages": Firm.shortage_report}
 
 
 class Oracle:

@@ -1,4 +1,4 @@
-/* Answers as mrp does, by the library: report plan|orders|schedule|check|cums|advice [--header] < table
+/* Answers as mrp does, by the library: report plan|orders|schedule|check|cums|advice|shortages [--header] < table
  *
  * The report goes to standard output, the line of a fault to standard error, and the status is that of the call, 2 for other
  * words, or 3 where standard input can't be read or standard output not be written.
@@ -59,6 +59,8 @@ static uint32_t call(const char *name, bool header, struct bytes table, struct b
         return mrp_cums(table.at, table.size, header, buffer.at, buffer.size, size);
     if (!strcmp(name, "advice"))
         return mrp_advice(table.at, table.size, false, 0, header, buffer.at, buffer.size, size);
+    if (!strcmp(name, "shortages"))
+        return mrp_shortages(table.at, table.size, header, buffer.at, buffer.size, size);
     fprintf(stderr, "report: no report is called %s\n", name);
     exit(2);
 }

@@ -109,7 +109,7 @@ def reports_from_files(room, table, *words):
         room.write(f"{it}.csv", oracle.Oracle(table.encode()).answer(it).out.decode())
 
 
-COMMANDS = ("plan", "check", "peg", "cums", "orders", "schedule", "pegs", "advice")
+COMMANDS = ("plan", "check", "peg", "cums", "orders", "schedule", "pegs", "advice", "shortages")
 # Two items that are bought, and whose first orders come late.
 DELAYED = """\
 run,2026-01-05,7,5,,,,

@@ -120,7 +120,7 @@ def test_library_answers_as_the_program(room, program):
     for table in some_tables():
         for words in (
             ["plan"],
-            *([it, *more] for it in ("orders", "schedule", "check", "cums", "advice") for more in ([], ["--header"])),
+            *([it, *more] for it in ("orders", "schedule", "check", "cums", "advice", "shortages") for more in ([], ["--header"])),
         ):
             got, wanted = (
                 subprocess.run([it, *words], input=table, capture_output=True, check=False)
@@ -172,5 +172,5 @@ def test_python_reads_each_report_of_the_library(room, program):
     library(room)
     mrp = module_of("mrp.py", "python")
     reads_each_report(
-        program, mrp, mrp.Library(f"{room.folder}/lib/libmrp.so"), ("plan", "check", "cums", "orders", "schedule", "advice")
+        program, mrp, mrp.Library(f"{room.folder}/lib/libmrp.so"), ("plan", "check", "cums", "orders", "schedule", "advice", "shortages")
     )

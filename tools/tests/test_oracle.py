@@ -9,6 +9,7 @@ import firms
 import mrp
 import oracle
 import pytest
+from crates import TOP
 
 FIGURES = {
     "firm order of the parent": (
@@ -378,6 +379,34 @@ def test_receipts_that_count_sooner():
     assert cancelled > 50
 
 
+def there(table, plan, row):
+    """Returns what the rows of a table have of a pair in period 0, and where it is made without lead time and fence its orders."""
+    pair, phantom = (row.plant, row.item), row.supply == "make" and row.lead == policy_of(table, (row.plant, row.item)).fence == 0
+    comes = sum(it.quantity for it in (*table.receipts, *table.ships) if it.pair == pair and it.period == 0)
+    firm = sum(it.quantity for it in table.firms if it.pair == pair and it.due == 0)
+    return row.on_hand + comes + (firm + plan.order[0]) * phantom, phantom
+
+
+def test_shortages_of_firms():
+    """What is short of a pair sums to what its requirement of period 0 lacks. They are terms of it, in their order: what stands before
+    the first is there, and of those behind it nothing.
+    """
+    kinds = set()
+    for table, judge in some_firms():
+        found, pegs = rows_of(judge, "shortages"), [it for it in rows_of(judge, "pegs") if it.period == 0]
+        assert [(it.plant, it.item) for it in found] == [it for it in judge.firm.pairs for row in found if (row.plant, row.item) == it]
+        for row in table.pairs:
+            pair = row.plant, row.item
+            own, terms = ([it for it in rows if (it.plant, it.item) == pair] for rows in (found, pegs))
+            has, phantom = there(table, judge.firm.plans[pair], row)
+            assert sum(it.short for it in own) == max(0, judge.firm.plans[pair].gross[0] - has)
+            last = [(it.plant, it.item, it.source, it.by_plant, it.by_item, it.quantity) for it in terms[len(terms) - len(own) :]]
+            assert [it[:-1] for it in own] == last
+            assert [it.quantity for it in own[1:]] == [it.short for it in own[1:]]
+            kinds |= {(row.supply[:4], phantom, it.source, it.short < it.quantity) for it in own}
+    assert kinds >= {*itertools.product(("make", "buy", "from"), (False,), ("demand", "bill", "plant"), (False, True))}
+
+
 # Tables of worked figures, with what the program has to answer.
 HEAD = "run,2026-01-05,7,5,,,,\nplant,A,,,,,,\n"
 FENCED = HEAD + "pair,A,P,make,lot,1,0,0\n" + "".join(f"demand,A,P,{t},10,,,\n" for t in range(1, 5))
@@ -415,6 +444,21 @@ WORKED = {
 def test_worked_tables(table, report):
     """The worked figures as tables, byte for byte."""
     assert oracle.Oracle(table.encode()).answer(report) == oracle.Answer(0, WORKED[table, report].encode(), b"")
+
+
+with open(f"{TOP}/cases/shortages.txt", encoding="utf-8") as CASES:
+    SHORTAGES = [*cases.blocks(CASES.read())]
+
+
+@pytest.mark.parametrize("title, table, asks", SHORTAGES, ids=[it[0] for it in SHORTAGES])
+def test_worked_shortages(title, table, asks):
+    """Those of cases/, by the second planner."""
+    text = "\n".join([*asks, ""])
+    for words, answer in re.findall(r"^\$ mrp (.*)\n((?:[^$].*\n)*)", text, re.MULTILINE):
+        command, *given = words.split()
+        asked = [it for it in given if not it.startswith("--")]
+        got = oracle.Oracle(table.encode()).answer(command, *asked, header="--header" in given)
+        assert (f"{got.status} {got.err.decode()}" if got.status else got.out.decode()) == answer, (title, words)
 
 
 @pytest.mark.parametrize("table, report", WORKED, ids=lambda it: it if len(it) < 10 else "")

@@ -209,6 +209,7 @@ pegs,A,Y,3,demand,A,Y,1,2,3
 advice,expedite,ship,A,Y,B,1,2026-01-12,7,0,2026-01-05
 advice,cancel,receipt,A,Y,,1,2026-01-12,7,,
 advice,defer,firm,A,Y,,1,2026-01-12,7,3,2026-01-26
+shortage,A,Y,bill,A,X,120,42
 hit,A,X,1,2026-01-12,7,2,A,Y
 """
 

@@ -30,6 +30,11 @@ uint32_t mrp_check(void)
     return 0;
 }
 
+uint32_t mrp_shortages(void)
+{
+    return 0;
+}
+
 uint32_t mrp_advice(const uint8_t *table, size_t table_size, bool limited, uint64_t until, bool header, uint8_t *buffer, size_t buffer_size, size_t *size)
 {
     *size = snprintf((char *)buffer, buffer_size, "mrp: until %d %d, %d\n", limited, (int)until, header);
