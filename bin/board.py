@@ -2,6 +2,7 @@
 import html
 from datetime import timedelta
 
+import lacks
 import reports
 import mrp
 
@@ -136,14 +137,30 @@ class Board:
         sooner = SOONER * any(it.sooner for it in self.outline.policies.of.values())
         return IN_TIME.format(sooner) if self.outline.rows[mrp.Late] or sooner else ""
 
+    def lacks(self, pair):
+        """Returns what the orders of a pair that are released now lack of their parts, in lines."""
+
+        def item(own, plant, name):
+            return (f"{self.plant(plant)} " if plant != own[0] else "") + self.item(plant, name)
+
+        return [f'<b class="late">lacks</b> {it}' for it in self.outline.lacking.lines(pair, item, "{:,}".format)]
+
+    def lacking(self, pair):
+        """Returns a cell that says what the orders of a pair lack, and is sorted by how many parts that is. Many open."""
+        lines = self.lacks(pair)
+        many = f'<b class="late">lacks</b> {len(lines)} parts' + " or more" * (len(lines) == lacks.MOST)
+        shown = folded([many, *lines]) if len(lines) > MOST_ORDERS else "<br>".join(lines)
+        return shown, f"{len(lines):03}"
+
     def summary(self):
         """Returns how many there are of what the page is about."""
         rows = self.outline.rows
         counts = [(len(self.outline.pairs), "pair"), (len(self.dates), self.unit), (len(rows[mrp.Late]), "late order")]
         counts += [(len(rows[mrp.Hit]), "demand"), (len(rows[mrp.Order]), "order")]
         counts += [(self.messages.count(), "open order")]
-        firm = sum(map(is_firm, rows[mrp.Order]))
-        ends = ["", "", "", " hit", " to release" + f", {firm:,} of them firm" * bool(firm), " to be moved"]
+        firm, lacking = sum(map(is_firm, rows[mrp.Order])), sum((it.plant, it.item) in self.outline.lacking.of for it in rows[mrp.Order])
+        of_these = f", {firm:,} of them firm" * bool(firm) + f", {lacking:,} of them lacking parts" * bool(lacking)
+        ends = ["", "", "", " hit", f" to release{of_these}", " to be moved"]
         return ", ".join(reports.counted(*it) + end for it, end in zip(counts, ends) if it[0] or not end)
 
     def releases(self):
@@ -152,7 +169,12 @@ class Board:
         for (plant,), orders in grouped(self.outline.rows[mrp.Order], "plant").items():
             orders.sort(key=lambda it: -it.late)
             rows = [self.release(plant, it) for it in grouped(orders, "item").values()]
-            lists.append(f'<div><h3>{self.plant(plant)}</h3>{sortable(["Item", "Quantity", "Late", "Due", "Supply"], rows, " stack")}</div>')
+            heads = ["Item", "Quantity", "Late", "Due", "Supply"]
+            lacking = [self.lacking((plant, item)) for item, in grouped(orders, "item")]
+            if any(shown for shown, _ in lacking):
+                heads.insert(4, "Lacks")
+                rows = [[*row[:4], it, *row[4:]] for row, it in zip(rows, lacking)]
+            lists.append(f'<div><h3>{self.plant(plant)}</h3>{sortable(heads, rows, " stack")}</div>')
         when = {"week": "this week", "day": "today"}.get(self.unit, "now")
         return self.section("release", f"To release {when}", f'<div class="lists">{"".join(lists)}</div>' if lists else "", "Nothing.")
 
@@ -324,6 +346,7 @@ class Board:
         orders = [(f"{it.quantity:,}{' firm' * is_firm(it)} to release,", it.due_date, it.late) for it in self.released.get(pair, [])]
         orders = orders or [(f"{it.quantity:,}", reports.day(record.dates, it.period), it.by) for it in self.late.get(pair, [])]
         lines = [f"{what} due {self.day(day)}" + (f", {self.lateness(late)[0]} late" if late else "") for what, day, late in orders]
+        lines += [self.lacking(pair)[0]] if pair in self.released and self.lacks(pair) else []
         messages = self.messages.rows(pair)
         for it in messages:
             needed = f", needed {self.day(it.needed_date)}" if it.needed_date else ""

@@ -4,6 +4,7 @@ What waits for what is what the table says: a receipt waits for nothing, be it o
 A firm order waits for what it takes in the period of its start, as a release does. A receipt that the plan counts sooner is there
 when it comes, so that what it covers waits for it as for a late order.
 """
+import functools
 import graphlib
 import subprocess
 import sys
@@ -70,26 +71,21 @@ class Orders:
         return zip(figures, figures, figures, figures)
 
 
-class Firm:
-    """What a table says of its pairs, their orders, and their plan as far as their requirements can wait for a late order.
+class Takes:
+    """What a table says of its pairs: their rows, and what goes into what.
 
     `takes` has of each pair what goes into it, the components and the suppliers' pairs, each with how many pieces go into one,
-    and between which thousandths of a release its part lies; `taken` those of them that can wait, each with the periods, as bits,
-    in which a release takes of it.
+    and between which thousandths of a release its part lies.
     """
 
     # What stands behind the pairs and the bills of a table.
     BEHIND = tuple(f"{it.__name__.lower()}," for it in (mrp.Demand, mrp.Receipt, mrp.Ship, mrp.Cum, mrp.Reset, mrp.Firm, mrp.Policy))
 
-    def __init__(self, lines, orders, policies):
-        """Takes the lines of the table, its Orders, and its policies."""
-        self.orders, self.policies, self.rows, self.takes, self.ends = orders, policies, {}, {}, {}
+    def __init__(self, lines):
+        self.rows, self.takes = {}, {}
         front = takewhile(lambda it: not it.startswith(self.BEHIND), lines)
         for row in mrp.table_rows(front, mrp.Run, mrp.Pair, mrp.Bill):
             self.take(row)
-        self.settle()
-        lists = ({pair: array("q", [0]) * min(end, self.periods) for pair, end in self.ends.items() if end} for _ in "123")
-        self.gross, self.incoming, self.demand = lists
 
     def take(self, row):
         """Takes over a row of the table."""
@@ -103,11 +99,30 @@ class Firm:
         else:
             self.calendar, self.periods = mrp.calendar_of(row), row.periods
 
+    @functools.cached_property
+    def order(self):
+        """The pairs, what goes into another before it."""
+        return [*graphlib.TopologicalSorter(self.takes).static_order()]
+
+
+class Firm(Takes):
+    """What a table says of its pairs, their orders, and their plan as far as their requirements can wait for a late order.
+
+    `taken` has of what goes into a pair what can wait, each with the periods, as bits, in which a release takes of it.
+    """
+
+    def __init__(self, lines, orders, policies):
+        """Takes the lines of the table, its Orders, and its policies."""
+        super().__init__(lines)
+        self.orders, self.policies, self.ends = orders, policies, {}
+        self.settle()
+        lists = ({pair: array("q", [0]) * min(end, self.periods) for pair, end in self.ends.items() if end} for _ in "123")
+        self.gross, self.incoming, self.demand = lists
+
     def settle(self):
         """Finds which pairs can wait, and for how many periods."""
         self.pairs = [*self.rows]
         self.places = {pair: place for place, pair in enumerate(self.pairs)}
-        self.order = [*graphlib.TopologicalSorter(self.takes).static_order()]
         self.taken = {pair: {} for pair in self.pairs}
         for pair in self.order:
             # (nothing waits longer than until the last late order and the last receipt of what is below, and then the lead time, and

@@ -52,7 +52,7 @@ class Report:
     """A report of a table, or of the one on standard input: its rows, and what the table says of plants and periods."""
 
     def __init__(self, folder, command, table=None):
-        self.table, self.path = table or f"{folder}/table.csv", f"{folder}/report.csv"
+        self.table, self.path = table or f"{folder}/table.csv", f"{folder}/{command}.csv"
         if not table:
             with open(self.table, "wb") as copy:
                 shutil.copyfileobj(sys.stdin.buffer, copy)

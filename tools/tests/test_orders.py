@@ -4,6 +4,7 @@ import re
 
 import named
 from support import reports_from_files
+from test_lacks import LACKING, SHORTAGES
 from test_oracle import COVERED
 
 # The sheets of the example without receipts, with a vendor and the vendor's part number for what is bought or taken.
@@ -33,15 +34,16 @@ schedule,opening,WORKS,DEPOT,100_250-A,,,2,142
 schedule,call,WORKS,DEPOT,100_250-A,2,2026-12-14,2,144
 schedule,reset,WORKS,DEPOT,100_250-A,4,2026-12-28,,144
 """
+NO_SHORTAGES = "row,plant,item,source,by_plant,by_item,quantity,short\n"
 OWN_ORDERS = """\
-row,plant,item,supply,quantity,release,release_date,due,due_date,late,description,vendor,vendor_item,notes
+row,plant,item,supply,quantity,release,release_date,due,due_date,late,description,vendor,vendor_item,notes,lacks
 firm,WORKS,100/250-A,make,10,1,2026-12-07,2,2026-12-14,0,"Pump, 2.5 kW",,,"10 of 2026-12-16: Start 2026-12-07, Order \
-FA-20; 8 of 2026-12-16: Order 4720, Customer Grundmann; 7 of 2026-12-18: Order 4722, Customer Weber"
+FA-20; 8 of 2026-12-16: Order 4720, Customer Grundmann; 7 of 2026-12-18: Order 4722, Customer Weber",
 order,WORKS,100/250-A,make,4,1,2026-12-07,2,2026-12-14,0,"Pump, 2.5 kW",,,"8 of 2026-12-16: Order 4720, Customer \
-Grundmann; 7 of 2026-12-18: Order 4722, Customer Weber"
-order,WORKS,MOTOR,buy,20,0,2026-11-30,1,2026-12-07,1,Motor 2.5 kW,Lumen,LM 2.5-K,
+Grundmann; 7 of 2026-12-18: Order 4722, Customer Weber",
+order,WORKS,MOTOR,buy,20,0,2026-11-30,1,2026-12-07,1,Motor 2.5 kW,Lumen,LM 2.5-K,,
 order,DEPOT,100/250-A,from:WORKS,2,2,2026-12-14,3,2026-12-21,0,"Pump, 2.5 kW",WORKS,P-100,"6 of 2026-12-22: Order \
-4725, Customer Spares"
+4725, Customer Spares",
 """
 OWN_SCHEDULE = """\
 row,kind,supplier,customer,item,period,date,quantity,cumulative,description,vendor_item,notes
@@ -60,6 +62,7 @@ def firm(room):
     room.stand_in("words/files", "from_files")
     room.write("orders.csv", ORDERS)
     room.write("schedule.csv", SCHEDULE)
+    room.write("shortages.csv", NO_SHORTAGES)
     room.variables["MRP"] = "words/files"
 
 
@@ -68,6 +71,7 @@ def test_reports_are_those_of_the_program(room, program):
     firm(room)
     assert room.run(f"{program} orders --header < table.csv") == ORDERS
     assert room.run(f"{program} schedule --header < table.csv") == SCHEDULE
+    assert room.run(f"{program} shortages --header < table.csv") == NO_SHORTAGES
 
 
 def test_orders_have_the_firms_names(room):
@@ -76,8 +80,8 @@ def test_orders_have_the_firms_names(room):
     """
     firm(room)
     assert room.run("bin/orders --names names.csv < table.csv") == OWN_ORDERS
-    wanted = [f"{it},,,," for it in ORDERS.splitlines()[1:]]
-    assert room.run("bin/orders < table.csv").splitlines()[1:] == [*wanted[:3], wanted[3].replace(",,,,", ",,WORKS,,")]
+    wanted = [f"{it},,,,," for it in ORDERS.splitlines()[1:]]
+    assert room.run("bin/orders < table.csv").splitlines()[1:] == [*wanted[:3], wanted[3].replace(",,,,,", ",,WORKS,,,")]
     # (a further pump in period 4 is the next order's, and what comes before it this one's)
     room.run("sed -i '/^4731/s/2027-03-01/2026-12-28/' firm/demands.csv")
     room.run("bin/sheets --names names.csv --out table.csv firm 2> said && grep -q 'Order 4731' names.csv")
@@ -89,7 +93,7 @@ def test_orders_have_the_firms_names(room):
     # (and a firm order is no end of another's)
     room.write("orders.csv", ORDERS.replace(first, first + later.replace("order,", "firm,")))
     rows = room.run("bin/orders --names names.csv --until 1 < table.csv").splitlines()
-    assert [it[:-1].endswith("9 of 2026-12-28: Order 4731, Customer Weber") for it in rows[1:3]] == [True, True]
+    assert [it[:-2].endswith("9 of 2026-12-28: Order 4731, Customer Weber") for it in rows[1:3]] == [True, True]
 
 
 def test_schedule_has_the_firms_names(room):
@@ -213,7 +217,7 @@ def test_vendors_with_commas_are_whole(room):
         room.write("firm/items.csv", items)
         room.run("bin/sheets --names names.csv --out table.csv firm 2> said")
         rows = [*csv.reader(room.run("bin/orders --names names.csv < table.csv").splitlines())]
-        assert rows[3] == [*motors.split(","), "Motor 2.5 kW", vendor, number, ""]
+        assert rows[3] == [*motors.split(","), "Motor 2.5 kW", vendor, number, "", ""]
 
 
 def test_headings_of_vendors():
@@ -236,9 +240,50 @@ def test_headings_of_vendors():
 
 def test_orders_are_for_what_they_cover(room):
     """By hand. Of the worked figure with a period covered the 20 are for the demand of period 2, and the 5 for that of period 3."""
-    reports_from_files(room, COVERED, "orders")
+    reports_from_files(room, COVERED, "orders", "shortages")
     room.run("sed -i '1i row,plant,item,supply,quantity,release,release_date,due,due_date,late' orders.csv")
     heads = "row,plant,item,period,date,quantity,name,description,note\n"
     room.write("names.csv", heads + "".join(f"demand,A,X,{it},,{it + 1},,,Order {it}\n" for it in range(5)))
     found = csv.DictReader(room.run("MRP=words/files bin/orders --names names.csv < table.csv").splitlines())
     assert [it["notes"] for it in found] == ["3 of : Order 2", "4 of : Order 3; 5 of : Order 4"]
+
+
+def test_orders_say_what_they_lack(room):
+    """Of the firm of test_lacks those that are released now, firm and planned ones, in the names of the sheets; what is lacked by a
+    demand alone is lacked by no order.
+    """
+    reports_from_files(room, LACKING.replace("demand,A,FAN", "demand,B,MOTOR,0,9,,,\ndemand,A,FAN,0,4,,,\ndemand,A,FAN"), "orders")
+    room.run("sed -i '1i row,plant,item,supply,quantity,release,release_date,due,due_date,late' orders.csv")
+    room.write("shortages.csv", NO_SHORTAGES + SHORTAGES + "shortage,B,MOTOR,demand,B,MOTOR,9,8\n")
+    heads = "row,plant,item,period,date,quantity,name,description,note\n"
+    room.write("names.csv", heads + 'plant,B,,,,,Lager "B",,\npair,A,RING,,,,Ring 8,"Ring, brass",\npair,A,SET,,,,Satz,,\n')
+    ask, rings = "MRP=words/files bin/orders {} < table.csv", "Ring 8 28 of 48"
+    found = [(it["item"], it["release"], it["lacks"]) for it in csv.DictReader(room.run(ask.format("--names names.csv")).splitlines())]
+    assert found == [
+        ("Ring 8", "0", ""),
+        ("MOTOR", "0", 'Lager "B" MOTOR 3 of 4'),
+        ("PUMP", "0", f"MOTOR 4 of 10; {rings} for Satz"),
+        ("FAN", "0", f"{rings} for Satz"),
+        ("FAN", "0", f"{rings} for Satz"),
+        ("FAN", "0", f"{rings} for Satz"),
+        ("Satz", "0", rings),
+        ("MOTOR", "0", ""),
+    ]
+    assert room.run("sort asked | uniq -c").split() == ["1", "orders", "1", "shortages"]
+    room.run("rm shortages.csv asked")
+    assert "total,B," in room.run(ask.format("--sums vendor"))
+    assert room.run("cat asked") == "orders\n"
+
+
+def test_orders_that_are_released_later_lack_nothing(room):
+    """Of an item that is released in two periods the first alone."""
+    table = "run,2026-01-05,7,4,,,,\nplant,A,,,,,,\npair,A,P,make,lot,1,0,0\npair,A,C,buy,lot,2,3,0\nbill,A,P,C,1,,,\n"
+    reports_from_files(room, table + "demand,A,P,1,5,,,\ndemand,A,P,3,5,,,\n", "orders", "shortages")
+    room.run("sed -i '1i row' orders.csv shortages.csv")
+    rows = csv.DictReader(room.run("MRP=words/files bin/orders < table.csv").splitlines())
+    assert [(it["item"], it["release"], it["lacks"]) for it in rows] == [
+        ("P", "0", "C 2 of 5"),
+        ("P", "2", ""),
+        ("C", "0", ""),
+        ("C", "0", ""),
+    ]

@@ -4,6 +4,7 @@ import re
 
 import reports
 from support import DELAYED_PLAN, listed, plan_rows, reports_from_files, Tags, wants, WITH_DELAYS
+from test_lacks import LACKING
 from test_oracle import FENCED, SOONER
 from test_record import FIRM, FIRM_ORDERS, FIRM_PLAN
 
@@ -85,7 +86,7 @@ def test_page_sorts_and_finds(room):
 
 
 # The reports of pumps, of which the stored ones have names of columns, and the plan two kinds of rows.
-PUMPS = "cat examples/pumps.plan.csv examples/pumps.orders.csv examples/pumps.advice.csv examples/pumps.schedule.csv"
+PUMPS = "cat " + " ".join(f"examples/pumps.{it}.csv" for it in ("plan", "orders", "advice", "schedule", "shortages"))
 
 
 def test_page_says_what_is_to_be_done(room):
@@ -94,12 +95,12 @@ def test_page_says_what_is_to_be_done(room):
     """
     text = room.run(f"{PUMPS} | bin/page")
     Tags(text)
-    assert "10 pairs, 8 weeks, 4 late orders, 8 orders to release, 6 open orders to be moved" in text
+    assert "10 pairs, 8 weeks, 4 late orders, 8 orders to release, 1 of them lacking parts, 6 open orders to be moved" in text
     rows = listed(text, "release")
     assert [it[0] for it in rows] == ["PUMP", "CASTING", "HOUSING", "IMPELLER", "BRASS", "IMPELLER"]
     # (of two orders the first and their sum, and both where they open)
     two = "30 Nov W49, 2 orders50 due 30 Nov W49, 5 weeks50 due 7 Dec W50, 4 weeks"
-    assert rows[1] == ["CASTING", "100", "5 weeks", two, "buy"]
+    assert rows[1] == ["CASTING", "100", "5 weeks", two, "", "buy"]
     two = "7 Dec W50, 2 orders1 due 7 Dec W50, 1 week4 due 14 Dec W51"
     assert rows[5] == ["IMPELLER", "5", "1 week", two, "from WORKS 70%, FOUNDRY 30%"]
     orders = "50 due 30 Nov W49, 5 weeks50 due 7 Dec W50, 4 weeksor expedite 60 of 28 Dec W53"
@@ -110,10 +111,46 @@ def test_page_says_what_is_to_be_done(room):
     rows = listed(text, "moves")
     assert [it[0] for it in rows] == ["expedite", "defer", "defer", "defer", "defer", "cancel"]
     assert rows[0] == ["expedite", "FOUNDRY", "CASTING", "60", "28 Dec W53", "30 Nov W49", "receipt"]
+    assert listed(text, "release")[2] == ["HOUSING", "40", "1 week", "7 Dec W50", "lacks CASTING 5 of 40", "make"]
     assert (rows[2][6], rows[5][4:6]) == ("in transit from FOUNDRY", ["18 Jan W03", "never"])
     rows = [it[1:] for it in listed(text, "deliveries") if it[0] == "HOUSING"]
     called = [["7 Dec W50", "25", "1,000"], ["21 Dec W52", "44", "1,044"], ["4 Jan W01", "14", "141,044 closed"]]
     assert rows == [["in transit", "15", "975"], *called]
+
+
+# What the page asks for beside the plan.
+ASKED = "plan", "orders", "advice", "schedule", "shortages"
+
+
+def test_page_says_what_orders_lack(room):
+    """By hand, of the firm of test_lacks: the parts of an item's orders, those of a phantom that it takes, and a transfer; first those
+    that lack nothing where a reader sorts by it. What many orders lack opens.
+    """
+    reports_from_files(room, LACKING, *ASKED)
+    text = room.run("MRP=words/files bin/page < table.csv")
+    Tags(text)
+    assert "7 orders to release, 1 of them firm, 5 of them lacking parts</p>" in text
+    rows = {(it[0], it[-1]): it[4] for it in listed(text, "release")}
+    rings = "lacks RING 28 of 48"
+    assert rows == {
+        ("RING", "buy"): "",
+        ("MOTOR", "from B"): "lacks B MOTOR 3 of 4",
+        ("PUMP", "make"): f"lacks MOTOR 4 of 10{rings} for SET",
+        ("FAN", "make"): f"{rings} for SET",
+        ("SET", "make"): rings,
+        ("MOTOR", "buy"): "buy",
+    }
+    assert re.findall('data-by="(0[0-9]+)"', text) == ["000", "001", "002", "001", "001"]
+    assert re.search('<article [^>]*data-item="FAN">.*?</article>', text, re.DOTALL)[0].count("lacks</b> <a href") == 1
+    assert "lacks</b>" not in room.run("MRP=words/files bin/page --plant B < table.csv")
+    assert "lacks</b>" in room.run("MRP=words/files bin/page --item FAN < table.csv")
+    # (reports alone don't say what a phantom goes into)
+    text = room.run("cat plan.csv orders.csv shortages.csv | bin/page")
+    assert [it[4] for it in listed(text, "release") if it[0] in ("FAN", "SET")] == ["", rings]
+    parts = "".join(f"shortage,A,P{it},bill,A,FAN,{1000 * it + 1000},{it + 1}\n" for it in range(6))
+    text = room.run(f"(cat plan.csv orders.csv; printf '{parts}') | bin/page")
+    assert "lacks 6 partslacks P0 1 of 1,000lacks P1 2 of 2,000" in "".join(it[4] for it in listed(text, "release"))
+    assert text.count("<details><summary><b class=\"late\">lacks</b> 6 parts</summary>") == 2
 
 
 def figures_of(text, label):
@@ -358,7 +395,7 @@ def test_page_has_200_pairs_at_once(room):
 
 def test_page_marks_frozen_releases(room):
     """By hand, of the worked figure: the two periods below the fence, of which the first has a firm order that starts."""
-    reports_from_files(room, FENCED, "plan", "orders", "advice", "schedule")
+    reports_from_files(room, FENCED, *ASKED)
     text = room.run("MRP=words/files bin/page < table.csv")
     Tags(text)
     cell = '<td class="frozen" title="frozen: no planned order is released">'
@@ -370,7 +407,7 @@ def test_page_marks_frozen_releases(room):
 
 def test_page_has_receipts_when_they_come(room):
     """By hand, of the worked figure: no order is late, and the 40 of period 1 wait two weeks for what is to be expedited."""
-    reports_from_files(room, SOONER, "plan", "orders", "advice", "schedule")
+    reports_from_files(room, SOONER, *ASKED)
     text = room.run("MRP=words/files bin/page < table.csv")
     Tags(text)
     assert listed(text, "late") == [["A", "X", "2 weeks", "expedite 60 of 26 Jan W05", "1", "40 A X of 12 Jan W03, 2 weeks"]]
@@ -379,7 +416,7 @@ def test_page_has_receipts_when_they_come(room):
     assert "receipts count up to 2 weeks sooner</span>" in text
     assert "when they are due, and receipts sooner than they come where a policy says so; available with delays" in text
     # (once it is expedited nothing waits)
-    reports_from_files(room, SOONER.replace("receipt,A,X,3", "receipt,A,X,1"), "plan", "orders", "advice", "schedule")
+    reports_from_files(room, SOONER.replace("receipt,A,X,3", "receipt,A,X,1"), *ASKED)
     text = room.run("MRP=words/files bin/page < table.csv")
     assert "No order is late." in text
     assert "Available with delays</th>" not in text

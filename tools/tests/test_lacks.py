@@ -1,0 +1,98 @@
+"""What orders lack, as bin/page and bin/orders say it: bin/lacks.py."""
+import io
+
+import hits
+import lacks
+import mrp
+import reports
+from test_oracle import policy_of, rows_of, some_firms
+
+# By hand. The 10 pumps and the 5 fans, of which 2 are firm, take 15 sets, of which 3 are there. The 12 others are made at once, of
+# 48 rings, of which 20 are there. Of 10 motors 6 are there, and of the 4 that B is to ship one.
+LACKING = """\
+run,2026-01-05,7,2,,,,
+plant,A,,,,,,
+plant,B,,,,,,
+pair,A,RING,buy,lot,2,20,0
+pair,A,MOTOR,from:B,lot,1,6,0
+pair,A,PUMP,make,lot,1,0,0
+pair,A,FAN,make,lot,1,0,0
+pair,A,SET,make,lot,0,3,0
+pair,B,MOTOR,buy,lot,1,1,0
+bill,A,PUMP,SET,1,,,
+bill,A,PUMP,MOTOR,1,,,
+bill,A,SET,RING,4,,,
+bill,A,FAN,SET,1,,,
+demand,A,PUMP,1,10,,,
+demand,A,FAN,1,5,,,
+firm,A,FAN,0,1,2,,
+"""
+SHORTAGES = """\
+shortage,A,RING,bill,A,SET,48,28
+shortage,A,MOTOR,bill,A,PUMP,10,4
+shortage,B,MOTOR,plant,A,MOTOR,4,3
+"""
+
+
+def by_definition(table, judge, pair, shortages):
+    """Returns the shortages that a pair's orders have, and those of the phantoms that they ask for in period 0, and of these."""
+    found = {it for it in shortages if it.source != "demand" and (it.by_plant, it.by_item) == pair}
+    for row in table.pairs:
+        part, firm = (row.plant, row.item), judge.firm
+        asks = any((plant, item) == pair for source, plant, item, *_ in firm.terms(part, 0) if source != "demand")
+        due = firm.plans[part].order[0] or any(it.due == 0 for it in firm.firm_orders[part])
+        if asks and due and row.supply == "make" and row.lead == policy_of(table, part).fence == 0:
+            found |= by_definition(table, judge, part, shortages)
+    return found
+
+
+def test_lacks_of_firms(tmp_path):
+    """Of each pair of random firms what the definition says, from the table and the program's reports."""
+    passed_up = 0
+    for table, judge in some_firms():
+        path, shortages, found = tmp_path / "table.csv", rows_of(judge, "shortages"), lacks.Lacks()
+        path.write_bytes(bytes(table))
+        orders = hits.Orders(io.BytesIO(judge.answer("orders").out))
+        for it in shortages:
+            found.take(it)
+        own = {pair: [*rows] for pair, rows in found.of.items()}
+        with mrp.open_table(path) as lines:
+            found.pass_up(hits.Takes(lines), reports.Policies(path), orders.rows)
+        for pair in judge.firm.pairs:
+            wanted = by_definition(table, judge, pair, shortages)
+            assert {*found.of.get(pair, ())} == wanted
+            assert len(found.of.get(pair, ())) == len(wanted)
+        passed_up += sum(len(it) for it in found.of.values()) - sum(len(it) for it in own.values())
+    assert passed_up > 5
+
+
+def test_phantoms_without_an_order_that_is_due_pass_nothing_up():
+    """By hand. The set that is on hand is there for the pump, and the firm sets that are due later lack rings."""
+    table = """\
+run,2026-01-05,7,2,,,,
+plant,A,,,,,,
+pair,A,PUMP,make,lot,1,0,0
+pair,A,SET,make,lot,0,1,0
+pair,A,RING,buy,lot,1,0,0
+bill,A,PUMP,SET,1,,,
+bill,A,SET,RING,1,,,
+firm,A,PUMP,0,1,1,,
+firm,A,SET,0,1,5,,
+"""
+    takes, found, orders = hits.Takes(io.StringIO(table)), lacks.Lacks(), {("A", "PUMP"): [(1, 1, 0)], ("A", "SET"): [(1, 5, 0)]}
+    found.take(mrp.Shortage("A", "RING", "bill", "A", "SET", 5, 5))
+    found.pass_up(takes, reports.Policies(), lambda pair: orders.get(pair, ()))
+    assert [*found.of] == [("A", "SET")]
+    # (were one due now, the pump would lack them)
+    orders["A", "SET"].append((0, 1, 0))
+    found.pass_up(takes, reports.Policies(), lambda pair: orders.get(pair, ()))
+    assert [*found.of] == [("A", "SET"), ("A", "PUMP")]
+    assert found.lines(("A", "PUMP"), lambda own, plant, item: item) == ["RING 5 of 5 for SET"]
+
+
+def test_many_shortages_are_cut():
+    found = lacks.Lacks()
+    for it in range(lacks.MOST + 5):
+        found.take(mrp.Shortage("A", f"X{it}", "bill", "A", "P", 2, 1))
+        found.take(mrp.Shortage("A", f"X{it}", "demand", "A", f"X{it}", 2, 1))
+    assert ([*found.of], len(found.of["A", "P"])) == ([("A", "P")], lacks.MOST)
