@@ -69,7 +69,7 @@ trap 'rm -rf "$folder"' EXIT
 table=${2:-$folder/table.csv}
 [ $# -gt 1 ] || make_table >"$table"
 
-set -- "plan --single" "orders --until 0" pegs schedule advice
+set -- "plan --single" "orders --until 0" pegs schedule advice shortages
 run=0
 while [ "$run" -lt "$runs" ]; do
     for words; do
