@@ -5,7 +5,7 @@ _mrp() {
         --workers | --capacity | --until | --from | --to) return ;;
     esac
     if [ "$COMP_CWORD" -eq 1 ]; then
-        words="plan check peg cums orders schedule pegs advice help --help --version"
+        words="plan check peg cums orders schedule pegs advice shortages help --help --version"
     else
         case ${COMP_WORDS[1]} in
             plan) words="--workers --capacity --single --help" ;;
@@ -16,7 +16,8 @@ _mrp() {
             schedule) words="--from --to --header --help" ;;
             pegs) words="--header --help" ;;
             advice) words="--until --header --help" ;;
-            help) words="plan check peg cums orders schedule pegs advice" ;;
+            shortages) words="--header --help" ;;
+            help) words="plan check peg cums orders schedule pegs advice shortages" ;;
             *) words="--help" ;;
         esac
     fi
