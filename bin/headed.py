@@ -1,4 +1,4 @@
-"""Sheets with headings as planners keep them, for bin/sheets: how they are headed, their rows by columns, and what is wrong in them."""
+"""Sheets with headings as planners keep them, for bin/sheets, bin/book and bin/advices: how they are headed, their rows by columns, and what is wrong in them."""
 import csv
 import datetime
 import difflib
@@ -63,9 +63,9 @@ COVER = "cover covers safetytime sicherheitszeit delaidesecurite tiempodesegurid
 TIMES = {"Lead": LEAD, "Fence": FENCE, "Frozen releases": FROZEN, "Sooner": SOONER, "Cover": COVER}
 TIME_UNITS = {column: units(fronts) for column, fronts in TIMES.items()}
 # The columns that name things. A row in which two cells are empty, and one of these is, may be a sum.
-NAMING = {"Plant", "Item", "Parent", "Component", "From", "To", "Customer"}
+NAMING = {"Plant", "Item", "Parent", "Component", "From", "To", "Customer", "Vendor", "Advice"}
 # The columns that a sheet may lack. Their cells may be empty.
-OPTIONAL = {"Starts again", "Backward consumption", "Forward consumption", "Fence", "Frozen releases", "Sooner", "Cover", "Least", "Multiple"}
+OPTIONAL = {"Starts again", "Since", "In transit", "Backward consumption", "Forward consumption", "Fence", "Frozen releases", "Sooner", "Cover", "Least", "Multiple"}
 # What stands for yes and for no in a cell, as `plain` has it.
 YES, NO = {*"x yes y ja j oui o si s true wahr vrai verdadero 1".split()}, {*"no n nein non false falsch faux falso 0 -".split(), ""}
 # How the periods are headed in which orders consume forecasts, in front of a word for periods, and without it.
@@ -129,6 +129,44 @@ SHEETS = {
     "cums.csv": {**LANE, "Cum received": f"cumulativereceived received figure empfangen {CUM} recu cumulrecu recibido acumuladorecibido"},
     "resets.csv": {**LANE, "Date": "day resetdate datum tag jour fecha dia"},
 }
+# How the number of a despatch advice is headed, and the days on which it left and on which it was booked.
+ADVICE = "advice asn despatchadvice dispatchadvice deliverynote shippingnotice lieferschein lieferavis avis avisdexpedition bondelivraison"
+ADVICE += " albaran avisodeexpedicion"
+DESPATCHED = "despatch despatchdate dispatched dispatch dispatchdate shipped shippedon shipdate shippingdate departure departuredate versand versanddatum"
+DESPATCHED += " versendet warenausgang abgang expedie expedition dateexpedition datedexpedition depart datededepart despacho fechadespacho salida fechadesalida"
+BOOKED = "booked bookedon bookingdate posted postingdate received receiveddate goodsreceipt goodsreceiptdate date day buchung buchungsdatum gebucht"
+BOOKED += " wareneingang eingangsdatum datum datecomptable reception datedereception fecha fechaentrada fechadeentrada fechadecontabilizacion"
+SUPPLIER = {**LANE, "From": f"vendor {LANE['From']}"}
+# What was on its way then, and the day since which a figure counts, where it started again.
+TRANSIT = "transit onitsway unterwegs entransit entransito"
+SINCE = "countssince since seit zaehltseit compteedepuis cuentadesde"
+# The sheets of bin/advices: what suppliers say that they shipped, what goods-in has booked, and the figures that are carried on.
+ADVICE_SHEETS = {
+    "advices.csv": {
+        "Advice": ADVICE,
+        **SUPPLIER,
+        "Quantity": f"despatchedquantity dispatchedquantity shippedquantity quantityshipped versandmenge liefermenge {PIECES}",
+        "Cumulative": SHEETS["shipped.csv"]["Cumulative"],
+        "Despatched": DESPATCHED,
+        "Arrives": f"due {EXPECTED}",
+    },
+    "booked.csv": {
+        "Advice": ADVICE,
+        **SUPPLIER,
+        "Quantity": f"bookedquantity receivedquantity quantityreceived eingangsmenge wareneingangsmenge gebuchtemenge {PIECES}",
+        "Date": BOOKED,
+    },
+    "cums.csv": {**SHEETS["cums.csv"], "In transit": TRANSIT, "Since": SINCE},
+    "vendors.csv": {
+        "Vendor": "vendorname supplier suppliername lieferant kreditor fournisseur proveedor",
+        "Plant": PLANT,
+        "Item": ITEM,
+        "Figure received": SHEETS["cums.csv"]["Cum received"] + " cumreceived",
+        "In transit": TRANSIT,
+        "Starts again": SHEETS["calls.csv"]["Starts again"],
+        "Since": SINCE,
+    },
+}
 DESCRIBED = "description itemdescription partdescription materialdescription itemname partname name text bezeichnung beschreibung benennung".split()
 DESCRIBED += "artikelbezeichnung materialkurztext designation libelle descripcion denominacion".split()
 # Headings that could mean two things, and what is asked of them.
@@ -155,7 +193,8 @@ class Slips:
 
     def add(self, sheet, row, text):
         """Takes a slip of a row, or of a whole sheet where the row is 0."""
-        place = [*SHEETS].index(sheet) if sheet in SHEETS else -1
+        order = [*SHEETS, *ADVICE_SHEETS]
+        place = order.index(sheet) if sheet in order else -1
         self.found[place, row, f"{sheet}{f' row {row}' if row else ''}{text}"] = None
 
     def nearest(self, text, names, least=0.5):

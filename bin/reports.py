@@ -340,6 +340,44 @@ def output(path):
             os.remove(beside)
 
 
+def put(files, folder):
+    """Puts files into a folder, their bytes by their names: all of them, or none."""
+    os.makedirs(folder, exist_ok=True)
+    paths = {f"{folder}/{name}": found for name, found in files.items()}
+    before, done = {it: kept_bytes(it) for it in paths}, []
+    try:
+        for path, found in paths.items():
+            with open(f"{path}.new", "wb") as file:
+                file.write(found)
+        for path in paths:
+            os.replace(f"{path}.new", path)
+            done.append(path)
+    except OSError:
+        for path in done:
+            restore(path, before[path])
+        raise
+    finally:
+        for path in paths:
+            with contextlib.suppress(OSError):
+                os.remove(f"{path}.new")
+
+
+def kept_bytes(path):
+    """Returns what a file has, or nothing where there is none."""
+    with contextlib.suppress(FileNotFoundError), open(path, "rb") as file:
+        return file.read()
+    return None
+
+
+def restore(path, found):
+    """Gives a file back what it had, or takes it away."""
+    if found is None:
+        os.remove(path)
+    else:
+        with open(path, "wb") as file:
+            file.write(found)
+
+
 def counted(number, word):
     """Returns a number with its word, as 1 period and 2 periods."""
     return f"{number:,} {word}" if number == 1 else f"{number:,} {word}s"

@@ -255,7 +255,7 @@ def test_both_sheets_or_none(tmp_path, monkeypatch):
         kept[-1].added.append({0: "A1"})
     for folder in (tmp_path, tmp_path / "new"):
         with pytest.raises(OSError, match="no room"):
-            book.put(kept, str(folder))
+            book.reports.put({it.name: it.bytes() for it in kept}, str(folder))
     assert sorted(it.name for it in tmp_path.rglob("*")) == ["new", "receipts.csv"]
     assert (tmp_path / "receipts.csv").read_text() == NO_RECEIPTS
 

@@ -16,6 +16,7 @@ TOOLS = [
     "bin/orders",
     "bin/schedule",
     "bin/book",
+    "bin/advices",
     "bin/install",
     "bin/release",
 ]
@@ -66,6 +67,7 @@ def test_words_of_tools(room):
     ]
     bad += ["bin/orders A", "bin/orders --until x", "bin/orders --until 2026-02-30", "bin/orders --sums plant"]
     bad += ["bin/schedule A", "bin/schedule --until -1", "bin/schedule --from", "bin/schedule --sums item"]
+    bad += ["bin/advices", "bin/advices firm", "bin/advices --out a", "bin/advices --out a b c", "bin/advices --accept"]
     bad += ["bin/book", "bin/book orders.csv", "bin/book --firm --receipts a b", "bin/book --number '' a b"]
     bad += ["bin/renew", "bin/renew plan.csv", "tools/try", "tools/torture x", "tools/torture --seed 0"]
     bad += [
