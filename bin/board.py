@@ -19,7 +19,8 @@ IN_TIME = (
     "Late orders are marked where they are due, and requirements by how late a demand in them is at worst.</p>"
 )
 SOONER = ", and receipts sooner than they come where a policy says so"
-# What stands behind late orders of items that have none.
+# What stands behind late orders of items that have open orders that come late, and of those that have none.
+COMES = "<p>Open orders that the sheets say come later than they are due (Comes) stand here too.</p>"
 EXPEDITE = "<p>An item that has no late order here has receipts that the plan counts sooner than they come: they are to be expedited.</p>"
 
 
@@ -74,6 +75,11 @@ class Board:
         calendar = mrp.Calendar.of_report(dates) if len(dates) > 1 else None
         self.unit = {1: "day", 7: "week"}.get(calendar.days, "period") if calendar else "period"
         self.month = calendar.period(dates[0] + timedelta(days=MONTH - 1)) + 1 if calendar else 1
+        # (open orders that come later than they are due)
+        self.delays = {}
+        for found in reports.coming_late(self.names, calendar).values() if calendar else ():
+            for pair, rows in found.items():
+                self.delays.setdefault(pair, []).extend(rows)
         kinds = mrp.Late, mrp.Order, mrp.Hit
         self.late, self.released, self.hit = (grouped(outline.rows[it], "plant", "item") for it in kinds)
         self.messages = outline.messages
@@ -135,7 +141,7 @@ class Board:
     def in_time(self):
         """Returns what is said of late orders above the records."""
         sooner = SOONER * any(it.sooner for it in self.outline.policies.of.values())
-        return IN_TIME.format(sooner) if self.outline.rows[mrp.Late] or sooner else ""
+        return IN_TIME.format(sooner) if self.outline.rows[mrp.Late] or sooner or self.delays else ""
 
     def lacks(self, pair):
         """Returns what the orders of a pair that are released now lack of their parts, in lines."""
@@ -199,20 +205,24 @@ class Board:
             rows.append([self.plant(pair[0]), self.item(*pair), self.lateness(orders[0].by), self.due(pair, orders), *ends])
         expedited = self.expedited()
         for pair in expedited:
-            hits = self.hits[pair]
-            ends = [len(hits), folded([self.demand(it) for it in hits])]
-            rows.append([self.plant(pair[0]), self.item(*pair), self.lateness(hits[0].late_at_worst), self.due(pair, []), *ends])
+            hits = self.hits.get(pair, [])
+            ends = [len(hits), folded([self.demand(it) for it in hits])] if hits_known else []
+            late = hits[0].late_at_worst if hits else max(it.by for it in self.delays[pair])
+            rows.append([self.plant(pair[0]), self.item(*pair), self.lateness(late), self.due(pair, []), *ends])
         if not rows:
             return self.section("late", "Late orders", "", "No order is late.")
         title, heads = ("Late orders, and the demands that they hit", ["Demands", "Worst by this order"]) if hits_known else ("Late orders", [])
         note = "A demand stands by the late order that delays it most, with how late it is at worst; <em>also</em> counts those that wait for this one too."
-        note = f"<p>{note}</p>" + EXPEDITE * bool(expedited) if hits_known else ""
+        note = f"<p>{note}</p>" + EXPEDITE * any(it not in self.delays for it in expedited) if hits_known else ""
+        note += COMES * any(map(self.outline.asked, *zip(*self.delays))) if self.delays else ""
         return self.section("late", title, sortable(["Plant", "Item", "Late", "Orders", *heads], rows, " stack") + note, "")
 
     def expedited(self):
-        """Returns the pairs without late orders for which demands wait: for receipts that the plan counts sooner than they come."""
+        """Returns the pairs without late orders for which demands wait, for receipts that the plan counts sooner than they come, and
+        those with open orders that come late."""
         comes = self.outline.policies.comes
-        return [it for it in self.hits if it in comes and it not in self.late and self.outline.asked(*it)]
+        found = dict.fromkeys([*(it for it in self.hits if it in comes or it in self.delays), *self.delays])
+        return [it for it in found if it not in self.late and self.outline.asked(*it)]
 
     def due(self, pair, orders):
         """Returns the late orders of a pair, and which open orders could come in their place; many open below their sum."""
@@ -223,6 +233,9 @@ class Board:
         if len(orders) > MOST_ORDERS:
             whole = f"{sum(it.quantity for it in orders):,} in {len(orders):,} orders, the first due {days[0]}"
             lines = [folded([whole, *lines])]
+        for it in self.delays.get(pair, []):
+            day = self.day(reports.day(self.dates, it.period))
+            lines.append(f"open order of {it.quantity:,} due {day}, {reports.counted(it.by, self.unit)}")
         found = [it for it in self.messages.rows(pair) if it.action == "expedite"]
         instead = [f"{'or ' * bool(orders)}expedite {self.open_order(it)}" for it in found]
         return "<br>".join([*lines, *instead]) if len(instead) <= MOST_ORDERS else "<br>".join([*lines, folded(instead)])
@@ -289,9 +302,10 @@ class Board:
     # The records.
 
     def delayed(self, record):
-        """Returns the late orders of a record, and what the plan counts of its receipts sooner than they come, as late orders are."""
+        """Returns the late orders of a record, and as such what the plan counts of its receipts sooner than they come, and open orders
+        that come late."""
         pair = record.plant, record.item
-        return [*self.late.get(pair, []), *self.outline.policies.sooner(pair, record.incoming)]
+        return [*self.late.get(pair, []), *self.outline.policies.sooner(pair, record.incoming), *self.delays.get(pair, [])]
 
     def picture(self, record, late):
         """Returns what is available over the periods as a drawing: with delays, projected, safety stock, and a line where a late order is due."""
@@ -380,7 +394,8 @@ class Board:
         hit = {it.period: it.late_at_worst for it in self.hit.get(pair, [])}
         firm = [line(f"<small>{reports.OF_WHICH_FIRM}</small>", it) for it in self.outline.firm.figures(pair, len(record.dates))]
         # (what is due of firm orders stands below scheduled receipts, and what is released of them below releases)
-        lines = [line(reports.LABELS[0], record.gross, late=hit), line(reports.LABELS[1], record.incoming), *firm[:1]]
+        comes = {it.period: it.by for it in sorted(self.delays.get(pair, []), key=lambda it: it.by)}
+        lines = [line(reports.LABELS[0], record.gross, late=hit), line(reports.LABELS[1], record.incoming, late=comes), *firm[:1]]
         lines.append(line(reports.LABELS[2], record.available, stock))
         if delayed := self.delayed(record):
             # (below projected available)

@@ -41,6 +41,8 @@ START += " eckstarttermin freigabe freigabetermin debut datededebut lancement da
 FINISH = f"{DATES} finish finishdate orderfinish orderfinishdate basicfinish basicfinishdate end enddate ende enddatum endtermin eckendtermin"
 FINISH += " faellig echeance datedecheance fin datedefin fechafin fechadefin fechavencimiento"
 WANTED = {"Plant": PLANT, "Item": ITEM, "Due": NEEDED, "Quantity": f"orderquantity openquantity bedarfsmenge bestellmenge offenemenge {PIECES}"}
+# When an open order really comes, where that isn't when it is due.
+COMES = "comeson kommt kommtam vient vientle llega llegael"
 # How lead times are headed in front of their unit, and the days of each unit.
 LEAD = "lead leadtime transit transittime vorlauf vorlaufzeit wiederbeschaffungszeit lieferzeit planlieferzeit durchlaufzeit"
 LEAD += " delai delaidelivraison delaidapprovisionnement plazo plazodeentrega tiempodeentrega"
@@ -65,7 +67,7 @@ TIME_UNITS = {column: units(fronts) for column, fronts in TIMES.items()}
 # The columns that name things. A row in which two cells are empty, and one of these is, may be a sum.
 NAMING = {"Plant", "Item", "Parent", "Component", "From", "To", "Customer", "Vendor", "Advice"}
 # The columns that a sheet may lack. Their cells may be empty.
-OPTIONAL = {"Starts again", "Since", "In transit", "Backward consumption", "Forward consumption", "Fence", "Frozen releases", "Sooner", "Cover", "Least", "Multiple"}
+OPTIONAL = {"Starts again", "Comes", "Since", "In transit", "Backward consumption", "Forward consumption", "Fence", "Frozen releases", "Sooner", "Cover", "Least", "Multiple"}
 # What stands for yes and for no in a cell, as `plain` has it.
 YES, NO = {*"x yes y ja j oui o si s true wahr vrai verdadero 1".split()}, {*"no n nein non false falsch faux falso 0 -".split(), ""}
 # How the periods are headed in which orders consume forecasts, in front of a word for periods, and without it.
@@ -123,8 +125,8 @@ SHEETS = {
         "Cumulative": f"cumulativeshipped shippedcumulative cumshipped lieferfortschrittszahl cumulexpedie {FIGURE}",
     },
     "forecasts.csv": {**WANTED, "Quantity": f"forecast forecastquantity prognose prognosemenge vorhersage prevision quantiteprevue pronostico {PIECES}"},
-    "receipts.csv": {**WANTED, "Due": f"arrives {EXPECTED}"},
-    "firm_orders.csv": {"Plant": PLANT, "Item": ITEM, "Start": START, "Due": FINISH, "Quantity": WANTED["Quantity"]},
+    "receipts.csv": {**WANTED, "Due": f"arrives {EXPECTED}", "Comes": COMES},
+    "firm_orders.csv": {"Plant": PLANT, "Item": ITEM, "Start": START, "Due": FINISH, "Quantity": WANTED["Quantity"], "Comes": COMES},
     "shipments.csv": {**LANE, "Arrives": f"due {EXPECTED}", "Quantity": PIECES},
     "cums.csv": {**LANE, "Cum received": f"cumulativereceived received figure empfangen {CUM} recu cumulrecu recibido acumuladorecibido"},
     "resets.csv": {**LANE, "Date": "day resetdate datum tag jour fecha dia"},

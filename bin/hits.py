@@ -2,7 +2,7 @@
 
 What waits for what is what the table says: a receipt waits for nothing, be it of an order whose components stand among the demands.
 A firm order waits for what it takes in the period of its start, as a release does. A receipt that the plan counts sooner is there
-when it comes, so that what it covers waits for it as for a late order.
+when it comes, so that what it covers waits for it as for a late order; so do open orders of which names.csv says that they come later.
 """
 import functools
 import graphlib
@@ -27,40 +27,48 @@ def report(words, table):
         sys.exit(1)
 
 
-def hits(table):
+def hits(table, names):
     """Returns the demands that late orders of the table at a path hit, each an mrp.Hit: the worst first, then by period,
     then in table order."""
-    return firm_of(table, report("plan", table)).worst_first()
+    return firm_of(table, report("plan", table), names).worst_first()
 
 
-def firm_of(table, plan):
+def firm_of(table, plan, names):
     """Returns the Firm of the table at a path, and of the lines of its plan."""
-    orders = Orders(report("orders", table))
-    policies = reports.Policies(table)
+    policies, delays = reports.Policies(table), {}
+    if names.comes:
+        delays = reports.coming_late(names, mrp.calendar_of(next(policies.rows(mrp.Run))))
+    orders = Orders(report("orders", table), delays.get("firm", {}))
     with mrp.open_table(table) as lines:
-        firm = Firm(lines, orders, policies)
+        firm = Firm(lines, orders, policies, delays.get("receipt", {}))
     firm.take_plan(plan)
     return firm
 
 
 class Orders:
-    """The planned orders and the firm orders of each pair, four figures each: due, quantity, release, and periods late.
-    And the pairs that have late ones, the figures of the firm orders of each pair alone, and the lines of firm orders and of
-    planned ones that are released now."""
+    """The planned orders and the firm orders of each pair, four figures each: due, quantity, release, and periods late. A firm
+    order is late where it comes later than it is due. And the pairs that have late ones, the figures of the firm orders of each
+    pair alone, and the lines of firm orders and of planned ones that are released now."""
 
     COLUMNS = "plant", "item", "due", "quantity", "release", "late"
     READ = staticmethod(mrp.columns(mrp.Order, *COLUMNS))
     READ_FIRM = staticmethod(mrp.columns(reports.FirmOrder, *COLUMNS))
 
-    def __init__(self, lines):
+    def __init__(self, lines, delays):
+        """Takes the lines of the report, and the firm orders of each pair that come late."""
         self.of, self.late, self.firm, self.shown = {}, set(), {}, []
+        left = {pair: {} for pair in delays}
+        for pair, rows in delays.items():
+            for it in rows:
+                left[pair].setdefault((it.period, it.quantity), []).append(it.by)
         for number, line in enumerate(lines, 1):
             is_firm = line.startswith(b"firm,")
             plant, item, *texts = (self.READ_FIRM if is_firm else self.READ)(line.decode(), number)
-            due, quantity, release, late = figures = [*map(int, texts)]
-            self.of.setdefault((plant, item), array("q")).extend(figures)
+            due, quantity, release, late = map(int, texts)
             if is_firm:
-                self.firm.setdefault((plant, item), []).append((due, quantity, release))
+                late = (left.get((plant, item), {}).get((due, quantity)) or [0]).pop()
+                self.firm.setdefault((plant, item), []).append((due, quantity, release, late))
+            self.of.setdefault((plant, item), array("q")).extend((due, quantity, release, late))
             if is_firm or release == 0:
                 self.shown.append(line)
             if late:
@@ -111,10 +119,10 @@ class Firm(Takes):
     `taken` has of what goes into a pair what can wait, each with the periods, as bits, in which a release takes of it.
     """
 
-    def __init__(self, lines, orders, policies):
-        """Takes the lines of the table, its Orders, and its policies."""
+    def __init__(self, lines, orders, policies, delays):
+        """Takes the lines of the table, its Orders, its policies, and the receipts of each pair that come later than they are due."""
         super().__init__(lines)
-        self.orders, self.policies, self.ends = orders, policies, {}
+        self.orders, self.policies, self.delays, self.ends = orders, policies, delays, {}
         self.settle()
         lists = ({pair: array("q", [0]) * min(end, self.periods) for pair, end in self.ends.items() if end} for _ in "123")
         self.gross, self.incoming, self.demand = lists
@@ -129,13 +137,15 @@ class Firm(Takes):
             # the times of firm orders)
             self.taken[pair] = {it: 0 for it in self.takes[pair] if self.ends[it]}
             below = max((self.ends[it] for it in self.taken[pair]), default=0)
-            firm = [due - start for due, _, start in self.orders.firm.get(pair, ())] if below else []
+            firm = [due + late - start for due, _, start, late in self.orders.firm.get(pair, ())] if below else []
             longest = max(self.rows[pair].lead, *firm, 0) + below if below else 0
             self.ends[pair] = max(longest, self.own_end(pair))
 
     def own_end(self, pair):
-        """Returns the first period from which on nothing waits for a pair's own late orders, or for receipts that count sooner."""
+        """Returns the first period from which on nothing waits for a pair's own late orders, or for receipts that count sooner or come late."""
         end = self.policies.earliest(self.rows[pair]) if pair in self.orders.late else 0
+        end = max(end, *(due + late for due, _, _, late in self.orders.firm.get(pair, ()) if late), 0)
+        end = max(end, *(it.period + it.by for it in self.delays.get(pair, ())), 0)
         comes = self.policies.comes.get(pair)
         return max(end, *(period for period, it in enumerate(comes.receipts, 1) if it), 0) if comes else end
 
@@ -193,6 +203,9 @@ class Firm(Takes):
         came, cover = self.came_in(pair), self.policies.policy(pair).cover
         sooner = self.policies.sooner(pair, self.incoming[pair])
         coming = [(it.period, it.period + it.by, self.places[pair]) for it in sooner]
+        # (the plan may count it as much sooner)
+        earlier = self.policies.policy(pair).sooner
+        coming += [(max(0, it.period - earlier), it.period + it.by, self.places[pair]) for it in self.delays.get(pair, ())]
         for due, quantity, release, late in self.orders.rows(pair):
             if due < self.ends[pair]:
                 held, place = self.held(pair, release, waits)
@@ -211,14 +224,16 @@ class Firm(Takes):
         return found
 
     def came_in(self, pair):
-        """Returns what is there of a pair, and what open orders bring that aren't firm, by period."""
+        """Returns what is there of a pair, and what open orders bring that aren't firm, by the period in which it comes."""
         comes = self.policies.comes.get(pair)
         incoming = map(sum, zip(*comes)) if comes else self.incoming[pair]
         came = {period: it for period, it in enumerate(incoming) if it}
         came[0] = came.get(0, 0) + self.rows[pair].on_hand
-        for due, quantity, _ in self.orders.firm.get(pair, ()):
+        for due, quantity, *_ in self.orders.firm.get(pair, ()):
             if due < self.ends[pair]:
                 came[due] -= quantity
+        for it in self.delays.get(pair, ()):
+            came[it.period], came[it.period + it.by] = came[it.period] - it.quantity, came.get(it.period + it.by, 0) + it.quantity
         return came
 
     def others(self, hits):

@@ -180,6 +180,16 @@ def notes_of_firm(names, row):
     return [it for it in names.of("firm", row.plant, row.item, row.due) if it.startswith(f"{row.quantity} of ")]
 
 
+def coming_late(names, calendar):
+    """Returns the open orders of each pair, by kind, that really come later than they are due, by the names of sheets: as late orders."""
+    found = {}
+    for (kind, *pair), rows in names.comes.items():
+        late = [mrp.Late(*pair, period, quantity, calendar.period(day) - period) for period, quantity, day in rows]
+        if late := [it for it in late if it.by > 0]:
+            found.setdefault(kind, {})[(*pair,)] = late
+    return found
+
+
 # The names of columns, as --header writes them above a report.
 HEADERS = {mrp.header(it).encode() for it in mrp.REPORTS.values()}
 PLAN = mrp.REPORT_FORMS["plan"]

@@ -606,24 +606,31 @@ def rows_of(text):
 
 class Names:
     """What a file of bin/sheets --names says: the names of plants and items in the sheets, descriptions, and notes.
-    Without a file names are the table's."""
+    Without a file names are the table's.
+
+    `comes` has of open orders, by kind and pair, those of which the sheets say when they really come: the period in which
+    they are due, the pieces, and that day.
+    """
 
     COLUMNS = ["row", "plant", "item", "period", "date", "quantity", "name", "description", "note"]
+    # (the last column of a file in which an order has it)
+    COMES = "comes"
 
     def __init__(self, path=None):
         self.plants, self.pairs, self.notes, self.rows, self.is_given = {}, {}, {}, {}, path is not None
+        self.comes = {}
         if self.is_given:
             try:
                 with open(path, encoding="utf-8", newline="") as file:
                     rows = csv.reader(file)
-                    if next(rows, None) != self.COLUMNS:
+                    if next(rows, None) not in (self.COLUMNS, [*self.COLUMNS, self.COMES]):
                         raise ValueError
                     for it in rows:
                         self.take(*it)
             except (TypeError, ValueError, csv.Error):
                 raise Refused(f"{path} is no file that bin/sheets --names has written") from None
 
-    def take(self, kind, plant, item, period, date, quantity, name, description, note):
+    def take(self, kind, plant, item, period, date, quantity, name, description, note, comes=""):
         """Takes a row over."""
         if kind == "plant":
             self.plants[plant] = name
@@ -632,6 +639,8 @@ class Names:
         else:
             said = f"{quantity} of {date}" + (f": {note}" if note else "")
             self.rows.setdefault((kind, plant, item, int(period)), []).append(said)
+            if comes:
+                self.comes.setdefault((kind, plant, item), []).append((int(period), int(quantity), day_of(comes)))
 
     def plant(self, plant):
         return self.plants.get(plant, plant)

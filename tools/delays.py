@@ -7,10 +7,13 @@ import mrp
 
 
 class Waits:
-    """How many periods requirements wait at worst, found from a demand down: by questions that are asked again and again."""
+    """How many periods requirements wait at worst, found from a demand down: by questions that are asked again and again.
 
-    def __init__(self, firm):
-        self.firm, self.known = firm, {}
+    Open orders may come later than they are due: `late` has their rows by kind and pair, as `reports.coming_late` gives them.
+    """
+
+    def __init__(self, firm, late=None):
+        self.firm, self.known, self.late = firm, {}, late or {}
 
     def demands(self):
         """Returns how many periods each demand waits that does."""
@@ -26,8 +29,12 @@ class Waits:
         for due, quantity in enumerate(self.firm.plans[pair].order):
             if quantity:
                 yield lead + self.taken(pair, release_of(self.firm, pair, due)), quantity
+        late = [*self.late.get("firm", {}).get(pair, ())]
         for it in self.firm.firm_orders[pair]:
-            yield it.due - it.start + self.taken(pair, it.start), it.quantity
+            own = next((row for row in late if (row.period, row.quantity) == (it.due, it.quantity)), None)
+            if own:
+                late.remove(own)
+            yield it.due - it.start + self.taken(pair, it.start) + (own.by if own else 0), it.quantity
 
     def taken(self, pair, release):
         """Returns when all that a release takes is there."""
@@ -47,6 +54,8 @@ class Waits:
     def there(self, pair, orders, period):
         """Returns how many pieces have been there up to a period."""
         came = sum(open_orders(self.firm, pair)[: period + 1])
+        late = self.late.get("receipt", {}).get(pair, ())
+        came -= sum(it.quantity for it in late if it.period <= period < it.period + it.by)
         return self.firm.pairs[pair].on_hand + came + sum(it for comes, it in orders if comes <= period)
 
 

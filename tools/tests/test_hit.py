@@ -10,7 +10,7 @@ import hits
 import mrp
 import oracle
 import reports
-from support import DELAYED, reports_from_files
+from support import DELAYED, reports_from_files, TOP
 from test_oracle import COVERED, FENCED, SOONER
 from test_record import FIRM, FIRM_ORDERS, FIRM_PEGS, FIRM_PLAN
 
@@ -215,19 +215,52 @@ def test_orders_behind_a_fence_hit_demands(room):
     assert room.run("MRP=words/files bin/hit < table.csv") == "hit,A,X,2,2026-01-19,20,1,A,X\n"
 
 
-def firm_of_hits(table, late=None):
+def late_ones(firm, chance):
+    """Returns open orders of a firm that come late, by kind and pair, as `reports.coming_late` gives them."""
+    found = {"receipt": {}, "firm": {}}
+    for pair, rows in firm.open_orders.items():
+        for period, kind, _, quantity in rows:
+            if kind in found and chance.random() < 0.5:
+                found[kind].setdefault(pair, []).append(mrp.Late(*pair, period, quantity, chance.randrange(1, 2 + firm.periods)))
+    return found
+
+
+def test_open_orders_that_come_late_hit_what_others_find(room):
+    """Of random firms, some of whose receipts and firm orders come later than they are due: from each demand down. Each that
+    is hit has a pair that something of comes late."""
+    count, longer = 0, 0
+    for seed in range(500):
+        table = firms.table(chance := random.Random(seed), 6, 14)
+        firm = oracle.Oracle(table).firm
+        if not firm or firm.periods > 26:
+            continue
+        late = late_ones(firm, chance)
+        waiting = firm_of_hits(table, delays=late)
+        found = {(it.plant, it.item, it.period): it for it in waiting.worst_first()}
+        without = {(it.plant, it.item, it.period): it.late_at_worst for it in firm_of_hits(table).hits()}
+        assert {it: hit.late_at_worst for it, hit in found.items()} == delays.Waits(firm, late).demands(), seed
+        pairs = {*waiting.orders.late, *late["receipt"], *waiting.policies.comes}
+        assert [it for it in found.values() if (it.by_plant, it.by_item) not in pairs] == [], seed
+        count, longer = count + len(found), longer + sum(it.late_at_worst > without.get(key, 0) for key, it in found.items())
+        waiting.others([*found.values()])
+    assert count > 600
+    assert longer > 100
+
+
+def firm_of_hits(table, late=None, delays=()):
     """Returns the firm of a table for its hits, by the reports of tools/oracle.py; with the late orders of one pair
-    alone where it is given, or of none.
+    alone where it is given, or of none; with open orders that come late.
     """
     answers = [oracle.Oracle(table).answer(it).out.splitlines(keepends=True) for it in ("orders", "plan")]
-    orders = hits.Orders(answers[0])
+    delays = dict(delays)
+    orders = hits.Orders(answers[0], delays.get("firm", {}))
     for pair in orders.late - {late} if late is not None else ():
         orders.of[pair][3::4] = array.array("q", [0] * (len(orders.of[pair]) // 4))
     orders.late = orders.late if late is None else orders.late & {late}
     with tempfile.NamedTemporaryFile() as file:
         file.write(table)
         file.flush()
-        firm = hits.Firm(table.decode().splitlines(keepends=True), orders, reports.Policies(file.name))
+        firm = hits.Firm(table.decode().splitlines(keepends=True), orders, reports.Policies(file.name), delays.get("receipt", {}))
     firm.take_plan(answers[1])
     return firm
 
@@ -260,3 +293,68 @@ def test_hit_shows_the_demands_of_sheets(room):
     room.run("sed -i '3,$d' names.csv")
     wanted = "DEPOT 100_250-A: 6 in period 3 (2026-12-21), 1 period late at worst by WORKS MOTOR"
     assert room.run("bin/hit --names names.csv < table.csv").splitlines()[1] == wanted
+
+
+# By hand. 20 wheels are due on 14 December for the 10 bicycles that start then, and come two weeks later: so do the bicycles, of
+# which 10 are wanted on 21 December. 5 more of the week before are firm, and come a week late.
+COMING = {
+    "firm.csv": "First day,Days,Periods\n2026-11-30,7,6\n",
+    "items.csv": "Plant,Item,Supply,Lot rule,Lead (periods),On hand,Safety stock\nP1,BIKE,make,lot,1,0,0\nP1,WHEEL,buy,lot,2,10,0\n",
+    "bills.csv": "Plant,Parent,Component,Per\nP1,BIKE,WHEEL,2\n",
+    "demands.csv": "Order,Plant,Item,Due,Quantity\n47,P1,BIKE,2026-12-21,10\n46,P1,BIKE,2026-12-14,5\n",
+    "receipts.csv": "Order,Plant,Item,Due,Quantity,Comes\nP-7,P1,WHEEL,2026-12-14,20,2026-12-29\nP-8,P1,WHEEL,2026-12-28,1,2026-12-28\n",
+    "firm_orders.csv": "Order,Plant,Item,Start,Due,Quantity,Comes\nFA-1,P1,BIKE,2026-12-07,2026-12-16,5,2026-12-21\n",
+}
+COMING_HITS = """\
+P1 BIKE: 10 in period 3 (2026-12-21), 2 periods late at worst by P1 WHEEL
+  10 of 2026-12-21: Order 47
+P1 BIKE: 5 in period 2 (2026-12-14), 1 period late at worst by P1 BIKE
+  5 of 2026-12-14: Order 46
+"""
+
+
+def sheets_of(room, sheets):
+    """Makes the table and names.csv of sheets, and asks tools/oracle.py where there is no program."""
+    room.run("mkdir -p firm")
+    for name, text in sheets.items():
+        room.write(f"firm/{name}", text)
+    if not room.program:
+        room.stand_in("words/planner", "planner", top=TOP)
+        room.variables["MRP"] = f"{room.folder}/words/planner"
+    room.run("bin/sheets --today 2026-11-30 --names names.csv --out table.csv firm 2> said")
+
+
+def test_open_orders_that_come_late_hit_demands(room):
+    """By the column Comes of the sheets, whatever the form of its dates; without names they come when they are due."""
+    sheets_of(room, COMING)
+    assert room.run("bin/hit < table.csv") == ""
+    assert room.run("bin/hit --names names.csv < table.csv") == COMING_HITS
+    assert room.run("head -1 names.csv; grep -E '^(receipt|firm),.*WHEEL|FA-1' names.csv").splitlines() == [
+        "row,plant,item,period,date,quantity,name,description,note,comes",
+        'receipt,P1,WHEEL,2,2026-12-14,20,,,"Order P-7, Comes 2026-12-29",2026-12-29',
+        'receipt,P1,WHEEL,4,2026-12-28,1,,,"Order P-8, Comes 2026-12-28",2026-12-28',
+        'firm,P1,BIKE,2,2026-12-16,5,,,"Start 2026-12-07, Order FA-1, Comes 2026-12-21",2026-12-21',
+    ]
+    german = {**COMING, "receipts.csv": COMING["receipts.csv"].replace("Comes", "Kommt am").replace("2026-12-29", "29.12.2026")}
+    sheets_of(room, german)
+    assert room.run("bin/hit --names names.csv < table.csv") == COMING_HITS
+    # (what comes before it is due, and behind the end: the first 5 have then 5 of the 10)
+    sooner = COMING["receipts.csv"].replace("2026-12-29", "2026-12-01")
+    sheets_of(room, {**COMING, "receipts.csv": sooner, "firm_orders.csv": COMING["firm_orders.csv"].replace("2026-12-21", "2027-02-22")})
+    said = "P1 BIKE: 10 in period 3 (2026-12-21), 9 periods late at worst by P1 BIKE"
+    assert room.run("bin/hit --names names.csv < table.csv").splitlines()[0] == said
+    room.write("firm/receipts.csv", COMING["receipts.csv"].replace("2026-12-29", "soon"))
+    assert room.run("bin/sheets firm", status=1).splitlines()[0] == "receipts.csv row 2, Comes: 'soon' is no date; write it as 2026-12-01"
+
+
+def test_a_booked_late_order_hits_what_the_planned_one_hit(room):
+    """Of the example without motors: planned, booked as a receipt, and as a firm order."""
+    room.run("cp -r examples/sheets firm && rm firm/receipts.csv && sed -i '/MOTOR/s/,8,2$/,0,2/' firm/items.csv")
+    sheets_of(room, {})
+    room.run("bin/orders --names names.csv < table.csv | grep -E '^row|MOTOR' > orders.csv")
+    assert room.run("bin/hit --names names.csv < table.csv") == WITHOUT_MOTORS
+    for word in ("", "--firm"):
+        room.run(f"rm -rf new && cp -r firm new && bin/book {word} --number P- --out new orders.csv firm")
+        room.run("bin/sheets --today 2026-11-30 --names names.csv --out table.csv new 2> said")
+        assert room.run("bin/hit < table.csv") == ""
+        assert room.run("bin/hit --names names.csv < table.csv") == WITHOUT_MOTORS

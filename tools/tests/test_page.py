@@ -4,6 +4,7 @@ import re
 
 import reports
 from support import DELAYED_PLAN, listed, plan_rows, reports_from_files, Tags, wants, WITH_DELAYS
+from test_hit import COMING, sheets_of
 from test_lacks import LACKING
 from test_oracle import FENCED, SOONER
 from test_record import FIRM, FIRM_ORDERS, FIRM_PLAN
@@ -421,3 +422,24 @@ def test_page_has_receipts_when_they_come(room):
     assert "No order is late." in text
     assert "Available with delays</th>" not in text
     assert "to be expedited" not in room.run("MRP=words/files bin/page --plant A < table.csv")
+
+
+def test_page_has_open_orders_that_come_late(room):
+    """By hand: the 20 wheels that are due in period 2 come in period 4, and the firm bicycles a week late. Projected available counts
+    them when they are due."""
+    sheets_of(room, COMING)
+    text = room.run("bin/page --names names.csv < table.csv")
+    Tags(text)
+    assert listed(text, "late") == [
+        ["P1", "WHEEL", "2 weeks", "open order of 20 due 14 Dec W51, 2 weeks", "1", "10 P1 BIKE of 21 Dec W52, 2 weeks10 of 2026-12-21: Order 47"],
+        ["P1", "BIKE", "1 week", "open order of 5 due 14 Dec W51, 1 week", "1", "5 P1 BIKE of 14 Dec W51, 1 week5 of 2026-12-14: Order 46"],
+    ]
+    assert "Open orders that the sheets say come later than they are due (Comes) stand here too." in text
+    cells = [re.findall("<td[^>]*>(-?[0-9]*)<", it) for it in re.findall("Available with delays</th>(.*?)</tr>", text)]
+    assert cells == [["0", "0", "-5", "0", "0", "0"], ["10", "0", "-20", "-20", "1", "1"]]
+    assert '<small>2&nbsp;weeks late</small>' in text
+    assert "No order is late." in room.run("bin/page < table.csv")
+    assert "Available with delays</th>" not in room.run("bin/page < table.csv")
+    room.run("$MRP plan < table.csv > plan.csv")
+    text = room.run("bin/page --names names.csv < plan.csv")
+    assert listed(text, "late") == [["P1", "WHEEL", "2 weeks", "open order of 20 due 14 Dec W51, 2 weeks"], ["P1", "BIKE", "1 week", "open order of 5 due 14 Dec W51, 1 week"]]
