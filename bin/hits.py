@@ -153,15 +153,17 @@ class Firm(Takes):
 
     def take_plan(self, lines):
         """Takes over the plan rows, and passes over what can't wait."""
-        passed = b"late,"
-        for number, line in enumerate(lines, 1):
-            if line.startswith(passed) or line.startswith(b"late,"):
-                continue
+        for run in reports.runs(lines):
+            if not run.lines[0].startswith(b"late,"):
+                self.take_run(run)
+
+    def take_run(self, run):
+        """Takes over the plan rows of a pair, up to the period from which on nothing waits."""
+        for number, line in enumerate(run.lines, run.number):
             plant, item, *figures = self.PLAN(line.decode(), number)
             pair, (period, gross, incoming, release) = (plant, item), map(int, figures)
             if period >= self.ends[pair]:
-                passed = f"plan,{plant},{item},".encode()
-                continue
+                return
             self.gross[pair][period], self.incoming[pair][period] = gross, incoming
             self.demand[pair][period] += gross
             if release and self.taken[pair]:

@@ -5,6 +5,7 @@ import csv
 import difflib
 import functools
 import heapq
+import itertools
 import mmap
 import os
 import re
@@ -221,37 +222,80 @@ class Line(NamedTuple):
     number: int
 
 
-def parts(file, wanted=lambda plant, item: True, unread=()):
-    """Yields the parts of a report in its order: a Record for each pair that is wanted, a pair of names for each other
-    one, and each other row, as a Line where it begins with words of which many rows may stand unread.
+class Run(NamedTuple):
+    """Rows of a report that begin alike and aren't read yet: the first of them, the number of the first, and how many they are."""
 
-    The file gives bytes and is read once, a line at a time; plan rows of pairs that aren't wanted, and rows of names,
-    are passed over.
+    lines: list
+    number: int
+    count: int
+
+
+# How many fields are alike in the rows of a pair, by the first letters of a row, and how many rows of a run are kept.
+PLAN_ROWS, ADVICE_ROWS = {b"plan,": 3}, {b"advic": 5}
+MOST_ALIKE = 1000
+
+
+def front_of(line, alike):
+    """Returns how rows begin that are in a run with one, or nothing where it stands alone."""
+    size = alike.get(line[:5], 0)
+    fields = line.split(b",", size)
+    return b",".join(fields[:size]) + b"," if 0 < size < len(fields) else b""
+
+
+def runs(file, more=()):
+    """Yields the lines of a report as a Run each: those of a pair's plan, of some other kinds those that begin alike, and each other line.
+
+    The file gives bytes and is read once. Most pairs have as many rows as the first one: so many are taken at once.
     """
-    front, lines, number = None, [], 0
-    for number, line in enumerate(file, 1):
-        if front and line.startswith(front):
-            if lines:
-                lines.append(line)
-            continue
-        if lines:
-            yield record_of(lines, number - 1)
-            lines = []
-        kind, front = line[:5], None
-        if kind == b"plan,":
-            plant, item = names_of_pair(line.decode(errors="replace"), number)
-            front = f"plan,{plant},{item},".encode()
-            if wanted(plant, item):
-                lines = [line]
+    alike, lines, number, periods = {**PLAN_ROWS, **dict(more)}, iter(file), 1, 0
+    line = next(lines, b"")
+    while line:
+        front, rows = front_of(line, alike), [line]
+        is_plan = front.startswith(b"plan,")
+        if is_plan and periods > 1:
+            taken = [*itertools.islice(lines, periods - 1)]
+            if (b"\n" + b"".join(taken)).count(b"\n" + front) == periods - 1:
+                rows += taken
             else:
-                yield plant, item
+                lines, periods = itertools.chain(taken, lines), -1
+        count, line = rest_of_run(lines, front, rows)
+        periods = count if is_plan and not periods else periods
+        yield Run(rows, number, count)
+        number += count
+
+
+def rest_of_run(lines, front, rows):
+    """Adds to the rows of a run the lines that begin like it, as far as they are kept. Returns how many it has, and the next line."""
+    count = len(rows)
+    for line in lines:
+        if not front or not line.startswith(front):
+            return count, line
+        count += 1
+        if count <= MOST_ALIKE:
+            rows.append(line)
+    return count, b""
+
+
+def parts(file, wanted=lambda plant, item: True, unread=(), alike=()):
+    """Yields the parts of a report in its order: a Record for each pair that is wanted, a pair of names for each other
+    one, and each other row, as a Line where it begins with words of which many rows may stand unread, and as a part of
+    a Run where its kind is one of those in which rows may begin alike.
+
+    The file gives bytes and is read once; plan rows of pairs that aren't wanted, and rows of names, are passed over.
+    """
+    run = None
+    for run in runs(file, alike):
+        line, number = run.lines[0], run.number
+        if line.startswith(b"plan,"):
+            pair = names_of_pair(line.decode(errors="replace"), number)
+            yield record_of(run.lines, number + len(run.lines) - 1) if wanted(*pair) else pair
+        elif line[:5] in alike:
+            yield run
         elif line.startswith(unread):
             yield Line(line.decode(errors="replace"), number)
         elif line.rstrip() not in HEADERS:
             yield mrp.report_row(line.decode(errors="replace"), number)
-    if lines:
-        yield record_of(lines, number)
-    if not number:
+    if not run:
         raise Refused("the report is empty")
 
 
