@@ -2,6 +2,7 @@
 import datetime
 import itertools
 import os
+import random
 
 import cases
 import mrp
@@ -73,3 +74,40 @@ def test_firm_orders_are_summed_by_period():
     assert found.figures(("B", "X"), 4) == []
     with pytest.raises(reports.Refused, match="row 9 is no row of a report"):
         found.take(line("X", "05", 0, 3), 9)
+
+
+def runs_of(lines, alike):
+    """Returns the runs of lines, found a line at a time."""
+    found = []
+    for number, line in enumerate(lines, 1):
+        size = alike.get(line[:5], 0)
+        front = b",".join(line.split(b",")[:size]) if size and line.count(b",") >= size else None
+        if found and front and found[-1][0] == front:
+            found[-1][1].append(line)
+        else:
+            found.append((front, [line], number))
+    return [(rows, number) for _, rows, number in found]
+
+
+def test_rows_that_begin_alike_are_taken_at_once():
+    """As many as the pair before had, where the pair has so many; also where pairs have some more or less, rows of others between
+    them, no end of a line, or names that begin as others do."""
+    for seed in range(400):
+        chance, lines = random.Random(seed), []
+        periods, is_even = chance.randrange(1, 6), chance.random() < 0.5
+        for _ in range(chance.randrange(1, 12)):
+            pair = f"{chance.choice('AB')},{chance.choice(('X', 'XX', 'Y'))}"
+            count = periods if is_even else chance.randrange(1, 7)
+            kind = chance.choice(("plan", "plan", "plan", "advice,defer,ship", "late", "plan,A,X", "advice,defer"))
+            lines += [f"{kind},{pair},{it},7\n".encode() for it in range(count)]
+        if not is_even and chance.random() < 0.5:
+            chance.shuffle(lines)
+        if chance.random() < 0.2:
+            lines[-1] = lines[-1][:-1]
+        for more in ({}, reports.ADVICE_ROWS):
+            found = [(it.lines, it.number) for it in reports.runs(lines, more)]
+            assert found == runs_of(lines, {**reports.PLAN_ROWS, **more}), seed
+            assert sum(it.count for it in reports.runs(lines, more)) == len(lines)
+    lines = [b"advice,defer,ship,A,X,0\n"] * (reports.MOST_ALIKE + 5) + [b"late,A,X,0,1,1\n"]
+    first, last = reports.runs(lines, reports.ADVICE_ROWS)
+    assert (len(first.lines), first.count, last.number) == (reports.MOST_ALIKE, reports.MOST_ALIKE + 5, reports.MOST_ALIKE + 6)
