@@ -6,6 +6,7 @@ when it comes, so that what it covers waits for it as for a late order; so do op
 """
 import functools
 import graphlib
+import operator
 import subprocess
 import sys
 from array import array
@@ -149,7 +150,7 @@ class Firm(Takes):
         comes = self.policies.comes.get(pair)
         return max(end, *(period for period, it in enumerate(comes.receipts, 1) if it), 0) if comes else end
 
-    PLAN = staticmethod(mrp.columns(mrp.Plan, "plant", "item", "period", "gross", "incoming", "release"))
+    PLAN = staticmethod(mrp.columns_of_rows(mrp.Plan, "period", "gross", "incoming", "release"))
 
     def take_plan(self, lines):
         """Takes over the plan rows, and passes over what can't wait."""
@@ -159,14 +160,17 @@ class Firm(Takes):
 
     def take_run(self, run):
         """Takes over the plan rows of a pair, up to the period from which on nothing waits."""
-        for number, line in enumerate(run.lines, run.number):
-            plant, item, *figures = self.PLAN(line.decode(), number)
-            pair, (period, gross, incoming, release) = (plant, item), map(int, figures)
-            if period >= self.ends[pair]:
-                return
-            self.gross[pair][period], self.incoming[pair][period] = gross, incoming
-            self.demand[pair][period] += gross
-            if release and self.taken[pair]:
+        pair = reports.names_of_pair(run.lines[0].decode(), run.number)
+        if not self.ends[pair]:
+            return
+        lines = [it.decode() for it in run.lines[: self.ends[pair]]]
+        periods, gross, incoming, releases = (array("q", map(int, it)) for it in self.PLAN(lines, run.number))
+        if [*periods] != [*range(len(self.gross[pair]))]:
+            raise reports.Refused(f"row {run.number}: the periods of a pair aren't those of the table")
+        self.gross[pair], self.incoming[pair] = gross, incoming
+        self.demand[pair] = array("q", map(operator.add, self.demand[pair], gross))
+        for period, release in enumerate(releases if self.taken[pair] else ()):
+            if release:
                 self.take_release(pair, period, release)
 
     def take_release(self, pair, period, release):

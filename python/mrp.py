@@ -384,10 +384,14 @@ class Form:
         """Finds all fields in a line of a report."""
         return self.matcher(self.kind._fields)
 
+    def pattern(self, names):
+        """Returns the pattern of a line of a report, with a group for each of these fields."""
+        spelled = (it.group(name in names) for name, it in zip(self.kind._fields, self.spellings))
+        return ",".join([self.word, *spelled]) + "\r?\n"
+
     def matcher(self, names):
         """Returns the function that finds these fields in a line of a report, each as a group, or finds no row."""
-        spelled = (it.group(name in names) for name, it in zip(self.kind._fields, self.spellings))
-        return re.compile(",".join([self.word, *spelled]) + "\r?\n").fullmatch
+        return re.compile(self.pattern(names)).fullmatch
 
     def is_period(self, place):
         """Says whether a field is a period."""
@@ -592,6 +596,21 @@ def columns(kind, *names):
     order = sorted(names, key=kind._fields.index)
     places = [order.index(it) + 1 for it in names]
     return lambda line, number: (match(line) or refuse(line, number)).group(*places)
+
+
+def columns_of_rows(kind, *names):
+    """Returns a function that reads some columns, at least two, of a report's rows that follow each other: of these lines, and the
+    number of the first, a list of texts for each column, in the order of the kind's. This takes less than a line at a time."""
+    form = REPORT_FORMS[WORDS[kind]]
+    match, find = form.matcher(names), re.compile(f"^{form.pattern(names)}", re.MULTILINE).findall
+
+    def read(lines, number):
+        found = find("".join(lines))
+        for place, line in enumerate(lines if len(found) < len(lines) else ()):
+            match(line) or refuse(line, number + place)
+        return [*zip(*found)]
+
+    return read
 
 
 def rows_of(text):
