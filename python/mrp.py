@@ -606,7 +606,7 @@ def columns_of_rows(kind, *names):
 
     def read(lines, number):
         found = find("".join(lines))
-        for place, line in enumerate(lines if len(found) < len(lines) else ()):
+        for place, line in enumerate(lines if len(found) != len(lines) else ()):
             match(line) or refuse(line, number + place)
         return [*zip(*found)]
 
