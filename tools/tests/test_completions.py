@@ -32,7 +32,7 @@ def test_completes_in_bash(room):
     assert room.run(line.format(path, "plan --s", 2)) == "--single\n"
     assert room.run(line.format(path, "--v", 1)) == "--version\n"
     assert room.run(line.format(path, "he", 1)) == "help\n"
-    assert room.run(line.format(path, "help s", 2)) == "schedule\n"
+    assert room.run(line.format(path, "help s", 2)) == "schedule shortages\n"
     assert room.run(line.format(path, "check --v", 2)) == "\n"
 
 
