@@ -1,4 +1,5 @@
 """What python/mrp.py says of tables, reports and dates, against the program, its help, the databases, and by hand."""
+import ast
 import datetime
 import io
 import os
@@ -65,7 +66,10 @@ def test_kinds_are_those_of_the_help():
 @pytest.mark.parametrize("path", TYPES)
 def test_columns_are_those_of_the_database(path):
     number, day = TYPES[path]
-    found = re.findall(r"CREATE TABLE (?:IF NOT EXISTS )?(\w+) \(([^)]*)\)", text_of(f"examples/erp/{path}"))
+    *found, (name, lines) = re.findall(r"CREATE TABLE (?:IF NOT EXISTS )?(\w+) \(([^)]*)\)", text_of(f"examples/erp/{path}"))
+    # (the lines of bin/renew --run)
+    columns = re.search(r"^RUN = (.*)$", text_of("bin/renew"), re.MULTILINE)[1]
+    assert (name, [it.split()[0].strip('"') for it in lines.split(",")]) == ("run", ast.literal_eval(columns))
     assert [name for name, _ in found] == list(SQL)
     for name, text in found:
         columns = dict(it.strip().rsplit(" ", 1) for it in text.split(","))
