@@ -19,6 +19,9 @@ use std::test::Fail;
 /// How many orders of events each table is tried with, at each of three capacities.
 const ORDERS: u64 = 300;
 
+/// The same of each table with policies, which has more receipts and firm orders to look through.
+const ORDERS_WITH_POLICIES: u64 = 100;
+
 /// Numbers in an order that looks random, from a linear congruential generator.
 #[derive(Drop)]
 struct Dice {
@@ -233,7 +236,7 @@ fn firms_with_policies_keep_the_laws_in_any_order(rt: HostRuntime) -> Result<(),
         ROUNDED_UP,
         FOUR_PLANTS_BY_POLICY,
     ] {
-        assert!(rt; table_keeps_on(&rt, table, ORDERS)?, "{table}");
+        assert!(rt; table_keeps_on(&rt, table, ORDERS_WITH_POLICIES)?, "{table}");
     }
     Ok(())
 }
