@@ -19,8 +19,8 @@ use Rattle.mrp_record.specs.Cursor.{OutFigures}
 use Rattle.mrp_readiness.specs.Progress.{Progress}
 
 -- What it sees; the book of each lane that comes in; by pair and period what comes in at its time (without firm orders,
--- and receipts that may be counted sooner) and what is asked for beside the parents, as far as it has come; the plan of each pair; which pairs are planned or can be; and
--- the cursor of each lane that goes out.
+-- and receipts that may be counted sooner) and what is asked for beside the parents, as far as it has come; the plan of
+-- each pair; which pairs are planned or can be; and the cursor of each lane that goes out.
 pub record AgentState : Type 0 where
   pub view : PlantRows
   pub books : List Figures

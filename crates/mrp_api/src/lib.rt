@@ -7,9 +7,9 @@
 //! and [`drive_text`] the same plan on one thread; [`check_text`] writes the low-level codes, [`peg_text`] what a gross
 //! requirement consists of, and [`pegs_text`] so of the whole plan, [`cums_text`] the cumulative figures of the lanes
 //! between plants, [`orders_text`] the planned and firm orders, [`schedule_text`] the delivery schedules between plants,
-//! [`advice_text`] which open orders to move, and [`shortages_text`] which requirements lack parts. [`report_text`] writes the report that a `Choice` of `mrp_commands`
-//! asks for on one thread, and [`answer`] that and a plan by threads. A [`Heading`] says whether the names of the
-//! columns stand above the rows; for codes, terms and figures a `Choice` has one.
+//! [`advice_text`] which open orders to move, and [`shortages_text`] which requirements lack parts. [`report_text`] writes
+//! the report that a `Choice` of `mrp_commands` asks for on one thread, and [`answer`] that and a plan by threads. A
+//! [`Heading`] says whether the names of the columns stand above the rows; for codes, terms and figures a `Choice` has one.
 //! Where a text was not written whole, a [`TextFault`] says why: [`write_fault`] writes the line that
 //! reports it, and [`status`] and [`exit_status`] are the statuses with which a program ends. [`ended`]
 //! does both after the work, [`after_help`] after help or the version, and [`unread`] where the arguments
