@@ -146,10 +146,11 @@ const SHORTAGES: &str = "Write which requirements of period 0 lack parts";
 
 const SHORTAGES_LONG: &str =
     "Writes what of the gross requirements of period 0 isn't there, so that no order is\n\
-started that lacks parts: the terms of a pair take, one after the other, of what is\n\
-on hand and comes in period 0, and each that gets less than QUANTITY has a row.\n\
-SHORT is what it lacks. Planned and firm orders aren't there, but for those of a\n\
-made pair without lead time and fence, whose own components say what they lack.\n\n  \
+started that lacks parts: the terms of a pair, in the order of pegs, take of what is\n\
+on hand, safety stock too, and comes in period 0, and each that gets less than\n\
+QUANTITY has a row. SHORT is what it lacks. Planned and firm orders aren't there, but\n\
+for those due in period 0 of a made pair without lead time and fence, whose own\n\
+components say what they lack.\n\n  \
 shortage,PLANT,ITEM,SOURCE,BY_PLANT,BY_ITEM,QUANTITY,SHORT";
 
 const SHORTAGES_EXAMPLE: &str = "Example: mrp shortages < bicycle.csv";

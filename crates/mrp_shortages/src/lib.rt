@@ -1,4 +1,4 @@
-//! Shortages: which requirements of period 0 lack parts, so that no order is started that can't be finished.
+//! Shortages: which requirements of period 0 lack parts, so that an order that lacks some isn't started unseen.
 //!
 //! The terms of a pair's gross requirement in period 0 take what is there of it one after the other, and each that gets
 //! less than its quantity has a row. A row ends with a line feed, and the names of the columns may stand above. The room

@@ -55,6 +55,5 @@ demand,P1,TUBE,0,1,,,\nfirm,P1,PART,0,0,3,,\n";
 
 /// What lacks parts there, below the names of the columns: one tube is demanded, and of the nine that are left eight go
 /// into the frames and one into the six parts, which take twelve.
-pub(super) const LACKING_SHORTAGES: &str =
-    "row,plant,item,source,by_plant,by_item,quantity,short\n\
+pub(super) const LACKING_SHORTAGES: &str = "row,plant,item,source,by_plant,by_item,quantity,short\n\
 shortage,P1,TUBE,bill,P1,PART,12,11\n";

@@ -236,7 +236,10 @@ fn firms_with_policies_keep_the_laws_in_any_order(rt: HostRuntime) -> Result<(),
         ROUNDED_UP,
         FOUR_PLANTS_BY_POLICY,
     ] {
-        assert!(rt; table_keeps_on(&rt, table, ORDERS_WITH_POLICIES)?, "{table}");
+        assert!(rt;
+            table_keeps_on(&rt, table, ORDERS_WITH_POLICIES)?,
+            "{table}"
+        );
     }
     Ok(())
 }
