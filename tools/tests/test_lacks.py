@@ -52,7 +52,7 @@ def test_lacks_of_firms(tmp_path):
     for table, judge in some_firms():
         path, shortages, found = tmp_path / "table.csv", rows_of(judge, "shortages"), lacks.Lacks()
         path.write_bytes(bytes(table))
-        orders = hits.Orders(io.BytesIO(judge.answer("orders").out))
+        orders = hits.Orders(io.BytesIO(judge.answer("orders").out), {})
         for it in shortages:
             found.take(it)
         own = {pair: [*rows] for pair, rows in found.of.items()}
