@@ -50,7 +50,8 @@ ship,FROM,TO,ITEM,PERIOD,QUANTITY,,\n  \
 cum,FROM,TO,ITEM,FIGURE,,,\n  \
 reset,FROM,TO,ITEM,PERIOD,,,\n  \
 firm,PLANT,ITEM,START,DUE,QUANTITY,,\n  \
-policy,PLANT,ITEM,FENCE,SOONER,COVER,LEAST,MULTIPLE\n\n\
+policy,PLANT,ITEM,FENCE,SOONER,COVER,LEAST,MULTIPLE\n  \
+usage,PLANT,PARENT,COMPONENT,PERIOD,PER,BASE,\n\n\
 SUPPLY is make, buy, from:PLANT, or from: with two to four plants and their\n\
 shares in thousandths, as from:B:600:C:400. RULE is lot, fixed:Q, periods:K or\n\
 min:M:K. Periods count from 0.\n\n\

@@ -1,11 +1,12 @@
--- A table without its bill rows and demand rows is one.
-use Rattle.std.proofs.Common.{◌≡◌, arith}
+-- A table without its bill rows, usage rows and demand rows is one.
+use Rattle.std.proofs.Common.{◌≡◌, arith, true}
 use Rattle.std.proofs.lemmas.List.Elements.{All-nil}
 use Rattle.mrp_master_data.proofs.SpelledLists.{IsDistinct-nil}
 use Rattle.mrp_master_data.specs.declared.rows.BillRow.{BillRow}
+use Rattle.mrp_master_data.specs.declared.rows.UsageRow.{UsageRow}
 use Rattle.mrp_master_data.specs.declared.rows.Supply.TheVariants as supply
 use Rattle.mrp_master_data.specs.Dropping.{without_bills_and_demands}
-use Rattle.mrp_master_data.specs.Table.{Table, IsTable, IsRead, IsBillRow, IsDemandRow, is_same_bill, plant_at, supply_at}
+use Rattle.mrp_master_data.specs.Table.{Table, IsTable, IsRead, IsBillRow, IsDemandRow, IsUsageRow, is_joined, is_same_bill, is_same_usage, plant_at, supply_at}
 
 pub read_without : (N : Table) → IsRead N → IsRead (without_bills_and_demands N)
 read_without N is =
@@ -27,6 +28,7 @@ read_without N is =
         resets = is.limits.resets;
         firms = is.limits.firms;
         policies = is.limits.policies;
+        usages = omega arith;
       };
       plants = is.plants;
       items = is.items;
@@ -55,6 +57,7 @@ read_without N is =
         least = p.least;
         multiple = p.multiple;
       };
+      usages = All-nil (IsUsageRow M);
     }
 
 pub table_without : (N : Table) → IsTable N → IsTable (without_bills_and_demands N)
@@ -74,6 +77,7 @@ table_without N is =
         cums = once.cums;
         resets = once.resets;
         policies = once.policies;
+        usages = IsDistinct-nil is_same_usage;
       };
       sourced = record {
         items = sourced.items;
@@ -86,6 +90,7 @@ table_without N is =
         ships = sourced.ships;
         cums = sourced.cums;
         resets = sourced.resets;
+        usages = All-nil (λ (u : UsageRow). is_joined M u.parent.0 u.component.0 ≡ true);
         arrive = sourced.arrive;
       };
     }

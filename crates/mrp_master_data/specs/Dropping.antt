@@ -1,6 +1,6 @@
--- The table without rows that nobody reads once its edges and sums are made.
+-- The table without rows that nobody reads once its edges and sums are made. Usage rows go with their bill rows.
 use Rattle.std.specs.Prelude.{[]}
 use Rattle.mrp_master_data.specs.Table.{Table}
 
 abbrev pub without_bills_and_demands : Table → Table
-without_bills_and_demands N = record N { bills = []; demands = [] }
+without_bills_and_demands N = record N { bills = []; demands = []; usages = [] }

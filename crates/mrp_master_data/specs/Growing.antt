@@ -14,12 +14,14 @@ use Rattle.mrp_master_data.specs.declared.rows.CumRow.{CumRow}
 use Rattle.mrp_master_data.specs.declared.rows.ResetRow.{ResetRow}
 use Rattle.mrp_master_data.specs.declared.rows.FirmRow.{FirmRow}
 use Rattle.mrp_master_data.specs.declared.rows.PolicyRow.{PolicyRow}
+use Rattle.mrp_master_data.specs.declared.rows.UsageRow.{UsageRow}
 
 -- the table of these rows
 abbrev pub table_of : CalendarTerms → List (List ℕ) → List (List ℕ) → List PairRow → List SourceRow → List BillRow
     → List DemandRow
-    → List ReceiptRow → List ShipRow → List CumRow → List ResetRow → List FirmRow → List PolicyRow → Table
-table_of calendar plants items pairs sources bills demands receipts ships cums resets firms policies = record {
+    → List ReceiptRow → List ShipRow → List CumRow → List ResetRow → List FirmRow → List PolicyRow → List UsageRow
+    → Table
+table_of calendar plants items pairs sources bills demands receipts ships cums resets firms policies usages = record {
   calendar = calendar;
   plants = plants;
   items = items;
@@ -33,6 +35,7 @@ table_of calendar plants items pairs sources bills demands receipts ships cums r
   resets = resets;
   firms = firms;
   policies = policies;
+  usages = usages;
 }
 
 -- whether the pair behind a source has no row
@@ -80,6 +83,9 @@ with_firm N f = record N { firms = N.firms ++ f ∷ [] }
 abbrev pub with_policy : Table → PolicyRow → Table
 with_policy N p = record N { policies = N.policies ++ p ∷ [] }
 
+abbrev pub with_usage : Table → UsageRow → Table
+with_usage N u = record N { usages = N.usages ++ u ∷ [] }
+
 -- the table of a calendar without any row
 abbrev pub empty_table : CalendarTerms → Table
-empty_table c = table_of c [] [] [] [] [] [] [] [] [] [] [] []
+empty_table c = table_of c [] [] [] [] [] [] [] [] [] [] [] [] []

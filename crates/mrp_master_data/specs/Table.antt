@@ -11,7 +11,7 @@ use Rattle.mrp_cal.specs.Calendar.{CalendarTerms, IsCalendar}
 use Rattle.mrp_lot.specs.Lot.{IsRule}
 use Rattle.mrp_lot.specs.declared.rule.TheConstants.{LONGEST_LEAD}
 use Rattle.mrp_qty.specs.declared.limits.TheConstants.{MOST_BILLS, MOST_IN_ROW, MOST_OF_A_KIND, MOST_PAIRS, MOST_PER}
-use Rattle.mrp_qty.specs.declared.limits.TheConstants.{MOST_PLANTS, MOST_SOURCES}
+use Rattle.mrp_qty.specs.declared.limits.TheConstants.{MOST_PLANTS, MOST_SOURCES, MOST_USAGES}
 use Rattle.mrp_qty.specs.declared.limits.TheConstants.{MOST_SHARE, MOST_SOURCES_OF_PAIR}
 use Rattle.mrp_master_data.specs.declared.rows.BillRow.{BillRow}
 use Rattle.mrp_master_data.specs.declared.rows.CumRow.{CumRow}
@@ -25,6 +25,7 @@ use Rattle.mrp_master_data.specs.declared.rows.ShipRow.{ShipRow}
 use Rattle.mrp_master_data.specs.declared.rows.SourceRow.{SourceRow}
 use Rattle.mrp_master_data.specs.declared.rows.Supply.{Supply}
 use Rattle.mrp_master_data.specs.declared.rows.Supply.TheVariants as supply
+use Rattle.mrp_master_data.specs.declared.rows.UsageRow.{UsageRow}
 use Rattle.mrp_master_data.specs.Spelling.{is_name}
 
 -- The lists of rows, each in table order. A name is the list of its bytes; everywhere else a plant,
@@ -43,6 +44,7 @@ pub record Table : Type 0 where
   pub resets : List ResetRow
   pub firms : List FirmRow
   pub policies : List PolicyRow
+  pub usages : List UsageRow
 
 -- the number of periods
 abbrev pub horizon : Table → ℕ
@@ -130,6 +132,15 @@ pub record IsPolicyRow (N : Table) (p : PolicyRow) : Type 0 where
   pub least : IsAmount p.policy.least
   pub multiple : IsAmount p.policy.multiple
 
+-- from a period within the horizon on so many pieces, or none, go into so many parents, at least one
+pub record IsUsageRow (N : Table) (u : UsageRow) : Type 0 where
+  pub parent : IsPair N u.parent.0
+  pub component : IsPair N u.component.0
+  pub period : u.period < horizon N
+  pub per : u.usage.per ≤ MOST_PER
+  pub some : 1 ≤ u.usage.base
+  pub base : u.usage.base ≤ MOST_PER
+
 -- the table has a period, and no more periods, names and rows of each kind than a table may have
 pub record IsLimited (N : Table) : Type 0 where
   pub some_periods : 1 ≤ horizon N
@@ -146,6 +157,7 @@ pub record IsLimited (N : Table) : Type 0 where
   pub resets : length N.resets ≤ MOST_SOURCES
   pub firms : length N.firms ≤ MOST_OF_A_KIND
   pub policies : length N.policies ≤ MOST_PAIRS
+  pub usages : length N.usages ≤ MOST_USAGES
 
 -- the calendar is one, there are no more rows than a table may have, names are names, and each row is in range and
 -- names plants, items and pairs of the table
@@ -164,6 +176,7 @@ pub record IsRead (N : Table) : Type 0 where
   pub resets : All (IsResetRow N) N.resets
   pub firms : All (IsFirmRow N) N.firms
   pub policies : All (IsPolicyRow N) N.policies
+  pub usages : All (IsUsageRow N) N.usages
 
 -- the item of the pair at a place
 abbrev pub item_at : Table → ℕ → ℕ
@@ -193,7 +206,11 @@ is_same_reset r s = (r.from.0 == s.from.0) && (r.pair.0 == s.pair.0)
 abbrev pub is_same_policy : PolicyRow → PolicyRow → Bool
 is_same_policy p q = p.pair.0 == q.pair.0
 
--- no plant, item, pair, source, bill row, cumulative figure or reset stands twice, and no pair has two policies
+abbrev pub is_same_usage : UsageRow → UsageRow → Bool
+is_same_usage u v = (u.parent.0 == v.parent.0) && (u.component.0 == v.component.0) && (u.period == v.period)
+
+-- no plant, item, pair, source, bill row, cumulative figure or reset stands twice, no pair has two policies, and no
+-- component of a parent two usages from one period on
 pub record IsOnce (N : Table) : Type 0 where
   pub plants : IsDistinct bytes_eq N.plants
   pub items : IsDistinct bytes_eq N.items
@@ -203,6 +220,7 @@ pub record IsOnce (N : Table) : Type 0 where
   pub cums : IsDistinct is_same_cum N.cums
   pub resets : IsDistinct is_same_reset N.resets
   pub policies : IsDistinct is_same_policy N.policies
+  pub usages : IsDistinct is_same_usage N.usages
 
 -- ---- where pairs come from
 
@@ -233,6 +251,10 @@ supply_at N x = unwrap_or (option_map (λ p. p.supply) (slice_get N.pairs x)) su
 abbrev pub is_taken_from : Table → ℕ → ℕ → Bool
 is_taken_from N x plant = list_any (λ s. (s.plant.0 == plant) && (s.pair.0 == x)) N.sources
 
+-- a bill row joins the two pairs
+abbrev pub is_joined : Table → ℕ → ℕ → Bool
+is_joined N parent component = list_any (λ b. (b.parent.0 == parent) && (b.component.0 == component)) N.bills
+
 -- ---- the shipments of a source
 
 -- the periods of arrival of the shipments of a plant to a pair, in table order
@@ -254,7 +276,8 @@ is_item_of_pair N item = list_any (λ p. p.item.0 == item) N.pairs
 -- where pairs come from: what is taken from plants has sources whose shares are the whole, and nothing else has any.
 -- Sources stand in the order of their pairs, at most four to a pair, and none is the pair's own plant.
 -- A parent is made, at its component's plant. Shipments, cumulative figures and resets are of a source of the table.
--- The shipments of a source with a reset stand in the order of their arrival. Each item is some pair's.
+-- The shipments of a source with a reset stand in the order of their arrival. Usages are of a bill row. Each item is
+-- some pair's.
 pub record IsSourced (N : Table) : Type 0 where
   pub items : (item : ℕ) → item < length N.items → is_item_of_pair N item ≡ true
   pub order : IsNonDecreasingBy (λ s. s.pair.0) N.sources
@@ -266,6 +289,7 @@ pub record IsSourced (N : Table) : Type 0 where
   pub ships : All (λ s. is_taken_from N s.pair.0 s.from.0 ≡ true) N.ships
   pub cums : All (λ c. is_taken_from N c.pair.0 c.from.0 ≡ true) N.cums
   pub resets : All (λ r. is_taken_from N r.pair.0 r.from.0 ≡ true) N.resets
+  pub usages : All (λ u. is_joined N u.parent.0 u.component.0 ≡ true) N.usages
   pub arrive : All (λ r. rises_from 0 (arrivals N r.from.0 r.pair.0) ≡ true) N.resets
 
 -- an accepted table: its rows are in range, those of `IsOnce` stand once, pairs come from where it says, and each

@@ -6,4 +6,4 @@ use Rattle.mrp_master_data.specs.Table.{Table}
 abbrev pub row_count : Table → ℕ
 row_count N =
     1 + length N.plants + length N.pairs + length N.bills + length N.demands + length N.receipts + length N.ships
-    + length N.cums + length N.resets + length N.firms + length N.policies
+    + length N.cums + length N.resets + length N.firms + length N.policies + length N.usages

@@ -7,17 +7,18 @@ use crate::{RowLists, Tables};
 use std::alloc::Global;
 
 impl RowLists {
-    /// Drops the bill rows and the demand rows, and keeps all others.
+    /// Drops the bill rows with their usage rows and the demand rows, and keeps all others.
     pub(crate) fn drop_bills_and_demands(&mut self, alloc: Global)
         ensures { self.new ≡ without_bills_and_demands self.old }
     {
         self.bills = Vec::new(alloc);
+        self.usages = Vec::new(alloc);
         self.demands = Vec::new(alloc);
     }
 }
 
 impl Tables {
-    /// Drops the bill rows and the demand rows, and keeps all others.
+    /// Drops the bill rows with their usage rows and the demand rows, and keeps all others.
     pub fn drop_bills_and_demands(&mut self, alloc: Global)
         ensures { self.new ≡ without_bills_and_demands self.old }
     {

@@ -24,13 +24,13 @@ mod texts;
 pub use mrp_netting::Policy;
 pub use mrp_qty::{
     MOST_BILLS, MOST_IN_ROW, MOST_OF_A_KIND, MOST_PAIRS, MOST_PER, MOST_PLANTS, MOST_SHARE,
-    MOST_SOURCES, MOST_SOURCES_OF_PAIR,
+    MOST_SOURCES, MOST_SOURCES_OF_PAIR, MOST_USAGES,
 };
 pub use numbers::{ItemNo, PairNo, PlantNo};
 pub use row_lists::RowLists;
 pub use rows::{
     BillRow, CumRow, DemandRow, FirmRow, PairRow, PolicyRow, ReceiptRow, ResetRow, ShipRow,
-    SourceRow, Supply,
+    SourceRow, Supply, Usage, UsageRow,
 };
 pub use spelled_names::is_name;
 pub use spelled_numbers::{number, number_within};

@@ -3,7 +3,7 @@
 use crate::names::{name_at, place_of_name, push_name};
 use crate::{
     BillRow, CumRow, DemandRow, FirmRow, ItemNo, PairNo, PairRow, PlantNo, PolicyRow, ReceiptRow,
-    ResetRow, ShipRow, SourceRow,
+    ResetRow, ShipRow, SourceRow, UsageRow,
 };
 use mrp_cal::Calendar;
 use std::alloc::{AllocError, Global};
@@ -35,6 +35,7 @@ pub struct RowLists {
     resets: Vec<ResetRow>,
     firms: Vec<FirmRow>,
     policies: Vec<PolicyRow>,
+    pub(crate) usages: Vec<UsageRow>,
 }
 
 impl Model for RowLists {
@@ -50,20 +51,20 @@ impl Model for RowLists {
     ghost view = { λ r. table_of r.calendar (map string_bytes r.plants.items)
         (map string_bytes r.items.items) r.pairs.items r.sources.items
         r.bills.items r.demands.items r.receipts.items r.ships.items r.cums.items r.resets.items
-        r.firms.items r.policies.items };
+        r.firms.items r.policies.items r.usages.items };
 
     // the rows are in range, and each pair is found
     ghost invariant = { λ r. IsRead (table_of r.calendar (map string_bytes r.plants.items)
         (map string_bytes r.items.items) r.pairs.items r.sources.items
         r.bills.items r.demands.items r.receipts.items r.ships.items r.cums.items r.resets.items
-        r.firms.items r.policies.items)
+        r.firms.items r.policies.items r.usages.items)
         × FindsPairs (get is_same_place r.pair_places) r.pairs.items };
 }
 
 impl RowLists {
     ghost use Rattle.std.specs.Prelude.{◌≡◌, ◌≤◌, ◌<◌, ◌==◌, ◌&&◌, length, option_map, position, IfOk, IfSome, OnOk};
     ghost use Rattle.mrp_qty.specs.declared.limits.TheConstants.{MOST_BILLS, MOST_OF_A_KIND, MOST_PAIRS, MOST_PLANTS};
-    ghost use Rattle.mrp_qty.specs.declared.limits.TheConstants.{MOST_SOURCES};
+    ghost use Rattle.mrp_qty.specs.declared.limits.TheConstants.{MOST_SOURCES, MOST_USAGES};
     ghost use Rattle.std.specs.Prelude.{false, slice_get, Some};
     ghost use Rattle.std.specs.List.{list_any};
     ghost use Rattle.std.specs.Str.{bytes_eq};
@@ -71,11 +72,11 @@ impl RowLists {
     ghost use Rattle.mrp_master_data.specs.Growing.{lacks_pair, with_plant, with_item};
     ghost use Rattle.mrp_master_data.specs.Growing.{with_pair, with_source, with_bill};
     ghost use Rattle.mrp_master_data.specs.Growing.{with_demand, with_receipt, with_ship, with_cum, with_reset};
-    ghost use Rattle.mrp_master_data.specs.Growing.{with_firm, with_policy};
+    ghost use Rattle.mrp_master_data.specs.Growing.{with_firm, with_policy, with_usage};
     ghost use Rattle.mrp_master_data.specs.Table.{item_at, IsName, IsRead, IsPairRow, IsSourceRow, IsBillRow};
     ghost use Rattle.mrp_master_data.specs.Growing.{empty_table};
     ghost use Rattle.mrp_master_data.specs.Table.{IsDemandRow, IsReceiptRow, IsShipRow, IsCumRow, IsResetRow};
-    ghost use Rattle.mrp_master_data.specs.Table.{IsFirmRow, IsPolicyRow};
+    ghost use Rattle.mrp_master_data.specs.Table.{IsFirmRow, IsPolicyRow, IsUsageRow};
 
     /// The lists after the run row.
     pub fn new(alloc: Global, calendar: Calendar) -> RowLists
@@ -97,6 +98,7 @@ impl RowLists {
             resets: Vec::new(alloc),
             firms: Vec::new(alloc),
             policies: Vec::new(alloc),
+            usages: Vec::new(alloc),
         }
     }
 
@@ -289,6 +291,21 @@ impl RowLists {
         Ok(())
     }
 
+    /// Adds a usage row.
+    ///
+    /// # Errors
+    ///
+    /// [`AllocError`] where a growth is refused.
+    pub fn add_usage(&mut self, row: UsageRow) -> Result<(), AllocError>
+        requires row { IsUsageRow self.old row }
+        requires room { length self.old.usages < MOST_USAGES }
+        ensures rows { OnOk result (IsRead self.new) }
+        ensures table { OnOk result (self.new ≡ with_usage self.old row) }
+    {
+        self.usages.push(row)?;
+        Ok(())
+    }
+
     /// The pair of a plant and an item.
     pub fn find_pair(&self, plant: PlantNo, item: ItemNo) -> Option<PairNo>
         ensures place { option_map (λ x. x.0) result
@@ -405,6 +422,13 @@ impl RowLists {
         ensures value { result.now ≡ self.now.policies }
     {
         self.policies.as_slice()
+    }
+
+    /// The usage rows in table order.
+    pub fn usages(&self) -> &[UsageRow]
+        ensures value { result.now ≡ self.now.usages }
+    {
+        self.usages.as_slice()
     }
 
     /// How many items there are.

@@ -77,7 +77,7 @@ pub struct BillRow {
     pub parent: PairNo,
     /// The pair that goes into it.
     pub component: PairNo,
-    /// How many pieces of the component go into one of the parent, 1 to 10^6.
+    /// How many pieces of the component go into one of the parent where no usage row is in force, 1 to 10^6.
     pub per: u64,
 }
 
@@ -159,4 +159,27 @@ pub struct PolicyRow {
     /// Its planning time fence, how much sooner its receipts may be counted, how many periods are covered ahead, and the
     /// minimum and the multiple of its planned orders. The fence is below the horizon.
     pub policy: Policy,
+}
+
+/// How much of a component goes into its parent, as so many pieces for so many parents.
+#[derive(Clone, Copy, Debug)]
+pub struct Usage {
+    /// How many pieces of the component, 0 to 10^6.
+    pub per: u64,
+    /// Into how many parents they go, 1 to 10^6.
+    pub base: u64,
+}
+
+/// How much of a component goes into its parent from a period on: by scrap, as a fraction, or after a change of the bill.
+/// Parent and component are those of a bill row.
+#[derive(Clone, Copy, Debug)]
+pub struct UsageRow {
+    /// The pair that is made.
+    pub parent: PairNo,
+    /// The pair that goes into it.
+    pub component: PairNo,
+    /// The first period of the parents' releases that it speaks of, below the horizon.
+    pub period: usize,
+    /// How much goes into the parents that are released from then on, until the next row of both begins.
+    pub usage: Usage,
 }

@@ -21,7 +21,7 @@ pub use laws::{limits_are_numbers, turns_are_rows};
 pub use limits::{
     MAX_TURNS, MOST_BILLS, MOST_IN_ROW, MOST_OF_A_KIND, MOST_PAIRS, MOST_PER, MOST_PLANTS,
     MOST_RECORDS, MOST_ROOM, MOST_SHARE, MOST_SOURCES, MOST_SOURCES_OF_PAIR, MOST_TURNS,
-    MOST_WORKERS,
+    MOST_USAGES, MOST_WORKERS,
 };
 pub use memory::Memory;
 pub use quantity::{MOST, Qty};

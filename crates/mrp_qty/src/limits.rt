@@ -15,6 +15,9 @@ pub const MOST_SOURCES: usize = 80_000;
 /// The most bill rows of a table.
 pub const MOST_BILLS: usize = 200_000;
 
+/// The most usage rows of a table.
+pub const MOST_USAGES: usize = 200_000;
+
 /// The most demand rows of a table, and the most receipt, ship, cum and firm rows.
 pub const MOST_OF_A_KIND: usize = 1_000_000;
 
@@ -22,14 +25,14 @@ pub const MOST_OF_A_KIND: usize = 1_000_000;
 /// greater.
 pub const MOST_IN_ROW: u64 = 1_000_000_000_000;
 
-/// The greatest quantity of a component in one parent.
+/// The greatest quantity of a component in one parent, and the greatest number of parents that a usage row speaks of.
 pub const MOST_PER: u64 = 1_000_000;
 
 /// All shares of one pair together, in thousandths.
 pub const MOST_SHARE: u64 = 1000;
 
 /// The most turns of reading a table: a row of each kind up to its limit, and the end.
-pub const MAX_TURNS: u64 = 5_320_066;
+pub const MAX_TURNS: u64 = 5_520_066;
 
 /// The most records of one text.
 pub const MOST_RECORDS: u64 = 4_000_000;

@@ -2,6 +2,7 @@
 use Rattle.std.proofs.Common.{◌≡◌, ◌<◌, ℕ, ◌==◌, ◌&&◌, false, List, [], ◌∷◌, ◌++◌, length, map, position, Option, Some, None, option_map, ap, refl, sym}
 use Rattle.std.proofs.Common.{◌∙◌, subst, arith}
 use Rattle.std.specs.List.{All, IsDistinct, list_any}
+use Rattle.std.proofs.Math.Bool.{and_assoc}
 use Rattle.std.proofs.lemmas.List.{length-map, length_push}
 use Rattle.std.proofs.lemmas.List.Elements.{All-map, All-push, All-weaker}
 use Rattle.mrp_master_data.specs.declared.rows.PolicyRow.{PolicyRow}
@@ -10,15 +11,18 @@ use Rattle.mrp_master_data.specs.Table.{IsPolicyRow, IsRead, Table}
 use Rattle.mrp_qty.specs.declared.limits.TheConstants.{MOST_PAIRS}
 use Rattle.mrp_validation.proofs.KeepingFew.{few, HasBelow}
 use Rattle.mrp_validation.specs.Grammar.{cum_between, reset_between}
-use Rattle.mrp_tables.specs.Lists.{bill_key_of, cum_key_of, key_between, lane_of, policy_key_of, reset_key_of}
+use Rattle.mrp_tables.specs.Lists.{bill_key_of, cum_key_of, key_between, lane_of, policy_key_of, reset_key_of, usage_key_of}
 use Rattle.mrp_tables.specs.contracts.draft.BillKeyPartialEq.TheImpl as bill
 use Rattle.mrp_tables.specs.contracts.draft.LaneKeyPartialEq.TheImpl as lane
+use Rattle.mrp_tables.specs.contracts.draft.UsageKeyPartialEq.TheImpl as usage
 use Rattle.mrp_master_data.specs.contracts.numbers.PairNoPartialEq.TheImpl as pair
 use Rattle.mrp_tables.specs.declared.draft.BillKey.{BillKey}
 use Rattle.mrp_tables.specs.declared.draft.LaneKey.{LaneKey}
+use Rattle.mrp_tables.specs.declared.draft.UsageKey.{UsageKey}
 use Rattle.mrp_master_data.specs.declared.rows.BillRow.{BillRow}
 use Rattle.mrp_master_data.specs.declared.rows.CumRow.{CumRow}
 use Rattle.mrp_master_data.specs.declared.rows.SourceRow.{SourceRow}
+use Rattle.mrp_master_data.specs.declared.rows.UsageRow.{UsageRow}
 use Rattle.mrp_master_data.specs.declared.numbers.PlantNo.{PlantNo}
 use Rattle.mrp_master_data.specs.declared.numbers.PairNo.{PairNo}
 use Rattle.mrp_master_data.proofs.Mapped.{list_any_keys}
@@ -55,6 +59,18 @@ pub any_policy : (x : PairNo) (keys : List PairNo) (policies : List PolicyRow) �
 any_policy x keys policies same =
     ap (list_any (pair.eq-value.it x)) same
     ∙ list_any_keys policy_key_of _ (λ p. p.pair.0 == x.0) (λ p. same_test x.0 p.pair.0) policies
+
+-- whether there is a usage row of two pairs from a period on
+swap3 : (a b c d e f : ℕ) → ((a == b) && ((c == d) && (e == f))) ≡ ((b == a) && (d == c) && (f == e))
+swap3 a b c d e f = rw (same_test a b, same_test c d, same_test e f) (sym (and_assoc (b == a) (d == c) (f == e)))
+
+pub any_usage : (x y : PairNo) (t : ℕ) (keys : List UsageKey) (usages : List UsageRow) → keys ≡ map usage_key_of usages
+    → list_any (usage.eq-value.it (record { parent = x; component = y; period = t })) keys
+    ≡ list_any (λ u. (u.parent.0 == x.0) && (u.component.0 == y.0) && (u.period == t)) usages
+any_usage x y t keys usages same =
+    ap (list_any (usage.eq-value.it (record { parent = x; component = y; period = t }))) same
+    ∙ list_any_keys usage_key_of _ (λ u. (u.parent.0 == x.0) && (u.component.0 == y.0) && (u.period == t))
+    (λ u. swap3 x.0 u.parent.0 y.0 u.component.0 t u.period) usages
 
 -- the place of a source
 pub place_of_source : (f : PlantNo) (x : PairNo) (keys : List LaneKey) (sources : List SourceRow) → keys ≡ map lane_of sources

@@ -76,6 +76,7 @@ same_run kind.Cum = refl
 same_run kind.Reset = refl
 same_run kind.Firm = refl
 same_run kind.Policy = refl
+same_run kind.Usage = refl
 
 pub other_kind : (k : Kind) → true ≡ not (sameb kind_type k kind.Run) → is_run k ≡ false
 other_kind k h = by (is_run k) (h ∙ ap not (same_run k))

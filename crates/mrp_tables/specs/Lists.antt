@@ -15,16 +15,18 @@ use Rattle.mrp_master_data.specs.declared.rows.ShipRow.{ShipRow}
 use Rattle.mrp_master_data.specs.declared.rows.CumRow.{CumRow}
 use Rattle.mrp_master_data.specs.declared.rows.PolicyRow.{PolicyRow}
 use Rattle.mrp_master_data.specs.declared.rows.ResetRow.{ResetRow}
+use Rattle.mrp_master_data.specs.declared.rows.UsageRow.{UsageRow}
 use Rattle.mrp_validation.specs.declared.fault.TableFaultKind.{TableFaultKind}
 use Rattle.mrp_validation.specs.declared.fault.TableFaultKind.TheVariants as fault
 use Rattle.mrp_tables.specs.Keys.{Knows}
 use Rattle.mrp_tables.specs.declared.draft.LaneKey.{LaneKey}
 use Rattle.mrp_tables.specs.declared.draft.BillKey.{BillKey}
+use Rattle.mrp_tables.specs.declared.draft.UsageKey.{UsageKey}
 use Rattle.mrp_tables.specs.declared.draft.Draft.{Draft}
 use Rattle.mrp_tables.specs.declared.draft.Arrivals.{Arrivals}
 use Rattle.mrp_tables.specs.declared.lanes.KnownLane.{KnownLane}
 use Rattle.mrp_tables.specs.declared.lanes.NamedLane.{NamedLane}
-use Rattle.mrp_validation.specs.Grammar.{◌>>=◌, check, BillTerms, field, LaneTerms}
+use Rattle.mrp_validation.specs.Grammar.{◌>>=◌, check, field, LaneTerms}
 
 abbrev pub lane_of : SourceRow → LaneKey
 lane_of s = record { from = s.plant; pair = s.pair }
@@ -76,6 +78,9 @@ reset_key_of r = record { from = r.from; pair = r.pair }
 abbrev pub policy_key_of : PolicyRow → PairNo
 policy_key_of p = p.pair
 
+abbrev pub usage_key_of : UsageRow → UsageKey
+usage_key_of u = record { parent = u.parent; component = u.component; period = u.period }
+
 -- the key of a plant and a pair, where both are there
 abbrev pub key_between : Option PlantNo → Option PairNo → Option LaneKey
 key_between None x = None
@@ -94,6 +99,7 @@ pub record HoldsRows (d : Draft) : Type 0 where
   pub cum_keys : d.cum_keys.keys ≡ map cum_key_of d.lists.cums
   pub reset_keys : d.reset_keys.keys ≡ map reset_key_of d.lists.resets
   pub policy_keys : d.policy_keys.keys ≡ map policy_key_of d.lists.policies
+  pub usage_keys : d.usage_keys.keys ≡ map usage_key_of d.lists.usages
   pub resets : AreLanes d.lane_keys.keys d.reset_keys.keys
   pub fits : FitsRows d.lists d.lane_keys.keys d.arrivals.items
 
@@ -118,6 +124,7 @@ pub record AddsSources (old new : Draft) (count : ℕ) : Type 0 where
   pub cums : (new.cum_keys.keys ≡ old.cum_keys.keys) × (new.lists.cums ≡ old.lists.cums)
   pub resets : (new.reset_keys.keys ≡ old.reset_keys.keys) × (new.lists.resets ≡ old.lists.resets)
   pub policies : (new.policy_keys.keys ≡ old.policy_keys.keys) × (new.lists.policies ≡ old.lists.policies)
+  pub usages : (new.usage_keys.keys ≡ old.usage_keys.keys) × (new.lists.usages ≡ old.lists.usages)
   pub lanes : AreLanes old.lane_keys.keys old.reset_keys.keys → AreLanes new.lane_keys.keys new.reset_keys.keys
   pub pairs : length new.lists.pairs ≡ length old.lists.pairs
   pub sources : length new.lists.sources ≡ length old.lists.sources + count
@@ -140,13 +147,13 @@ pub record Finds (N : Table) (t : LaneTerms) (l : NamedLane) : Type 0 where
   pub pair : option_map (λ x. x.0) l.pair ≡ pair_named N (plant_no N t.to) t.item
   pub place : l.place ≡ source_named N (plant_no N t.from) (pair_named N (plant_no N t.to) t.item)
 
--- what the reading finds of the names of a bill row
-pub record FindsBill (N : Table) (t : BillTerms) (x y : Option PairNo) : Type 0 where
-  pub parent : option_map (λ p. p.0) x ≡ pair_named N (plant_no N t.plant) t.parent
-  pub component : option_map (λ p. p.0) y ≡ pair_named N (plant_no N t.plant) t.component
+-- what the reading finds of the names of a bill or a usage row, its second to its fourth field
+pub record FindsParts (N : Table) (row : List (List ℕ)) (x y : Option PairNo) : Type 0 where
+  pub parent : option_map (λ p. p.0) x ≡ pair_named N (plant_no N (field row 1)) (field row 2)
+  pub component : option_map (λ p. p.0) y ≡ pair_named N (plant_no N (field row 1)) (field row 3)
   pub within : IfSome x (λ p. p.0 < length N.pairs)
   pub inside : IfSome y (λ p. p.0 < length N.pairs)
-  pub plant : OnSome x (is_some (plant_no N t.plant) ≡ true)
+  pub plant : OnSome x (is_some (plant_no N (field row 1)) ≡ true)
 
 -- what the reading finds of the second and the third field of a row, the names of a pair
 pub record FindsPair (N : Table) (row : List (List ℕ)) (x : Option PairNo) : Type 0 where

@@ -7,8 +7,9 @@ use Rattle.mrp_master_data.specs.Spelled.{HasSources, supply_view}
 use Rattle.mrp_tables.specs.declared.spelled.SpelledFirm.{SpelledFirm}
 use Rattle.mrp_tables.specs.declared.spelled.SpelledPair.{SpelledPair}
 use Rattle.mrp_tables.specs.declared.spelled.SpelledRun.{SpelledRun}
+use Rattle.mrp_tables.specs.declared.usages.SpelledUsage.{SpelledUsage}
 use Rattle.mrp_master_data.specs.Table.{IsName}
-use Rattle.mrp_validation.specs.Grammar.{field, AmountTerms, BillTerms, FirmTerms, LaneTerms, PairTerms, PolicyTerms, RunTerms}
+use Rattle.mrp_validation.specs.Grammar.{field, AmountTerms, BillTerms, FirmTerms, LaneTerms, PairTerms, PolicyTerms, RunTerms, UsageTerms}
 
 -- a pair row whose item is a name, and whose numbers are in their ranges
 pub record IsSpelledPair (p : SpelledPair) : Type 0 where
@@ -73,6 +74,16 @@ terms_of_policy row fence sooner cover least multiple = record {
   cover = cover;
   least = least;
   multiple = multiple;
+}
+
+abbrev pub terms_of_usage : List (List ℕ) → SpelledUsage → UsageTerms
+terms_of_usage row u = record {
+  plant = field row 1;
+  parent = field row 2;
+  component = field row 3;
+  period = u.period;
+  per = u.usage.per;
+  base = u.usage.base;
 }
 
 abbrev pub terms_of_lane : List (List ℕ) → LaneTerms

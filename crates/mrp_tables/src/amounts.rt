@@ -27,7 +27,7 @@ impl Draft {
     ghost use Rattle.mrp_tables.specs.Spelled.{terms_of_bill};
     ghost use Rattle.mrp_master_data.specs.Table.{IsBillRow, IsDemandRow, IsReceiptRow};
     ghost use Rattle.mrp_tables.specs.Keys.{Knows};
-    ghost use Rattle.mrp_tables.specs.Lists.{AddsRow, FindsBill, IsDraft};
+    ghost use Rattle.mrp_tables.specs.Lists.{AddsRow, FindsParts, IsDraft};
     ghost use Rattle.mrp_master_data.specs.Table.{IsRead, horizon};
 
     /// Adds a bill row.
@@ -72,7 +72,7 @@ impl Draft {
         per: u64,
     ) -> Result<BillRow, TableFaultKind>
         requires draft { IsDraft self.now }
-        requires found { FindsBill self.now.lists (terms_of_bill (fields_of row.now) per) parent component }
+        requires found { FindsParts self.now.lists (fields_of row.now) parent component }
         requires per { (1 ≤ per) × (per ≤ MOST_PER) }
         ensures exact { result ≡ bill_fits self.now.lists (terms_of_bill (fields_of row.now) per) }
         ensures row { IfOk result (IsBillRow self.now.lists) }
@@ -109,7 +109,7 @@ impl Draft {
     }
 
     /// Whether there is a bill row of the two pairs.
-    fn has_bill(&self, parent: Option<PairNo>, component: Option<PairNo>) -> bool
+    pub(crate) fn has_bill(&self, parent: Option<PairNo>, component: Option<PairNo>) -> bool
         requires draft { IsDraft self.now }
         ensures exact { result ≡ has_bill self.now.lists (option_map (λ x. x.0) parent)
             (option_map (λ x. x.0) component) }

@@ -24,6 +24,14 @@ pub(crate) struct BillKey {
     pub(crate) component: PairNo,
 }
 
+/// A usage row by its parent, its component and the period that it begins in.
+#[derive(Clone, Copy, PartialEq, Eq, Hash)]
+pub(crate) struct UsageKey {
+    pub(crate) parent: PairNo,
+    pub(crate) component: PairNo,
+    pub(crate) period: usize,
+}
+
 /// What the rows so far say of the shipments from one source of a pair.
 #[derive(Clone, Copy)]
 pub(crate) struct Arrivals {
@@ -61,6 +69,8 @@ pub(crate) struct Draft {
     pub(crate) reset_keys: IndexSet<LaneKey>,
     /// The pairs of the policy rows, in the order of the rows.
     pub(crate) policy_keys: IndexSet<PairNo>,
+    /// The usage rows by their keys, in the order of the rows.
+    pub(crate) usage_keys: IndexSet<UsageKey>,
     /// The kind of the last row, and how many rows there are.
     pub(crate) last: Kind,
     pub(crate) rows: u64,
@@ -95,6 +105,7 @@ impl Draft {
             cum_keys: IndexSet::new(alloc),
             reset_keys: IndexSet::new(alloc),
             policy_keys: IndexSet::new(alloc),
+            usage_keys: IndexSet::new(alloc),
             last: Kind::Run,
             rows: 1,
         })
@@ -143,6 +154,7 @@ impl Draft {
             Kind::Reset => self.add_reset(row),
             Kind::Firm => self.add_firm(row),
             Kind::Policy => self.add_policy(row),
+            Kind::Usage => self.add_usage(row),
         }
     }
 }

@@ -47,6 +47,8 @@ fn kind_of(word: &str) -> Option<Kind>
         Some(Kind::Firm)
     } else if is_same_text(word, "policy") {
         Some(Kind::Policy)
+    } else if is_same_text(word, "usage") {
+        Some(Kind::Usage)
     } else if is_same_text(word, "cum") {
         Some(Kind::Cum)
     } else if is_same_text(word, "reset") {
@@ -174,7 +176,7 @@ pub(crate) fn spelled_pair(
 }
 
 /// Tests that a field is a name, unless it is known to be one.
-fn test_name(row: &StringRecord, i: usize, is_known: bool) -> Result<(), TableFaultKind>
+pub(crate) fn test_name(row: &StringRecord, i: usize, is_known: bool) -> Result<(), TableFaultKind>
     requires { is_known ≡ true → IsName (field (fields_of row.now) i) }
     ensures { seen (λ _. field (fields_of row.now) i) result ≡ name_field (field (fields_of row.now) i) }
 {

@@ -1,15 +1,16 @@
 -- What stands at a place of a table is found there by its names.
-use Rattle.std.proofs.Common.{◌≡◌, ◌<◌, ℕ, ◌==◌, ◌&&◌, Bool, false, get_or, List, [], ◌∷◌, ◌++◌, length, Some, option_map, position, slice_get, unwrap_or, refl}
-use Rattle.std.proofs.Common.{ap, sym, ◌∙◌, subst, arith}
+use Rattle.std.proofs.Common.{◌≡◌, ◌<◌, ℕ, ◌==◌, ◌&&◌, ◌||◌, Bool, true, false, get_or, List, [], ◌∷◌, ◌++◌, length, Some, option_map, position, slice_get}
+use Rattle.std.proofs.Common.{unwrap_or, refl, ap, sym, ◌∙◌, subst, arith}
 use Rattle.std.specs.List.{All, IsDistinct, list_any}
 use Rattle.std.specs.Str.{bytes_eq}
-use Rattle.std.proofs.lemmas.Bool.{eq-eqb}
+use Rattle.std.proofs.lemmas.Bool.{and_parts, eq-eqb, eqb-true}
 use Rattle.std.proofs.lemmas.List.{get_or_append_left, get_or_at, length-append}
-use Rattle.std.proofs.lemmas.List.Elements.{All-from_get_or}
+use Rattle.std.proofs.lemmas.List.Elements.{All-from_get_or, All-head, All-tail}
 use Rattle.std.proofs.lemmas.List.Folds.{list_any_none}
 use Rattle.std.proofs.lemmas.Map.Keys.{apart_from_distinct}
 use Rattle.std.proofs.lemmas.Option.{slice_get-get_or}
 use Rattle.std.proofs.lemmas.Slice.Eq.{bytes_eq-Decides}
+use Rattle.mrp_master_data.specs.declared.rows.BillRow.{BillRow}
 use Rattle.mrp_master_data.specs.declared.rows.PairRow.{PairRow}
 use Rattle.mrp_master_data.specs.Names.{found_pair, pair_named, pair_of_item, plant_no}
 use Rattle.mrp_master_data.specs.Table.{IsPair, IsPairRow, IsTable, is_same_pair, item_at, plant_at, Table}
@@ -53,6 +54,22 @@ pair_is pairs x d distinct lt =
     let p = get_or pairs x d in
     position_is (λ q. is_same_pair q p) pairs x d lt (λ k before. apart_from_distinct is_same_pair pairs k x d distinct before lt)
     (rw (eq-eqb p.plant.0 p.plant.0 refl, eq-eqb p.item.0 p.item.0 refl) refl)
+
+-- two pairs that a bill row joins are of one plant, where each bill row's are
+pub joined_plant : (N : Table) (x y : ℕ) (bills : List BillRow) → All (λ b. plant_at N b.parent.0 ≡ plant_at N b.component.0) bills
+    → list_any (λ b. (b.parent.0 == x) && (b.component.0 == y)) bills ≡ true → plant_at N x ≡ plant_at N y
+joined_plant N x y [] all any = absurd (cc)
+joined_plant N x y (b ∷ bs) all any =
+    by ((b.parent.0 == x) && (b.component.0 == y)) refl any
+    (joined_plant N x y bs (All-tail (λ b. plant_at N b.parent.0 ≡ plant_at N b.component.0) b bs all))
+  where
+    by : (t : Bool) → ((b.parent.0 == x) && (b.component.0 == y)) ≡ t → (t || list_any (λ b. (b.parent.0 == x) && (b.component.0 == y)) bs) ≡ true
+        → (list_any (λ b. (b.parent.0 == x) && (b.component.0 == y)) bs ≡ true → plant_at N x ≡ plant_at N y) → plant_at N x ≡ plant_at N y
+    by true e any later =
+        let parts = and_parts (b.parent.0 == x) (b.component.0 == y) e in
+        let one = All-head (λ b. plant_at N b.parent.0 ≡ plant_at N b.component.0) b bs all in
+        ap (plant_at N) (sym (eqb-true b.parent.0 x parts.0)) ∙ one ∙ ap (plant_at N) (eqb-true b.component.0 y parts.1)
+    by false e any later = later any
 
 module _ (N : Table) (table : IsTable N) where
   pub plant_at_place : (p : ℕ) → p < length N.plants → plant_no N (plant_name N p) ≡ Some p

@@ -211,6 +211,7 @@ module _ (N : Table) (table : IsTable N) where
     resets = [];
     firms = [];
     policies = [];
+    usages = [];
   }
 
   same_parts : {i j : List (List ℕ)} {a b : List PairRow} {c d : List SourceRow} → i ≡ j → a ≡ b → c ≡ d → of_parts i a c ≡ of_parts j b d

@@ -1,4 +1,4 @@
--- Bill, demand, receipt, ship, cum, reset, firm and policy rows that are written of a table are read as its own, one after the other.
+-- Bill, demand, receipt, ship, cum, reset, firm, policy and usage rows that are written of a table are read as its own, one after the other.
 use Rattle.std.proofs.Common.{◌≡◌, ◌≤◌, ◌<◌, ◌^◌, ℕ, ◌+◌, ◌-◌, ◌==◌, Bool, true, false, leb, ltb, List, [], ◌∷◌, ◌++◌, codes, length, map, Option, Some, None}
 use Rattle.std.proofs.Common.{option_map, slice_get, unwrap_or, Ok, refl, ap, sym, ◌∙◌, subst, append_assoc, append-nil, arith}
 use Rattle.std.specs.List.{list_all}
@@ -25,23 +25,26 @@ use Rattle.mrp_master_data.specs.declared.rows.PolicyRow.{PolicyRow}
 use Rattle.mrp_master_data.specs.declared.rows.ReceiptRow.{ReceiptRow}
 use Rattle.mrp_master_data.specs.declared.rows.ResetRow.{ResetRow}
 use Rattle.mrp_master_data.specs.declared.rows.ShipRow.{ShipRow}
+use Rattle.mrp_master_data.specs.declared.rows.UsageRow.{UsageRow}
 use Rattle.mrp_master_data.specs.declared.rows.Supply.TheVariants as supply
-use Rattle.mrp_qty.specs.declared.limits.TheConstants.{MOST_BILLS, MOST_IN_ROW, MOST_OF_A_KIND, MOST_PER}
-use Rattle.mrp_master_data.specs.Growing.{with_bill, with_cum, with_demand, with_firm, with_policy, with_receipt, with_reset, with_ship}
+use Rattle.mrp_qty.specs.declared.limits.TheConstants.{MOST_BILLS, MOST_IN_ROW, MOST_OF_A_KIND, MOST_PER, MOST_USAGES}
+use Rattle.mrp_master_data.specs.Growing.{with_bill, with_cum, with_demand, with_firm, with_policy, with_receipt, with_reset, with_ship, with_usage}
 use Rattle.mrp_master_data.specs.Names.{pair_named, plant_no}
-use Rattle.mrp_master_data.specs.Table.{arrivals, horizon, is_same_bill, is_same_cum, is_same_policy, is_same_reset, is_taken_from}
+use Rattle.mrp_master_data.specs.Table.{arrivals, horizon, is_joined, is_same_bill, is_same_cum, is_same_policy, is_same_reset, is_same_usage, is_taken_from}
 use Rattle.mrp_master_data.specs.Table.{IsBillRow, IsCumRow, IsDemandRow, IsFirmRow, IsName, IsPair, IsPolicyRow}
-use Rattle.mrp_master_data.specs.Table.{IsReceiptRow, IsResetRow, IsShipRow, IsTable, plant_at, rises_from, supply_at, Table}
+use Rattle.mrp_master_data.specs.Table.{IsReceiptRow, IsResetRow, IsShipRow, IsTable, IsUsageRow, plant_at, rises_from, supply_at, Table}
 use Rattle.mrp_validation.specs.declared.kind.Kind.{Kind}
 use Rattle.mrp_validation.specs.declared.kind.Kind.TheVariants as kind
 use Rattle.mrp_validation.specs.Grammar.{◌>>=◌, amount_row, amount_terms, bill_fits, bill_row, bill_terms, cum_between, cum_of, cum_row, lane_number, demand_made}
 use Rattle.mrp_validation.specs.Grammar.{demand_of, field, has_bill, is_empty_from, is_made, is_make, kind_of, known_lane, known_pair, lane_terms, may_follow}
 use Rattle.mrp_validation.specs.Grammar.{kind_place, receipt_made, receipt_of, reset_between, reset_in_row, reset_row, row_kind, ship_of, ship_row}
 use Rattle.mrp_validation.specs.Grammar.{firm_of, firm_row, firm_terms, has_policy, policy_of, policy_row, policy_terms, ship_terms, used}
+use Rattle.mrp_validation.specs.Grammar.{has_usage, usage_fits, usage_row, usage_terms}
 use Rattle.mrp_validation.specs.Reading.{at_row, go_on, kind_of_row, row_after, row_of_kind, rows_after}
 use Rattle.mrp_validation.specs.Written.{bill_fields, cum_fields, demand_fields, firm_fields, policy_fields, receipt_fields, reset_fields, ship_fields}
+use Rattle.mrp_validation.specs.Written.{usage_fields}
 use Rattle.mrp_master_data.specs.Said.{pair_item, pair_plant, plant_name}
-use Rattle.mrp_validation.proofs.BackNames.{at_place, none_before, pair_by_names, plant_at_place, plant_of_pair, stands}
+use Rattle.mrp_validation.proofs.BackNames.{at_place, joined_plant, none_before, pair_by_names, plant_at_place, plant_of_pair, stands}
 use Rattle.mrp_validation.proofs.BackTexts.{name_is_text, number_is_text, word_is_text}
 
 abbrev pub Row : Type 0
@@ -94,6 +97,11 @@ five_texts w a b c d uw ua ub uc ud = rw (uw, ua, ub, uc, ud, word_is_text [] re
 pub six_texts : (w a b c d e : List ℕ) → is_utf8 w ≡ true → is_utf8 a ≡ true → is_utf8 b ≡ true → is_utf8 c ≡ true → is_utf8 d ≡ true → is_utf8 e ≡ true
     → list_all is_utf8 (w ∷ a ∷ b ∷ c ∷ d ∷ e ∷ [] ∷ [] ∷ []) ≡ true
 six_texts w a b c d e uw ua ub uc ud ue = rw (uw, ua, ub, uc, ud, ue, word_is_text [] refl) refl
+
+pub seven_texts : (w a b c d e f : List ℕ) → is_utf8 w ≡ true → is_utf8 a ≡ true → is_utf8 b ≡ true → is_utf8 c ≡ true → is_utf8 d ≡ true → is_utf8 e ≡ true
+    → is_utf8 f ≡ true
+    → list_all is_utf8 (w ∷ a ∷ b ∷ c ∷ d ∷ e ∷ f ∷ [] ∷ []) ≡ true
+seven_texts w a b c d e f uw ua ub uc ud ue uf = rw (uw, ua, ub, uc, ud, ue, uf, word_is_text [] refl) refl
 
 pub eight_texts : (w a b c d e f g : List ℕ) → is_utf8 w ≡ true → is_utf8 a ≡ true → is_utf8 b ≡ true → is_utf8 c ≡ true → is_utf8 d ≡ true → is_utf8 e ≡ true
     → is_utf8 f ≡ true → is_utf8 g ≡ true
@@ -172,6 +180,24 @@ unfolding field_at policy_of policy_terms known_pair
 policy_read N a b c d e m n f p na nb are plant pair new =
     rw (na, nb, are.fence_is, are.sooner_is, are.cover_is, are.least_is, are.multiple_is, plant, pair, new) refl
 
+-- three names that stand for a parent and its component, which a bill row joins
+record NamesUsed (N : Table) (a b c : List ℕ) (f x y : ℕ) : Type 0 where
+  plant_is : is_name a ≡ true
+  parent_is : is_name b ≡ true
+  component_is : is_name c ≡ true
+  plant : plant_no N a ≡ Some f
+  parent : pair_named N (Some f) b ≡ Some x
+  component : pair_named N (Some f) c ≡ Some y
+  joined : is_joined N x y ≡ true
+
+usage_read : (N : Table) (a b c d e g : List ℕ) (f : ℕ) (u : UsageRow) → NamesUsed N a b c f u.parent.0 u.component.0
+    → number_within d 0 (horizon N - 1) ≡ Some u.period → number_within e 0 MOST_PER ≡ Some u.usage.per → number_within g 1 MOST_PER ≡ Some u.usage.base
+    → has_usage N (Some u.parent.0) (Some u.component.0) u.period ≡ false → ltb (length N.usages) MOST_USAGES ≡ true
+    → usage_row N (codes "usage" ∷ a ∷ b ∷ c ∷ d ∷ e ∷ g ∷ [] ∷ []) ≡ Ok (with_usage N u)
+unfolding field_at usage_terms usage_fits
+usage_read N a b c d e g f u l period per base new room =
+    rw (l.plant_is, l.parent_is, l.component_is, period, per, base, l.plant, l.parent, l.component, new, l.joined, room) refl
+
 -- ---- a made pair, room for one more, and numbers in their ranges
 
 made_pair : (N : Table) (x : ℕ) → supply_at N x ≡ supply.Make → is_made N x ≡ true
@@ -213,29 +239,32 @@ module _ (N : Table) (table : IsTable N) where
   item_of_pair_is_name x is = All-get_or IsName N.items _ [] (stands N table x is).item table.read.items
 
   -- the table whose rows of a kind are these, and that has no rows of the kinds after it
+  abbrev pub with_usages : List UsageRow → Table
+  with_usages usages = record N { usages = usages }
+
   abbrev pub with_policies : List PolicyRow → Table
-  with_policies policies = record N { policies = policies }
+  with_policies policies = record N { policies = policies; usages = [] }
 
   abbrev pub with_firms : List FirmRow → Table
-  with_firms firms = record N { firms = firms; policies = [] }
+  with_firms firms = record N { firms = firms; policies = []; usages = [] }
 
   abbrev pub with_resets : List ResetRow → Table
-  with_resets resets = record N { resets = resets; firms = []; policies = [] }
+  with_resets resets = record N { resets = resets; firms = []; policies = []; usages = [] }
 
   abbrev pub with_cums : List CumRow → Table
-  with_cums cums = record N { cums = cums; resets = []; firms = []; policies = [] }
+  with_cums cums = record N { cums = cums; resets = []; firms = []; policies = []; usages = [] }
 
   abbrev pub with_ships : List ShipRow → Table
-  with_ships ships = record N { ships = ships; cums = []; resets = []; firms = []; policies = [] }
+  with_ships ships = record N { ships = ships; cums = []; resets = []; firms = []; policies = []; usages = [] }
 
   abbrev pub with_receipts : List ReceiptRow → Table
-  with_receipts receipts = record N { receipts = receipts; ships = []; cums = []; resets = []; firms = []; policies = [] }
+  with_receipts receipts = record N { receipts = receipts; ships = []; cums = []; resets = []; firms = []; policies = []; usages = [] }
 
   abbrev pub with_demands : List DemandRow → Table
-  with_demands demands = record N { demands = demands; receipts = []; ships = []; cums = []; resets = []; firms = []; policies = [] }
+  with_demands demands = record N { demands = demands; receipts = []; ships = []; cums = []; resets = []; firms = []; policies = []; usages = [] }
 
   abbrev pub with_bills : List BillRow → Table
-  with_bills bills = record N { bills = bills; demands = []; receipts = []; ships = []; cums = []; resets = []; firms = []; policies = [] }
+  with_bills bills = record N { bills = bills; demands = []; receipts = []; ships = []; cums = []; resets = []; firms = []; policies = []; usages = [] }
 
   bill_step : (before : List BillRow) (b : BillRow) (after : List BillRow) (last : Kind) → before ++ b ∷ after ≡ N.bills
       → kind_place last ≤ kind_place kind.Bill
@@ -264,7 +293,8 @@ module _ (N : Table) (table : IsTable N) where
 
   -- demand and receipt rows are read alike
   abbrev with_amounts : List DemandRow → List ReceiptRow → Table
-  with_amounts demands receipts = record N { demands = demands; receipts = receipts; ships = []; cums = []; resets = []; firms = []; policies = [] }
+  with_amounts demands receipts =
+      record N { demands = demands; receipts = receipts; ships = []; cums = []; resets = []; firms = []; policies = []; usages = [] }
 
   abbrev amount_fields : List ℕ → ℕ → ℕ → ℕ → Row
   amount_fields word x period quantity = word ∷ pair_plant N x ∷ pair_item N x ∷ decimal period ∷ decimal quantity ∷ [] ∷ [] ∷ [] ∷ []
@@ -317,7 +347,7 @@ module _ (N : Table) (table : IsTable N) where
 
   -- the names of a lane, whatever stands of the ship, cum and reset rows
   abbrev with_lanes : List ShipRow → List CumRow → List ResetRow → Table
-  with_lanes ships cums resets = record N { ships = ships; cums = cums; resets = resets; firms = []; policies = [] }
+  with_lanes ships cums resets = record N { ships = ships; cums = cums; resets = resets; firms = []; policies = []; usages = [] }
 
   names_lane : (ships : List ShipRow) (cums : List CumRow) (resets : List ResetRow) (f x : ℕ) → f < length N.plants → IsPair N x → is_taken_from N x f ≡ true
       → NamesLane (with_lanes ships cums resets) (plant_name N f) (pair_plant N x) (pair_item N x) f (plant_at N x) x
@@ -454,15 +484,57 @@ module _ (N : Table) (table : IsTable N) where
       (plant_of_pair N table x is.pair) (pair_by_names N table x is.pair)
       (none_before is_same_policy before p after N.policies e table.once.policies))
 
+  names_used : (usages : List UsageRow) (x y : ℕ) → IsPair N x → IsPair N y → is_joined N x y ≡ true
+      → NamesUsed (with_usages usages) (pair_plant N x) (pair_item N x) (pair_item N y) (plant_at N x) x y
+  names_used usages x y parent component joined =
+      let one = joined_plant N x y N.bills table.sourced.plants joined in record {
+        plant_is = plant_of_pair_is_name x parent;
+        parent_is = item_of_pair_is_name x parent;
+        component_is = item_of_pair_is_name y component;
+        plant = plant_of_pair N table x parent;
+        parent = pair_by_names N table x parent;
+        component = ap (λ (f : ℕ). pair_named N (Some f) (pair_item N y)) one ∙ pair_by_names N table y component;
+        joined = joined;
+      }
+
+  usage_step : (before : List UsageRow) (u : UsageRow) (after : List UsageRow) (last : Kind) → before ++ u ∷ after ≡ N.usages
+      → kind_place last ≤ kind_place kind.Usage
+      → row_after (with_usages before, last) (usage_fields N u) ≡ Ok (with_usages (before ++ u ∷ []), kind.Usage)
+  unfolding field_at row_of_kind
+  usage_step before u after last e low =
+      let is = at_place (IsUsageRow N) before u after N.usages e table.read.usages in
+      let joined = at_place (λ u. is_joined N u.parent.0 u.component.0 ≡ true) before u after N.usages e table.sourced.usages in
+      let names = names_used before u.parent.0 u.component.0 is.parent is.component joined in
+      let periods = table.read.limits.periods in
+      let early : u.period < 10 ^ 16 = omega (arith, is.period, periods) in
+      let per : u.usage.per < 10 ^ 16 = omega (arith, is.per) in
+      let base : u.usage.base < 10 ^ 16 = omega (arith, is.base) in
+      row_read (with_usages before) (with_usages (before ++ u ∷ [])) last kind.Usage (usage_fields N u)
+      (kind_read (usage_fields N u) kind.Usage (seven_texts (codes "usage") _ _ _ (decimal u.period) (decimal u.usage.per) (decimal u.usage.base)
+      (word_is_text (codes "usage") refl) (name_is_text _ names.plant_is) (name_is_text _ names.parent_is) (name_is_text _ names.component_is)
+      (number_is_text u.period early) (number_is_text u.usage.per per) (number_is_text u.usage.base base)) refl refl refl)
+      (may_stand kind.Usage last (omega arith) low)
+      (usage_read (with_usages before) _ _ _ (decimal u.period) (decimal u.usage.per) (decimal u.usage.base) (plant_at N u.parent.0) u names
+      (period_written u.period (horizon N) is.period periods) (number_written 0 MOST_PER u.usage.per (omega arith) is.per per)
+      (number_written 1 MOST_PER u.usage.base is.some is.base base)
+      (none_before is_same_usage before u after N.usages e table.once.usages) (has_room before u after N.usages MOST_USAGES e table.read.limits.usages))
+
   -- ---- the rows from the bills on
 
-  policies_end : (last : Kind) → kind_place last ≤ kind_place kind.Policy → Ends (with_policies [], last) (map (policy_fields N) N.policies) N
-  policies_end last low =
-      subst (λ (rows : List Row). Ends (with_policies [], last) rows N) (append-nil (map (policy_fields N) N.policies))
-      (one_by_one kind.Policy with_policies (policy_fields N) N.policies [] N policy_step (λ l h. ends_here N l) [] N.policies last refl low)
+  usages_end : (last : Kind) → kind_place last ≤ kind_place kind.Usage → Ends (with_usages [], last) (map (usage_fields N) N.usages) N
+  usages_end last low =
+      subst (λ (rows : List Row). Ends (with_usages [], last) rows N) (append-nil (map (usage_fields N) N.usages))
+      (one_by_one kind.Usage with_usages (usage_fields N) N.usages [] N usage_step (λ l h. ends_here N l) [] N.usages last refl low)
+
+  abbrev from_policies : List Row
+  from_policies = map (policy_fields N) N.policies ++ map (usage_fields N) N.usages
+
+  policies_end : (last : Kind) → kind_place last ≤ kind_place kind.Policy → Ends (with_policies [], last) from_policies N
+  policies_end last low = one_by_one kind.Policy with_policies (policy_fields N) N.policies _ N policy_step (λ l h. usages_end l (omega (arith, h))) []
+      N.policies last refl low
 
   abbrev from_firms : List Row
-  from_firms = map (firm_fields N) N.firms ++ map (policy_fields N) N.policies
+  from_firms = map (firm_fields N) N.firms ++ from_policies
 
   firms_end : (last : Kind) → kind_place last ≤ kind_place kind.Firm → Ends (with_firms [], last) from_firms N
   firms_end last low = one_by_one kind.Firm with_firms (firm_fields N) N.firms _ N firm_step (λ l h. policies_end l (omega (arith, h))) [] N.firms last refl low

@@ -28,58 +28,15 @@ use Rattle.mrp_validation.specs.Grammar.{demand_made, demand_of, field, has_bill
 use Rattle.mrp_validation.specs.Grammar.{knows_sources, lane_terms, LaneTerms, may_follow, name_field, pair_fits, pair_terms, PairTerms, plant_in_row}
 use Rattle.mrp_validation.specs.Grammar.{receipt_made, receipt_of, reset_between, reset_in_row, row_kind, run_terms, RunTerms, ship_of, ship_terms}
 use Rattle.mrp_validation.specs.Grammar.{firm_of, firm_terms, FirmTerms, has_policy, policy_made, policy_of, policy_terms, PolicyTerms, used}
+use Rattle.mrp_validation.specs.Grammar.{usage_fits, usage_terms}
 use Rattle.mrp_validation.specs.Reading.{first_terms, is_run, kind_of_row, row_after, row_of_kind}
 use Rattle.mrp_validation.specs.Tests.{amount_passes, bill_passes, cum_passes, first_failed, fits_kind, has_number, HasFirstFault, is_in_order, is_lane, pair_in}
 use Rattle.mrp_validation.specs.Tests.{firm_passes, first_due, pair_passes, passes, passes_of, plant_in, plant_passes, policy_passes}
 use Rattle.mrp_validation.specs.Tests.{reset_passes, row_passes, run_passes, ship_passes, sources_in, stands_well, three_names, two_names}
+use Rattle.mrp_validation.proofs.FirstSteps.{checked, find_none, find_some, kept, kept-in, last, more, name_same}
+use Rattle.mrp_validation.proofs.FirstUsage.{usage-first}
 use Rattle.mrp_validation.proofs.KeepingRows.{on_lane}
 use Rattle.mrp_validation.proofs.KeepingSteps.{after, after_check, after_some, same_Ok}
-
--- ---- a test and those after it
-
-find_none : (p : TableFaultKind → Bool) (es fs : List TableFaultKind) → first_failed p es ≡ None → first_failed p (es ++ fs) ≡ first_failed p fs
-find_none p [] fs none = refl
-find_none p (e ∷ es) fs none = by (p e) none (find_none p es fs)
-  where
-    by : (b : Bool) → cond (not b) (Some e) (first_failed p es) ≡ None → (first_failed p es ≡ None → first_failed p (es ++ fs) ≡ first_failed p fs)
-        → cond (not b) (Some e) (first_failed p (es ++ fs)) ≡ first_failed p fs
-    by true none rest = rest none
-    by false none rest = absurd (cc)
-
-find_some : (p : TableFaultKind → Bool) (es fs : List TableFaultKind) (k : TableFaultKind) → first_failed p es ≡ Some k → first_failed p (es ++ fs) ≡ Some k
-find_some p [] fs k some = absurd (cc)
-find_some p (e ∷ es) fs k some = by (p e) some (find_some p es fs k)
-  where
-    by : (b : Bool) → cond (not b) (Some e) (first_failed p es) ≡ Some k → (first_failed p es ≡ Some k → first_failed p (es ++ fs) ≡ Some k)
-        → cond (not b) (Some e) (first_failed p (es ++ fs)) ≡ Some k
-    by true some rest = rest some
-    by false some rest = some
-
--- some tests, and then those of what follows
-more : {A B : Type 0} (p : TableFaultKind → Bool) (es fs : List TableFaultKind) (r : Result A TableFaultKind) (f : A → Result B TableFaultKind)
-    → result_err r ≡ first_failed p es
-    → ((x : A) → r ≡ Ok x → result_err (f x) ≡ first_failed p fs) → result_err (r >>= f) ≡ first_failed p (es ++ fs)
-more p es fs (Ok x) f here after = after x refl ∙ sym (find_none p es fs (sym here))
-more p es fs (Err k) f here after = sym (find_some p es fs k (sym here))
-
--- what is only kept
-kept : {A B : Type 0} (r : Result A TableFaultKind) (g : A → B) → result_err (r >>= λ x. Ok (g x)) ≡ result_err r
-kept (Ok x) g = refl
-kept (Err k) g = refl
-
-kept-in : {A B C : Type 0} (r : Result A TableFaultKind) (f : A → Result B TableFaultKind) (g : A → B → C)
-    → result_err (r >>= λ x. f x >>= λ y. Ok (g x y)) ≡ result_err (r >>= f)
-kept-in (Ok x) f g = kept (f x) (g x)
-kept-in (Err k) f g = refl
-
-checked : (b : Bool) (e : TableFaultKind) → result_err (check b e) ≡ cond (not b) (Some e) None
-checked true e = refl
-checked false e = refl
-
--- a last test
-last : {A : Type 0} (b : Bool) (e : TableFaultKind) (x : A) → result_err (check b e >>= λ u. Ok x) ≡ cond (not b) (Some e) None
-last true e x = refl
-last false e x = refl
 
 -- ---- what a row spells
 
@@ -268,13 +225,6 @@ record PairIs (row : List (List ℕ)) (t : PairTerms) : Type 0 where
   plant : t.plant ≡ field row 1
   item : t.item ≡ field row 2
   supply : supply_of (field row 3) ≡ Some t.supply
-
-name_same : (text x : List ℕ) → (if is_name text then Ok text else Err fault.BadName) ≡ Ok x → x ≡ text
-name_same text x e = by (is_name text) e
-  where
-    by : (b : Bool) → ◌≡◌ {A = Result (List ℕ) TableFaultKind} (if b then Ok text else Err fault.BadName) (Ok x) → x ≡ text
-    by true e = sym (same_Ok text x e)
-    by false e = absurd (cc)
 
 pair_is : (row : List (List ℕ)) (t : PairTerms) → pair_terms row ≡ Ok t → PairIs row t
 unfolding pair_terms
@@ -668,6 +618,7 @@ of-kind kind.Cum last N row u follows = kept (cum_of N row) _ ∙ cum-first N ro
 of-kind kind.Reset last N row u follows = kept (reset_in_row N row) _ ∙ reset-first N row
 of-kind kind.Firm last N row u follows = kept (firm_of N row) _ ∙ firm-first N row
 of-kind kind.Policy last N row u follows = kept (policy_of N row) _ ∙ policy-first N row
+of-kind kind.Usage last N row u follows = kept (usage_terms row (horizon N) >>= usage_fits N) _ ∙ usage-first N row
 
 of-named : (k : Kind) (o : Option Kind) (last : Kind) (N : Table) (row : List (List ℕ)) (u : Unit {0}) → o ≡ Some k
     → check (may_follow k last) fault.KindOrder ≡ Ok u

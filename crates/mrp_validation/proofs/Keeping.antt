@@ -11,25 +11,28 @@ use Rattle.mrp_master_data.specs.declared.rows.PolicyRow.{PolicyRow}
 use Rattle.mrp_master_data.specs.declared.rows.ReceiptRow.{ReceiptRow}
 use Rattle.mrp_master_data.specs.declared.rows.ResetRow.{ResetRow}
 use Rattle.mrp_master_data.specs.declared.rows.ShipRow.{ShipRow}
+use Rattle.mrp_master_data.specs.declared.rows.UsageRow.{UsageRow}
 use Rattle.std.specs.Str.{bytes_eq}
 use Rattle.mrp_cal.specs.Calendar.{CalendarTerms, IsCalendar}
 use Rattle.mrp_validation.specs.declared.fault.TableFaultKind.{TableFaultKind}
 use Rattle.mrp_validation.specs.declared.kind.Kind.{Kind}
 use Rattle.mrp_validation.specs.declared.kind.Kind.TheVariants as kind
 use Rattle.mrp_validation.specs.Grammar.{◌>>=◌, bill_of, cum_of, demand_of, may_follow, kind_place, plant_in_row, receipt_of, reset_in_row, ship_of}
-use Rattle.mrp_validation.specs.Grammar.{firm_of, policy_of}
-use Rattle.mrp_master_data.specs.Growing.{with_plant, with_bill, with_demand, with_receipt, with_ship, with_cum, with_reset, with_firm, with_policy}
+use Rattle.mrp_validation.specs.Grammar.{firm_of, policy_of, usage_of}
+use Rattle.mrp_master_data.specs.Growing.{with_plant, with_bill, with_demand, with_receipt, with_ship, with_cum, with_reset, with_firm, with_policy, with_usage}
 use Rattle.mrp_validation.specs.Reading.{IsReadSoFar, kind_of_row, row_after, row_of_kind}
 use Rattle.mrp_master_data.specs.Table.{Table, IsBillRow, IsCumRow, IsDemandRow, IsFirmRow, IsName, IsPairRow, IsPolicyRow}
-use Rattle.mrp_master_data.specs.Table.{IsReceiptRow, IsResetRow, IsShipRow, IsSourceRow, is_same_pair}
-use Rattle.mrp_master_data.specs.Table.{is_same_source, is_same_bill, is_same_cum, is_same_policy, is_same_reset}
+use Rattle.mrp_master_data.specs.Table.{IsReceiptRow, IsResetRow, IsShipRow, IsSourceRow, IsUsageRow, is_same_pair}
+use Rattle.mrp_master_data.specs.Table.{is_same_source, is_same_bill, is_same_cum, is_same_policy, is_same_reset, is_same_usage}
 use Rattle.mrp_master_data.specs.Growing.{empty_table}
 use Rattle.mrp_validation.proofs.KeepingBill.{bill_keeps}
 use Rattle.mrp_master_data.proofs.SpelledLists.{IsDistinct-nil}
 use Rattle.mrp_validation.proofs.KeepingPair.{pair_keeps}
 use Rattle.mrp_validation.proofs.KeepingRead.{bill_read, cum_read, demand_read, firm_read, plant_read, policy_read, receipt_read, reset_read, ship_read}
+use Rattle.mrp_validation.proofs.KeepingRead.{usage_read}
 use Rattle.mrp_validation.proofs.KeepingRows.{plant_keeps, demand_keeps, receipt_keeps, ship_keeps, cum_keeps, reset_keeps, firm_keeps, policy_keeps}
 use Rattle.mrp_validation.proofs.KeepingSteps.{after, after_check, same_Ok}
+use Rattle.mrp_validation.proofs.KeepingUsage.{usage_keeps}
 
 -- a kind stands with the kinds before it
 pub follows : (k last : Kind) → may_follow k last ≡ true → kind_place last ≤ kind_place k
@@ -153,6 +156,19 @@ module _ (N : Table) (last : Kind) (row : List (List ℕ)) (so_far : IsReadSoFar
             λ lt. absurd (omega arith);
       }
 
+  usage_more : (x : UsageRow) → usage_of N row ≡ Ok x → IsReadSoFar (with_usage N x) kind.Usage
+  usage_more x is =
+      let kept = usage_keeps N row x so_far.once so_far.sourced is in
+      record {
+        read = usage_read N row x so_far.read is;
+        once = kept.0;
+        sourced = kept.1;
+        items = so_far.items;
+        sources = so_far.sources;
+        resets =
+            λ lt. absurd (omega arith);
+      }
+
 -- what was read of a row makes the table with it
 made_keeps : {X : Type 0} (k : Kind) (read : Result X TableFaultKind) (made : X → Table) (M : Table) → ((x : X) → read ≡ Ok x → IsReadSoFar (made x) k)
     → (read >>= λ x. Ok (made x)) ≡ Ok M → IsReadSoFar M k
@@ -177,6 +193,7 @@ row_keeps kind.Cum last N M row so_far before is = made_keeps kind.Cum (cum_of N
 row_keeps kind.Reset last N M row so_far before is = made_keeps kind.Reset (reset_in_row N row) (with_reset N) M (λ x. reset_more N last row so_far x) is
 row_keeps kind.Firm last N M row so_far before is = made_keeps kind.Firm (firm_of N row) (with_firm N) M (λ x. firm_more N last row so_far x) is
 row_keeps kind.Policy last N M row so_far before is = made_keeps kind.Policy (policy_of N row) (with_policy N) M (λ x. policy_more N last row so_far x) is
+row_keeps kind.Usage last N M row so_far before is = made_keeps kind.Usage (usage_of N row) (with_usage N) M (λ x. usage_more N last row so_far x) is
 
 -- a table and the kind of its last row
 abbrev Kept : Table × Kind → Type 0
@@ -210,6 +227,7 @@ empty_keeps c calendar = record {
       resets = omega arith;
       firms = omega arith;
       policies = omega arith;
+      usages = omega arith;
     };
     plants = All-nil IsName;
     items = All-nil IsName;
@@ -223,6 +241,7 @@ empty_keeps c calendar = record {
     resets = All-nil (IsResetRow (empty_table c));
     firms = All-nil (IsFirmRow (empty_table c));
     policies = All-nil (IsPolicyRow (empty_table c));
+    usages = All-nil (IsUsageRow (empty_table c));
   };
   once = record {
     plants = IsDistinct-nil bytes_eq;
@@ -233,6 +252,7 @@ empty_keeps c calendar = record {
     cums = IsDistinct-nil is_same_cum;
     resets = IsDistinct-nil is_same_reset;
     policies = IsDistinct-nil is_same_policy;
+    usages = IsDistinct-nil is_same_usage;
   };
   sourced = record {
     items = λ i lt. absurd (omega arith);
@@ -246,6 +266,7 @@ empty_keeps c calendar = record {
     ships = λ k d lt. absurd (omega arith);
     cums = λ k d lt. absurd (omega arith);
     resets = λ k d lt. absurd (omega arith);
+    usages = λ k d lt. absurd (omega arith);
   };
   items = omega arith;
   sources = omega arith;

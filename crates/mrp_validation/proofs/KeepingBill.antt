@@ -1,6 +1,6 @@
 -- A bill row more: its parent is made at the plant of its component, and no other has both.
-use Rattle.std.proofs.Common.{◌≡◌, ℕ, ◌==◌, ◌&&◌, true, false, List, Option, Some, None, option_map, position, slice_get, unwrap_or, Ok, refl, ap, sym, ◌∙◌}
-use Rattle.std.proofs.Common.{subst}
+use Rattle.std.proofs.Common.{◌≡◌, ℕ, ◌==◌, ◌&&◌, true, false, List, [], ◌∷◌, Option, Some, None, option_map, position, slice_get, unwrap_or, Ok}
+use Rattle.std.proofs.Common.{refl, ap, sym, ◌∙◌, subst}
 use Rattle.std.specs.List.{list_any}
 use Rattle.std.specs.Str.{bytes_eq}
 use Rattle.std.proofs.lemmas.Bool.{and_parts, eqb-true}
@@ -13,6 +13,7 @@ use Rattle.mrp_master_data.specs.Table.{Table, IsOnce, IsSourced, is_same_bill, 
 use Rattle.mrp_master_data.specs.Growing.{with_bill}
 use Rattle.mrp_validation.specs.Grammar.{BillTerms, bill_fits, bill_of, bill_terms, has_bill, is_make}
 use Rattle.mrp_master_data.specs.Names.{pair_named, plant_no}
+use Rattle.mrp_master_data.proofs.Lists.{any_left}
 use Rattle.mrp_master_data.proofs.SpelledLists.{distinct_push}
 use Rattle.mrp_validation.proofs.KeepingLists.{position_there}
 use Rattle.mrp_validation.proofs.KeepingParts.{bill_parts}
@@ -81,8 +82,9 @@ pub bill_keeps : (N : Table) (row : List (List ℕ)) (b : BillRow) → IsOnce N 
 bill_keeps N row b once sourced is =
     let a = after (bill_terms row) (bill_fits N) b is in
     let says = fits N a.0 b a.2 in (
-      stays_once N (with_bill N b) refl once once.plants (distinct_push is_same_bill N.bills b once.bills says.new) once.cums once.resets once.policies,
+      stays_once N (with_bill N b) refl once once.plants (distinct_push is_same_bill N.bills b once.bills says.new) once.cums once.resets once.policies
+          once.usages,
       stays_sourced N (with_bill N b) refl sourced (All-push (λ b. supply_at N b.parent.0 ≡ supply.Make) N.bills b sourced.parents says.made)
           (All-push (λ b. plant_at N b.parent.0 ≡ plant_at N b.component.0) N.bills b sourced.plants says.plant) sourced.ships sourced.cums sourced.resets
-          sourced.arrive,
+          (λ k d lt. any_left _ N.bills (b ∷ []) (sourced.usages k d lt)) sourced.arrive,
     )

@@ -231,6 +231,7 @@ module _ (N : Table) (plant : PlantNo) (t : PairTerms) (read : IsRead N) (once :
     cums = once.cums;
     resets = once.resets;
     policies = once.policies;
+    usages = once.usages;
   }
 
   pub old_kept : (x : ℕ) → x < length N.pairs → sources_of_pair M x ≡ sources_of_pair N x
@@ -332,6 +333,7 @@ module _ (N : Table) (plant : PlantNo) (t : PairTerms) (read : IsRead N) (once :
     ships = λ k d lt. any_left _ N.sources new_rows (sourced.ships k d lt);
     cums = λ k d lt. any_left _ N.sources new_rows (sourced.cums k d lt);
     resets = λ k d lt. any_left _ N.sources new_rows (sourced.resets k d lt);
+    usages = sourced.usages;
   }
 
   -- ---- the pair, its item and its sources are in range
@@ -380,7 +382,7 @@ module _ (N : Table) (plant : PlantNo) (t : PairTerms) (read : IsRead N) (once :
       } in
       let item : Changes IsName MOST_PAIRS N.items M.items = name_added N.items t.item says.item (omega (arith, few_items, fit.room)) in
       read_grows N M read grows same_rows item (one_more new_row row_in fit.room) sources same_rows same_rows same_rows same_rows same_rows same_rows same_rows
-      same_rows
+      same_rows same_rows
 
 -- a pair row more stands after the run, the plants and other pairs
 pub pair_keeps : (N M : Table) (last : Kind) (row : List (List ℕ)) → IsReadSoFar N last → kind_place last ≤ kind_place kind.Pair → pair_row N row ≡ Ok M

@@ -1,7 +1,7 @@
 -- What is read of a row that is kept: what its fields spell, and each test of its grammar.
 use Rattle.std.proofs.Common.{◌-◌, ◌≡◌, ℕ, Bool, true, false, not, ltb, List, length, Some, is_some, Ok}
 use Rattle.std.proofs.lemmas.Bool.{not-true}
-use Rattle.mrp_qty.specs.declared.limits.TheConstants.{MOST_BILLS, MOST_OF_A_KIND}
+use Rattle.mrp_qty.specs.declared.limits.TheConstants.{MOST_BILLS, MOST_OF_A_KIND, MOST_USAGES}
 use Rattle.mrp_master_data.specs.declared.rows.BillRow.{BillRow}
 use Rattle.mrp_master_data.specs.declared.rows.CumRow.{CumRow}
 use Rattle.mrp_master_data.specs.declared.rows.DemandRow.{DemandRow}
@@ -10,14 +10,16 @@ use Rattle.mrp_master_data.specs.declared.rows.PolicyRow.{PolicyRow}
 use Rattle.mrp_master_data.specs.declared.rows.ReceiptRow.{ReceiptRow}
 use Rattle.mrp_master_data.specs.declared.rows.ResetRow.{ResetRow}
 use Rattle.mrp_master_data.specs.declared.rows.ShipRow.{ShipRow}
+use Rattle.mrp_master_data.specs.declared.rows.UsageRow.{UsageRow}
 use Rattle.mrp_master_data.specs.Names.{pair_named, plant_no}
-use Rattle.mrp_master_data.specs.Table.{Table, arrivals, horizon, rises_from}
+use Rattle.mrp_master_data.specs.Table.{Table, arrivals, horizon, is_joined, rises_from}
 use Rattle.mrp_master_data.specs.declared.numbers.PlantNo.{PlantNo}
 use Rattle.mrp_master_data.specs.declared.numbers.PairNo.{PairNo}
 use Rattle.mrp_qty.specs.declared.quantity.TheConstants.{MOST}
 use Rattle.mrp_validation.specs.Grammar.{AmountTerms, BillTerms, LaneTerms, amount_row, amount_terms, bill_fits, cum_of, lane_number, demand_made, demand_of}
 use Rattle.mrp_validation.specs.Grammar.{has_bill, has_cum, has_reset, is_made, known_lane, known_pair, receipt_made, receipt_of, reset_in_row}
 use Rattle.mrp_validation.specs.Grammar.{firm_of, firm_terms, FirmTerms, has_policy, policy_made, policy_of, policy_terms, PolicyTerms, ship_of, ship_terms}
+use Rattle.mrp_validation.specs.Grammar.{has_usage, usage_fits, usage_made, UsageTerms}
 use Rattle.mrp_validation.proofs.KeepingSteps.{after, after_check, after_some, same_Ok}
 
 pub record BillParts (N : Table) (t : BillTerms) (b : BillRow) : Type 0 where
@@ -119,6 +121,42 @@ policy_parts N row x is =
     let b = after_check (not there) _ _ x a.2 in
     let c = after (known_pair N a.0.plant a.0.item) _ x b.1 in
     record { terms = a.0; found = c.0; read = a.1; new = not-true there b.0; known = c.1; same = same_Ok _ x c.2 }
+
+-- ---- usages
+
+pub record UsageParts (N : Table) (t : UsageTerms) (u : UsageRow) : Type 0 where
+  pub x : ℕ
+  pub y : ℕ
+  pub new : has_usage N (pair_named N (plant_no N t.plant) t.parent) (pair_named N (plant_no N t.plant) t.component) t.period ≡ false
+  pub parent : pair_named N (plant_no N t.plant) t.parent ≡ Some x
+  pub component : pair_named N (plant_no N t.plant) t.component ≡ Some y
+  pub joined : is_joined N x y ≡ true
+  pub room : ltb (length N.usages) MOST_USAGES ≡ true
+  pub same : usage_made x y t ≡ u
+
+pub usage_parts : (N : Table) (t : UsageTerms) (u : UsageRow) → usage_fits N t ≡ Ok u → UsageParts N t u
+unfolding usage_fits
+usage_parts N t u is =
+    let plant = plant_no N t.plant in
+    let parent = pair_named N plant t.parent in
+    let component = pair_named N plant t.component in
+    let h1 = after_check (not (has_usage N parent component t.period)) _ _ u is in
+    let h2 = after_check (is_some plant) _ _ u h1.1 in
+    let h3 = after_some parent _ _ u h2.1 in
+    let h4 = after_some component _ _ u h3.2 in
+    let h5 = after_check (is_joined N h3.0 h4.0) _ _ u h4.2 in
+    let h6 = after_check (ltb (length N.usages) MOST_USAGES) _ _ u h5.1 in
+    record {
+      x = h3.0;
+      y = h4.0;
+      new = not-true (has_usage N parent component t.period) h1.0;
+      parent = h3.1;
+      component = h4.1;
+      joined = h5.0;
+      room = h6.0;
+      same =
+          same_Ok _ u h6.1;
+    }
 
 -- ---- rows of a lane
 

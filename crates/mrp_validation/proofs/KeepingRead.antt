@@ -13,7 +13,7 @@ use Rattle.mrp_qty.specs.declared.quantity.TheConstants.{MOST}
 use Rattle.mrp_lot.specs.declared.rule.TheConstants.{LONGEST_LEAD}
 use Rattle.mrp_master_data.specs.declared.numbers.PlantNo.{PlantNo}
 use Rattle.mrp_master_data.specs.declared.numbers.PairNo.{PairNo}
-use Rattle.mrp_qty.specs.declared.limits.TheConstants.{MOST_BILLS, MOST_IN_ROW, MOST_OF_A_KIND, MOST_PER, MOST_PLANTS}
+use Rattle.mrp_qty.specs.declared.limits.TheConstants.{MOST_BILLS, MOST_IN_ROW, MOST_OF_A_KIND, MOST_PER, MOST_PLANTS, MOST_USAGES}
 use Rattle.mrp_master_data.specs.declared.rows.BillRow.{BillRow}
 use Rattle.mrp_master_data.specs.declared.rows.CumRow.{CumRow}
 use Rattle.mrp_master_data.specs.declared.rows.DemandRow.{DemandRow}
@@ -22,13 +22,15 @@ use Rattle.mrp_master_data.specs.declared.rows.PolicyRow.{PolicyRow}
 use Rattle.mrp_master_data.specs.declared.rows.ReceiptRow.{ReceiptRow}
 use Rattle.mrp_master_data.specs.declared.rows.ResetRow.{ResetRow}
 use Rattle.mrp_master_data.specs.declared.rows.ShipRow.{ShipRow}
+use Rattle.mrp_master_data.specs.declared.rows.UsageRow.{UsageRow}
 use Rattle.mrp_master_data.specs.declared.rows.SourceRow.{SourceRow}
-use Rattle.mrp_master_data.specs.Growing.{with_bill, with_cum, with_demand, with_firm, with_plant, with_policy, with_receipt, with_reset, with_ship}
+use Rattle.mrp_master_data.specs.Growing.{with_bill, with_cum, with_demand, with_firm, with_plant, with_policy, with_receipt, with_reset, with_ship, with_usage}
 use Rattle.mrp_master_data.specs.Names.{has_plant, pair_named, pair_of_item, plant_no}
 use Rattle.mrp_master_data.specs.Table.{horizon, IsBillRow, IsCumRow, IsDemandRow, IsName, IsOnce, IsRead, IsReceiptRow, IsResetRow, IsShipRow, is_same_reset}
-use Rattle.mrp_master_data.specs.Table.{IsFirmRow, IsPolicyRow, IsSourced, Table}
+use Rattle.mrp_master_data.specs.Table.{IsFirmRow, IsPolicyRow, IsSourced, IsUsageRow, Table}
 use Rattle.mrp_master_data.proofs.Keys.{same_test}
-use Rattle.mrp_master_data.proofs.Grow.{read-with_bill, read-with_cum, read-with_demand, read-with_firm, read-with_plant, read-with_policy, read-with_receipt, read-with_reset, read-with_ship}
+use Rattle.mrp_master_data.proofs.Grow.{read-with_bill, read-with_cum, read-with_demand, read-with_firm, read-with_plant, read-with_policy}
+use Rattle.mrp_master_data.proofs.Grow.{read-with_receipt, read-with_reset, read-with_ship, read-with_usage}
 use Rattle.mrp_master_data.specs.Spelling.{is_name}
 use Rattle.mrp_master_data.specs.Parsing.{number_within}
 use Rattle.mrp_master_data.proofs.Mapped.{list_any_keys}
@@ -38,8 +40,10 @@ use Rattle.mrp_validation.specs.declared.fault.TableFaultKind.TheVariants as fau
 use Rattle.mrp_validation.specs.Grammar.{◌>>=◌, amount_terms, AmountTerms, bill_fits, bill_of, bill_terms, BillTerms, cum_of, lane_number, demand_made, demand_of}
 use Rattle.mrp_validation.specs.Grammar.{field, known_lane, known_pair, lane_terms, LaneTerms, name_field, plant_in_row, plant_terms, ranged}
 use Rattle.mrp_validation.specs.Grammar.{firm_of, firm_terms, FirmTerms, policy_of, policy_terms, PolicyTerms, receipt_made, receipt_of, reset_in_row, ship_of, ship_terms}
+use Rattle.mrp_validation.specs.Grammar.{usage_fits, usage_of, usage_terms, UsageTerms}
 use Rattle.mrp_validation.proofs.KeepingLists.{position_there}
-use Rattle.mrp_validation.proofs.KeepingParts.{AmountParts, bill_parts, cum_parts, demand_parts, firm_parts, policy_parts, receipt_parts, reset_parts, ship_parts}
+use Rattle.mrp_validation.proofs.KeepingParts.{AmountParts, bill_parts, cum_parts, demand_parts, firm_parts, policy_parts, receipt_parts, reset_parts}
+use Rattle.mrp_validation.proofs.KeepingParts.{ship_parts, usage_parts}
 use Rattle.mrp_validation.proofs.KeepingFew.{few, HasBelow}
 use Rattle.mrp_validation.proofs.KeepingRows.{on_lane}
 use Rattle.mrp_validation.proofs.KeepingSteps.{after, after_check, after_some, same_Ok}
@@ -301,6 +305,53 @@ policy_read N row x read once is =
     (All-weaker (IsPolicyRow N) (HasBelow pair_of (length N.pairs)) (λ q h. h.pair) N.policies read.policies) made.pair in
     let le = few pair_of (N.policies ++ x ∷ []) (length N.pairs) once.policies within in
     read-with_policy N x read made (omega (arith, le, length_push N.policies x, read.limits.pairs))
+
+-- ---- usages
+
+-- each field of a usage row is read as it stands in the terms
+pub record UsageRead (row : List (List ℕ)) (periods : ℕ) (t : UsageTerms) : Type 0 where
+  pub plant : name_field (field row 1) ≡ Ok t.plant
+  pub parent : name_field (field row 2) ≡ Ok t.parent
+  pub component : name_field (field row 3) ≡ Ok t.component
+  pub period : ranged (field row 4) 0 (periods - 1) ≡ Ok t.period
+  pub per : ranged (field row 5) 0 MOST_PER ≡ Ok t.per
+  pub base : ranged (field row 6) 1 MOST_PER ≡ Ok t.base
+
+pub usage_terms_read : (row : List (List ℕ)) (periods : ℕ) (t : UsageTerms) → usage_terms row periods ≡ Ok t → UsageRead row periods t
+unfolding usage_terms
+usage_terms_read row periods t is =
+    let n = two_names_read row _ t is in
+    let a = after (name_field (field row 3)) _ t n.rest in
+    let b = after (ranged (field row 4) 0 (periods - 1)) _ t a.2 in
+    let c = after (ranged (field row 5) 0 MOST_PER) _ t b.2 in
+    let d = after (ranged (field row 6) 1 MOST_PER) _ t c.2 in
+    let same : record { plant = n.first; parent = n.second; component = a.0; period = b.0; per = c.0; base = d.0 } ≡ t = same_Ok _ t d.2 in
+    subst (UsageRead row periods) same (record {
+      plant = n.first_is;
+      parent = n.second_is;
+      component = a.1;
+      period = b.1;
+      per = c.1;
+      base = d.1;
+    })
+
+pub usage_read : (N : Table) (row : List (List ℕ)) (u : UsageRow) → IsRead N → usage_of N row ≡ Ok u → IsRead (with_usage N u)
+usage_read N row u read is =
+    let a = after (usage_terms row (horizon N)) (usage_fits N) u is in
+    let t = a.0 in
+    let fields = usage_terms_read row (horizon N) t a.1 in
+    let plant = plant_no N t.plant in
+    let p = usage_parts N t u a.2 in
+    let base = ranged_is (field row 6) 1 MOST_PER t.base fields.base in
+    let made : IsUsageRow N u = subst (IsUsageRow N) p.same (record {
+      parent = pair_within N plant t.parent p.x p.parent;
+      component = pair_within N plant t.component p.y p.component;
+      period = period_is N (field row 4) t.period read fields.period;
+      per = (ranged_is (field row 5) 0 MOST_PER t.per fields.per).1;
+      some = base.0;
+      base = base.1;
+    }) in
+    read-with_usage N u read made (lt_test (length N.usages) MOST_USAGES p.room)
 
 -- ---- lanes
 

@@ -5,6 +5,8 @@ pub mod BackRows
 pub mod BackTable
 pub mod BackTexts
 pub mod First
+pub mod FirstSteps
+pub mod FirstUsage
 pub mod Keeping
 pub mod KeepingBill
 pub mod KeepingFew
@@ -16,6 +18,7 @@ pub mod KeepingRows
 pub mod KeepingSame
 pub mod KeepingShares
 pub mod KeepingSteps
+pub mod KeepingUsage
 pub mod Listed
 pub mod Loop
 pub mod Missing

@@ -12,9 +12,9 @@ use Rattle.mrp_lot.specs.declared.rule.TheConstants.{LONGEST_LEAD}
 use Rattle.mrp_qty.specs.declared.quantity.TheConstants.{MOST}
 use Rattle.mrp_qty.specs.declared.horizon.TheConstants.{LONGEST}
 use Rattle.mrp_master_data.specs.declared.numbers.PairNo.{PairNo}
-use Rattle.mrp_qty.specs.declared.limits.TheConstants.{MOST_BILLS, MOST_IN_ROW, MOST_OF_A_KIND, MOST_PAIRS, MOST_PER, MOST_PLANTS}
+use Rattle.mrp_qty.specs.declared.limits.TheConstants.{MOST_BILLS, MOST_IN_ROW, MOST_OF_A_KIND, MOST_PAIRS, MOST_PER, MOST_PLANTS, MOST_USAGES}
 use Rattle.mrp_master_data.specs.Names.{has_plant, pair_named, plant_no}
-use Rattle.mrp_master_data.specs.Table.{arrivals, horizon, is_taken_from, rises_from, Table}
+use Rattle.mrp_master_data.specs.Table.{arrivals, horizon, is_joined, is_taken_from, rises_from, Table}
 use Rattle.mrp_master_data.specs.Spelling.{is_name}
 use Rattle.mrp_master_data.specs.Parsing.{spelled_number, number_within, rule_of}
 use Rattle.mrp_master_data.specs.SupplyParsing.{named_sources, names_plant, supply_of}
@@ -28,6 +28,7 @@ use Rattle.mrp_validation.specs.Grammar.{field, firm_of, firm_terms, has_policy,
 use Rattle.mrp_validation.specs.Grammar.{has_bill, has_cum, has_reset, is_made, knows_sources, lane_terms, LaneTerms, may_follow, name_field}
 use Rattle.mrp_validation.specs.Grammar.{pair_fits, pair_terms, PairTerms, plant_in_row, policy_of, policy_terms, ranged, receipt_made, receipt_of, reset_in_row}
 use Rattle.mrp_validation.specs.Grammar.{row_kind, run_terms, RunTerms, ship_of, ship_terms, TellsFault, used}
+use Rattle.mrp_validation.specs.Grammar.{has_usage, usage_fits, usage_terms, UsageTerms}
 use Rattle.mrp_validation.specs.Reading.{first_terms, is_run, kind_of_row, row_after, row_of_kind, started, Starts, StartsWith, UnlessMemory}
 use Rattle.mrp_validation.proofs.KeepingSteps.{chosen, found, steps, tested}
 
@@ -70,6 +71,13 @@ module _ (P : TableFaultKind → Type 0) where
       (λ item. steps P _ _ (number (field row 3) 0 (periods - 1) n) (λ fence. steps P _ _ (number (field row 4) 0 LONGEST_LEAD n)
       (λ sooner. steps P _ _ (number (field row 5) 0 LONGEST_LEAD n) (λ cover. steps P _ _ (number (field row 6) 0 MOST_IN_ROW n)
       (λ least. steps P _ _ (number (field row 7) 0 MOST_IN_ROW n) (λ multiple. tt)))))))
+
+  usage-terms : (row : List (List ℕ)) (periods : ℕ) → P fault.BadName → P fault.BadNumber → IfErr (usage_terms row periods) P
+  unfolding usage_terms
+  usage-terms row periods m n =
+      steps P _ _ (name (field row 1) m) (λ plant. steps P _ _ (name (field row 2) m)
+      (λ parent. steps P _ _ (name (field row 3) m) (λ component. steps P _ _ (number (field row 4) 0 (periods - 1) n)
+      (λ period. steps P _ _ (number (field row 5) 0 MOST_PER n) (λ per. steps P _ _ (number (field row 6) 1 MOST_PER n) (λ base. tt))))))
 
   lane-terms : (row : List (List ℕ)) → P fault.BadName → IfErr (lane_terms row) P
   unfolding lane_terms
@@ -117,6 +125,16 @@ module _ (P : TableFaultKind → Type 0) where
       (λ known. steps P _ _ (found P (pair_named N (plant_no N t.plant) t.parent) _ p)
       (λ x. steps P _ _ (found P (pair_named N (plant_no N t.plant) t.component) _ p) (λ y.
       steps P _ _ (tested P (is_made N x) _ n) (λ made. steps P _ _ (tested P (nat_lt (length N.bills) MOST_BILLS) _ m) (λ room. tt))))))
+
+  usage-fits : (N : Table) (t : UsageTerms) → P fault.Repeated → P fault.UnknownPlant → P fault.UnknownPair → P fault.NotMade → P fault.TooMany
+      → IfErr (usage_fits N t) P
+  unfolding usage_fits
+  usage-fits N t r u p n m =
+      steps P _ _ (tested P (not (has_usage N (pair_named N (plant_no N t.plant) t.parent) (pair_named N (plant_no N t.plant) t.component) t.period)) _ r)
+      (λ fresh. steps P _ _ (tested P (is_some (plant_no N t.plant)) _ u)
+      (λ known. steps P _ _ (found P (pair_named N (plant_no N t.plant) t.parent) _ p)
+      (λ x. steps P _ _ (found P (pair_named N (plant_no N t.plant) t.component) _ p) (λ y.
+      steps P _ _ (tested P (is_joined N x y) _ n) (λ joined. steps P _ _ (tested P (nat_lt (length N.usages) MOST_USAGES) _ m) (λ room. tt))))))
 
   known-pair : (N : Table) (plant item : List ℕ) → P fault.UnknownPlant → P fault.UnknownPair → IfErr (known_pair N plant item) P
   unfolding known_pair
@@ -230,6 +248,10 @@ of-kind kind.Policy N row =
     let P = Contains (faults_of (Ok kind.Policy)) in
     steps P _ _ (policy-of P N row (4, omega arith, refl) (5, omega arith, refl) (6, omega arith, refl) (7, omega arith, refl) (8, omega arith, refl))
     (λ x. tt)
+of-kind kind.Usage N row =
+    let P = Contains (faults_of (Ok kind.Usage)) in
+    steps P _ _ (steps P _ _ (usage-terms P row (horizon N) (4, omega arith, refl) (5, omega arith, refl))
+    (λ t. usage-fits P N t (6, omega arith, refl) (7, omega arith, refl) (8, omega arith, refl) (9, omega arith, refl) (10, omega arith, refl))) (λ x. tt)
 
 -- the first four faults are in every list
 order : (k : Kind) → Contains (faults_of (Ok k)) fault.KindOrder
@@ -244,6 +266,7 @@ order kind.Cum = (3, omega arith, refl)
 order kind.Reset = (3, omega arith, refl)
 order kind.Firm = (3, omega arith, refl)
 order kind.Policy = (3, omega arith, refl)
+order kind.Usage = (3, omega arith, refl)
 
 no-kind : (row : List (List ℕ)) → IfErr (kind_of_row row) (Contains faults_of_any)
 no-kind row = kind-of-row (Contains faults_of_any) row (0, omega arith, refl) (1, omega arith, refl) (2, omega arith, refl)
@@ -298,6 +321,7 @@ by-kind kind.Cum row e starts = of-order kind.Cum e starts
 by-kind kind.Reset row e starts = of-order kind.Reset e starts
 by-kind kind.Firm row e starts = of-order kind.Firm e starts
 by-kind kind.Policy row e starts = of-order kind.Policy e starts
+by-kind kind.Usage row e starts = of-order kind.Usage e starts
 
 of-first : (r : Result Kind TableFaultKind) (row : List (List ℕ)) (e : TableFaultKind) → IfErr r (Contains faults_of_any)
     → StartsWith (r >>= λ k. check (is_run k) fault.KindOrder >>= λ u. run_terms row) (Err e) → Contains (faults_of r) e
@@ -373,6 +397,19 @@ rise kind.Reset = (
 )
 rise kind.Firm = (omega arith, (omega arith, (omega arith, (omega arith, (omega arith, (omega arith, (omega arith, (omega arith, tt))))))))
 rise kind.Policy = (omega arith, (omega arith, (omega arith, (omega arith, (omega arith, (omega arith, (omega arith, (omega arith, tt))))))))
+rise kind.Usage = (
+  omega arith,
+  (
+    omega arith,
+    (
+      omega arith,
+      (
+        omega arith,
+        (omega arith, (omega arith, (omega arith, (omega arith, (omega arith, (omega arith, tt)))))),
+      ),
+    ),
+  ),
+)
 
 -- ---- no list has a failed read
 
@@ -392,6 +429,7 @@ all_of_row (Ok kind.Cum) = refl
 all_of_row (Ok kind.Reset) = refl
 all_of_row (Ok kind.Firm) = refl
 all_of_row (Ok kind.Policy) = refl
+all_of_row (Ok kind.Usage) = refl
 all_of_row (Err e) = refl
 
 unlisted : (row : List (List ℕ)) → IsListedFault row fault.ReadFault → ⊥

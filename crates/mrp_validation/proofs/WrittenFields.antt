@@ -38,6 +38,7 @@ word_of kind.Cum = codes "cum"
 word_of kind.Reset = codes "reset"
 word_of kind.Firm = codes "firm"
 word_of kind.Policy = codes "policy"
+word_of kind.Usage = codes "usage"
 
 chosen : (w : List ℕ) (named : Kind) (rest : Option Kind) (k : Kind) → (if bytes_eq w (word_of named) then Some named else rest) ≡ Some k
     → (rest ≡ Some k → w ≡ word_of k) → w ≡ word_of k
@@ -53,8 +54,8 @@ word_is : (w : List ℕ) (k : Kind) → kind_of w ≡ Some k → w ≡ word_of k
 word_is w k is =
     chosen w kind.Demand _ k is (λ e1. chosen w kind.Receipt _ k e1
     (λ e2. chosen w kind.Ship _ k e2 (λ e3. chosen w kind.Bill _ k e3 (λ e4. chosen w kind.Pair _ k e4
-    (λ e5. chosen w kind.Firm _ k e5 (λ e6. chosen w kind.Policy _ k e6 (λ e7. chosen w kind.Cum _ k e7 (λ e8. chosen w kind.Reset _ k e8
-    (λ e9. chosen w kind.Plant _ k e9 (λ e10. chosen w kind.Run None k e10 (λ e11. absurd (cc))))))))))))
+    (λ e5. chosen w kind.Firm _ k e5 (λ e6. chosen w kind.Policy _ k e6 (λ e7. chosen w kind.Usage _ k e7 (λ e8. chosen w kind.Cum _ k e8
+    (λ e9. chosen w kind.Reset _ k e9 (λ e10. chosen w kind.Plant _ k e10 (λ e11. chosen w kind.Run None k e11 (λ e12. absurd (cc)))))))))))))
 
 -- ---- a row has eight fields
 
@@ -154,6 +155,12 @@ pub six_used : (row : List (List ℕ)) (word b c d e f : List ℕ) → length ro
     → row ≡ word ∷ b ∷ c ∷ d ∷ e ∷ f ∷ [] ∷ [] ∷ []
 six_used row word b c d e f size ew free eb ec ed ee ef =
     eight row size ∙ fields_same _ _ _ _ _ _ _ _ word b c d e f [] [] ew eb ec ed ee ef (empty _ free.six) (empty _ free.seven)
+
+pub seven_used : (row : List (List ℕ)) (word b c d e f g : List ℕ) → length row ≡ 8 → field row 0 ≡ word → AreFree row 7 → field row 1 ≡ b → field row 2 ≡ c
+    → field row 3 ≡ d → field row 4 ≡ e → field row 5 ≡ f → field row 6 ≡ g
+    → row ≡ word ∷ b ∷ c ∷ d ∷ e ∷ f ∷ g ∷ [] ∷ []
+seven_used row word b c d e f g size ew free eb ec ed ee ef eg =
+    eight row size ∙ fields_same _ _ _ _ _ _ _ _ word b c d e f g [] ew eb ec ed ee ef eg (empty _ free.seven)
 
 pub all_used : (row : List (List ℕ)) (word b c d e f g h : List ℕ) → length row ≡ 8 → field row 0 ≡ word → field row 1 ≡ b → field row 2 ≡ c → field row 3 ≡ d
     → field row 4 ≡ e → field row 5 ≡ f

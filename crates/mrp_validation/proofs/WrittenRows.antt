@@ -19,6 +19,7 @@ use Rattle.mrp_master_data.specs.declared.rows.PolicyRow.{PolicyRow}
 use Rattle.mrp_master_data.specs.declared.rows.ReceiptRow.{ReceiptRow}
 use Rattle.mrp_master_data.specs.declared.rows.ResetRow.{ResetRow}
 use Rattle.mrp_master_data.specs.declared.rows.ShipRow.{ShipRow}
+use Rattle.mrp_master_data.specs.declared.rows.UsageRow.{UsageRow}
 use Rattle.mrp_master_data.specs.Names.{has_plant, pair_named, plant_no}
 use Rattle.mrp_master_data.specs.Table.{horizon, Table}
 use Rattle.mrp_validation.specs.declared.kind.Kind.{Kind}
@@ -26,18 +27,20 @@ use Rattle.mrp_validation.specs.declared.kind.Kind.TheVariants as kind
 use Rattle.mrp_validation.specs.Grammar.{amount_terms, AmountTerms, bill_fits, bill_of, bill_terms, BillTerms, cum_of, lane_number, demand_made, demand_of, field}
 use Rattle.mrp_validation.specs.Grammar.{firm_of, firm_terms, FirmTerms, known_lane, known_pair, lane_terms, LaneTerms, name_field}
 use Rattle.mrp_validation.specs.Grammar.{plant_in_row, plant_terms, ranged, receipt_made, receipt_of, reset_in_row, run_terms, RunTerms, ship_of}
-use Rattle.mrp_validation.specs.Grammar.{policy_of, policy_terms, PolicyTerms, ship_terms}
+use Rattle.mrp_validation.specs.Grammar.{policy_of, policy_terms, PolicyTerms, ship_terms, usage_fits, usage_of, usage_terms, UsageTerms}
 use Rattle.mrp_validation.specs.Reading.{first_terms, is_run, kind_of_row}
 use Rattle.mrp_validation.specs.Written.{bill_fields, cum_fields, demand_fields, plant_fields, receipt_fields, reset_fields}
 use Rattle.mrp_master_data.specs.Said.{pair_item, pair_plant, plant_name}
-use Rattle.mrp_validation.specs.Written.{firm_fields, policy_fields, run_fields, ship_fields}
+use Rattle.mrp_validation.specs.Written.{firm_fields, policy_fields, run_fields, ship_fields, usage_fields}
 use Rattle.mrp_validation.proofs.KeepingParts.{AmountParts, bill_parts, cum_parts, demand_parts, firm_parts, policy_parts, receipt_parts, reset_parts, ship_parts}
+use Rattle.mrp_validation.proofs.KeepingParts.{usage_parts}
 use Rattle.mrp_validation.proofs.KeepingRead.{amount_terms_read, bill_terms_read, firm_terms_read, lane_number_read, policy_terms_read, ship_terms_read, two_names_read}
+use Rattle.mrp_validation.proofs.KeepingRead.{usage_terms_read}
 use Rattle.mrp_validation.proofs.KeepingRows.{on_lane}
 use Rattle.mrp_validation.proofs.KeepingSteps.{after, after_check, after_some, same_Ok}
 use Rattle.mrp_validation.proofs.WrittenDay.{first_text}
 use Rattle.mrp_validation.proofs.WrittenFields.{all_used, AreFree, five_used, four_used, IsNamed, IsOfKind, name_text, number_is_text, of_kind, pair_found, plant_found}
-use Rattle.mrp_validation.proofs.WrittenFields.{ranged_text, six_used, two_used, word_of}
+use Rattle.mrp_validation.proofs.WrittenFields.{ranged_text, seven_used, six_used, two_used, word_of}
 
 -- ---- plants
 
@@ -180,6 +183,38 @@ policy_said N row x k is =
     subst (λ (z : PolicyRow). row ≡ policy_fields N z) p.same (all_used row _ _ _ _ _ _ _ _ k.size k.word (says.plant ∙ names.plant)
     (says.item ∙ names.item) says.fence says.sooner says.cover says.least says.multiple)
 
+-- ---- usages
+
+record UsageSaid (row : List (List ℕ)) (t : UsageTerms) : Type 0 where
+  plant : field row 1 ≡ t.plant
+  parent : field row 2 ≡ t.parent
+  component : field row 3 ≡ t.component
+  period : field row 4 ≡ decimal t.period
+  per : field row 5 ≡ decimal t.per
+  base : field row 6 ≡ decimal t.base
+
+usage_terms_said : (row : List (List ℕ)) (periods : ℕ) (t : UsageTerms) → usage_terms row periods ≡ Ok t → UsageSaid row t
+usage_terms_said row periods t is =
+    let read = usage_terms_read row periods t is in record {
+      plant = name_text (field row 1) t.plant read.plant;
+      parent = name_text (field row 2) t.parent read.parent;
+      component = name_text (field row 3) t.component read.component;
+      period = ranged_text (field row 4) 0 (periods - 1) t.period read.period;
+      per = ranged_text (field row 5) 0 MOST_PER t.per read.per;
+      base = ranged_text (field row 6) 1 MOST_PER t.base read.base;
+    }
+
+pub usage_said : (N : Table) (row : List (List ℕ)) (u : UsageRow) → IsOfKind row kind.Usage → usage_of N row ≡ Ok u → row ≡ usage_fields N u
+usage_said N row u k is =
+    let a = after (usage_terms row (horizon N)) (usage_fits N) u is in
+    let says = usage_terms_said row (horizon N) a.0 a.1 in
+    let p = usage_parts N a.0 u a.2 in
+    let x = pair_found N a.0.plant a.0.parent p.x p.parent in
+    let y = pair_found N a.0.plant a.0.component p.y p.component in
+    subst (λ (z : UsageRow). row ≡ usage_fields N z) p.same
+    (seven_used row _ (pair_plant N p.x) (pair_item N p.x) (pair_item N p.y) (decimal a.0.period) (decimal a.0.per) (decimal a.0.base) k.size k.word k.free
+    (says.plant ∙ x.plant) (says.parent ∙ x.item) (says.component ∙ y.item) says.period says.per says.base)
+
 -- ---- what one plant ships to another
 
 record LaneSaid (row : List (List ℕ)) (t : LaneTerms) : Type 0 where
@@ -287,6 +322,7 @@ run_kind kind.Cum e = absurd (cc)
 run_kind kind.Reset e = absurd (cc)
 run_kind kind.Firm e = absurd (cc)
 run_kind kind.Policy e = absurd (cc)
+run_kind kind.Usage e = absurd (cc)
 
 pub run_said : (row : List (List ℕ)) (t : RunTerms) (c : CalendarTerms) → first_terms row ≡ Ok t → IsCalendarFrom t.first t.days t.periods c → IsCalendar c
     → row ≡ run_fields c

@@ -12,18 +12,19 @@ use Rattle.mrp_master_data.specs.declared.rows.PolicyRow.{PolicyRow}
 use Rattle.mrp_master_data.specs.declared.rows.ReceiptRow.{ReceiptRow}
 use Rattle.mrp_master_data.specs.declared.rows.ResetRow.{ResetRow}
 use Rattle.mrp_master_data.specs.declared.rows.ShipRow.{ShipRow}
-use Rattle.mrp_master_data.specs.Growing.{with_bill, with_cum, with_demand, with_firm, with_plant, with_policy, with_receipt, with_reset, with_ship}
+use Rattle.mrp_master_data.specs.declared.rows.UsageRow.{UsageRow}
+use Rattle.mrp_master_data.specs.Growing.{with_bill, with_cum, with_demand, with_firm, with_plant, with_policy, with_receipt, with_reset, with_ship, with_usage}
 use Rattle.mrp_master_data.specs.Table.{Table}
 use Rattle.mrp_master_data.specs.Growing.{empty_table}
 use Rattle.mrp_validation.specs.declared.fault.TableFaultKind.{TableFaultKind}
 use Rattle.mrp_validation.specs.declared.kind.Kind.{Kind}
 use Rattle.mrp_validation.specs.declared.kind.Kind.TheVariants as kind
 use Rattle.mrp_validation.specs.Grammar.{◌>>=◌, bill_of, cum_of, demand_of, may_follow, pair_fits, pair_row, pair_terms, PairTerms, kind_place, plant_in_row}
-use Rattle.mrp_validation.specs.Grammar.{firm_of, policy_of, receipt_of, reset_in_row, RunTerms, ship_of, with_pair_terms}
+use Rattle.mrp_validation.specs.Grammar.{firm_of, policy_of, receipt_of, reset_in_row, RunTerms, ship_of, usage_of, with_pair_terms}
 use Rattle.mrp_validation.specs.Reading.{at_row, first_lacking, first_terms, IsCalendarOf, IsReadSoFar, kind_of_row, read_from, Reads, row_after, row_of_kind}
 use Rattle.mrp_validation.specs.Reading.{rows_after, started, Starts, StartsWith, waiting}
 use Rattle.mrp_validation.specs.Written.{AreNumbered, bill_fields, cum_fields, demand_fields, later_rows, pair_rows, plant_fields, receipt_fields, reset_fields}
-use Rattle.mrp_validation.specs.Written.{firm_fields, policy_fields, rows_of, run_fields, ship_fields}
+use Rattle.mrp_validation.specs.Written.{firm_fields, policy_fields, rows_of, run_fields, ship_fields, usage_fields}
 use Rattle.mrp_validation.proofs.Accept.{waited, was_read, went_on}
 use Rattle.mrp_validation.proofs.Keeping.{follows, row_after_keeps}
 use Rattle.mrp_validation.proofs.KeepingPair.{fits}
@@ -33,6 +34,7 @@ use Rattle.mrp_validation.proofs.Whole.{first_keeps}
 use Rattle.mrp_validation.proofs.WrittenFields.{IsOfKind, of_kind}
 use Rattle.mrp_validation.proofs.WrittenPair.{pair_numbered, pair_terms_said, pairs_written}
 use Rattle.mrp_validation.proofs.WrittenRows.{bill_said, cum_said, demand_said, firm_said, plant_said, policy_said, receipt_said, reset_said, run_said, ship_said}
+use Rattle.mrp_validation.proofs.WrittenRows.{usage_said}
 
 abbrev Row : Type 0
 Row = List (List ℕ)
@@ -73,6 +75,7 @@ record IsFresh (N : Table) (place : ℕ) : Type 0 where
   resets : place < 8 → N.resets ≡ []
   firms : place < 9 → N.firms ≡ []
   policies : place < 10 → N.policies ≡ []
+  usages : place < 11 → N.usages ≡ []
 
 stays_fresh : (N : Table) (m n : ℕ) → IsFresh N m → m ≤ n → IsFresh N n
 stays_fresh N m n fresh le = record {
@@ -85,11 +88,15 @@ stays_fresh N m n fresh le = record {
   resets = λ lt. fresh.resets (omega arith);
   firms = λ lt. fresh.firms (omega arith);
   policies = λ lt. fresh.policies (omega arith);
+  usages = λ lt. fresh.usages (omega arith);
 }
 
 -- the rows from a kind on
+abbrev from_policies : Table → List Row
+from_policies N = map (policy_fields N) N.policies ++ map (usage_fields N) N.usages
+
 abbrev from_firms : Table → List Row
-from_firms N = map (firm_fields N) N.firms ++ map (policy_fields N) N.policies
+from_firms N = map (firm_fields N) N.firms ++ from_policies N
 
 abbrev from_resets : Table → List Row
 from_resets N = map (reset_fields N) N.resets ++ from_firms N
@@ -113,8 +120,11 @@ abbrev from_pairs : Table → List Row
 from_pairs N = pair_rows N 0 N.pairs ++ from_bills N
 
 module _ (N : Table) (place : ℕ) (fresh : IsFresh N place) where
-  no_policies : place < 10 → map (policy_fields N) N.policies ≡ []
-  no_policies lt = none_of (policy_fields N) N.policies (fresh.policies lt)
+  no_usages : place < 11 → map (usage_fields N) N.usages ≡ []
+  no_usages lt = none_of (usage_fields N) N.usages (fresh.usages lt)
+
+  no_policies : place < 10 → from_policies N ≡ []
+  no_policies lt = none _ _ (none_of (policy_fields N) N.policies (fresh.policies lt)) (no_usages (omega arith))
 
   no_firms : place < 9 → from_firms N ≡ []
   no_firms lt = none _ _ (none_of (firm_fields N) N.firms (fresh.firms lt)) (no_policies (omega arith))
@@ -166,6 +176,7 @@ module _ (N : Table) (row : Row) where
         resets = fresh.resets;
         firms = fresh.firms;
         policies = fresh.policies;
+        usages = fresh.usages;
       } in
       record {
         calendar = refl;
@@ -193,6 +204,7 @@ module _ (N : Table) (row : Row) where
       resets = fresh.resets;
       firms = fresh.firms;
       policies = fresh.policies;
+      usages = fresh.usages;
     };
   }
 
@@ -214,6 +226,7 @@ module _ (N : Table) (row : Row) where
       resets = fresh.resets;
       firms = fresh.firms;
       policies = fresh.policies;
+      usages = fresh.usages;
     };
   }
 
@@ -236,6 +249,7 @@ module _ (N : Table) (row : Row) where
       resets = fresh.resets;
       firms = fresh.firms;
       policies = fresh.policies;
+      usages = fresh.usages;
     };
   }
 
@@ -259,6 +273,7 @@ module _ (N : Table) (row : Row) where
       resets = fresh.resets;
       firms = fresh.firms;
       policies = fresh.policies;
+      usages = fresh.usages;
     };
   }
 
@@ -282,6 +297,7 @@ module _ (N : Table) (row : Row) where
       resets = fresh.resets;
       firms = fresh.firms;
       policies = fresh.policies;
+      usages = fresh.usages;
     };
   }
 
@@ -305,6 +321,7 @@ module _ (N : Table) (row : Row) where
       resets = λ lt. absurd (omega arith);
       firms = fresh.firms;
       policies = fresh.policies;
+      usages = fresh.usages;
     };
   }
 
@@ -316,7 +333,7 @@ module _ (N : Table) (row : Row) where
         (behind (map (bill_fields N) N.bills) _ _ row (behind (map (demand_fields N) N.demands) _ _ row
         (behind (map (receipt_fields N) N.receipts) _ _ row (behind (map (ship_fields N) N.ships) _ _ row (behind (map (cum_fields N) N.cums) _ _ row
         (behind (map (reset_fields N) N.resets) _ _ row
-        (at_end _ (map (firm_fields N) N.firms) (map (policy_fields N) N.policies) row (map_push (firm_fields N) N.firms x row (firm_said N row x k is))
+        (at_end _ (map (firm_fields N) N.firms) (from_policies N) row (map_push (firm_fields N) N.firms x row (firm_said N row x k is))
         (no_policies N 9 fresh (omega arith))))))))));
     fresh = record {
       pairs = fresh.pairs;
@@ -329,6 +346,7 @@ module _ (N : Table) (row : Row) where
       resets = fresh.resets;
       firms = λ lt. absurd (omega arith);
       policies = fresh.policies;
+      usages = fresh.usages;
     };
   }
 
@@ -340,7 +358,8 @@ module _ (N : Table) (row : Row) where
         (behind (map (bill_fields N) N.bills) _ _ row (behind (map (demand_fields N) N.demands) _ _ row
         (behind (map (receipt_fields N) N.receipts) _ _ row (behind (map (ship_fields N) N.ships) _ _ row (behind (map (cum_fields N) N.cums) _ _ row
         (behind (map (reset_fields N) N.resets) _ _ row (behind (map (firm_fields N) N.firms) _ _ row
-        (map_push (policy_fields N) N.policies x row (policy_said N row x k is))))))))));
+        (at_end _ (map (policy_fields N) N.policies) (map (usage_fields N) N.usages) row
+        (map_push (policy_fields N) N.policies x row (policy_said N row x k is)) (no_usages N 10 fresh (omega arith)))))))))));
     fresh = record {
       pairs = fresh.pairs;
       bills = fresh.bills;
@@ -352,6 +371,32 @@ module _ (N : Table) (row : Row) where
       resets = fresh.resets;
       firms = fresh.firms;
       policies = λ lt. absurd (omega arith);
+      usages = fresh.usages;
+    };
+  }
+
+  usage_adds : (x : UsageRow) → IsFresh N 11 → IsOfKind row kind.Usage → usage_of N row ≡ Ok x → Adds N (with_usage N x) kind.Usage row
+  usage_adds x fresh k is = record {
+    calendar = refl;
+    numbered = λ h. h;
+    rows = behind (map plant_fields N.plants) _ _ row (behind (pair_rows N 0 N.pairs) _ _ row
+        (behind (map (bill_fields N) N.bills) _ _ row (behind (map (demand_fields N) N.demands) _ _ row
+        (behind (map (receipt_fields N) N.receipts) _ _ row (behind (map (ship_fields N) N.ships) _ _ row (behind (map (cum_fields N) N.cums) _ _ row
+        (behind (map (reset_fields N) N.resets) _ _ row (behind (map (firm_fields N) N.firms) _ _ row
+        (behind (map (policy_fields N) N.policies) _ _ row
+        (map_push (usage_fields N) N.usages x row (usage_said N row x k is)))))))))));
+    fresh = record {
+      pairs = fresh.pairs;
+      bills = fresh.bills;
+      demands = fresh.demands;
+      receipts = fresh.receipts;
+      ships = fresh.ships;
+      cums =
+          fresh.cums;
+      resets = fresh.resets;
+      firms = fresh.firms;
+      policies = fresh.policies;
+      usages = λ lt. absurd (omega arith);
     };
   }
 
@@ -384,6 +429,7 @@ pair_adds N M last row so_far fresh k is =
       resets = fresh.resets;
       firms = fresh.firms;
       policies = fresh.policies;
+      usages = fresh.usages;
     }
 
 -- what was read of a row makes the table with it
@@ -408,6 +454,7 @@ row_adds kind.Cum last N M row so_far fresh k is = made_adds N kind.Cum row (cum
 row_adds kind.Reset last N M row so_far fresh k is = made_adds N kind.Reset row (reset_in_row N row) (with_reset N) M (λ x. reset_adds N row x fresh k) is
 row_adds kind.Firm last N M row so_far fresh k is = made_adds N kind.Firm row (firm_of N row) (with_firm N) M (λ x. firm_adds N row x fresh k) is
 row_adds kind.Policy last N M row so_far fresh k is = made_adds N kind.Policy row (policy_of N row) (with_policy N) M (λ x. policy_adds N row x fresh k) is
+row_adds kind.Usage last N M row so_far fresh k is = made_adds N kind.Usage row (usage_of N row) (with_usage N) M (λ x. usage_adds N row x fresh k) is
 
 abbrev AddsTo : Table → Row → Table × Kind → Type 0
 AddsTo N row t = Adds N t.0 t.1 row
@@ -472,6 +519,7 @@ run_has N row t (Ok c) is says e =
             λ lt. refl;
         firms = λ lt. refl;
         policies = λ lt. refl;
+        usages = λ lt. refl;
       };
     })
 run_has N row t (Err f) is says e = absurd (cc)

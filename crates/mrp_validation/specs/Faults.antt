@@ -67,6 +67,9 @@ faults_of_kind kind.Firm = fault.BadName ∷ fault.BadNumber ∷ fault.UnknownPl
     ∷ []
 faults_of_kind kind.Policy = fault.BadName ∷ fault.BadNumber ∷ fault.Repeated ∷ fault.UnknownPlant ∷ fault.UnknownPair
     ∷ []
+faults_of_kind kind.Usage =
+    fault.BadName ∷ fault.BadNumber ∷ fault.Repeated ∷ fault.UnknownPlant ∷ fault.UnknownPair ∷ fault.NotMade
+    ∷ fault.TooMany ∷ []
 
 -- the faults that a row may have, where it has a kind and where it has none
 abbrev pub faults_of : Result Kind TableFaultKind → List TableFaultKind

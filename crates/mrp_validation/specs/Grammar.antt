@@ -20,7 +20,7 @@ use Rattle.mrp_validation.specs.declared.fault.TableFaultKind.TheVariants as fau
 use Rattle.mrp_validation.specs.declared.kind.Kind.{Kind}
 use Rattle.mrp_validation.specs.declared.kind.Kind.TheVariants as kind
 use Rattle.mrp_qty.specs.declared.limits.TheConstants.{MOST_BILLS, MOST_IN_ROW, MOST_OF_A_KIND, MOST_PAIRS, MOST_PER}
-use Rattle.mrp_qty.specs.declared.limits.TheConstants.{MOST_PLANTS}
+use Rattle.mrp_qty.specs.declared.limits.TheConstants.{MOST_PLANTS, MOST_USAGES}
 use Rattle.mrp_master_data.specs.declared.rows.Supply.{Supply}
 use Rattle.mrp_master_data.specs.declared.rows.Supply.TheVariants as supply
 use Rattle.mrp_master_data.specs.declared.rows.BillRow.{BillRow}
@@ -31,15 +31,16 @@ use Rattle.mrp_master_data.specs.declared.rows.CumRow.{CumRow}
 use Rattle.mrp_master_data.specs.declared.rows.ShipRow.{ShipRow}
 use Rattle.mrp_master_data.specs.declared.rows.ReceiptRow.{ReceiptRow}
 use Rattle.mrp_master_data.specs.declared.rows.DemandRow.{DemandRow}
+use Rattle.mrp_master_data.specs.declared.rows.UsageRow.{UsageRow}
 use Rattle.mrp_master_data.specs.declared.numbers.PlantNo.{PlantNo}
 use Rattle.mrp_master_data.specs.declared.numbers.PairNo.{PairNo}
 use Rattle.mrp_master_data.specs.Table.{Table, horizon}
 use Rattle.mrp_master_data.specs.declared.rows.PairRow.{PairRow}
 use Rattle.mrp_master_data.specs.declared.rows.SourceRow.{SourceRow}
-use Rattle.mrp_master_data.specs.Table.{arrivals, is_taken_from, rises_from}
+use Rattle.mrp_master_data.specs.Table.{arrivals, is_joined, is_taken_from, rises_from}
 use Rattle.mrp_master_data.specs.Growing.{add_item, with_plant, with_bill, with_demand}
 use Rattle.mrp_master_data.specs.Growing.{with_receipt, with_ship, with_cum}
-use Rattle.mrp_master_data.specs.Growing.{with_firm, with_policy, with_reset}
+use Rattle.mrp_master_data.specs.Growing.{with_firm, with_policy, with_reset, with_usage}
 use Rattle.mrp_master_data.specs.Spelling.{is_name}
 use Rattle.mrp_master_data.specs.Parsing.{spelled_number, number_within, rule_of}
 
@@ -94,6 +95,7 @@ kind_of word =
     else if bytes_eq word (codes "pair") then Some kind.Pair
     else if bytes_eq word (codes "firm") then Some kind.Firm
     else if bytes_eq word (codes "policy") then Some kind.Policy
+    else if bytes_eq word (codes "usage") then Some kind.Usage
     else if bytes_eq word (codes "cum") then Some kind.Cum
     else if bytes_eq word (codes "reset") then Some kind.Reset
     else if bytes_eq word (codes "plant") then Some kind.Plant
@@ -113,6 +115,7 @@ used kind.Cum = 5
 used kind.Reset = 5
 used kind.Firm = 6
 used kind.Policy = 8
+used kind.Usage = 7
 
 -- the place of a kind in the order of the kinds
 abbrev pub kind_place : Kind → ℕ
@@ -127,6 +130,7 @@ kind_place kind.Cum = 7
 kind_place kind.Reset = 8
 kind_place kind.Firm = 9
 kind_place kind.Policy = 10
+kind_place kind.Usage = 11
 
 -- the run stands first and once, and rows of one kind stand together
 abbrev pub may_follow : Kind → Kind → Bool
@@ -238,6 +242,25 @@ policy_terms row periods = do
     least = least;
     multiple = multiple;
   })
+
+-- a usage row: of parents released from a period on, so many pieces of the component go into so many parents
+pub record UsageTerms : Type 0 where
+  pub plant : List ℕ
+  pub parent : List ℕ
+  pub component : List ℕ
+  pub period : ℕ
+  pub per : ℕ
+  pub base : ℕ
+
+unfoldable pub usage_terms : List (List ℕ) → ℕ → Result UsageTerms TableFaultKind
+usage_terms row periods = do
+  plant ← name_field (field row 1)
+  parent ← name_field (field row 2)
+  component ← name_field (field row 3)
+  period ← ranged (field row 4) 0 (periods - 1)
+  per ← ranged (field row 5) 0 MOST_PER
+  base ← ranged (field row 6) 1 MOST_PER
+  Ok (record { plant = plant; parent = parent; component = component; period = period; per = per; base = base })
 
 -- the names of a row on what one plant ships to another
 pub record LaneTerms : Type 0 where
@@ -376,6 +399,36 @@ has_reset N t = reset_between N (plant_no N t.from) (pair_named N (plant_no N t.
 abbrev pub has_policy : Table → Option ℕ → Bool
 has_policy N None = false
 has_policy N (Some x) = list_any (λ p. p.pair.0 == x) N.policies
+
+-- a usage row of that parent and that component from that period on
+abbrev pub has_usage : Table → Option ℕ → Option ℕ → ℕ → Bool
+has_usage N None component t = false
+has_usage N (Some x) None t = false
+has_usage N (Some x) (Some y) t = list_any (λ u. (u.parent.0 == x) && (u.component.0 == y) && (u.period == t)) N.usages
+
+-- how much of a component goes into its parent, by what a usage row spells
+abbrev pub usage_made : ℕ → ℕ → UsageTerms → UsageRow
+usage_made x y t =
+    record {
+      parent = record { 0 = x };
+      component = record { 0 = y };
+      period = t.period;
+      usage = record { per = t.per; base = t.base };
+    }
+
+unfoldable pub usage_fits : Table → UsageTerms → Result UsageRow TableFaultKind
+usage_fits N t =
+    let plant = plant_no N t.plant in
+    let parent = pair_named N plant t.parent in
+    let component = pair_named N plant t.component in
+    do
+      _ ← check (not (has_usage N parent component t.period)) fault.Repeated
+      _ ← check (is_some plant) fault.UnknownPlant
+      x ← ok_or parent fault.UnknownPair
+      y ← ok_or component fault.UnknownPair
+      _ ← check (is_joined N x y) fault.NotMade
+      _ ← check (nat_lt (length N.usages) MOST_USAGES) fault.TooMany
+      Ok (usage_made x y t)
 
 -- ---- the table with one row more, or the first fault of the row
 
@@ -518,6 +571,9 @@ policy_of N row = do
   found ← known_pair N t.plant t.item
   Ok (policy_made found.1 t)
 
+abbrev pub usage_of : Table → List (List ℕ) → Result UsageRow TableFaultKind
+usage_of N row = usage_terms row (horizon N) >>= usage_fits N
+
 abbrev pub bill_row : Table → List (List ℕ) → Result Table TableFaultKind
 bill_row N row = bill_of N row >>= λ x. Ok (with_bill N x)
 
@@ -541,3 +597,6 @@ firm_row N row = firm_of N row >>= λ x. Ok (with_firm N x)
 
 abbrev pub policy_row : Table → List (List ℕ) → Result Table TableFaultKind
 policy_row N row = policy_of N row >>= λ x. Ok (with_policy N x)
+
+abbrev pub usage_row : Table → List (List ℕ) → Result Table TableFaultKind
+usage_row N row = usage_of N row >>= λ x. Ok (with_usage N x)

@@ -20,7 +20,7 @@ use Rattle.mrp_master_data.specs.Growing.{lacks_pair}
 use Rattle.mrp_validation.specs.Grammar.{◌>>=◌, bill_row, check, cum_row, demand_row, firm_row, may_follow, pair_row}
 use Rattle.mrp_validation.specs.Grammar.{kind_place, policy_row}
 use Rattle.mrp_validation.specs.Grammar.{plant_row, receipt_row, reset_row}
-use Rattle.mrp_validation.specs.Grammar.{row_kind, run_terms, RunTerms, ship_row}
+use Rattle.mrp_validation.specs.Grammar.{row_kind, run_terms, RunTerms, ship_row, usage_row}
 
 -- the kind of a row whose fields are text
 unfoldable pub kind_of_row : List (List ℕ) → Result Kind TableFaultKind
@@ -41,6 +41,7 @@ row_of_kind kind.Cum N row = cum_row N row
 row_of_kind kind.Reset N row = reset_row N row
 row_of_kind kind.Firm N row = firm_row N row
 row_of_kind kind.Policy N row = policy_row N row
+row_of_kind kind.Usage N row = usage_row N row
 
 -- ---- the first row
 
@@ -56,6 +57,7 @@ is_run kind.Cum = false
 is_run kind.Reset = false
 is_run kind.Firm = false
 is_run kind.Policy = false
+is_run kind.Usage = false
 
 -- what the first row spells
 unfoldable pub first_terms : List (List ℕ) → Result RunTerms TableFaultKind

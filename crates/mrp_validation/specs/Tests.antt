@@ -10,9 +10,9 @@ use Rattle.mrp_lot.specs.declared.rule.TheConstants.{LONGEST_LEAD}
 use Rattle.mrp_qty.specs.declared.horizon.TheConstants.{LONGEST}
 use Rattle.mrp_qty.specs.declared.quantity.TheConstants.{MOST}
 use Rattle.mrp_qty.specs.declared.limits.TheConstants.{MOST_BILLS, MOST_IN_ROW, MOST_OF_A_KIND, MOST_PAIRS, MOST_PER}
-use Rattle.mrp_qty.specs.declared.limits.TheConstants.{MOST_PLANTS}
+use Rattle.mrp_qty.specs.declared.limits.TheConstants.{MOST_PLANTS, MOST_USAGES}
 use Rattle.mrp_master_data.specs.Names.{has_plant, pair_named, plant_no}
-use Rattle.mrp_master_data.specs.Table.{arrivals, horizon, is_taken_from, rises_from, Table}
+use Rattle.mrp_master_data.specs.Table.{arrivals, horizon, is_joined, is_taken_from, rises_from, Table}
 use Rattle.mrp_master_data.specs.Spelling.{is_name}
 use Rattle.mrp_master_data.specs.Parsing.{spelled_number, number_within, rule_of}
 use Rattle.mrp_master_data.specs.Supplies.{SourceTerms}
@@ -23,7 +23,7 @@ use Rattle.mrp_validation.specs.declared.kind.Kind.{Kind}
 use Rattle.mrp_validation.specs.declared.kind.Kind.TheVariants as kind
 use Rattle.mrp_validation.specs.Faults.{faults_of, faults_of_any}
 use Rattle.mrp_validation.specs.Grammar.{cum_between, field, has_bill, is_empty_from, is_made, kind_of, knows_sources}
-use Rattle.mrp_validation.specs.Grammar.{has_policy, may_follow, reset_between, used}
+use Rattle.mrp_validation.specs.Grammar.{has_policy, has_usage, may_follow, reset_between, used}
 use Rattle.mrp_validation.specs.Reading.{first_terms, is_run, kind_of_row, row_after}
 
 -- ---- what the fields of a row say, as far as it is there
@@ -58,6 +58,12 @@ abbrev pub is_in_order : Table → Option ℕ → Option ℕ → Bool
 is_in_order N None x = false
 is_in_order N (Some p) None = false
 is_in_order N (Some p) (Some x) = rises_from 0 (arrivals N p x)
+
+-- a bill row joins the two pairs
+abbrev pub are_joined : Table → Option ℕ → Option ℕ → Bool
+are_joined N None component = false
+are_joined N (Some x) None = false
+are_joined N (Some x) (Some y) = is_joined N x y
 
 -- ---- the tests of each kind of row: true where a row passes the test of a fault
 
@@ -120,6 +126,22 @@ policy_passes N row fault.UnknownPlant = is_some (plant_in N row 1)
 policy_passes N row fault.UnknownPair = is_some (pair_in N row 1 2)
 policy_passes N row e = true
 
+-- the period in the field after three names
+abbrev pub period_after_names : Table → List (List ℕ) → ℕ
+period_after_names N row = unwrap_or (number_within (field row 4) 0 (horizon N - 1)) 0
+
+abbrev pub usage_passes : Table → List (List ℕ) → TableFaultKind → Bool
+usage_passes N row fault.BadName = three_names row
+usage_passes N row fault.BadNumber = has_number row 4 0 (horizon N - 1) && has_number row 5 0 MOST_PER
+    && has_number row 6 1 MOST_PER
+usage_passes N row fault.Repeated =
+    not (has_usage N (pair_in N row 1 2) (pair_in N row 1 3) (period_after_names N row))
+usage_passes N row fault.UnknownPlant = is_some (plant_in N row 1)
+usage_passes N row fault.UnknownPair = is_some (pair_in N row 1 2) && is_some (pair_in N row 1 3)
+usage_passes N row fault.NotMade = are_joined N (pair_in N row 1 2) (pair_in N row 1 3)
+usage_passes N row fault.TooMany = nat_lt (length N.usages) MOST_USAGES
+usage_passes N row e = true
+
 -- a row on a lane, whose numbers are good or not, which repeats none, and for which there is room, or not
 abbrev pub lane_passes : Bool → Bool → Bool → Table → List (List ℕ) → TableFaultKind → Bool
 lane_passes numbers new room N row fault.BadName = three_names row
@@ -159,6 +181,7 @@ passes_of (Some kind.Cum) N row e = cum_passes N row e
 passes_of (Some kind.Reset) N row e = reset_passes N row e
 passes_of (Some kind.Firm) N row e = firm_passes N row e
 passes_of (Some kind.Policy) N row e = policy_passes N row e
+passes_of (Some kind.Usage) N row e = usage_passes N row e
 
 -- ---- the tests of every row
 

@@ -17,6 +17,7 @@ use Rattle.mrp_master_data.specs.declared.rows.PolicyRow.{PolicyRow}
 use Rattle.mrp_master_data.specs.declared.rows.ReceiptRow.{ReceiptRow}
 use Rattle.mrp_master_data.specs.declared.rows.ResetRow.{ResetRow}
 use Rattle.mrp_master_data.specs.declared.rows.ShipRow.{ShipRow}
+use Rattle.mrp_master_data.specs.declared.rows.UsageRow.{UsageRow}
 use Rattle.csv.specs.Reading.{default_config, records}
 
 -- ---- the eight fields of each kind of row; those that it doesn't use are empty
@@ -77,6 +78,11 @@ policy_fields N p =
     codes "policy" ∷ pair_plant N p.pair.0 ∷ pair_item N p.pair.0 ∷ decimal p.policy.fence ∷ decimal p.policy.sooner
     ∷ decimal p.policy.cover ∷ decimal p.policy.least ∷ decimal p.policy.multiple ∷ []
 
+abbrev pub usage_fields : Table → UsageRow → List (List ℕ)
+usage_fields N u =
+    codes "usage" ∷ pair_plant N u.parent.0 ∷ pair_item N u.parent.0 ∷ pair_item N u.component.0 ∷ decimal u.period
+    ∷ decimal u.usage.per ∷ decimal u.usage.base ∷ [] ∷ []
+
 -- ---- the rows of a table
 
 -- pairs, the first of which stands at that place
@@ -91,7 +97,8 @@ later_rows N =
     ++ (map (bill_fields N) N.bills ++ (map (demand_fields N) N.demands
     ++ (map (receipt_fields N) N.receipts ++ (map (ship_fields N) N.ships
     ++ (map (cum_fields N) N.cums ++ (map (reset_fields N) N.resets
-    ++ (map (firm_fields N) N.firms ++ map (policy_fields N) N.policies))))))))
+    ++ (map (firm_fields N) N.firms ++ (map (policy_fields N) N.policies
+    ++ map (usage_fields N) N.usages)))))))))
 
 -- the whole table
 abbrev pub rows_of : Table → List (List (List ℕ))

@@ -28,6 +28,8 @@ pub enum Kind {
     Firm,
     /// How a pair is planned beyond its pair row.
     Policy,
+    /// How much of a component goes into its parent from a period on.
+    Usage,
 }
 
 /// How many of the eight fields a row of this kind uses.
@@ -46,6 +48,7 @@ pub fn used(kind: Kind) -> usize
         Kind::Reset => 5,
         Kind::Firm => 6,
         Kind::Policy => 8,
+        Kind::Usage => 7,
     }
 }
 

@@ -46,6 +46,7 @@ returns-clause-adds c =
       cums = (refl, ap (λ (T : Table). T.cums) table);
       resets = (refl, ap (λ (T : Table). T.resets) table);
       policies = (refl, ap (λ (T : Table). T.policies) table);
+      usages = (refl, ap (λ (T : Table). T.usages) table);
       lanes = λ h. subst (λ (ks : List LaneKey). AreLanes ks self.reset_keys.keys) (sym keys)
           (lanes_more self.lane_keys.keys self.reset_keys.keys (lane_of s) h);
       pairs = ap (λ (T : Table). length T.pairs) table;

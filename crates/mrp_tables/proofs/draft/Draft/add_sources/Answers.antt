@@ -72,6 +72,7 @@ loop-source-preserved c =
         cums = (a.cums.0 ∙ p.cums.0, a.cums.1 ∙ p.cums.1);
         resets = (a.resets.0 ∙ p.resets.0, a.resets.1 ∙ p.resets.1);
         policies = (a.policies.0 ∙ p.policies.0, a.policies.1 ∙ p.policies.1);
+        usages = (a.usages.0 ∙ p.usages.0, a.usages.1 ∙ p.usages.1);
         lanes = λ h. a.lanes (p.lanes h);
         pairs = a.pairs ∙ p.pairs;
         sources = omega (arith, a.sources, p.sources);

@@ -3,6 +3,7 @@ use Rattle.std.proofs.Common.{◌≡◌, ◌==◌, ◌&&◌, false, position, un
 use Rattle.std.specs.List.{list_any}
 use Rattle.std.specs.Str.{bytes_eq}
 use Rattle.std.proofs.lemmas.Grind.{common_steps}
+use Rattle.mrp_master_data.proofs.Grow.{length-add_item-le}
 use Rattle.mrp_master_data.specs.Table.{Table}
 use Rattle.mrp_tables.proofs.NewPair.{fresh_pair, pair_new}
 use Rattle.mrp_tables.proofs.draft.Draft.add_spelled.Goals as goal
@@ -44,7 +45,18 @@ add_sources-requires-clause-room c = rw (c.in_ok-add_pair.ensures.table, c.in_ok
     (simp length-append (omega (arith, c.requires.draft.holds.fits.sources)))
 
 pub add_sources-requires-clause-fits : goal.add_sources-requires-clause-fits
-add_sources-requires-clause-fits c = grind (arith, common_steps)
+add_sources-requires-clause-fits c =
+    let N = c.args.self.now.lists in
+    let name = c.args.spelled.now.item.now in
+    let old = c.requires.draft.holds.fits in
+    rw (c.in_ok-add_pair.ensures.table, c.in_ok-item.ensures.table) (record {
+      lane_keys = old.lane_keys;
+      apart = old.apart;
+      each = old.each;
+      lanes = old.lanes;
+      sources = simp length-append (omega (arith, old.sources));
+      items = simp length-append (omega (arith, old.items, (length-add_item-le N.items name).1));
+    })
 
 pub returns-clause-adds : goal.returns-clause-adds
 returns-clause-adds c = grind (arith, common_steps)

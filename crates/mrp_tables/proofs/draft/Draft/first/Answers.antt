@@ -44,6 +44,7 @@ returns-clause-draft c = record {
     cum_keys = search rules;
     reset_keys = search rules;
     policy_keys = search rules;
+    usage_keys = search rules;
     resets = no_lanes c.new-3.result.keys c.new-7.result.keys c.new-7.ensures.len;
     fits = record {
       lane_keys = search rules;
