@@ -4,6 +4,7 @@ use Rattle.std.specs.List.{range_with_len}
 use Rattle.std.proofs.lemmas.Bool.{and_parts}
 use Rattle.std.proofs.lemmas.List.Elements.{All-filter, filter_passes}
 use Rattle.std.proofs.lemmas.List.Sums.{sum_by-take-le}
+use Rattle.std.proofs.Math.Nat.{mul-le-mul_left}
 use Rattle.mrp_qty.proofs.RangeLaws.{sum_by-range-suc, sum_take-suc}
 use Rattle.mrp_master_data.specs.declared.numbers.ItemNo.{ItemNo}
 use Rattle.mrp_master_data.specs.declared.rows.SourceRow.{SourceRow}
@@ -16,15 +17,14 @@ use Rattle.mrp_net.specs.Lanes.{customer_of, supplier_of, item_of_source, figure
 use Rattle.mrp_net.specs.Plan.{rows_at, plan_of}
 use Rattle.mrp_net.specs.Sums.{pair_at}
 use Rattle.mrp_net.proofs.Sharing.{pairs_are_found}
-use Rattle.mrp_net.proofs.Totals.{edge_need-le}
 use Rattle.mrp_loops.specs.Within.{LaneFiguresAreWithin}
 use Rattle.mrp_loops.proofs.OnePlan.{one_plan}
 use Rattle.mrp_loops.proofs.Within.{figures_within}
 
 part_within : (N : Table) (s : SourceRow) (release : ℕ) → s.high ≤ 1000 → part (source_edge N s) release ≤ release
 part_within N s release whole =
-    let once : 1 * part (source_edge N s) release ≤ 1 * release = edge_need-le (source_edge N s) 0 release whole in
-    omega arith
+    let grows : release * s.high ≤ release * 1000 = mul-le-mul_left release whole in
+    omega (arith, grows)
 
 -- the parts of a row's first n periods are within their sum
 parts-le : (N : Table) (s : SourceRow) (row : List ℕ) (n : ℕ) → s.high ≤ 1000

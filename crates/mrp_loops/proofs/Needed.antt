@@ -8,7 +8,7 @@ use Rattle.mrp_qty.specs.declared.quantity.TheConstants.{MOST}
 use Rattle.mrp_master_data.specs.Table.{Table, IsPair}
 use Rattle.mrp_master_data.specs.declared.numbers.PairNo.{PairNo}
 use Rattle.mrp_net.specs.declared.edge.Edge.{Edge}
-use Rattle.mrp_net.specs.Edges.{demanders}
+use Rattle.mrp_net.specs.Edges.{demanders, edge_most}
 use Rattle.mrp_net.specs.FirmOrders.{firm_total}
 use Rattle.mrp_net.specs.Sums.{pair_at, demand_total, supply}
 use Rattle.mrp_loops.specs.Need.{need_at, quantities_at, AreNeeds, AreWithin}
@@ -31,8 +31,8 @@ sum_agree f g (x ∷ xs) each =
 pub need_agrees : (N : Table) (a b : List ℕ) (x : ℕ) → ((e : Edge) → In (demanders N x) e → slice_index a e.demander.0 ≡ slice_index b e.demander.0)
     → need_at N a x ≡ need_at N b x
 need_agrees N a b x each =
-    let asked = sum_agree (λ (e : Edge). e.per * slice_index a e.demander.0) (λ (e : Edge). e.per * slice_index b e.demander.0) (demanders N x)
-    (λ e h. ap (λ (n : ℕ). e.per * n) (each e h)) in
+    let asked = sum_agree (λ (e : Edge). edge_most N e * slice_index a e.demander.0) (λ (e : Edge). edge_most N e * slice_index b e.demander.0) (demanders N x)
+    (λ e h. ap (λ (n : ℕ). edge_most N e * n) (each e h)) in
     ap (λ (n : ℕ). demand_total N x + n + (pair_at N x).safety + quantities_at N x + firm_total N x) asked
 
 -- where a pair of a list stands

@@ -20,7 +20,7 @@ use Rattle.mrp_master_data.specs.declared.rows.CumRow.{CumRow}
 use Rattle.mrp_master_data.specs.declared.rows.ShipRow.{ShipRow}
 use Rattle.mrp_master_data.specs.Table.{Table, IsTable, IsPair, horizon}
 use Rattle.mrp_net.specs.declared.edge.Edge.{Edge}
-use Rattle.mrp_net.specs.Edges.{demanders}
+use Rattle.mrp_net.specs.Edges.{demanders, edge_most}
 use Rattle.mrp_net.specs.Lanes.{figure, shipped_from}
 use Rattle.mrp_net.specs.FirmOrders.{firm_start, firm_due, firm_total}
 use Rattle.mrp_net.specs.Plan.{rows_at, gross, pair_data, plan_of}
@@ -49,11 +49,13 @@ sum_in-le {X} f g (x ∷ xs) each =
 
 -- what the releases of the demanders ask is within what their needs ask
 asks-le : (N : Table) (table : List PlanRows) (needs : List ℕ) (x : ℕ) → ((y : ℕ) → HasEdge N y x → sum (rows_at table y).release ≤ slice_index needs y)
-    → sum_by (λ e. e.per * sum (rows_at table e.demander.0).release) (demanders N x) ≤ sum_by (λ e. e.per * slice_index needs e.demander.0) (demanders N x)
+    → sum_by (λ e. edge_most N e * sum (rows_at table e.demander.0).release) (demanders N x)
+    ≤ sum_by (λ e. edge_most N e * slice_index needs e.demander.0) (demanders N x)
 asks-le N table needs x each =
-    sum_in-le (λ (e : Edge). e.per * sum (rows_at table e.demander.0).release) (λ (e : Edge). e.per * slice_index needs e.demander.0) (demanders N x) (λ e h.
+    sum_in-le (λ (e : Edge). edge_most N e * sum (rows_at table e.demander.0).release) (λ (e : Edge). edge_most N e * slice_index needs e.demander.0)
+    (demanders N x) (λ e h.
     let only = demanders_only N x e h in
-    mul-le-mul_left e.per (each e.demander.0 (HasEdge-from_in N e e.demander.0 x only.0 refl only.1)))
+    mul-le-mul_left (edge_most N e) (each e.demander.0 (HasEdge-from_in N e e.demander.0 x only.0 refl only.1)))
 
 length-row_of : (N : Table) (amount : ℕ → ℕ) → length (row_of N amount) ≡ horizon N
 length-row_of N amount = length-map-range_with_len amount 0 (horizon N)

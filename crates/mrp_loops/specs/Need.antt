@@ -3,7 +3,7 @@ use Rattle.std.specs.Prelude.{◌≡◌, ℕ, ◌+◌, ◌*◌, ◌≤◌, List,
 use Rattle.mrp_qty.specs.declared.quantity.TheConstants.{MOST}
 use Rattle.mrp_lot.specs.Lot.{rule_quantities}
 use Rattle.mrp_master_data.specs.Table.{Table, IsPair}
-use Rattle.mrp_net.specs.Edges.{demanders}
+use Rattle.mrp_net.specs.Edges.{demanders, edge_most}
 use Rattle.mrp_net.specs.FirmOrders.{firm_total}
 use Rattle.mrp_net.specs.Policies.{policy_of}
 use Rattle.mrp_net.specs.Sums.{pair_at, demand_total, supply}
@@ -14,11 +14,12 @@ quantities_at N x = rule_quantities (pair_at N x).rule + (policy_of N x).least +
 
 -- what the orders of a pair over the whole horizon can't exceed, its demanders' being given: its demand rows, what its
 -- demanders ask, safety stock, what its lot rule and its policy may order beyond a requirement, and what its firm
--- planned orders release. Shares don't lessen it
+-- planned orders release. Shares don't lessen it, and for each piece a demander asks the most that its bill row or one
+-- of its usage rows says
 abbrev pub need_at : Table → List ℕ → ℕ → ℕ
 need_at N needs x =
-    demand_total N x + sum_by (λ e. e.per * slice_index needs e.demander.0) (demanders N x) + (pair_at N x).safety
-    + quantities_at N x + firm_total N x
+    demand_total N x + sum_by (λ e. edge_most N e * slice_index needs e.demander.0) (demanders N x)
+    + (pair_at N x).safety + quantities_at N x + firm_total N x
 
 -- the need of each pair
 pub record AreNeeds (N : Table) (needs : List ℕ) : Type 0 where

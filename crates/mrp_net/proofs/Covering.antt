@@ -25,7 +25,7 @@ use Rattle.mrp_net.proofs.Sharing.{pairs_are_found}
 use Rattle.mrp_grouping.proofs.Sorting.{filter_comm}
 
 -- two filters are one, by both tests
-filter_both : {X : Type 0} (p q : X → Bool) (xs : List X) → filter (λ x. p x && q x) xs ≡ filter q (filter p xs)
+pub filter_both : {X : Type 0} (p q : X → Bool) (xs : List X) → filter (λ x. p x && q x) xs ≡ filter q (filter p xs)
 filter_both p q [] = refl
 filter_both {X} p q (x ∷ xs) =
     elim (cases_Bool (p x)) as (λ _. filter (λ x. p x && q x) (x ∷ xs) ≡ filter q (filter p (x ∷ xs))) [
@@ -171,8 +171,8 @@ map_same {X} {Y} f g (x ∷ xs) same = ap (λ (z : Y). z ∷ map f xs) (same x) 
 
 pub plans_look_at_demanders : PlansLookAtDemanders
 plans_look_at_demanders N a b x same =
-    let asks = λ (t : ℕ). sum_by-same (λ (e : Edge). edge_need e t (slice_index (rows_at a e.demander.0).release t))
-    (λ (e : Edge). edge_need e t (slice_index (rows_at b e.demander.0).release t)) (demanders N x)
-    (λ k d h. ap (λ (r : List ℕ). edge_need (get_or (demanders N x) k d) t (slice_index r t)) (same k d h)) in
+    let asks = λ (t : ℕ). sum_by-same (λ (e : Edge). edge_need N e t (slice_index (rows_at a e.demander.0).release t))
+    (λ (e : Edge). edge_need N e t (slice_index (rows_at b e.demander.0).release t)) (demanders N x)
+    (λ k d h. ap (λ (r : List ℕ). edge_need N (get_or (demanders N x) k d) t (slice_index r t)) (same k d h)) in
     ap (λ (row : List ℕ). one (planned (terms_at N x) (row_of N (incoming N x)) row))
     (map_same (gross N a x) (gross N b x) (range_with_len 0 (horizon N)) (λ t. ap (λ (s : ℕ). demand N x t + s) (asks t)))

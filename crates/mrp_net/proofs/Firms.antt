@@ -11,7 +11,6 @@ use Rattle.mrp_netting.specs.declared.planning_data.Policy.{Policy}
 use Rattle.mrp_netting.specs.PlanningData.{planned, plain}
 use Rattle.mrp_netting.proofs.OneRows.{AreFirmRows, rows-same}
 use Rattle.mrp_netting.proofs.TogetherLaws.{sum_is_enough}
-use Rattle.mrp_grouping.specs.Starts.{IsGrouped}
 use Rattle.mrp_grouping.proofs.Kept.{sum_filter}
 use Rattle.mrp_grouping.proofs.Sorting.{IsGrouped-within}
 use Rattle.mrp_master_data.specs.declared.rows.FirmRow.{FirmRow}

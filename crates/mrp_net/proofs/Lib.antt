@@ -24,3 +24,6 @@ pub mod PolicyRows
 pub mod Sooner
 pub mod Firms
 pub mod Crossing
+pub mod UsageRows
+pub mod Needs
+pub mod Using

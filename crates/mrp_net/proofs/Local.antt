@@ -1,5 +1,5 @@
 -- Edges within a plant are those of components.
-use Rattle.std.proofs.Common.{◌≡◌, ℕ, ◌-◌, ◌*◌, ◌/◌, ◌&&◌, true, false, not, eqb, List, ◌++◌, length, get_or, map, refl, sym, ap, ◌∙◌, arith}
+use Rattle.std.proofs.Common.{◌≡◌, ℕ, ◌&&◌, true, false, not, eqb, List, ◌++◌, length, get_or, map, refl, sym, ap, ◌∙◌, arith}
 use Rattle.std.specs.List.{All, filter, position_or_len}
 use Rattle.std.specs.Option.{unwrap_or, option_map}
 use Rattle.std.proofs.lemmas.Bool.{eqb-true, eq-eqb, and_parts, true≢false, false_from_ne_true}
@@ -14,11 +14,12 @@ use Rattle.mrp_master_data.specs.declared.rows.PairRow.{PairRow}
 use Rattle.mrp_master_data.specs.declared.rows.SourceRow.{SourceRow}
 use Rattle.mrp_master_data.specs.Table.{Table, IsTable, IsPair, pair_no, plant_at, item_at, source_pair}
 use Rattle.mrp_net.specs.declared.edge.Edge.{Edge}
-use Rattle.mrp_net.specs.Edges.{bill_edge, source_edge, edges}
+use Rattle.mrp_net.specs.Edges.{bill_edge, edge_usage, edges, part, source_edge}
 use Rattle.mrp_net.specs.Lanes.{item_of_source}
 use Rattle.mrp_net.specs.EdgeLaws.{SourcePairsAreThere, is_local, IsLocalEdge, LocalEdgesAreBills, LocalEdgesAreWhole, LocalDemandersAreWhole}
 use Rattle.mrp_net.specs.EdgeLaws.{CrossingEdgesAreSources}
 use Rattle.mrp_net.specs.Sums.{pair_at, no_pair}
+use Rattle.mrp_net.specs.Usages.{pieces_for}
 use Rattle.mrp_net.proofs.Naming.{unwrap_or-position}
 use Rattle.mrp_net.proofs.Sharing.{share-whole, zero_share}
 use Rattle.mrp_grouping.proofs.Sorting.{filter_none, filter_whole, All-sorted_by}
@@ -59,7 +60,7 @@ pub bill_edge_is_local : (N : Table) (b : BillRow) → IsPair N b.parent.0 → I
 bill_edge_is_local N b parent component same =
     eq-eqb (pair_at N b.parent.0).plant.0 (pair_at N b.component.0).plant.0 (sym (plant_is N b.parent.0 parent) ∙ same ∙ plant_is N b.component.0 component)
 
-source_edge_crosses : (N : Table) (s : SourceRow) → IsPair N s.pair.0 → IsPair N (source_pair N s) → eqb s.plant.0 (plant_at N s.pair.0) ≡ false
+pub source_edge_crosses : (N : Table) (s : SourceRow) → IsPair N s.pair.0 → IsPair N (source_pair N s) → eqb s.plant.0 (plant_at N s.pair.0) ≡ false
     → is_local N (source_edge N s) ≡ false
 source_edge_crosses N s takes pair other =
     false_from_ne_true (is_local N (source_edge N s))
@@ -95,10 +96,8 @@ crossing_edges_are_sources N is =
     ∙ filter_whole crosses (map (source_edge N) N.sources) (λ k d h. ap not (source_edges_cross N is k d h))
 
 -- a bill edge is whole
-pub whole_need : (per release : ℕ) → per * (release * 1000 / 1000 - release * 0 / 1000) ≡ per * release
-whole_need per release =
-    let whole : release * 1000 / 1000 - release * 0 / 1000 ≡ release = omega (arith, share-whole release, zero_share release) in
-    ap (λ (z : ℕ). per * z) whole
+pub whole_part : (b : BillRow) (release : ℕ) → part (bill_edge b) release ≡ release
+whole_part b release = omega (arith, share-whole release, zero_share release)
 
 bill_edge_is_whole : (N : Table) (b : BillRow) → IsPair N b.parent.0 → is_local N (bill_edge b) ≡ true → IsLocalEdge N (bill_edge b)
 bill_edge_is_whole N b parent here = record {
@@ -106,7 +105,7 @@ bill_edge_is_whole N b parent here = record {
   high = refl;
   demander = parent;
   plant = ap (λ (z : ℕ). let p : PlantNo = record { 0 = z } in p) (eqb-true (pair_at N b.parent.0).plant.0 (pair_at N b.component.0).plant.0 here);
-  need = λ t. whole_need b.per;
+  need = λ t release. ap (λ (z : ℕ). pieces_for (edge_usage N (bill_edge b) t) z) (whole_part b release);
 }
 
 pub local_edges_are_whole : LocalEdgesAreWhole

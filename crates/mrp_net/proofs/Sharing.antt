@@ -1,5 +1,5 @@
 -- The parts of a release over a pair's sources make the release, and pairs stand once.
-use Rattle.std.proofs.Common.{◌≡◌, ℕ, suc, zero, ◌+◌, ◌-◌, ◌*◌, ◌/◌, ◌<◌, ◌≤◌, ◌&&◌, true, eqb, List, [], ◌∷◌, ◌++◌, inl, inr, length, get_or, map, refl, sym}
+use Rattle.std.proofs.Common.{◌≡◌, ℕ, suc, zero, ◌+◌, ◌-◌, ◌*◌, ◌/◌, ◌≤◌, ◌&&◌, true, eqb, List, [], ◌∷◌, ◌++◌, inl, inr, length, get_or, map, refl, sym}
 use Rattle.std.proofs.Common.{ap, ◌∙◌, subst, arith}
 use Rattle.std.specs.List.{All, filter, sum_by, position_or_len}
 use Rattle.std.specs.Option.{unwrap_or, option_map}
@@ -17,13 +17,11 @@ use Rattle.mrp_master_data.specs.declared.rows.Supply.{Supply}
 use Rattle.mrp_master_data.specs.declared.rows.Supply.TheVariants.{Make, Buy, From}
 use Rattle.mrp_master_data.specs.Table.{Table, IsTable, IsPair, IsSourceRow, AreShares, HasSupply, is_same_pair, sources_of_pair, supply_at}
 use Rattle.mrp_net.specs.declared.edge.Edge.{Edge}
-use Rattle.mrp_net.specs.Edges.{part, edge_need, bill_edge, source_edge, edges}
+use Rattle.mrp_net.specs.Edges.{part, bill_edge, source_edge, edges}
 use Rattle.mrp_grouping.specs.Groups.{sorted_by}
-use Rattle.mrp_net.specs.SupplyLaws.{PartsAreWhole, NeedsAreWhole, OthersHaveNoSources, OthersHaveComponents, BoughtHaveNoEdges, PairsAreFound}
+use Rattle.mrp_net.specs.SupplyLaws.{PartsAreWhole, OthersHaveNoSources, OthersHaveComponents, BoughtHaveNoEdges, PairsAreFound}
 use Rattle.mrp_net.specs.Sums.{pair_at, no_pair}
 use Rattle.mrp_grouping.proofs.Grouping.{sorted_by-suc}
-use Rattle.mrp_grouping.proofs.Kept.{sum-sorted_by}
-use Rattle.mrp_net.proofs.Joining.{edges_join}
 use Rattle.mrp_net.proofs.Naming.{unwrap_or-position}
 use Rattle.mrp_net.proofs.Routing.{filter-map}
 use Rattle.mrp_grouping.proofs.Sorting.{filter_none}
@@ -53,7 +51,7 @@ pub zero_share : (release : ℕ) → release * 0 / 1000 ≡ 0
 zero_share release = omega arith
 
 -- the supply of a pair
-supply_is : (N : Table) (x : ℕ) → IsPair N x → supply_at N x ≡ (pair_at N x).supply
+pub supply_is : (N : Table) (x : ℕ) → IsPair N x → supply_at N x ≡ (pair_at N x).supply
 supply_is N x h = ap (λ o. unwrap_or (option_map (λ (p : PairRow). p.supply) o) Buy) (slice_get-get_or N.pairs x no_pair h)
 
 shares_of : (N : Table) (x : ℕ) → IsTable N → IsPair N x → (pair_at N x).supply ≡ From → AreShares 0 (sources_of_pair N x)
@@ -69,7 +67,7 @@ parts_are_whole N table x h from release =
     )
 
 -- the edges from a pair are those of its components and those of its sources
-made_is : (s : Supply) → s ≡ Make → s ≡ From → ⊥
+pub made_is : (s : Supply) → s ≡ Make → s ≡ From → ⊥
 made_is s make from = cc
 
 bought_is : (s : Supply) → s ≡ Buy → s ≡ From → ⊥
@@ -78,7 +76,7 @@ bought_is s buy from = cc
 bought_is_not_made : (s : Supply) → s ≡ Buy → s ≡ Make → ⊥
 bought_is_not_made s buy make = cc
 
-edges_of : (N : Table) (x : ℕ) → filter (λ e. eqb e.demander.0 x) (edges N) ≡ map bill_edge (filter (λ b. eqb b.parent.0 x) N.bills)
+pub edges_of : (N : Table) (x : ℕ) → filter (λ e. eqb e.demander.0 x) (edges N) ≡ map bill_edge (filter (λ b. eqb b.parent.0 x) N.bills)
     ++ map (source_edge N) (sources_of_pair N x)
 edges_of N x =
     filter-append (λ e. eqb e.demander.0 x) (map bill_edge N.bills) (map (source_edge N) N.sources)
@@ -86,7 +84,7 @@ edges_of N x =
     ∙ ap (λ (z : List Edge). map bill_edge (filter (λ b. eqb b.parent.0 x) N.bills) ++ z) (filter-map (λ e. eqb e.demander.0 x) (source_edge N) N.sources)
 
 -- a pair that isn't made has no components
-no_components : (N : Table) (x : ℕ) → IsTable N → (supply_at N x ≡ Make → ⊥) → filter (λ b. eqb b.parent.0 x) N.bills ≡ []
+pub no_components : (N : Table) (x : ℕ) → IsTable N → (supply_at N x ≡ Make → ⊥) → filter (λ b. eqb b.parent.0 x) N.bills ≡ []
 no_components N x table other =
     filter_none (λ b. eqb b.parent.0 x) N.bills
     (λ k d h. ne_eqb (get_or N.bills k d).parent.0 x (λ e. other (ap (supply_at N) (sym e) ∙ table.sourced.parents k d h)))
@@ -94,34 +92,6 @@ no_components N x table other =
 pub sum_map : {X Y : Type 0} (f : Y → ℕ) (g : X → Y) (xs : List X) → sum_by f (map g xs) ≡ sum_by (λ x. f (g x)) xs
 sum_map f g [] = refl
 sum_map f g (x ∷ xs) = omega (arith, sum_by-cons f (g x) (map g xs), sum_by-cons (λ x. f (g x)) x xs, sum_map f g xs)
-
-needs_are_parts : (N : Table) (t release : ℕ) (ss : List SourceRow)
-    → sum_by (λ s. edge_need (source_edge N s) t release) ss ≡ sum_by (λ s. part (source_edge N s) release) ss
-needs_are_parts N t release [] = refl
-needs_are_parts N t release (s ∷ ss) =
-    let one : edge_need (source_edge N s) t release ≡ part (source_edge N s) release = omega arith in
-    omega (
-      arith,
-      sum_by-cons (λ s. edge_need (source_edge N s) t release) s ss,
-      sum_by-cons
-          (λ s. part (source_edge N s) release) s ss,
-      one,
-      needs_are_parts N t release ss,
-    )
-
-pub needs_are_whole : NeedsAreWhole
-needs_are_whole N table x h from t release =
-    let own = filter (λ e. eqb e.demander.0 x) (edges N) in
-    let need = λ (e : Edge). edge_need e t release in
-    let pairs : All (λ e. e.pair.0 < length N.pairs) own = All-filter (λ e. eqb e.demander.0 x) (λ e. e.pair.0 < length N.pairs) (edges N)
-    (λ k d lt. (edges_join N table k d lt).pair) in
-    let none = no_components N x table (λ make. made_is (supply_at N x) make (supply_is N x h ∙ from)) in
-    sum-sorted_by need (λ e. e.pair.0) (length N.pairs) own pairs
-    ∙ ap (sum_by need) (edges_of N x)
-    ∙ ap (λ (z : List BillRow). sum_by need (map bill_edge z ++ map (source_edge N) (sources_of_pair N x))) none
-    ∙ sum_map need (source_edge N) (sources_of_pair N x)
-    ∙ needs_are_parts N t release (sources_of_pair N x)
-    ∙ parts_are_whole N table x h from release
 
 -- a pair that isn't taken from plants has no sources
 no_sources : (s : Supply) (ss : List SourceRow) → HasSupply s ss → (s ≡ From → ⊥) → ss ≡ []
@@ -143,7 +113,7 @@ others_have_components N table x h other =
     (edges_of N x ∙ append_none (map bill_edge (filter (λ b. eqb b.parent.0 x) N.bills)) (map (source_edge N) (sources_of_pair N x))
     (ap (map (source_edge N)) (others_have_no_sources N table x h other)))
 
-sorted_none : {X : Type 0} (key : X → ℕ) (n : ℕ) → sorted_by key n [] ≡ []
+pub sorted_none : {X : Type 0} (key : X → ℕ) (n : ℕ) → sorted_by key n [] ≡ []
 sorted_none key zero = refl
 sorted_none {X} key (suc n) = sorted_by-suc key n [] ∙ ap (λ (z : List X). z ++ []) (sorted_none key n)
 

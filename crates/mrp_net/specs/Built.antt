@@ -13,6 +13,7 @@ use Rattle.mrp_net.specs.Routes.{AreLaneLists}
 use Rattle.mrp_net.specs.Sums.{demand, demand_total, received, supply}
 use Rattle.mrp_master_data.specs.declared.rows.FirmRow.{FirmRow}
 use Rattle.mrp_master_data.specs.declared.rows.PolicyRow.{PolicyRow}
+use Rattle.mrp_master_data.specs.declared.rows.UsageRow.{UsageRow}
 
 -- all edges in order of their demanders, and then in order of their pairs
 abbrev pub by_demander : Table → List Edge
@@ -55,7 +56,18 @@ AreFirms N rows starts = IsGrouped (λ f. f.pair.0) (length N.pairs) N.firms row
 abbrev pub ArePolicies : Table → List PolicyRow → List ℕ → Type 0
 ArePolicies N rows starts = IsGrouped (λ p. p.pair.0) (length N.pairs) N.policies rows starts
 
--- what the rows add up to, and firm planned orders and policies by their pairs
+-- all usage rows by rising periods, and then in order of their parents
+abbrev pub usages_by_period : Table → List UsageRow
+usages_by_period N = sorted_by (λ u. u.period) (horizon N) N.usages
+
+abbrev pub usages_by_parent : Table → List UsageRow
+usages_by_parent N = sorted_by (λ u. u.parent.0) (length N.pairs) (usages_by_period N)
+
+-- the usage rows of each component, kept the same way
+abbrev pub AreUsages : Table → List UsageRow → List ℕ → Type 0
+AreUsages N rows starts = IsGrouped (λ u. u.component.0) (length N.pairs) (usages_by_parent N) rows starts
+
+-- what the rows add up to, firm planned orders and policies by their pairs, and usage rows by their components
 pub record AreAmounts (N : Table) (a : Amounts) : Type 0 where
   pub demanded : ArePeriods N (demand N) a.demand.items
   pub receipts : ArePeriods N (received N) a.received.items
@@ -64,6 +76,7 @@ pub record AreAmounts (N : Table) (a : Amounts) : Type 0 where
   pub supplied : AreTotals N (capped_supply N) a.supplies.items
   pub firms : AreFirms N a.firms.rows.items a.firms.starts.items
   pub policies : ArePolicies N a.policies.rows.items a.policies.starts.items
+  pub usages : AreUsages N a.usages.rows.items a.usages.starts.items
 
 -- the table, and what is built of it
 pub record IsBuilt (N : Table) (e : Edges) (a : Amounts) (l : LaneLists) : Type 0 where

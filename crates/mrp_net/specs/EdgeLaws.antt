@@ -1,12 +1,13 @@
 -- Laws of edges: which join two pairs, and which of them stay within a plant.
-use Rattle.std.specs.Prelude.{◌≡◌, ◌≢◌, ℕ, ◌*◌, ◌==◌, not, Bool, true}
+use Rattle.std.specs.Prelude.{◌≡◌, ◌≢◌, ℕ, ◌==◌, not, Bool, true}
 use Rattle.std.specs.Prelude.{map, filter, All}
 use Rattle.std.specs.List.{AllPairs}
 use Rattle.mrp_master_data.specs.Table.{Table, IsTable, IsPair, source_pair}
 use Rattle.mrp_net.specs.declared.edge.Edge.{Edge}
-use Rattle.mrp_net.specs.Edges.{edge_need, bill_edge, source_edge, edges, demanders}
+use Rattle.mrp_net.specs.Edges.{edge_need, edge_usage, bill_edge, source_edge, edges, demanders}
 use Rattle.mrp_net.specs.Lanes.{item_of_source}
 use Rattle.mrp_net.specs.Sums.{pair_at}
+use Rattle.mrp_net.specs.Usages.{pieces_for}
 
 -- no two edges join the same two pairs
 abbrev pub OneEdgeJoinsTwoPairs : Type 0
@@ -37,13 +38,13 @@ abbrev pub CrossingEdgesAreSources : Type 0
 CrossingEdgesAreSources = (N : Table) → IsTable N
     → filter (λ e. not (is_local N e)) (edges N) ≡ map (source_edge N) N.sources
 
--- an edge within a plant takes its part of the whole release, for a pair of the same plant
+-- an edge within a plant asks for the whole release by the usage in force, for a pair of the same plant
 pub record IsLocalEdge (N : Table) (e : Edge) : Type 0 where
   pub low : e.low ≡ 0
   pub high : e.high ≡ 1000
   pub demander : IsPair N e.demander.0
   pub plant : (pair_at N e.demander.0).plant ≡ (pair_at N e.pair.0).plant
-  pub need : (t release : ℕ) → edge_need e t release ≡ e.per * release
+  pub need : (t release : ℕ) → edge_need N e t release ≡ pieces_for (edge_usage N e t) release
 
 abbrev pub LocalEdgesAreWhole : Type 0
 LocalEdgesAreWhole = (N : Table) → IsTable N → All (λ e. is_local N e ≡ true → IsLocalEdge N e) (edges N)

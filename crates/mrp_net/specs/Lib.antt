@@ -19,3 +19,5 @@ pub mod Sums
 pub mod Suppliers
 pub mod SupplyLaws
 pub mod Texts
+pub mod UsageLaws
+pub mod Usages

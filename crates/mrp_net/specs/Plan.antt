@@ -18,12 +18,12 @@ abbrev pub rows_at : List PlanRows → ℕ → PlanRows
 rows_at table x = slice_index_or table x no_rows
 
 -- what the releases of demanders ask over edges in a period
-abbrev pub asked : List PlanRows → List Edge → ℕ → ℕ
-asked table edges t = sum_by (λ e. edge_need e t (slice_index (rows_at table e.demander.0).release t)) edges
+abbrev pub asked : Table → List PlanRows → List Edge → ℕ → ℕ
+asked N table edges t = sum_by (λ e. edge_need N e t (slice_index (rows_at table e.demander.0).release t)) edges
 
 -- gross requirement: the demand rows, and what the releases of the demanders ask
 abbrev pub gross : Table → List PlanRows → ℕ → ℕ → ℕ
-gross N table x t = demand N x t + asked table (demanders N x) t
+gross N table x t = demand N x t + asked N table (demanders N x) t
 
 -- what a pair is planned from beside the plans of its demanders, and its plan
 abbrev pub pair_data : Table → List PlanRows → ℕ → PairData

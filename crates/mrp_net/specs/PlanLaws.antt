@@ -1,6 +1,6 @@
 -- Laws of plans: what the plan of a pair looks at, from which receipts it is made, and where its gross requirements
 -- come from.
-use Rattle.std.specs.Prelude.{◌≡◌, ℕ, ◌+◌, ◌*◌, ◌==◌, if◌then◌else◌, List, [], sum, sum_by, All, length}
+use Rattle.std.specs.Prelude.{◌≡◌, ℕ, ◌+◌, ◌==◌, if◌then◌else◌, List, [], sum, sum_by, All, length}
 use Rattle.mrp_netting.specs.PlanRows.{PlanRows}
 use Rattle.mrp_netting.specs.PlanningData.{PairData, plain, no_policy, one}
 use Rattle.mrp_master_data.specs.declared.rows.BillRow.{BillRow}
@@ -12,6 +12,7 @@ use Rattle.mrp_net.specs.FirmOrders.{firms_of, firm_start, firm_due, firm_total}
 use Rattle.mrp_net.specs.Policies.{policy_of}
 use Rattle.mrp_net.specs.Sums.{pair_at, params_at, row_of, demand, incoming, received, shipped}
 use Rattle.mrp_net.specs.RouteLaws.{over_route, over_plants}
+use Rattle.mrp_net.specs.Usages.{pieces_for, usage_in, usages_to}
 
 -- the plan of a pair looks at the releases of its demanders alone
 abbrev pub PlansLookAtDemanders : Type 0
@@ -51,9 +52,10 @@ pub record AreAllFirms (N : Table) (x : ℕ) : Type 0 where
 abbrev pub FirmsAreKept : Type 0
 FirmsAreKept = (N : Table) → IsTable N → (x : ℕ) → AreAllFirms N x
 
--- what a component row asks of a pair, and what a source asks of it
-abbrev pub asked_by_bill : List PlanRows → ℕ → ℕ → BillRow → ℕ
-asked_by_bill table x t b = if b.component.0 == x then b.per * release_at table b.parent.0 t else 0
+-- what a component row asks of a pair by the usage in force, and what a source asks of it
+abbrev pub asked_by_bill : Table → List PlanRows → ℕ → ℕ → BillRow → ℕ
+asked_by_bill N table x t b = if b.component.0 == x
+    then pieces_for (usage_in (usages_to N x) b.parent.0 b.per t) (release_at table b.parent.0 t) else 0
 
 abbrev pub asked_by_source : Table → List PlanRows → ℕ → ℕ → SourceRow → ℕ
 asked_by_source N table x t s = if source_pair N s == x then part (source_edge N s) (release_at table s.pair.0 t) else 0
@@ -64,7 +66,7 @@ abbrev pub GrossIsLocalAndCalled : Type 0
 GrossIsLocalAndCalled =
     (N : Table) → IsTable N → (table : List PlanRows) (x t : ℕ) → IsPair N x
     → gross N table x t
-    ≡ demand N x t + sum_by (asked_by_bill table x t) N.bills
+    ≡ demand N x t + sum_by (asked_by_bill N table x t) N.bills
     + over_plants N (λ customer. over_route N (asked_by_source N table x t) customer (pair_at N x).plant.0)
 
 -- a table of plans obeys the rules at every pair

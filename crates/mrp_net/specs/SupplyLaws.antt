@@ -19,7 +19,7 @@ PartsAreWhole =
 abbrev pub NeedsAreWhole : Type 0
 NeedsAreWhole =
     (N : Table) → IsTable N → (x : ℕ) → IsPair N x → (pair_at N x).supply ≡ From → (t release : ℕ)
-    → sum_by (λ e. edge_need e t release) (suppliers N x) ≡ release
+    → sum_by (λ e. edge_need N e t release) (suppliers N x) ≡ release
 
 -- no part of a release is more than the release
 abbrev pub PartsAreWithin : Type 0

@@ -2,7 +2,8 @@
 
 use mrp_master_data::PairNo;
 
-/// An edge: the demander takes from the pair, `per` pieces for each piece of its part of a release.
+/// An edge: the demander takes from the pair, `per` pieces for each piece of its part of a release where no usage row
+/// is in force.
 ///
 /// The part is that from the running share `low` to the running share `high`, in thousandths: the
 /// whole release, 0 to 1000, for the component of a made parent.
@@ -12,7 +13,7 @@ pub struct Edge {
     pub demander: PairNo,
     /// The pair that they are taken from.
     pub pair: PairNo,
-    /// Pieces for each piece of the part, 1 to 10^6.
+    /// Pieces for each piece of the part where no usage row is in force, 1 to 10^6.
     pub per: u64,
     /// The running share before it, 0 to 999.
     pub low: u64,

@@ -10,7 +10,7 @@ use std::alloc::Global;
 use std::marker::Model;
 use std::snapshot::Snapshot;
 
-/// A table whose bill rows and demand rows were dropped: edges and sums have what they say.
+/// A table whose bill, demand and usage rows were dropped: edges, sums and usages have what they say.
 ///
 /// Contracts see the whole table.
 #[derive(Drop)]
@@ -32,7 +32,7 @@ impl Model for Kept {
 }
 
 impl Kept {
-    /// What is kept of a table whose edges and sums are made.
+    /// What is kept of a table whose edges, sums and usages are made.
     pub fn of(alloc: Global, tables: Tables) -> Kept
         ensures { result ≡ tables }
     {
@@ -50,7 +50,7 @@ impl Kept {
         &self.kept
     }
 
-    /// The rows that are kept: all but the bill rows and the demand rows.
+    /// The rows that are kept: all but the bill, demand and usage rows.
     pub fn rows(&self) -> &RowLists
         ensures value { result.now ≡ without_bills_and_demands self.now }
         ensures table { IsTable self.now }

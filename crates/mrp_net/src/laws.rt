@@ -14,6 +14,10 @@ ghost use Rattle.mrp_net.specs.PlanLaws.{PlansAreOfAllReceipts};
 ghost use Rattle.mrp_net.specs.LaneLaws.{ItemsHaveSources, OpeningsAreSupplied, IncomingComesOverLanes};
 ghost use Rattle.mrp_net.specs.LaneLaws.{ShipmentsAreOfItems};
 ghost use Rattle.mrp_net.specs.EdgeLaws.{OneEdgeJoinsTwoPairs, DemandersStandOnce};
+ghost use Rattle.mrp_net.specs.UsageLaws.{LastRowsAreInForce, BillsAreInForceBefore, NeedsAreRoundedUp, NoneAskForNone};
+ghost use Rattle.mrp_net.specs.UsageLaws.{WholeNeedsAreProducts, NeedsWithoutUsages, SourcesHaveNoUsages};
+ghost use Rattle.mrp_net.specs.UsageLaws.{SourcesAskTheirShares, MostsAreTheLeast, MostsCoverNeeds};
+ghost use Rattle.mrp_net.specs.UsageLaws.{BillsAskByThePiece, EdgesAskByThePiece};
 
 /// The parts of a release over the sources of a pair that is taken from plants add up to the release,
 /// and so does what it asks of its suppliers: nothing is lost or made up by rounding.
@@ -81,8 +85,8 @@ pub fn source_pairs_are_there()
     ensures { SourcePairsAreThere }
 {}
 
-/// The edges between pairs of one plant are those of components. Each takes its part of the whole
-/// release, and its demander is a pair of that plant.
+/// The edges between pairs of one plant are those of components. Each asks for the whole release by the
+/// usage in force, and its demander is a pair of that plant.
 pub fn local_edges_are_whole()
     ensures bills { LocalEdgesAreBills }
     ensures edges { LocalEdgesAreWhole }
@@ -140,4 +144,39 @@ pub fn shipments_come_over_lanes()
 pub fn one_edge_joins_two_pairs()
     ensures edges { OneEdgeJoinsTwoPairs }
     ensures demanders { DemandersStandOnce }
+{}
+
+/// Of the usage rows of an edge the last that begins by a period is in force in it; before the first one the bill row is.
+pub fn usages_are_in_force()
+    ensures rows { LastRowsAreInForce }
+    ensures bills { BillsAreInForceBefore }
+{}
+
+/// What a release asks is rounded up once, for the part of it that the edge takes: it is the least that is enough. Of whole
+/// numbers it is a product, and where none goes into a parent nothing is asked.
+pub fn needs_are_rounded_up()
+    ensures rounded { NeedsAreRoundedUp }
+    ensures products { WholeNeedsAreProducts }
+    ensures none { NoneAskForNone }
+{}
+
+/// An edge without usage rows asks what its bill row says. A source has none, and is asked for its share.
+pub fn edges_without_usages()
+    ensures bills { NeedsWithoutUsages }
+    ensures none { SourcesHaveNoUsages }
+    ensures sources { SourcesAskTheirShares }
+{}
+
+/// The most pieces that an edge asks for one parent is the least whole number that is enough for one parent by its bill
+/// row and by each of its usage rows, in force or not. What a release asks in a period is at most so much for each piece.
+pub fn mosts_are_the_least()
+    ensures least { MostsAreTheLeast }
+    ensures needs { MostsCoverNeeds }
+{}
+
+/// In a table without usage rows needs are products: a component row asks its PER pieces for each parent that is released,
+/// and an edge its factor for each piece of its part of the release.
+pub fn tables_without_usages()
+    ensures bills { BillsAskByThePiece }
+    ensures edges { EdgesAskByThePiece }
 {}

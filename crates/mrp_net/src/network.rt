@@ -2,9 +2,11 @@
 
 ghost use Rattle.std.specs.Prelude.{◌≡◌, ◌<◌, ◌^◌, ◌-◌, ◌+◌, ◌*◌, ℕ, true, min};
 ghost use Rattle.std.specs.Prelude.{length, slice_get, Option, Some, None, IfSome, IfNone, IfOk, Contains, All};
-ghost use Rattle.mrp_master_data.specs.Table.{Table, IsTable, horizon, IsFirmRow, IsPair, is_taken_from, pair_no};
-ghost use Rattle.mrp_net.specs.Edges.{demanders};
+ghost use Rattle.mrp_master_data.specs.Table.{Table, IsTable, horizon, IsFirmRow, IsUsageRow, IsPair, is_taken_from, pair_no};
+ghost use Rattle.std.specs.List.Sorted.{IsNonDecreasingBy};
+ghost use Rattle.mrp_net.specs.Edges.{demanders, edge_usages};
 ghost use Rattle.mrp_net.specs.Suppliers.{suppliers, IsEdge};
+ghost use Rattle.mrp_net.specs.Usages.{usages_to};
 ghost use Rattle.mrp_net.specs.Sums.{pair_at, params_at, row_of, demand, demand_total, supply};
 ghost use Rattle.mrp_net.specs.Sums.{incoming, received, received_sooner, earliest_at};
 ghost use Rattle.mrp_net.specs.FirmOrders.{firm_total, firms_of};
@@ -22,10 +24,11 @@ use crate::lane::{Lane, LaneKind, LaneNo, Shipment};
 use crate::lanes::{LaneLists, source_of};
 use crate::policies::first_policy;
 use crate::terms::PlanningTerms;
+use crate::usages::usages_of;
 use crate::{Edge, build, lanes};
 use mrp_cal::Calendar;
 use mrp_master_data::{
-    FirmRow, ItemNo, PairNo, PairRow, PlantNo, ReceiptRow, ShipRow, SourceRow, Tables,
+    FirmRow, ItemNo, PairNo, PairRow, PlantNo, ReceiptRow, ShipRow, SourceRow, Tables, UsageRow,
 };
 use mrp_netting::Policy;
 use mrp_qty::{Horizon, Memory};
@@ -394,6 +397,27 @@ impl Network {
         ensures edges { All (IsEdge self.now) result.now }
     {
         self.edges.suppliers.get(x.0)
+    }
+
+    /// The usage rows of a component, in order of their parents, and of each parent by rising periods: how many pieces of
+    /// the component go into how many of the parent that are released from a period on.
+    pub fn usages_to(&self, x: PairNo) -> &[UsageRow]
+        requires { IsPair self.now x.0 }
+        ensures value { result.now ≡ usages_to self.now x.0 }
+        ensures rows { All (IsUsageRow self.now) result.now }
+        ensures rises { IsNonDecreasingBy (λ u. u.parent.0) result.now }
+    {
+        self.amounts.usages.get(x.0)
+    }
+
+    /// The usage rows of an edge, by rising periods: what they say comes in place of what the edge says from their periods
+    /// on. The edge of a source has none.
+    pub fn usages(&self, edge: &Edge) -> &[UsageRow]
+        requires { IsEdge self.now edge.now }
+        ensures value { result.now ≡ edge_usages self.now edge.now }
+        ensures rows { All (IsUsageRow self.now) result.now }
+    {
+        usages_of(self.usages_to(edge.pair), edge.demander)
     }
 
     /// The number of lanes: two for each customer plant and supplier plant that it takes items from.

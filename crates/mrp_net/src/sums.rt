@@ -1,7 +1,9 @@
 //! Rows of a table by their pair and their period, by which they are put in order and added up.
 
 use mrp_grouping::{AmountOf, KeyOf};
-use mrp_master_data::{CumRow, DemandRow, FirmRow, PolicyRow, ReceiptRow, ShipRow, SourceRow};
+use mrp_master_data::{
+    CumRow, DemandRow, FirmRow, PolicyRow, ReceiptRow, ShipRow, SourceRow, UsageRow,
+};
 
 /// The pair of a row as its key.
 pub struct OfPair;
@@ -62,6 +64,28 @@ impl KeyOf<PolicyRow> for OfPair {
     }
 }
 
+/// The parent of a usage row as its key.
+pub struct OfParent;
+
+impl KeyOf<UsageRow> for OfParent {
+    ghost key_of = { λ _ u. u.parent.0 };
+
+    fn key(&self, row: &UsageRow) -> usize {
+        row.parent.0
+    }
+}
+
+/// The component of a usage row as its key.
+pub struct OfComponent;
+
+impl KeyOf<UsageRow> for OfComponent {
+    ghost key_of = { λ _ u. u.component.0 };
+
+    fn key(&self, row: &UsageRow) -> usize {
+        row.component.0
+    }
+}
+
 /// The period of a row as its key.
 pub struct ByPeriod;
 
@@ -85,6 +109,14 @@ impl KeyOf<ShipRow> for ByPeriod {
     ghost key_of = { λ _ s. s.period };
 
     fn key(&self, row: &ShipRow) -> usize {
+        row.period
+    }
+}
+
+impl KeyOf<UsageRow> for ByPeriod {
+    ghost key_of = { λ _ u. u.period };
+
+    fn key(&self, row: &UsageRow) -> usize {
         row.period
     }
 }

@@ -27,7 +27,7 @@ fitting_release N table x fits in_table = ap (λ (r : PlanRows). length r.releas
 
 -- what an edge asks is within the gross requirement
 pub term_within : (N : Table) (table : List PlanRows) (x t i : ℕ) → Fits N table → IsPair N x → t < horizon N → i < length (demanders N x)
-    → edge_need (slice_index_or (demanders N x) i no_edge) t (slice_index (rows_at table (slice_index_or (demanders N x) i no_edge).demander.0).release t)
+    → edge_need N (slice_index_or (demanders N x) i no_edge) t (slice_index (rows_at table (slice_index_or (demanders N x) i no_edge).demander.0).release t)
     ≤ slice_index (rows_at table x).gross t
 term_within N table x t i fits in_table within edge =
     let at : slice_index (row_of N (gross N table x)) t ≡ gross N table x t =
@@ -36,7 +36,7 @@ term_within N table x t i fits in_table within edge =
       arith,
       at,
       ap (λ (r : List ℕ). slice_index r t) (fitting_gross N table x fits in_table),
-      get_or-le-sum_by (λ (e : Edge). edge_need e t (slice_index (rows_at table e.demander.0).release t)) (demanders N x) i no_edge edge,
+      get_or-le-sum_by (λ (e : Edge). edge_need N e t (slice_index (rows_at table e.demander.0).release t)) (demanders N x) i no_edge edge,
     )
 
 -- each edge to the pair can be pegged
@@ -56,7 +56,7 @@ peggable N table x t edges fits in_table within quantity are all i d h =
         arith,
         quantity,
         term_within N table x t i fits in_table within in_demanders,
-        ap (λ (f : Edge). edge_need f t (slice_index (rows_at table f.demander.0).release t)) read,
+        ap (λ (f : Edge). edge_need N f t (slice_index (rows_at table f.demander.0).release t)) read,
       );
     }
 

@@ -13,7 +13,7 @@ use Rattle.mrp_netting.proofs.DataRows.{releases_stay_bounded}
 use Rattle.mrp_netting.proofs.OneRows.{length-one-release, one-gross as of_data}
 use Rattle.mrp_qty.proofs.RangeLaws.{map-range-same}
 use Rattle.mrp_master_data.specs.Table.{Table, IsTable, horizon}
-use Rattle.mrp_net.specs.Edges.{demanders, edge_need}
+use Rattle.mrp_net.specs.Edges.{demanders, edge_most, edge_need}
 use Rattle.mrp_net.specs.FirmOrders.{firm_total}
 use Rattle.mrp_net.specs.Sums.{demand, incoming, terms_at, pair_at, row_of}
 use Rattle.mrp_net.specs.Plan.{rows_at, no_rows, gross, pair_data, pair_plan, asked}
@@ -51,11 +51,11 @@ pub pair_plan-same : (N : Table) (old new : List PlanRows) (x : ℕ)
     → pair_plan N new x ≡ pair_plan N old x
 pair_plan-same N old new x same =
     let asks = λ (t : ℕ) (i : ℕ) (h : i < length (demanders N x)).
-    ap (λ (r : PlanRows). edge_need (slice_index_or (demanders N x) i no_edge) t (slice_index r.release t)) (same i h) in
+    ap (λ (r : PlanRows). edge_need N (slice_index_or (demanders N x) i no_edge) t (slice_index r.release t)) (same i h) in
     let each = λ (t : ℕ) (h : t < horizon N).
     ap (λ (s : ℕ). demand N x t + s)
-    (sum_by-same_all (λ (e : Edge). edge_need e t (slice_index (rows_at new e.demander.0).release t))
-    (λ (e : Edge). edge_need e t (slice_index (rows_at old e.demander.0).release t)) no_edge (demanders N x) (asks t)) in
+    (sum_by-same_all (λ (e : Edge). edge_need N e t (slice_index (rows_at new e.demander.0).release t))
+    (λ (e : Edge). edge_need N e t (slice_index (rows_at old e.demander.0).release t)) no_edge (demanders N x) (asks t)) in
     ap (λ (row : List ℕ). one (planned (terms_at N x) (row_of N (incoming N x)) row)) (map-range-same (gross N new x) (gross N old x) (horizon N) each)
 
 -- the plan of a pair has a release for each period, and its gross requirements
@@ -76,17 +76,18 @@ pair_plan-releases N table x is within =
 -- what the demanders ask is within what they need
 pub asked_total-le : (N : Table) (needs order : List ℕ) (k : ℕ) (table : List PlanRows) → IsPlanningOrder N order → k < length order
     → IsPlannedTo N needs order k table
-    → asked_total table (demanders N (slice_index order k)) ≤ sum_by (λ e. e.per * slice_index needs e.demander.0) (demanders N (slice_index order k))
+    → asked_total N table (demanders N (slice_index order k))
+    ≤ sum_by (λ e. edge_most N e * slice_index needs e.demander.0) (demanders N (slice_index order k))
 asked_total-le N needs order k table is within planned =
     let x = slice_index order k in
-    sum_by-le_all (λ (e : Edge). e.per * sum (rows_at table e.demander.0).release) (λ (e : Edge). e.per * slice_index needs e.demander.0) no_edge
-    (demanders N x)
+    sum_by-le_all (λ (e : Edge). edge_most N e * sum (rows_at table e.demander.0).release)
+    (λ (e : Edge). edge_most N e * slice_index needs e.demander.0) no_edge (demanders N x)
     (λ i h.
     let e = slice_index_or (demanders N x) i no_edge in
     let before = demander_before N order is k within i no_edge h in
     let own = planned.releases before.0 before.1 in
     let P : ℕ → Type 0 = λ y. sum (rows_at table y).release ≤ slice_index needs y in
-    mul-le-mul_left e.per (subst P before.2 own))
+    mul-le-mul_left (edge_most N e) (subst P before.2 own))
 
 -- the demander of an edge to the next pair has a row of releases
 pub demander_release : (N : Table) (needs order : List ℕ) (k : ℕ) (table : List PlanRows) → IsPlanningOrder N order → k < length order
@@ -109,7 +110,7 @@ pair_within N table x can =
 
 -- demand rows and what the demanders ask are the gross requirements
 pub gross_row : (N : Table) (table : List PlanRows) (x : ℕ) (row : List ℕ) → length row ≡ length (row_of N (demand N x))
-    → ((t : ℕ) → t < length (row_of N (demand N x)) → slice_index row t ≡ slice_index (row_of N (demand N x)) t + asked table (demanders N x) t)
+    → ((t : ℕ) → t < length (row_of N (demand N x)) → slice_index row t ≡ slice_index (row_of N (demand N x)) t + asked N table (demanders N x) t)
     → row ≡ row_of N (gross N table x)
 gross_row N table x row size each =
     let periods = length-row_of N (demand N x) in

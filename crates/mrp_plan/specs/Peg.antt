@@ -3,7 +3,7 @@ use Rattle.std.specs.Prelude.{◌<◌, ◌≤◌, length, Bool, ℕ, ◌==◌, i
 use Rattle.mrp_qty.specs.declared.quantity.TheConstants.{MOST}
 use Rattle.mrp_netting.specs.PlanRows.{PlanRows}
 use Rattle.mrp_master_data.specs.Table.{Table}
-use Rattle.mrp_net.specs.Edges.{demanders, edge_need, part}
+use Rattle.mrp_net.specs.Edges.{demanders, edge_need, edge_usage, part}
 use Rattle.mrp_net.specs.Suppliers.{IsEdge}
 use Rattle.mrp_net.specs.Sums.{demand, pair_at}
 use Rattle.mrp_net.specs.Plan.{rows_at}
@@ -15,13 +15,14 @@ use Rattle.mrp_plan.specs.declared.terms.PegSource.TheVariants.{Demand, Bill, Pl
 -- the demand rows of a pair in a period, as one term
 abbrev pub demand_term : Table → ℕ → ℕ → PegTerm
 demand_term N x t =
-    record { source = Demand; pair = record { 0 = x }; release = demand N x t; per = 1; quantity = demand N x t }
+    record { source = Demand; pair = record { 0 = x }; release = demand N x t; per = 1; base = 1; quantity = demand N x t }
 
 -- a component is asked for at its own plant, a source by another plant
 abbrev pub source_of : Table → Edge → PegSource
 source_of N e = if (pair_at N e.demander.0).plant.0 == (pair_at N e.pair.0).plant.0 then Bill else Plant
 
--- what an edge asks in a period: the part of its demander's release, and so many pieces for each
+-- what an edge asks in a period: the part of its demander's release, and by the usage in force so many pieces for so many
+-- of it, rounded up
 abbrev pub edge_term : Table → List PlanRows → ℕ → Edge → PegTerm
 edge_term N table t e =
     let release = slice_index (rows_at table e.demander.0).release t in
@@ -29,8 +30,9 @@ edge_term N table t e =
       source = source_of N e;
       pair = e.demander;
       release = part e release;
-      per = e.per;
-      quantity = edge_need e t release;
+      per = (edge_usage N e t).per;
+      base = (edge_usage N e t).base;
+      quantity = edge_need N e t release;
     }
 
 -- something is asked
@@ -45,4 +47,4 @@ peg_terms N table x t = filter is_asked (demand_term N x t ∷ map (edge_term N 
 pub record IsPeggable (N : Table) (table : List PlanRows) (t : ℕ) (e : Edge) : Type 0 where
   pub edge : IsEdge N e
   pub period : t < length (rows_at table e.demander.0).release
-  pub within : edge_need e t (slice_index (rows_at table e.demander.0).release t) ≤ MOST
+  pub within : edge_need N e t (slice_index (rows_at table e.demander.0).release t) ≤ MOST

@@ -8,6 +8,8 @@ use Rattle.mrp_net.specs.Sums.{demand}
 use Rattle.mrp_net.specs.Plan.{rows_at, release_at}
 use Rattle.mrp_net.specs.PlanLaws.{Fits}
 use Rattle.mrp_net.specs.Shares.{share_of}
+use Rattle.mrp_net.specs.UsageLaws.{IsRoundedUp}
+use Rattle.mrp_net.specs.Usages.{usage_in, usages_to}
 use Rattle.mrp_plan.specs.Peg.{peg_terms}
 use Rattle.mrp_plan.specs.declared.terms.PegTerm.{PegTerm}
 use Rattle.mrp_plan.specs.declared.terms.PegSource.{PegSource}
@@ -18,24 +20,31 @@ abbrev pub TermsAddUp : Type 0
 TermsAddUp = (N : Table) (table : List PlanRows) → Fits N table → (x t : ℕ) → IsPair N x → t < horizon N
     → sum_by (λ p. p.quantity) (peg_terms N table x t) ≡ slice_index (rows_at table x).gross t
 
--- each term is so many pieces for each that is released, and none is 0
+-- each term is so many pieces for so many that are released, rounded up, and none is 0
 abbrev pub TermsAreProducts : Type 0
 TermsAreProducts = (N : Table) (table : List PlanRows) (x t : ℕ)
-    → All (λ p. (p.quantity ≡ p.release * p.per) × (0 < p.quantity)) (peg_terms N table x t)
+    → All (λ p. IsRoundedUp p.per p.base p.release p.quantity × (0 < p.quantity)) (peg_terms N table x t)
+
+-- where they are so many pieces for each, it is their product
+abbrev pub WholeTermsAreProducts : Type 0
+WholeTermsAreProducts = (N : Table) (table : List PlanRows) (x t : ℕ)
+    → All (λ p. p.base ≡ 1 → p.quantity ≡ p.release * p.per) (peg_terms N table x t)
 
 -- the demand rows of the pair itself, one for one
 pub record IsDemandTerm (N : Table) (x t : ℕ) (p : PegTerm) : Type 0 where
   pub pair : p.pair.0 ≡ x
   pub per : p.per ≡ 1
+  pub base : p.base ≡ 1
   pub release : p.release ≡ demand N x t
 
--- a row of a bill, by which the parent takes so many of the pair for each piece of its whole release
+-- a row of a bill, by which the parent takes the pair for its whole release: so many pieces for so many, as the usage in
+-- force in the period says
 pub record IsBillTerm (N : Table) (table : List PlanRows) (x t : ℕ) (p : PegTerm) : Type 0 where
   pub row : BillRow
   pub listed : Contains N.bills row
   pub parent : row.parent ≡ p.pair
   pub component : row.component.0 ≡ x
-  pub per : row.per ≡ p.per
+  pub usage : usage_in (usages_to N x) row.parent.0 row.per t ≡ record { per = p.per; base = p.base }
   pub release : p.release ≡ release_at table p.pair.0 t
 
 -- a source, by which a pair takes its share of its release from this one, one for one
@@ -45,6 +54,7 @@ pub record IsPlantTerm (N : Table) (table : List PlanRows) (x t : ℕ) (p : PegT
   pub taker : row.pair ≡ p.pair
   pub supplier : source_pair N row ≡ x
   pub per : p.per ≡ 1
+  pub base : p.base ≡ 1
   pub release : p.release ≡ share_of row.low row.high (release_at table p.pair.0 t)
 
 -- what a term of each source is

@@ -22,7 +22,7 @@ pub record CanBeDrafted (N : Table) (table : List PlanRows) (x : ℕ) : Type 0 w
   pub room : length (rows_at table x).gross ≡ horizon N
   pub releases : All (λ e. length (rows_at table e.demander.0).release ≡ horizon N) (demanders N x)
   pub within : (pair_at N x).on_hand + received_total N x + shipped_total N x + firm_total N x + demand_total N x
-      + asked_total table (demanders N x) + (pair_at N x).safety + quantities_at N x ≤ MOST
+      + asked_total N table (demanders N x) + (pair_at N x).safety + quantities_at N x ≤ MOST
 
 -- the first k pairs of the order have their plans, whose releases are within their needs; each place
 -- has room for a plan

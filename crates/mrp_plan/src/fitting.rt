@@ -13,8 +13,9 @@ ghost use Rattle.mrp_plan.specs.Explosion.{CanAsk};
 ghost use Rattle.mrp_plan.specs.Progress.{CanBeDrafted, HavePeriods, IsPlannedTo};
 
 use crate::Plan;
+use crate::explosion::need_of;
 use mrp_loops::SizedNet;
-use mrp_net::{Edge, FirmRows, Network, PairNo, share_of};
+use mrp_net::{Edge, FirmRows, Network, PairNo};
 use mrp_netting::is_plan_from;
 use mrp_qty::Row;
 
@@ -96,7 +97,7 @@ fn has_gross(network: &Network, x: PairNo, plan: &Plan, row: &Row) -> bool
 {
     let edges = network.demanders(x);
     for t in 0..row.len() {
-        let needed = network.demand(x, t) + asked_in(edges, plan, t);
+        let needed = network.demand(x, t) + asked_in(network, edges, plan, t);
         if row.get(t).get() != needed {
             return false;
         }
@@ -105,15 +106,15 @@ fn has_gross(network: &Network, x: PairNo, plan: &Plan, row: &Row) -> bool
 }
 
 /// What the edges ask in the period for the releases of their demanders.
-fn asked_in(edges: &[Edge], plan: &Plan, t: usize) -> u64
-    requires edges { All (CanAsk plan.now t) edges.now }
-    requires within { asked plan.now edges.now t ≤ MOST }
-    ensures { result ≡ asked plan.now edges.now t }
+fn asked_in(network: &Network, edges: &[Edge], plan: &Plan, t: usize) -> u64
+    requires edges { All (CanAsk network.now plan.now t) edges.now }
+    requires within { asked network.now plan.now edges.now t ≤ MOST }
+    ensures { result ≡ asked network.now plan.now edges.now t }
 {
     let mut total = 0;
     for edge in edges {
         let released = plan.pair(edge.demander).release().get(t);
-        total += edge.per * share_of(edge.low, edge.high, released.get());
+        total += need_of(network.usages(edge), edge, t, released.get());
     }
     total
 }

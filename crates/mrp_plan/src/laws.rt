@@ -3,17 +3,19 @@
 ghost use Rattle.mrp_plan.specs.OrderLaws.{OrdersMakeReleases, PlannedOrdersMakeReleases};
 ghost use Rattle.mrp_plan.specs.OrderLaws.{LateOrdersAreOrders, LateOrdersAreListed, LateOrdersArePlanned};
 ghost use Rattle.mrp_plan.specs.OrderLaws.{FirmOrdersAreListed, PlannedOrdersAreListed, NoFirmOrders};
-ghost use Rattle.mrp_plan.specs.PegLaws.{TermsAddUp, TermsAreProducts, TermsHaveRows};
+ghost use Rattle.mrp_plan.specs.PegLaws.{TermsAddUp, TermsAreProducts, TermsHaveRows, WholeTermsAreProducts};
 
 /// In a plan that fits the terms of a pair in a period add up to its gross requirement there, in
-/// pieces, and each is so many pieces for each that is released, never 0.
+/// pieces. Each is so many pieces for so many that are released, rounded up once, for the whole release, and never 0.
 pub fn terms_add_up()
     ensures sum { TermsAddUp }
     ensures product { TermsAreProducts }
+    ensures whole { WholeTermsAreProducts }
 {}
 
 /// Each term is what the rows of its source ask: the demand rows of the pair, a row of a bill for the
-/// parent's whole release, or a source for its share of the release of the pair that takes from it.
+/// parent's whole release by the usage in force in the period, or a source for its share of the release of the pair that
+/// takes from it.
 pub fn terms_have_rows()
     ensures { TermsHaveRows }
 {}

@@ -9,7 +9,7 @@ ghost use Rattle.mrp_plan.specs.Peg.{edge_term as edge_term_of};
 
 use crate::{PegSource, PegTerm, Plan};
 use mrp_loops::SizedNet;
-use mrp_net::{Edge, Network, PairNo, share_of};
+use mrp_net::{Edge, Network, PairNo, pieces_for, share_of, usage_in};
 use mrp_qty::Memory;
 use std::alloc::Global;
 
@@ -92,12 +92,13 @@ pub fn demand_term(network: &Network, x: PairNo, t: usize) -> PegTerm
         pair: x,
         release: quantity,
         per: 1,
+        base: 1,
         quantity,
     }
 }
 
-/// What the edge asks in period `t` by the release of its demander, which is 0 where nothing is
-/// released.
+/// What the edge asks in period `t` by the release of its demander and the usage in force, which is 0 where nothing is
+/// released and where none goes into the demander.
 ///
 /// The edge is one of [`asking_edges`] in the period.
 pub fn edge_term(network: &Network, plan: &Plan, edge: &Edge, t: usize) -> PegTerm
@@ -107,6 +108,7 @@ pub fn edge_term(network: &Network, plan: &Plan, edge: &Edge, t: usize) -> PegTe
 {
     let released = plan.pair(edge.demander).release().get(t);
     let release = share_of(edge.low, edge.high, released.get());
+    let usage = usage_in(network.usages(edge), edge.per, t);
     let demander = network.pair(edge.demander);
     let source = if demander.plant.0 == network.pair(edge.pair).plant.0 {
         PegSource::Bill
@@ -117,8 +119,9 @@ pub fn edge_term(network: &Network, plan: &Plan, edge: &Edge, t: usize) -> PegTe
         source,
         pair: edge.demander,
         release,
-        per: edge.per,
-        quantity: edge.per * release,
+        per: usage.per,
+        base: usage.base,
+        quantity: pieces_for(usage, release),
     }
 }
 

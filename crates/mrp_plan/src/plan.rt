@@ -105,7 +105,7 @@ fn plan_one(network: &Network, x: PairNo, plans: &mut [PairPlan], gross_row: &mu
     ensures gross_room { length gross_row.new ≡ horizon network.now }
 {
     fill_demand(network, x, gross_row);
-    explode_all(network.demanders(x), plans, gross_row);
+    explode_all(network, network.demanders(x), plans, gross_row);
     let terms = network.terms(x);
     let incoming = network.incoming_row(x);
     let plan = &mut plans[x.0];

@@ -23,8 +23,11 @@ pub struct PegTerm {
     /// The sum of the demand rows, or the part of the demander's release that the pair has to
     /// serve, in pieces.
     pub release: u64,
-    /// Pieces for each piece of it: 1 for demand rows.
+    /// Pieces for each `base` pieces of it, 0 to 10^6, by the usage in force in the period: 1 for demand rows and for
+    /// what another plant takes.
     pub per: u64,
-    /// The term: `release` times `per`, above 0 and at most 10^15 pieces.
+    /// For so many pieces of it `per` are asked, 1 to 10^6: 1 but where a usage row says more.
+    pub base: u64,
+    /// The term: `release` times `per` by `base`, rounded up, at most 10^15 pieces, and above 0 in what [`crate::peg`] gives.
     pub quantity: u64,
 }

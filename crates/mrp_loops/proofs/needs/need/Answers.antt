@@ -3,7 +3,7 @@ use Rattle.mrp_lot.specs.Lot.{rule_quantities}
 use Rattle.mrp_netting.specs.declared.planning_data.Policy.{Policy}
 use Rattle.mrp_master_data.specs.declared.rows.PairRow.{PairRow}
 use Rattle.mrp_net.specs.declared.edge.Edge.{Edge}
-use Rattle.mrp_net.specs.Edges.{demanders}
+use Rattle.mrp_net.specs.Edges.{demanders, edge_most}
 use Rattle.mrp_net.specs.FirmOrders.{firm_total}
 use Rattle.mrp_net.specs.Policies.{policy_of}
 use Rattle.mrp_net.specs.Sums.{demand_total, pair_at}
@@ -25,12 +25,12 @@ returns c =
     let most : ℕ = 2 ^ 64 - 1 in
     let row : PairRow = pair_at N x in
     let policy : Policy = policy_of N x in
-    let asks : ℕ = sum_by (λ (e : Edge). e.per * slice_index c.args.needs.now e.demander.0) (demanders N x) in
+    let asks : ℕ = sum_by (λ (e : Edge). edge_most N e * slice_index c.args.needs.now e.demander.0) (demanders N x) in
     let d : ℕ = demand_total N x in
     let rule : ℕ = rule_quantities row.rule in
     let cap : ℕ → ℕ = λ n. min n most in
     let asked : c.asked_by-asked.result ≡ min asks most = c.asked_by-asked.ensures
-    ∙ ap (λ (es : List Edge). min (sum_by (λ (e : Edge). e.per * slice_index c.args.needs.now e.demander.0) es) most) c.demanders.ensures.value in
+    ∙ ap (λ (es : List Edge). min (sum_by (λ (e : Edge). edge_most N e * slice_index c.args.needs.now e.demander.0) es) most) c.demanders.ensures.value in
     let safety : c.get.result ≡ row.safety = c.get.ensures.value ∙ ap (λ (p : PairRow). p.safety) c.pair-row.ensures in
     let ruled : c.quantities_of.result ≡ min rule most = c.quantities_of.ensures
     ∙ ap (λ (p : PairRow). min (rule_quantities p.rule) most) c.pair-row.ensures in

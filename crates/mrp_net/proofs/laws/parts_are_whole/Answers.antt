@@ -1,4 +1,5 @@
-use Rattle.mrp_net.proofs.Sharing.{parts_are_whole, needs_are_whole}
+use Rattle.mrp_net.proofs.Needs.{needs_are_whole}
+use Rattle.mrp_net.proofs.Sharing.{parts_are_whole}
 use Rattle.mrp_net.proofs.laws.parts_are_whole.Goals as goal
 
 pub returns-clause-parts : goal.returns-clause-parts

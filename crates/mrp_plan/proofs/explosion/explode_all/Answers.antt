@@ -2,7 +2,7 @@ use Rattle.std.proofs.Common.{◌≡◌, ◌*◌, ◌<◌, length, slice_index, 
 use Rattle.std.proofs.lemmas.List.{take_all}
 use Rattle.std.proofs.lemmas.List.Sums.{sum_by_more_le, sum_by_more}
 use Rattle.mrp_net.specs.Plan.{rows_at}
-use Rattle.mrp_net.specs.Edges.{edge_need}
+use Rattle.mrp_net.specs.Edges.{edge_most, edge_need}
 use Rattle.mrp_net.specs.declared.edge.Edge.{Edge}
 use Rattle.mrp_plan.proofs.Asked.{no_edge, rows_at_read}
 use Rattle.mrp_plan.proofs.explosion.explode_all.Goals as goal
@@ -13,14 +13,14 @@ explode-requires-clause-within c =
     let can = c.requires.edges c.loop-edge.edge-index no_edge c.loop-edge-test.true in
     let row : c.release.result.now ≡ (rows_at c.args.plans.now e.demander.0).release =
     c.release.ensures ∙ ap (λ r. r.release) (rows_at_read c.args.plans.now e.demander.0 c.index-plans-edge.result can.demander c.index-plans-edge.is) in
-    let term = ap (λ r. e.per * sum r) row in
+    let term = ap (λ r. edge_most c.args.network.now e * sum r) row in
     omega (
       arith,
       term,
       c.loop-edge.invariant.total,
       c.requires.within,
-      sum_by_more_le (λ (f : Edge). f.per * sum (rows_at c.args.plans.now f.demander.0).release) c.args.edges.now c.loop-edge.edge-index no_edge
-          c.loop-edge-test.true,
+      sum_by_more_le (λ (f : Edge). edge_most c.args.network.now f * sum (rows_at c.args.plans.now f.demander.0).release) c.args.edges.now
+          c.loop-edge.edge-index no_edge c.loop-edge-test.true,
     )
 
 pub loop-edge-preserved : goal.loop-edge-preserved
@@ -36,29 +36,29 @@ loop-edge-preserved c =
             arith,
             c.explode.ensures.each t (omega arith),
             c.loop-edge.invariant.each t (omega arith),
-            ap (λ r. edge_need e t (slice_index r t)) row,
-            sum_by_more (λ (f : Edge). edge_need f t (slice_index (rows_at c.args.plans.now f.demander.0).release t)) c.args.edges.now c.loop-edge.edge-index
-                no_edge c.loop-edge-test.true,
+            ap (λ r. edge_need c.args.network.now e t (slice_index r t)) row,
+            sum_by_more (λ (f : Edge). edge_need c.args.network.now f t (slice_index (rows_at c.args.plans.now f.demander.0).release t)) c.args.edges.now
+                c.loop-edge.edge-index no_edge c.loop-edge-test.true,
           );
       total =
           omega (
             arith,
             c.explode.ensures.total,
             c.loop-edge.invariant.total,
-            ap (λ r. e.per * sum r) row,
-            sum_by_more (λ (f : Edge). f.per * sum (rows_at c.args.plans.now f.demander.0).release) c.args.edges.now c.loop-edge.edge-index no_edge
-                c.loop-edge-test.true,
+            ap (λ r. edge_most c.args.network.now e * sum r) row,
+            sum_by_more (λ (f : Edge). edge_most c.args.network.now f * sum (rows_at c.args.plans.now f.demander.0).release) c.args.edges.now
+                c.loop-edge.edge-index no_edge c.loop-edge-test.true,
           );
     }
 
 pub bounds-plans-edge : goal.bounds-plans-edge
 bounds-plans-edge c = (c.requires.edges c.loop-edge.edge-index no_edge c.loop-edge-test.true).demander
 
-pub explode-requires-clause-shares : goal.explode-requires-clause-shares
-explode-requires-clause-shares c = (c.requires.edges c.loop-edge.edge-index no_edge c.loop-edge-test.true).shares
+pub explode-requires-clause-table : goal.explode-requires-clause-table
+explode-requires-clause-table c = c.requires.table
 
-pub explode-requires-clause-whole : goal.explode-requires-clause-whole
-explode-requires-clause-whole c = (c.requires.edges c.loop-edge.edge-index no_edge c.loop-edge-test.true).whole
+pub explode-requires-clause-edge : goal.explode-requires-clause-edge
+explode-requires-clause-edge c = (c.requires.edges c.loop-edge.edge-index no_edge c.loop-edge-test.true).edge
 
 pub returns-clause-each : goal.returns-clause-each
 returns-clause-each c = λ t h.

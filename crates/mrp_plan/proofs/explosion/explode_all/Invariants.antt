@@ -7,6 +7,6 @@ use Rattle.mrp_plan.proofs.explosion.explode_all.Given as goal
 abbrev pub invariant-loop-edge : goal.invariant-loop-edge
 invariant-loop-edge l = record {
   size : length l.gross ≡ length l.initial.gross;
-  each : (t : ℕ) → t < length l.gross → slice_index l.gross t ≡ slice_index l.initial.gross t + asked l.plans (take l.edge-index l.edges) t;
-  total : sum l.gross ≤ sum l.initial.gross + asked_total l.plans (take l.edge-index l.edges);
+  each : (t : ℕ) → t < length l.gross → slice_index l.gross t ≡ slice_index l.initial.gross t + asked l.network l.plans (take l.edge-index l.edges) t;
+  total : sum l.gross ≤ sum l.initial.gross + asked_total l.network l.plans (take l.edge-index l.edges);
 }

@@ -6,6 +6,6 @@ use Rattle.mrp_plan.proofs.explosion.explode_part.Given as goal
 abbrev pub invariant-loop-t : goal.invariant-loop-t
 invariant-loop-t l = record {
   size : length l.gross ≡ length l.initial.gross;
-  done : (k : ℕ) → k < l.t → slice_index l.gross k ≡ slice_index l.initial.gross k + edge_need l.edge k (slice_index l.release k);
+  done : (k : ℕ) → k < l.t → slice_index l.gross k ≡ slice_index l.initial.gross k + edge_need l.network l.edge k (slice_index l.release k);
   rest : (k : ℕ) → l.t ≤ k → slice_index l.gross k ≡ slice_index l.initial.gross k;
 }

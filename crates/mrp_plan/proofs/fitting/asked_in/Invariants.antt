@@ -4,4 +4,4 @@ use Rattle.mrp_net.specs.Plan.{asked}
 
 -- what the edges passed so far ask
 abbrev pub invariant-loop-edge : goal.invariant-loop-edge
-invariant-loop-edge l = l.total ≡ asked l.plan (take l.edge-index l.edges) l.t
+invariant-loop-edge l = l.total ≡ asked l.network l.plan (take l.edge-index l.edges) l.t

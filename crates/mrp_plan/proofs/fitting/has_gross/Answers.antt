@@ -14,21 +14,22 @@ pub asked_in-requires-clause-within : goal.asked_in-requires-clause-within
 asked_in-requires-clause-within c =
     let N = c.args.network.now in
     let x = c.args.x.0 in
-    let are = ap (λ (es : List Edge). asked c.args.plan.now es c.loop-t.t) c.demanders-edges.ensures.value in
-    omega (arith, are, asked-le c.args.plan.now c.loop-t.t (demanders N x) (shares_end N x c.requires.can.is_table), c.requires.can.within)
+    let are = ap (λ (es : List Edge). asked N c.args.plan.now es c.loop-t.t) c.demanders-edges.ensures.value in
+    let table = c.requires.can.is_table in
+    omega (arith, are, asked-le N c.args.plan.now c.loop-t.t (demanders N x) table (shares_end N x table), c.requires.can.within)
 
 pub overflow_add-needed : goal.overflow_add-needed
 overflow_add-needed c =
     let N = c.args.network.now in
     let x = c.args.x.0 in
-    let are = ap (λ (es : List Edge). asked c.args.plan.now es c.loop-t.t) c.demanders-edges.ensures.value in
+    let are = ap (λ (es : List Edge). asked N c.args.plan.now es c.loop-t.t) c.demanders-edges.ensures.value in
     omega (
       arith,
       are,
       c.demand.ensures,
       c.asked_in.ensures,
       demand-le N x c.loop-t.t (omega arith),
-      asked-le c.args.plan.now c.loop-t.t (demanders N x) (shares_end N x c.requires.can.is_table),
+      asked-le N c.args.plan.now c.loop-t.t (demanders N x) c.requires.can.is_table (shares_end N x c.requires.can.is_table),
       c.requires.can.within,
     )
 
@@ -36,7 +37,7 @@ pub returns-then-get-needed : goal.returns-then-get-needed
 returns-then-get-needed c =
     let N = c.args.network.now in
     let x = c.args.x.0 in
-    let are = ap (λ (es : List Edge). asked c.args.plan.now es c.loop-t.t) c.demanders-edges.ensures.value in (
+    let are = ap (λ (es : List Edge). asked N c.args.plan.now es c.loop-t.t) c.demanders-edges.ensures.value in (
       λ no_. absurd (false≢true no_),
       λ is.
           let read = row_reads N (gross N c.args.plan.now x) c.args.row.now c.loop-t.t is (omega arith) in

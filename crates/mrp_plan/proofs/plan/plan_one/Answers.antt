@@ -16,6 +16,9 @@ use Rattle.mrp_plan.proofs.Planning.{length-row_of, pair_within, gross_row}
 use Rattle.mrp_plan.proofs.plan.plan_one.Goals as goal
 use Rattle.mrp_plan.proofs.plan.plan_one.Goals.{After-explode_all, After-terms-terms}
 
+pub explode_all-requires-clause-table : goal.explode_all-requires-clause-table
+explode_all-requires-clause-table c = c.requires.can.is_table
+
 pub explode_all-requires-clause-edges : goal.explode_all-requires-clause-edges
 explode_all-requires-clause-edges c = λ i d h.
     let N = c.args.network.now in
@@ -24,10 +27,9 @@ explode_all-requires-clause-edges c = λ i d h.
     let edge = c.demanders.ensures.edges i d h in
     let P : List Edge → Type 0 = λ es. All (λ e. length (rows_at c.args.plans.now e.demander.0).release ≡ horizon N) es in
     record {
+      edge = edge;
       demander = omega (arith, edge.demander, c.requires.can.size);
       release = subst P (sym c.demanders.ensures.value) c.requires.can.releases i d h ∙ sym size;
-      shares = omega (arith, edge.rises);
-      whole = edge.ends;
     }
 
 pub explode_all-requires-clause-within : goal.explode_all-requires-clause-within
@@ -40,7 +42,7 @@ explode_all-requires-clause-within c =
       demands-le N x,
       ap (λ (r : List ℕ). sum r) c.fill_demand.ensures,
       ap
-          (asked_total c.args.plans.now) c.demanders.ensures.value,
+          (asked_total N c.args.plans.now) c.demanders.ensures.value,
     )
 
 -- the gross requirements are those of the pair
@@ -50,10 +52,10 @@ gross_is c =
     let x = c.args.x.0 in
     let each = λ (t : ℕ) (h : t < length (row_of N (demand N x))).
     let own : slice_index c.fill_demand.new.row t ≡ slice_index (row_of N (demand N x)) t = ap (λ (r : List ℕ). slice_index r t) c.fill_demand.ensures in
-    let asks : asked c.args.plans.now c.demanders.result.now t ≡ asked c.args.plans.now (demanders N x) t =
-    ap (λ (es : List Edge). asked c.args.plans.now es t) c.demanders.ensures.value in
+    let asks : asked N c.args.plans.now c.demanders.result.now t ≡ asked N c.args.plans.now (demanders N x) t =
+    ap (λ (es : List Edge). asked N c.args.plans.now es t) c.demanders.ensures.value in
     let in_row : t < length c.fill_demand.new.row = omega (arith, h, ap (λ (r : List ℕ). length r) c.fill_demand.ensures) in
-    let sum_is : slice_index c.explode_all.new.gross t ≡ slice_index (row_of N (demand N x)) t + asked c.args.plans.now (demanders N x) t =
+    let sum_is : slice_index c.explode_all.new.gross t ≡ slice_index (row_of N (demand N x)) t + asked N c.args.plans.now (demanders N x) t =
     omega (arith, own, asks, c.explode_all.ensures.each t in_row) in
     sum_is in
     gross_row N c.args.plans.now x c.explode_all.new.gross (c.explode_all.ensures.size ∙ ap (λ (r : List ℕ). length r) c.fill_demand.ensures) each
