@@ -8,10 +8,10 @@ use Rattle.mrp_net.specs.Terms.{terms_given}
 use Rattle.mrp_master_data.specs.declared.rows.FirmRow.{FirmRow}
 use Rattle.mrp_master_data.specs.declared.numbers.PairNo.{PairNo}
 use Rattle.mrp_agent.specs.declared.edges.ParentEdge.{ParentEdge}
-use Rattle.mrp_agent.specs.Asking.{HasDraft, IsFirmWithin, grossed}
+use Rattle.mrp_agent.specs.Asking.{HasDraft, IsFirmWithin, Uses, grossed}
 use Rattle.mrp_agent.specs.Drafts.{CanDraft, drafted}
 use Rattle.mrp_agent.specs.Kept.{Indexes, IsKept}
-use Rattle.mrp_agent.specs.Rows.{edges_at, part_at}
+use Rattle.mrp_agent.specs.Rows.{edges_at, part_at, uses_at}
 use Rattle.mrp_agent.specs.State.{AgentState, pair_place, terms_at_place, terms_owned}
 use Rattle.mrp_agent.proofs.Drafts.{demand_length, drafted_is, has_draft}
 use Rattle.mrp_agent.proofs.Placing.{IsAtPlace, can_before}
@@ -19,7 +19,7 @@ use Rattle.mrp_agent.proofs.Owning.{own_within}
 
 -- a pair that can be drafted, and the rows and plans that a call was given for it
 pub record HasRead (A : AgentState) (I : Indexes) (x : PairNo) (place : ℕ) (terms : PlanningTerms) (incoming demand : List ℕ)
-    (edges : List ParentEdge) (plans : List PlanRows) : Type 0 where
+    (edges : List ParentEdge) (uses : Uses) (plans : List PlanRows) : Type 0 where
   pub placed : IsAtPlace A I x place
   pub can : CanDraft A x
   pub terms_are : terms_given A.view.horizon terms ≡ terms_at_place A.view place
@@ -27,17 +27,18 @@ pub record HasRead (A : AgentState) (I : Indexes) (x : PairNo) (place : ℕ) (te
   pub incoming_are : incoming ≡ part_at A.view.horizon place A.scheduled_receipts
   pub demand_are : demand ≡ part_at A.view.horizon place A.outside_demand
   pub edges_are : edges ≡ edges_at A.view place
+  pub uses_are : uses ≡ uses_at A.view place
   pub plans_are : plans ≡ A.plans
 
 -- the rows were read of the amounts that the agent has
 pub rows_read : {A : AgentState} {I : Indexes} {x : PairNo} {place : ℕ} {terms : PlanningTerms} {incoming demand : List ℕ}
-    {edges : List ParentEdge} {plans : List PlanRows} {all_receipts all_demand : List ℕ}
+    {edges : List ParentEdge} {uses : Uses} {plans : List PlanRows} {all_receipts all_demand : List ℕ}
     → IsAtPlace A I x place → CanDraft A x → all_receipts ≡ A.scheduled_receipts → all_demand ≡ A.outside_demand → plans ≡ A.plans
     → terms_given A.view.horizon terms ≡ terms_at_place A.view place → terms.orders.now ≡ slice_index_or A.view.firms place []
     → incoming ≡ part_at A.view.horizon place all_receipts → demand ≡ part_at A.view.horizon place all_demand
-    → edges ≡ edges_at A.view place
-    → HasRead A I x place terms incoming demand edges plans
-rows_read {A} {I} {x} {place} placed can all_receipts_are all_demand_are plans_are terms_are orders_are incoming_are demand_are edges_are = record {
+    → edges ≡ edges_at A.view place → uses ≡ uses_at A.view place
+    → HasRead A I x place terms incoming demand edges uses plans
+rows_read {A} {I} {x} {place} placed can all_receipts_are all_demand_are plans_are terms_are orders_are incoming_are demand_are edges_are uses_are = record {
   placed = placed;
   can = can;
   terms_are = terms_are;
@@ -45,48 +46,52 @@ rows_read {A} {I} {x} {place} placed can all_receipts_are all_demand_are plans_a
   incoming_are = incoming_are ∙ ap (part_at A.view.horizon place) all_receipts_are;
   demand_are = demand_are ∙ ap (part_at A.view.horizon place) all_demand_are;
   edges_are = edges_are;
+  uses_are = uses_are;
   plans_are = plans_are;
 }
 
 module _ {A : AgentState} {I : Indexes} {x : PairNo} {place : ℕ} {terms : PlanningTerms} {incoming demand : List ℕ}
-    {edges : List ParentEdge} {plans : List PlanRows} (read : HasRead A I x place terms incoming demand edges plans) where
+    {edges : List ParentEdge} {uses : Uses} {plans : List PlanRows} (read : HasRead A I x place terms incoming demand edges uses plans) where
   abbrev Periods : ℕ
   Periods = A.view.horizon
 
   -- what is said of the pair's own rows is said of what was read
-  of_read : (P : PairTerms → List ℕ → List ℕ → List ParentEdge → List PlanRows → Type 0)
+  of_read : (P : PairTerms → List ℕ → List ℕ → List ParentEdge → Uses → List PlanRows → Type 0)
       → P (terms_owned A.view x) (part_at Periods (pair_place A.view x.0) A.scheduled_receipts)
       (part_at Periods (pair_place A.view x.0) A.outside_demand)
-      (edges_at A.view (pair_place A.view x.0)) A.plans
-      → P (terms_given Periods terms) incoming demand edges plans
+      (edges_at A.view (pair_place A.view x.0)) (uses_at A.view (pair_place A.view x.0)) A.plans
+      → P (terms_given Periods terms) incoming demand edges uses plans
   of_read P own =
       let V = A.view in
-      subst (λ (z : PairTerms). P z incoming demand edges plans) (sym read.terms_are)
-      (subst (λ (z : List ℕ). P (terms_at_place V place) z demand edges plans) (sym read.incoming_are)
-      (subst (λ (z : List ℕ). P (terms_at_place V place) (part_at Periods place A.scheduled_receipts) z edges plans) (sym read.demand_are)
+      subst (λ (z : PairTerms). P z incoming demand edges uses plans) (sym read.terms_are)
+      (subst (λ (z : List ℕ). P (terms_at_place V place) z demand edges uses plans) (sym read.incoming_are)
+      (subst (λ (z : List ℕ). P (terms_at_place V place) (part_at Periods place A.scheduled_receipts) z edges uses plans) (sym read.demand_are)
       (subst (λ (z : List ParentEdge). P (terms_at_place V place) (part_at Periods place A.scheduled_receipts)
-      (part_at Periods place A.outside_demand) z plans) (sym read.edges_are)
+      (part_at Periods place A.outside_demand) z uses plans) (sym read.edges_are)
+      (subst (λ (z : Uses). P (terms_at_place V place) (part_at Periods place A.scheduled_receipts)
+      (part_at Periods place A.outside_demand) (edges_at V place) z plans) (sym read.uses_are)
       (subst (λ (z : List PlanRows). P (terms_at_place V place) (part_at Periods place A.scheduled_receipts)
-      (part_at Periods place A.outside_demand) (edges_at V place) z) (sym read.plans_are)
-      (subst (λ (k : ℕ). P (terms_at_place V k) (part_at Periods k A.scheduled_receipts) (part_at Periods k A.outside_demand) (edges_at V k) A.plans)
-      (sym read.placed.at) own)))))
+      (part_at Periods place A.outside_demand) (edges_at V place) (uses_at V place) z) (sym read.plans_are)
+      (subst (λ (k : ℕ). P (terms_at_place V k) (part_at Periods k A.scheduled_receipts) (part_at Periods k A.outside_demand) (edges_at V k)
+      (uses_at V k) A.plans)
+      (sym read.placed.at) own))))))
 
   pub demand_periods : length demand ≡ A.view.horizon
   demand_periods =
-      of_read (λ (_ : PairTerms) (_ z : List ℕ) (_ : List ParentEdge) (_ : List PlanRows). length z ≡ Periods)
+      of_read (λ (_ : PairTerms) (_ z : List ℕ) (_ : List ParentEdge) (_ : Uses) (_ : List PlanRows). length z ≡ Periods)
       (demand_length A read.placed.kept.view read.placed.kept.rooms x read.can.own)
 
-  pub draft_asked : HasDraft (terms_given (length demand) terms) incoming demand edges plans
+  pub draft_asked : HasDraft (terms_given (length demand) terms) incoming demand edges uses plans
   draft_asked =
-      subst (λ (n : ℕ). HasDraft (terms_given n terms) incoming demand edges plans) (sym demand_periods)
-      (of_read (λ (said : PairTerms) (comes beside : List ℕ) (es : List ParentEdge) (rows : List PlanRows). HasDraft said comes beside es rows)
+      subst (λ (n : ℕ). HasDraft (terms_given n terms) incoming demand edges uses plans) (sym demand_periods)
+      (of_read (λ (said : PairTerms) (comes beside : List ℕ) (es : List ParentEdge) (us : Uses) (rows : List PlanRows). HasDraft said comes beside es us rows)
       (has_draft A read.placed.kept.view read.placed.kept.rooms x read.can.own read.can.within))
 
-  pub draft_made : one (planned (terms_given (length demand) terms) incoming (grossed demand edges plans)) ≡ drafted A x
+  pub draft_made : one (planned (terms_given (length demand) terms) incoming (grossed demand edges uses plans)) ≡ drafted A x
   draft_made =
-      ap (λ (n : ℕ). one (planned (terms_given n terms) incoming (grossed demand edges plans))) demand_periods
-      ∙ of_read (λ (said : PairTerms) (comes beside : List ℕ) (es : List ParentEdge) (rows : List PlanRows).
-      one (planned said comes (grossed beside es rows)) ≡ drafted A x)
+      ap (λ (n : ℕ). one (planned (terms_given n terms) incoming (grossed demand edges uses plans))) demand_periods
+      ∙ of_read (λ (said : PairTerms) (comes beside : List ℕ) (es : List ParentEdge) (us : Uses) (rows : List PlanRows).
+      one (planned said comes (grossed beside es us rows)) ≡ drafted A x)
       (drafted_is A read.placed.kept.view read.placed.kept.rooms x read.can.own)
 
   -- the pair's firm planned orders are released and due within the periods

@@ -1,5 +1,5 @@
 -- The plans of an agent after one more pair is planned.
-use Rattle.std.proofs.Common.{◌≡◌, ℕ, ◌+◌, ◌*◌, ◌==◌, eqb, cond, if◌then◌else◌, Bool, true, false, List, [], ◌∷◌, inl, inr, set, sum_by, slice_index, refl, sym}
+use Rattle.std.proofs.Common.{◌≡◌, ℕ, ◌+◌, ◌==◌, eqb, cond, if◌then◌else◌, Bool, true, false, List, [], ◌∷◌, inl, inr, set, sum_by, refl, sym}
 use Rattle.std.proofs.Common.{ap, ◌∙◌, arith}
 use Rattle.std.specs.List.{All, Contains}
 use Rattle.std.proofs.lemmas.Bool.{cases_eq, cases_Bool, eqb-true}
@@ -23,7 +23,7 @@ use Rattle.mrp_protocol.specs.LocalPlans.{amount_at, booked_on, local_gross, loc
 use Rattle.mrp_agent.specs.State.{AgentState, pair_place, plans_of}
 use Rattle.mrp_agent.specs.After.{after_settled}
 use Rattle.mrp_agent.specs.Kept.{HasRooms}
-use Rattle.mrp_agent.proofs.Drafts.{map_same, places_apart}
+use Rattle.mrp_agent.proofs.Drafts.{asks_within, map_same, places_apart}
 use Rattle.mrp_agent.proofs.Owning.{own_within}
 use Rattle.mrp_agent.proofs.Sent.{changed_there, changed_elsewhere}
 
@@ -47,23 +47,24 @@ module _ (A : AgentState) (rooms : HasRooms A) (x : PairNo) (own : IsOwnPair A.v
 pub record SameParents (V : PlantRows) (plans others : ℕ → PlanRows) (n : ℕ) (e : PlantEdge) : Type 0 where
   pub same : e.component.0 ≡ n → plans e.parent.0 ≡ others e.parent.0
 
-pub asked_same : (V : PlantRows) (plans others : ℕ → PlanRows) (n t : ℕ) (es : List PlantEdge) → All (SameParents V plans others n) es
-    → sum_by (λ e. if e.component.0 == n then e.per * slice_index (plans e.parent.0).release t else 0) es
-    ≡ sum_by (λ e. if e.component.0 == n then e.per * slice_index (others e.parent.0).release t else 0) es
-asked_same V plans others n t [] h = refl
-asked_same V plans others n t (e ∷ es) h =
-    let f : (ℕ → PlanRows) → PlantEdge → ℕ = λ plans e. if e.component.0 == n then e.per * slice_index (plans e.parent.0).release t else 0 in
+pub asked_same : (V : PlantRows) (asks : PlantEdge → PlanRows → ℕ) (plans others : ℕ → PlanRows) (n : ℕ) (es : List PlantEdge)
+    → All (SameParents V plans others n) es
+    → sum_by (λ e. if e.component.0 == n then asks e (plans e.parent.0) else 0) es
+    ≡ sum_by (λ e. if e.component.0 == n then asks e (others e.parent.0) else 0) es
+asked_same V asks plans others n [] h = refl
+asked_same V asks plans others n (e ∷ es) h =
+    let f : (ℕ → PlanRows) → PlantEdge → ℕ = λ plans e. if e.component.0 == n then asks e (plans e.parent.0) else 0 in
     let here : f plans e ≡ f others e =
     elim (cases_Bool (eqb e.component.0 n)) as (λ _. f plans e ≡ f others e) [
       | inl own ↦
           let same = (All-head (SameParents V plans others n) e es h).same (eqb-true e.component.0 n own) in
-          ap (λ (rows : PlanRows). if e.component.0 == n then e.per * slice_index rows.release t else 0) same
+          ap (λ (rows : PlanRows). if e.component.0 == n then asks e rows else 0) same
       | inr other ↦
-          let left : f plans e ≡ 0 = ap (λ (b : Bool). cond b (e.per * slice_index (plans e.parent.0).release t) 0) other in
-          let right : f others e ≡ 0 = ap (λ (b : Bool). cond b (e.per * slice_index (others e.parent.0).release t) 0) other in
+          let left : f plans e ≡ 0 = ap (λ (b : Bool). cond b (asks e (plans e.parent.0)) 0) other in
+          let right : f others e ≡ 0 = ap (λ (b : Bool). cond b (asks e (others e.parent.0)) 0) other in
           left ∙ sym right
     ] in
-    let later = asked_same V plans others n t es (All-tail (SameParents V plans others n) e es h) in
+    let later = asked_same V asks plans others n es (All-tail (SameParents V plans others n) e es h) in
     omega (arith, here, later, sum_by-cons (f plans) e es, sum_by-cons (f others) e es)
 
 pub local_same : (V : PlantRows) (taken : ℕ → List Record) (plans others : ℕ → PlanRows) (p : PlantPair) → All (SameParents V plans others p.number.0) V.edges
@@ -71,7 +72,7 @@ pub local_same : (V : PlantRows) (taken : ℕ → List Record) (plans others : �
 local_same V taken plans others p h =
     let gross : local_row V (local_gross V taken plans p) ≡ local_row V (local_gross V taken others p) =
     map_same (local_gross V taken plans p) (local_gross V taken others p) 0 V.horizon
-    (λ t _. let asked = asked_same V plans others p.number.0 t V.edges h in
+    (λ t _. let asked = asked_same V (asks_within V p.number t) plans others p.number.0 V.edges h in
     ap (λ (n : ℕ). amount_at V V.demands p.number t + n + booked_on Schedule V taken p.item t) asked) in
     ap (λ (row : List ℕ). one (data_of_terms (terms_in V p) (local_row V (local_incoming V taken p)) row)) gross
 

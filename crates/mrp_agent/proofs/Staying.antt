@@ -22,7 +22,7 @@ use Rattle.mrp_agent.specs.Kept.{Indexes, IsKept}
 use Rattle.mrp_agent.specs.Marking.{IsMarked}
 use Rattle.mrp_agent.specs.Shows.{awaited, join_of, joins_of}
 use Rattle.mrp_agent.specs.State.{AgentState, pair_place, plans_of, terms_owned}
-use Rattle.mrp_agent.proofs.Drafts.{map_same}
+use Rattle.mrp_agent.proofs.Drafts.{asks_within, map_same}
 use Rattle.mrp_agent.proofs.Ready.{ready_place}
 use Rattle.mrp_agent.proofs.Replanned.{asked_same, SameParents}
 
@@ -60,7 +60,7 @@ module _ (A : AgentState) (I : Indexes) (x : PairNo) (kept : IsKept A I) (can : 
       let gross : drafted_gross Next y ≡ drafted_gross A y =
       map_same (λ (t : ℕ). amount_at V A.outside_demand y t + asked_within V (plans_of Next) y t)
       (λ (t : ℕ). amount_at V A.outside_demand y t + asked_within V (plans_of A) y t) 0 V.horizon
-      (λ t h. ap (λ (n : ℕ). amount_at V A.outside_demand y t + n) (sym (asked_same V (plans_of A) (plans_of Next) y.0 t V.edges parents))) in
+      (λ t h. ap (λ (n : ℕ). amount_at V A.outside_demand y t + n) (sym (asked_same V (asks_within V y t) (plans_of A) (plans_of Next) y.0 V.edges parents))) in
       ap (λ (row : List ℕ). one (data_of_terms (terms_owned V y) (drafted_incoming A y) row)) gross
 
 abbrev Written : AgentState → PairNo → ℕ → AgentState

@@ -20,7 +20,7 @@ pub(crate) struct ParentEdge {
     pub(crate) component: u32,
     /// The place of the pair that is made.
     pub(crate) parent: u32,
-    /// How many pieces of the component go into one of the parent.
+    /// How many pieces of the component go into one of the parent where no usage row is in force.
     pub(crate) per: u32,
 }
 

@@ -5,7 +5,7 @@ ghost use Rattle.std.specs.Prelude.{All};
 ghost use Rattle.mrp_netting.specs.PlanningData.{one};
 ghost use Rattle.mrp_netting.specs.Plan.{nothing_planned};
 ghost use Rattle.mrp_net.specs.Terms.{terms_given};
-ghost use Rattle.mrp_agent.specs.Asking.{HasDraft, IsFirmWithin, data_over};
+ghost use Rattle.mrp_agent.specs.Asking.{HasDraft, IsFirmWithin, data_over, uses_by};
 ghost use Rattle.mrp_agent.specs.Drafts.{CanDraft, drafted};
 
 use crate::Agent;
@@ -75,7 +75,7 @@ impl Room {
         plans: &[PairPlan],
     )
         requires draft { HasDraft (terms_given (length rows.now.demand.now) terms.now) rows.now.incoming.now
-            rows.now.demand.now rows.now.edges.now plans.now }
+            rows.now.demand.now rows.now.edges.now (uses_by rows.now) plans.now }
         requires orders { All (IsFirmWithin (length rows.now.demand.now)) terms.now.orders.now }
         requires periods { length self.old.gross ≡ length rows.now.demand.now }
         ensures { self.new ≡ one (data_over terms.now rows.now plans.now) }

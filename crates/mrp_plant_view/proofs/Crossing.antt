@@ -6,6 +6,7 @@ use denote.Struct.Declared.{shape}
 use Rattle.std.proofs.Crossing.{Vec-send, Vec-sync, crosses}
 use Rattle.mrp_qty.proofs.horizon.Horizon.TheSendSync as horizon
 use Rattle.mrp_master_data.proofs.rows.FirmRow.TheSendSync as firm
+use Rattle.mrp_master_data.proofs.rows.UsageRow.TheSendSync as usage
 use Rattle.mrp_plant_view.proofs.lists.Lists.TheSendSync as lists
 use Rattle.mrp_plant_view.proofs.view.IncomingLane.TheSendSync as incoming
 use Rattle.mrp_plant_view.proofs.view.OutgoingLane.TheSendSync as outgoing
@@ -27,7 +28,7 @@ fields_send = struct_send (shape inside.the_type) (
           search crosses,
           (
             lists.the_send _ firm.the_send,
-            (lists.the_send u64 (search sendable), (Vec-send _ incoming.the_send, (Vec-send _ outgoing.the_send, tt))),
+            (lists.the_send u64 (search sendable), (lists.the_send _ usage.the_send, (Vec-send _ incoming.the_send, (Vec-send _ outgoing.the_send, tt)))),
           ),
         ),
       ),
@@ -48,7 +49,7 @@ fields_sync = struct_sync (shape inside.the_type) (
           search crosses,
           (
             lists.the_sync _ firm.the_sync,
-            (lists.the_sync u64 (search sendable), (Vec-sync _ incoming.the_sync, (Vec-sync _ outgoing.the_sync, tt))),
+            (lists.the_sync u64 (search sendable), (lists.the_sync _ usage.the_sync, (Vec-sync _ incoming.the_sync, (Vec-sync _ outgoing.the_sync, tt)))),
           ),
         ),
       ),

@@ -1,5 +1,5 @@
 -- The edges that a plant sees: in order, and each pair's are those of the component rows.
-use Rattle.std.proofs.Common.{◌≡◌, ℕ, zero, suc, ◌+◌, ◌*◌, ◌<◌, ◌≤◌, Bool, true, false, cond, eqb, List, [], ◌∷◌, ◌++◌, inl, inr, length, get_or, map, refl}
+use Rattle.std.proofs.Common.{◌≡◌, ℕ, zero, suc, ◌+◌, ◌<◌, ◌≤◌, Bool, true, false, cond, eqb, List, [], ◌∷◌, ◌++◌, inl, inr, length, get_or, map, refl}
 use Rattle.std.proofs.Common.{sym, ap, ◌∙◌, arith}
 use Rattle.std.specs.List.{All, AllPairs, count_by, filter, flat_map, range_with_len, sum_by}
 use Rattle.std.specs.List.Sorted.{IsNonDecreasingBy}
@@ -11,6 +11,7 @@ use Rattle.std.proofs.lemmas.List.Kept.{AllPairs-cons, AllPairs-filter}
 use Rattle.std.proofs.lemmas.List.Sums.{sum_by-cons, sum_by-append}
 use Rattle.mrp_netting.specs.PlanRows.{PlanRows}
 use Rattle.mrp_master_data.specs.declared.rows.BillRow.{BillRow}
+use Rattle.mrp_master_data.specs.declared.rows.UsageRow.{UsageRow}
 use Rattle.mrp_master_data.specs.Table.{Table}
 use Rattle.mrp_net.specs.declared.edge.Edge.{Edge}
 use Rattle.mrp_plant_view.specs.declared.view.PlantEdge.{PlantEdge}
@@ -20,6 +21,7 @@ use Rattle.mrp_net.specs.EdgeLaws.{is_local}
 use Rattle.mrp_net.specs.PlanLaws.{asked_by_bill}
 use Rattle.mrp_net.specs.Plan.{release_at}
 use Rattle.mrp_net.specs.Sums.{pair_at}
+use Rattle.mrp_net.specs.Usages.{pieces_for, usage_in, usages_to}
 use Rattle.mrp_plant_view.specs.View.{NumbersRise, is_of_plant, plant_pair, plant_pairs, plant_edge, edges_to, plant_edges}
 use Rattle.mrp_plant_view.specs.Laws.{asked_by_parent, ViewsHaveParents, ViewsHaveBills}
 use Rattle.mrp_net.proofs.Covering.{sum_by-same}
@@ -139,14 +141,14 @@ views_have_parents N plant x pair of_plant =
 -- ---- and what they ask
 
 -- what a parent within the plant asks by an edge
-abbrev asks : List PlanRows → ℕ → Edge → ℕ
-asks table t e = e.per * release_at table e.demander.0 t
+abbrev asks : List UsageRow → List PlanRows → ℕ → Edge → ℕ
+asks us table t e = pieces_for (usage_in us e.demander.0 e.per t) (release_at table e.demander.0 t)
 
-abbrev asks_within : Table → List PlanRows → ℕ → Edge → ℕ
-asks_within N table t e = cond (is_local N e) (asks table t e) 0
+abbrev asks_within : Table → List UsageRow → List PlanRows → ℕ → Edge → ℕ
+asks_within N us table t e = cond (is_local N e) (asks us table t e) 0
 
 abbrev asks_of : Table → List PlanRows → ℕ → ℕ → Edge → ℕ
-asks_of N table x t e = cond (eqb e.pair.0 x) (asks_within N table t e) 0
+asks_of N table x t e = cond (eqb e.pair.0 x) (asks_within N (usages_to N x) table t e) 0
 
 nothing : (b : Bool) → ◌≡◌ {A = ℕ} (cond b 0 0) 0
 nothing true = refl
@@ -158,24 +160,25 @@ sum_zero f (x ∷ xs) h = omega (arith, sum_by-cons f x xs, All-head (λ x. f x 
 
 pub views_have_bills : ViewsHaveBills
 views_have_bills N is plant x pair of_plant table t =
-    let bills : sum_by (asks_of N table x t) (map bill_edge N.bills) ≡ sum_by (asked_by_bill table x t) N.bills =
+    let us : List UsageRow = usages_to N x in
+    let bills : sum_by (asks_of N table x t) (map bill_edge N.bills) ≡ sum_by (asked_by_bill N table x t) N.bills =
     sum_map (asks_of N table x t) bill_edge N.bills
-    ∙ sum_by-same (λ b. asks_of N table x t (bill_edge b)) (asked_by_bill table x t) N.bills
+    ∙ sum_by-same (λ b. asks_of N table x t (bill_edge b)) (asked_by_bill N table x t) N.bills
     (λ k d h. let b : BillRow = get_or N.bills k d in
     let row = is.read.bills k d h in
     let local : is_local N (bill_edge b) ≡ true = bill_edge_is_local N b row.parent row.component (is.sourced.plants k d h) in
-    ap (λ (z : Bool). cond (eqb b.component.0 x) (cond z (b.per * release_at table b.parent.0 t) 0) 0) local) in
+    ap (λ (z : Bool). cond (eqb b.component.0 x) (cond z (asks us table t (bill_edge b)) 0) 0) local) in
     let sources : sum_by (asks_of N table x t) (map (source_edge N) N.sources) ≡ 0 =
     sum_zero (asks_of N table x t) (map (source_edge N) N.sources)
     (λ k d h. let e : Edge = get_or (map (source_edge N) N.sources) k d in
-    ap (λ (z : Bool). cond (eqb e.pair.0 x) (cond z (asks table t e) 0) 0) (source_edges_cross N is k d h) ∙ nothing (eqb e.pair.0 x)) in
-    let all : sum_by (asks_within N table t) (demanders N x) ≡ sum_by (asks_of N table x t) (edges N) =
-    sum-sorted_by (asks_within N table t) (λ e. e.demander.0) (length N.pairs) (filter (λ e. eqb e.pair.0 x) (edges N))
+    ap (λ (z : Bool). cond (eqb e.pair.0 x) (cond z (asks us table t e) 0) 0) (source_edges_cross N is k d h) ∙ nothing (eqb e.pair.0 x)) in
+    let all : sum_by (asks_within N us table t) (demanders N x) ≡ sum_by (asks_of N table x t) (edges N) =
+    sum-sorted_by (asks_within N us table t) (λ e. e.demander.0) (length N.pairs) (filter (λ e. eqb e.pair.0 x) (edges N))
     (All-filter (λ e. eqb e.pair.0 x) (λ e. e.demander.0 < length N.pairs) (edges N) (λ k d h. (edges_join N is k d h).demander))
-    ∙ sum_filter (asks_within N table t) (λ e. eqb e.pair.0 x) (edges N) in
-    sym (sum_filter (asked_by_parent table t) (λ (e : PlantEdge). eqb e.component.0 x) (plant_edges N plant))
-    ∙ ap (sum_by (asked_by_parent table t)) (views_have_parents N plant x pair of_plant)
-    ∙ sum_map (asked_by_parent table t) plant_edge (filter (is_local N) (demanders N x))
-    ∙ sum_filter (asks table t) (is_local N) (demanders N x)
+    ∙ sum_filter (asks_within N us table t) (λ e. eqb e.pair.0 x) (edges N) in
+    sym (sum_filter (asked_by_parent us table t) (λ (e : PlantEdge). eqb e.component.0 x) (plant_edges N plant))
+    ∙ ap (sum_by (asked_by_parent us table t)) (views_have_parents N plant x pair of_plant)
+    ∙ sum_map (asked_by_parent us table t) plant_edge (filter (is_local N) (demanders N x))
+    ∙ sum_filter (asks us table t) (is_local N) (demanders N x)
     ∙ all
     ∙ omega (arith, sum_by-append (asks_of N table x t) (map bill_edge N.bills) (map (source_edge N) N.sources), bills, sources)

@@ -51,7 +51,7 @@ own N plant = filter (is_of_plant N plant) (range_with_len 0 (length N.pairs))
 own_are_pairs : (N : Table) (plant : ℕ) → All (IsPair N) (own N plant)
 own_are_pairs N plant = λ k d h. (owned (length N.pairs) (λ x. (pair_at N x).plant.0) plant k d h).0
 
-own_are_of_plant : (N : Table) (plant : ℕ) → All (λ x. (pair_at N x).plant.0 ≡ plant) (own N plant)
+pub own_are_of_plant : (N : Table) (plant : ℕ) → All (λ x. (pair_at N x).plant.0 ≡ plant) (own N plant)
 own_are_of_plant N plant = λ k d h. (owned (length N.pairs) (λ x. (pair_at N x).plant.0) plant k d h).1
 
 pub pairs_are_pairs : (N : Table) (plant : ℕ) → All (λ p. IsPair N p.number.0) (plant_pairs N plant)

@@ -6,7 +6,8 @@ use Rattle.mrp_plant_view.specs.declared.view.IncomingLane.{IncomingLane}
 use Rattle.mrp_plant_view.specs.declared.view.OutgoingLane.{OutgoingLane}
 use Rattle.mrp_net.specs.FirmOrders.{firms_of}
 use Rattle.mrp_net.specs.Sums.{demand, received_when_due, received_sooner}
-use Rattle.mrp_plant_view.proofs.Ranges.{firms_are, policies_are}
+use Rattle.mrp_net.specs.Usages.{usages_to}
+use Rattle.mrp_plant_view.proofs.Ranges.{firms_are, policies_are, usages_are, usages_rise}
 use Rattle.mrp_plant_view.specs.View.{comes_to, goes_from, lane_numbers, incoming_lane, outgoing_lane, plant_pairs}
 use Rattle.mrp_plant_view.specs.Laws.{ViewsSayEnough, ViewsHaveLanesIn, ViewsHaveLanesOut}
 use Rattle.mrp_plant_view.proofs.OwnEdges.{numbers_rise, by_component}
@@ -31,6 +32,9 @@ views_say_enough N is plant = record {
   firms_by_pair = length-map (plant_pairs N plant) (λ p. firms_of N p.number.0);
   firms = firms_are N plant is;
   sooner_by_pair = length-map (plant_pairs N plant) (λ p. received_sooner N p.number.0);
+  usages_by_pair = length-map (plant_pairs N plant) (λ p. usages_to N p.number.0);
+  usages = usages_are N plant is;
+  usages_rise = usages_rise N plant;
   incoming_once = incoming_stand_once N plant;
   incoming = incoming_are N plant is;
   outgoing_once = outgoing_stand_once N plant;

@@ -9,6 +9,7 @@ use Rattle.mrp_lot.specs.declared.rule.TheConstants.{LONGEST_LEAD, MOST_IN_RULE}
 use Rattle.mrp_master_data.specs.declared.numbers.ItemNo.{ItemNo}
 use Rattle.mrp_master_data.specs.declared.numbers.PairNo.{PairNo}
 use Rattle.mrp_master_data.specs.declared.rows.FirmRow.{FirmRow}
+use Rattle.mrp_master_data.specs.declared.rows.UsageRow.{UsageRow}
 use Rattle.mrp_qty.specs.declared.limits.TheConstants.{MOST_PAIRS, MOST_PER}
 use Rattle.mrp_qty.specs.declared.limits.TheConstants.{MOST_SHARE}
 use Rattle.mrp_master_data.specs.Table.{IsAmount}
@@ -55,6 +56,14 @@ pub record IsPlantPolicy (V : PlantRows) (p : PlantPair) : Type 0 where
 pub record IsPlantFirm (V : PlantRows) (f : FirmRow) : Type 0 where
   pub start : f.start ≤ f.due
   pub due : f.due < V.horizon
+
+-- a usage row joins two pairs of the plant, and says how many pieces go into how many parents, both in range
+pub record IsPlantUsage (V : PlantRows) (u : UsageRow) : Type 0 where
+  pub parent : IsOwnPair V u.parent
+  pub component : IsOwnPair V u.component
+  pub per : u.usage.per ≤ MOST_PER
+  pub some : 1 ≤ u.usage.base
+  pub base : u.usage.base ≤ MOST_PER
 
 -- an edge joins two pairs of the plant
 pub record IsPlantEdge (V : PlantRows) (e : PlantEdge) : Type 0 where
@@ -138,6 +147,9 @@ pub record IsView (V : PlantRows) : Type 0 where
   pub firms_by_pair : length V.firms ≡ length V.pairs
   pub firms : All (All (IsPlantFirm V)) V.firms
   pub sooner_by_pair : length V.sooner ≡ length V.pairs
+  pub usages_by_pair : length V.usages ≡ length V.pairs
+  pub usages : All (All (IsPlantUsage V)) V.usages
+  pub usages_rise : All (IsNonDecreasingBy (λ u. u.parent.0)) V.usages
   pub incoming_once : (l : ℕ) → count_by (λ lane. lane.number.0 == l) V.incoming ≤ 1
   pub incoming : All (IsIncomingLane V) V.incoming
   pub outgoing_once : (l : ℕ) → count_by (λ lane. lane.number.0 == l) V.outgoing ≤ 1

@@ -3,6 +3,7 @@ use Rattle.std.specs.Prelude.{ℕ, ◌<◌, ◌==◌, Bool, List, [], length, ma
 use Rattle.std.specs.List.{AllPairs, flat_map, range_with_len}
 use Rattle.mrp_master_data.specs.declared.numbers.ItemNo.{ItemNo}
 use Rattle.mrp_master_data.specs.declared.rows.FirmRow.{FirmRow}
+use Rattle.mrp_master_data.specs.declared.rows.UsageRow.{UsageRow}
 use Rattle.mrp_master_data.specs.Table.{Table, horizon, pair_no}
 use Rattle.mrp_net.specs.declared.edge.Edge.{Edge}
 use Rattle.mrp_net.specs.declared.lane.Lane.{Lane}
@@ -24,10 +25,12 @@ use Rattle.mrp_net.specs.EdgeLaws.{is_local}
 use Rattle.mrp_plant_view.specs.Loads.{OutgoingLoad}
 use Rattle.mrp_net.specs.Sources.{source_on}
 use Rattle.mrp_net.specs.Sums.{pair_at, params_at, row_of, demand, received_when_due, received_sooner}
+use Rattle.mrp_net.specs.Usages.{usages_to}
 
 -- The number of periods; the plant's pairs; the components of those that are made; what the demand rows of each pair add
 -- up to, and its receipt rows that count when they come, pair by pair and period by period; the firm planned orders of
--- each pair; its receipts that may be counted sooner, period by period, or no period; and the lanes.
+-- each pair; its receipts that may be counted sooner, period by period, or no period; the usage rows of each pair as a
+-- component; and the lanes.
 pub record PlantRows : Type 0 where
   pub horizon : ℕ
   pub pairs : List PlantPair
@@ -36,6 +39,7 @@ pub record PlantRows : Type 0 where
   pub receipts : List ℕ
   pub firms : List (List FirmRow)
   pub sooner : List (List ℕ)
+  pub usages : List (List UsageRow)
   pub incoming : List IncomingLane
   pub outgoing : List OutgoingLane
 
@@ -56,7 +60,7 @@ plant_pairs N plant = map (plant_pair N) (filter (is_of_plant N plant) (range_wi
 abbrev pub NumbersRise : List PlantPair → Type 0
 NumbersRise pairs = AllPairs (λ p q. p.number.0 < q.number.0) pairs
 
--- the edges to a pair from its own plant: so many of it go into one of each parent
+-- the edges to a pair from its own plant: by its bill row so many of it go into one of each parent
 abbrev pub plant_edge : Edge → PlantEdge
 plant_edge e = record { parent = e.demander; component = e.pair; per = e.per }
 
@@ -83,6 +87,10 @@ plant_firms N plant = map (λ p. firms_of N p.number.0) (plant_pairs N plant)
 -- their receipts that may be counted sooner than they come
 abbrev pub plant_sooner : Table → ℕ → List (List ℕ)
 plant_sooner N plant = map (λ p. received_sooner N p.number.0) (plant_pairs N plant)
+
+-- the usage rows of each of them as a component: how many pieces go into its parents, from which periods on
+abbrev pub plant_usages : Table → ℕ → List (List UsageRow)
+plant_usages N plant = map (λ p. usages_to N p.number.0) (plant_pairs N plant)
 
 -- ---- its lanes
 
@@ -169,6 +177,7 @@ plant_rows N plant = record {
   receipts = plant_amounts N (received_when_due N) plant;
   firms = plant_firms N plant;
   sooner = plant_sooner N plant;
+  usages = plant_usages N plant;
   incoming = incoming_lanes N plant;
   outgoing = outgoing_lanes N plant;
 }

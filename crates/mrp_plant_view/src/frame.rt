@@ -3,7 +3,7 @@
 
 use crate::lists::Lists;
 use crate::view::{IncomingLane, OutgoingLane, PlantEdge, PlantPair};
-use mrp_net::{FirmRow, PairNo};
+use mrp_net::{FirmRow, PairNo, UsageRow};
 use mrp_qty::Horizon;
 use std::marker::Model;
 use std::snapshot::Snapshot;
@@ -21,6 +21,7 @@ pub struct PlantFrame {
     pub(crate) receipts: Snapshot<Vec<u64>>,
     pub(crate) firms: Lists<FirmRow>,
     pub(crate) sooner: Lists<u64>,
+    pub(crate) usages: Lists<UsageRow>,
     pub(crate) incoming: Vec<IncomingLane>,
     pub(crate) outgoing: Vec<OutgoingLane>,
 }
@@ -38,6 +39,7 @@ impl Model for PlantFrame {
       receipts = v.receipts.value.items;
       firms = v.firms;
       sooner = v.sooner;
+      usages = v.usages;
       incoming = v.incoming.items;
       outgoing = v.outgoing.items;
     } };
@@ -117,6 +119,14 @@ impl PlantFrame {
         ensures { result.now ≡ self.now.sooner }
     {
         &self.sooner
+    }
+
+    /// The usage rows of its pairs as components, by the places of the pairs: how many pieces go into their parents, in
+    /// order of the parents, and of each parent by rising periods.
+    pub fn usages(&self) -> &Lists<UsageRow>
+        ensures { result.now ≡ self.now.usages }
+    {
+        &self.usages
     }
 
     /// The lanes that the plant receives, in lane order.

@@ -4,9 +4,9 @@ ghost use Rattle.mrp_plant_view.specs.Laws.{ViewsSayEnough, ViewsHaveLanesIn, Vi
 ghost use Rattle.mrp_plant_view.specs.Laws.{ViewsHaveBills};
 
 /// What a plant sees of an accepted table says all that it needs to know to plan alone: no pair, item
-/// or lane stands twice, edges, lanes and calls name its own pairs and no other, parameters, policies, shares, shipments
-/// and shipped figures are in range, and before each schedule lane that it sends it receives the despatch lane
-/// of the same two plants.
+/// or lane stands twice, edges, usage rows, lanes and calls name its own pairs and no other, parameters, policies, usages,
+/// shares, shipments and shipped figures are in range, and before each schedule lane that it sends it receives the
+/// despatch lane of the same two plants.
 pub fn views_say_enough()
     ensures { ViewsSayEnough }
 {}

@@ -14,7 +14,7 @@ mod viewing;
 
 pub use frame::PlantFrame;
 pub use lists::Lists;
-pub use mrp_net::{FirmRow, ItemNo, LaneKind, LaneNo, PairNo, PlantNo, Shipment};
+pub use mrp_net::{FirmRow, ItemNo, LaneKind, LaneNo, PairNo, PlantNo, Shipment, Usage, UsageRow};
 pub use view::{
     Call, IncomingItem, IncomingItems, IncomingLane, OutgoingItem, OutgoingItems, OutgoingLane,
     PlantEdge, PlantPair, PlantView,

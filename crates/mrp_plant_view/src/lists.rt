@@ -11,8 +11,8 @@ pub(crate) struct Span {
     end: usize,
 }
 
-/// A list for each of a plant's pairs, by the places of the pairs, as of firm planned orders or of pieces by period.
-/// They are kept one after the other in one list, so a pair with none takes no room but for its place.
+/// A list for each of a plant's pairs, by the places of the pairs, as of firm planned orders, usage rows or pieces by
+/// period. They are kept one after the other in one list, so a pair with none takes no room but for its place.
 /// Contracts see it as the list of these lists.
 #[derive(Drop)]
 pub struct Lists<T: Copy> {

@@ -2,7 +2,7 @@
 
 use crate::frame::PlantFrame;
 use crate::lists::Lists;
-use mrp_net::{FirmRow, ItemNo, LaneKind, LaneNo, PairNo, Shipment};
+use mrp_net::{FirmRow, ItemNo, LaneKind, LaneNo, PairNo, Shipment, UsageRow};
 use mrp_netting::{PairParams, Policy};
 use mrp_qty::{Horizon, Memory};
 use std::alloc::Global;
@@ -28,7 +28,7 @@ pub struct PlantEdge {
     pub parent: PairNo,
     /// The pair that goes into it.
     pub component: PairNo,
-    /// How many pieces of the component go into one of the parent, 1 to 10^6.
+    /// How many pieces of the component go into one of the parent where no usage row is in force, 1 to 10^6.
     pub per: u64,
 }
 
@@ -204,8 +204,9 @@ pub struct OutgoingLane {
 }
 
 /// What one plant sees of a network: its own pairs, the components of those that are made, what their
-/// demand rows and receipt rows add up to, their firm planned orders and policies, and the lanes that it receives or
-/// sends. It sees no row of another plant beside these lanes, and every pair that it names is the plant's own.
+/// demand rows and receipt rows add up to, their firm planned orders, policies and usage rows, and the lanes that it
+/// receives or sends. It sees no row of another plant beside these lanes, and every pair that it names is the plant's
+/// own.
 ///
 /// Demands and receipts are kept as sums for each pair and period, since a plan looks at nothing else
 /// of them.
@@ -286,6 +287,14 @@ impl PlantView {
         ensures { result.now ≡ self.now.sooner }
     {
         self.frame.sooner()
+    }
+
+    /// The usage rows of its pairs as components, by the places of the pairs: how many pieces go into their parents, in
+    /// order of the parents, and of each parent by rising periods.
+    pub fn usages(&self) -> &Lists<UsageRow>
+        ensures { result.now ≡ self.now.usages }
+    {
+        self.frame.usages()
     }
 
     /// The lanes that the plant receives, in lane order.

@@ -8,6 +8,7 @@ ghost use Rattle.mrp_net.specs.Lanes.{lanes, lane_at, lane_items};
 ghost use Rattle.mrp_net.specs.EdgeLaws.{is_local};
 ghost use Rattle.mrp_net.specs.FirmOrders.{firms_of};
 ghost use Rattle.mrp_net.specs.Sums.{received_sooner};
+ghost use Rattle.mrp_net.specs.Usages.{usages_to};
 ghost use Rattle.mrp_plant_view.specs.Loads.{bare};
 ghost use Rattle.mrp_plant_view.specs.View.{plant_pairs, plant_edge, edges_to};
 ghost use Rattle.mrp_plant_view.specs.View.{plant_rows, incoming_item, incoming_lanes};
@@ -20,7 +21,9 @@ use crate::view::{
     Call, IncomingItem, IncomingItems, IncomingLane, OutgoingItem, OutgoingItems, OutgoingLane,
     PlantEdge, PlantPair, PlantView,
 };
-use mrp_net::{Edge, FirmRow, ItemNo, LaneKind, LaneNo, Network, PairNo, PlantNo, Shipment};
+use mrp_net::{
+    Edge, FirmRow, ItemNo, LaneKind, LaneNo, Network, PairNo, PlantNo, Shipment, UsageRow,
+};
 use mrp_qty::Memory;
 use std::alloc::Global;
 use std::snapshot::Snapshot;
@@ -41,6 +44,7 @@ impl PlantView {
         let receipts = plant_amounts(alloc, network, pairs.as_slice(), Amounts::Receipts)?;
         let firms = plant_firms(alloc, network, pairs.as_slice())?;
         let sooner = plant_sooner(alloc, network, pairs.as_slice())?;
+        let usages = plant_usages(alloc, network, pairs.as_slice())?;
         let incoming = incoming_lanes(alloc, network, plant)?;
         let outgoing = outgoing_lanes(alloc, network, plant)?;
         let frame = PlantFrame {
@@ -51,6 +55,7 @@ impl PlantView {
             receipts: Snapshot::of(&receipts),
             firms,
             sooner,
+            usages,
             incoming,
             outgoing,
         };
@@ -151,6 +156,22 @@ fn plant_sooner(alloc: Global, network: &Network, pairs: &[PlantPair]) -> Result
         sooner.push(terms.receipts)?;
     }
     Ok(sooner)
+}
+
+/// The usage rows of each of a plant's pairs as a component.
+fn plant_usages(
+    alloc: Global,
+    network: &Network,
+    pairs: &[PlantPair],
+) -> Result<Lists<UsageRow>, Memory>
+    requires { All (λ p. IsPair network.now p.number.0) pairs.now }
+    ensures { IfOk result (λ u. u ≡ map (λ p. usages_to network.now p.number.0) pairs.now) }
+{
+    let mut usages = Lists::new(alloc);
+    for pair in pairs {
+        usages.push(network.usages_to(pair.number))?;
+    }
+    Ok(usages)
 }
 
 /// An item of a lane, as its receiver sees it.

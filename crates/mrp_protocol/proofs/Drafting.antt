@@ -1,17 +1,19 @@
 -- What a plant has of a pair by its view is what the network has of it, and so is its plan.
-use Rattle.std.proofs.Common.{◌≡◌, ℕ, ◌*◌, ◌<◌, ◌==◌, Bool, cond, List, get_or, refl, sym, ap, ◌∙◌, subst, arith, All, slice_index}
+use Rattle.std.proofs.Common.{◌≡◌, ℕ, ◌<◌, ◌==◌, Bool, cond, List, get_or, refl, sym, ap, ◌∙◌, subst, arith, All, slice_index}
 use Rattle.std.specs.List.{sum_by}
 use Rattle.std.proofs.lemmas.Bool.{eqb-true}
 use Rattle.mrp_netting.specs.PlanRows.{PlanRows}
 use Rattle.mrp_netting.specs.PlanningData.{PairTerms, planned as data_of_terms, one}
 use Rattle.mrp_qty.proofs.RangeLaws.{map-range-same}
+use Rattle.mrp_master_data.specs.declared.rows.UsageRow.{UsageRow}
 use Rattle.mrp_master_data.specs.Table.{Table, IsTable, horizon}
 use Rattle.mrp_net.specs.declared.lane.LaneKind.{LaneKind}
 use Rattle.mrp_net.specs.declared.lane.LaneKind.TheVariants.{Despatch, Schedule}
 use Rattle.mrp_net.specs.LaneLaws.{is_despatch, is_schedule}
 use Rattle.mrp_net.specs.PlanLaws.{asked_by_bill}
-use Rattle.mrp_net.specs.Plan.{rows_at, plan_of, gross}
+use Rattle.mrp_net.specs.Plan.{release_at, rows_at, plan_of, gross}
 use Rattle.mrp_net.specs.Sums.{pair_at, terms_at, row_of, demand, received_when_due, incoming}
+use Rattle.mrp_net.specs.Usages.{pieces_for, usage_in, usages_to}
 use Rattle.mrp_net.proofs.Covering.{sum_by-same}
 use Rattle.mrp_grouping.proofs.Kept.{sum_filter}
 use Rattle.mrp_plant_view.specs.declared.view.IncomingLane.{IncomingLane}
@@ -30,9 +32,9 @@ use Rattle.mrp_protocol.specs.Seen.{brought_in}
 use Rattle.mrp_protocol.specs.State.{IsReady}
 use Rattle.mrp_protocol.proofs.Bringing.{despatches_bring_incoming, schedules_bring_gross, same_where}
 use Rattle.mrp_protocol.proofs.Sending.{brought_is_seen}
-use Rattle.mrp_protocol.specs.LocalPlans.{pieces_in, is_of_kind, asked_within, booked_on, local_incoming, local_gross, local_row, local_plan}
+use Rattle.mrp_protocol.specs.LocalPlans.{pieces_in, is_of_kind, usages_in, asked_within, booked_on, local_incoming, local_gross, local_row, local_plan}
 use Rattle.mrp_protocol.specs.LocalLaws.{IsPairAt}
-use Rattle.mrp_protocol.proofs.Seeing.{amount_is, terms_are}
+use Rattle.mrp_protocol.proofs.Seeing.{amount_is, terms_are, usages_are}
 
 -- ---- what has come over lanes
 
@@ -70,14 +72,19 @@ HasParents N plant plans table x = All (λ e. e.component.0 ≡ x → plans e.pa
 
 module _ (N : Table) (is : IsTable N) (plant : ℕ) (taken : ℕ → List Record) (plans : ℕ → PlanRows) (table : List PlanRows) (x : ℕ) (at : IsPairAt N plant x)
     (parents : HasParents N plant plans table x) where
-  asked_is : (t : ℕ) → asked_within (plant_rows N plant) plans (record { 0 = x }) t ≡ sum_by (asked_by_bill table x t) N.bills
+  asked_is : (t : ℕ) → asked_within (plant_rows N plant) plans (record { 0 = x }) t ≡ sum_by (asked_by_bill N table x t) N.bills
   asked_is t =
-      let asks = λ (e : PlantEdge). e.per * slice_index (plans e.parent.0).release t in
-      sum_by-same (λ (e : PlantEdge). cond (e.component.0 == x) (asks e) 0) (λ e. cond (e.component.0 == x) (asked_by_parent table t e) 0) (plant_edges N plant)
+      let us : List UsageRow = usages_in (plant_rows N plant) (record { 0 = x }) in
+      let usage = λ (rows : List UsageRow) (e : PlantEdge). usage_in rows e.parent.0 e.per t in
+      let asks = λ (e : PlantEdge). pieces_for (usage us e) (slice_index (plans e.parent.0).release t) in
+      let asked = asked_by_parent (usages_to N x) table t in
+      sum_by-same (λ (e : PlantEdge). cond (e.component.0 == x) (asks e) 0) (λ e. cond (e.component.0 == x) (asked e) 0) (plant_edges N plant)
       (λ k d h.
       let e : PlantEdge = get_or (plant_edges N plant) k d in
-      same_where (e.component.0 == x) (asks e) (asked_by_parent table t e)
-      (λ mine. ap (λ (rows : PlanRows). e.per * slice_index rows.release t) (parents k d h (eqb-true e.component.0 x mine))))
+      same_where (e.component.0 == x) (asks e) (asked e)
+      (λ mine.
+      ap (λ (rows : PlanRows). pieces_for (usage us e) (slice_index rows.release t)) (parents k d h (eqb-true e.component.0 x mine))
+      ∙ ap (λ (rows : List UsageRow). pieces_for (usage rows e) (release_at table e.parent.0 t)) (usages_are N plant x at)))
       ∙ views_have_bills N is plant x at.pair at.at_plant table t
 
   seen_incoming : (t : ℕ) → t < horizon N → local_incoming (plant_rows N plant) taken (plant_pair N x) t ≡ network.incoming_brought N taken x t

@@ -1,5 +1,5 @@
 -- Pairs that are planned were ready, and plans made of what is at hand are those of the network.
-use Rattle.std.proofs.Common.{◌≡◌, ℕ, zero, suc, ◌+◌, ◌*◌, ◌<◌, ◌≤◌, ◌==◌, Bool, true, List, [], ◌∷◌, ◌++◌, inl, inr, get_or, map, slice_index, refl, sym, ap}
+use Rattle.std.proofs.Common.{◌≡◌, ℕ, zero, suc, ◌+◌, ◌<◌, ◌≤◌, ◌==◌, Bool, true, List, [], ◌∷◌, ◌++◌, inl, inr, get_or, map, slice_index, refl, sym, ap}
 use Rattle.std.proofs.Common.{subst, ◌∙◌, arith}
 use Rattle.std.specs.List.{list_any, range_with_len}
 use Rattle.std.proofs.lemmas.Bool.{cases_eq, eqb-true, false≢true}
@@ -9,12 +9,14 @@ use Rattle.mrp_netting.specs.PlanRows.{PlanRows}
 use Rattle.mrp_netting.specs.PlanningData.{planned as data_of_terms, one}
 use Rattle.mrp_master_data.specs.declared.numbers.ItemNo.{ItemNo}
 use Rattle.mrp_master_data.specs.declared.rows.BillRow.{BillRow}
+use Rattle.mrp_master_data.specs.declared.rows.Usage.{Usage}
 use Rattle.mrp_master_data.specs.Table.{Table, IsTable, IsPair, IsBillRow, horizon, plant_at}
 use Rattle.mrp_net.specs.Edges.{bill_edge, source_edge}
 use Rattle.mrp_net.specs.PlanLaws.{asked_by_bill}
 use Rattle.mrp_net.specs.Plan.{release_at}
 use Rattle.mrp_net.specs.Plan.{rows_at, plan_of, gross}
 use Rattle.mrp_net.specs.Sums.{pair_at, terms_at, row_of, incoming}
+use Rattle.mrp_net.specs.Usages.{pieces_for, usage_in, usages_to}
 use Rattle.mrp_net.proofs.Covering.{sum_by-same}
 use Rattle.mrp_net.proofs.Local.{plant_is}
 use Rattle.mrp_net.proofs.Members.{In, In-append_left, In-from_contains, In-map, All-in}
@@ -128,24 +130,25 @@ module _ (N : Table) (table : IsTable N) (free : IsLoopFree N) (plant : ℕ) (pl
 
   -- a component row asks what it does in the plan
   bill_asks : (x period : ℕ) → (pair_at N x).plant.0 ≡ plant → IsReady N planned taken x → ((y : ℕ) → HasEdge N y x → IsRight y) → (b : BillRow) → In N.bills b
-      → asked_by_bill plans x period b ≡ asked_by_bill (plan_of N) x period b
+      → asked_by_bill N plans x period b ≡ asked_by_bill N (plan_of N) x period b
   bill_asks x period here ready right b there =
       let row = All-in (IsBillRow N) N.bills b table.read.bills there in
-      same_where (b.component.0 == x) (b.per * release_at plans b.parent.0 period) (b.per * release_at (plan_of N) b.parent.0 period) (λ t.
+      let usage : Usage = usage_in (usages_to N x) b.parent.0 b.per period in
+      same_where (b.component.0 == x) (pieces_for usage (release_at plans b.parent.0 period)) (pieces_for usage (release_at (plan_of N) b.parent.0 period)) (λ t.
       let component : b.component.0 ≡ x = eqb-true b.component.0 x t in
       let edge : HasEdge N b.parent.0 x = HasEdge-from_in N (bill_edge b) b.parent.0 x
       (In-append_left (map bill_edge N.bills) (map (source_edge N) N.sources) (bill_edge b) (In-map bill_edge N.bills b there)) refl component in
       let plants = All-in (λ (z : BillRow). plant_at N z.parent.0 ≡ plant_at N z.component.0) N.bills b table.sourced.plants there in
       let local : (pair_at N b.parent.0).plant.0 ≡ (pair_at N x).plant.0 =
       sym (plant_is N b.parent.0 row.parent) ∙ plants ∙ plant_is N b.component.0 row.component ∙ ap (λ (z : ℕ). (pair_at N z).plant.0) component in
-      ap (λ (rows : PlanRows). b.per * slice_index rows.release period)
+      ap (λ (rows : PlanRows). pieces_for usage (slice_index rows.release period))
       (right b.parent.0 edge row.parent (local ∙ here) (ready.demanders b.parent.0 edge local)))
 
   local_gross_is : (x : ℕ) → IsPair N x → (pair_at N x).plant.0 ≡ plant → IsReady N planned taken x → ((y : ℕ) → HasEdge N y x → IsRight y) → (period : ℕ)
       → period < horizon N
       → gross_brought N taken plans x period ≡ gross N (plan_of N) x period
   local_gross_is x pair here ready right period inside =
-      let bills = sum_by-same (asked_by_bill plans x period) (asked_by_bill (plan_of N) x period) N.bills
+      let bills = sum_by-same (asked_by_bill N plans x period) (asked_by_bill N (plan_of N) x period) N.bills
       (λ k d h. bill_asks x period here ready right (get_or N.bills k d) (In-from_contains N.bills (get_or N.bills k d) (Contains-get_or N.bills k d h))) in
       omega (arith, bills, schedules_bring_gross N table planned taken x pair (legal_to x here) ready period inside)
     where

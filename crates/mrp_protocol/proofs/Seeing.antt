@@ -20,6 +20,7 @@ use Rattle.mrp_net.specs.Sums.{pair_at, params_at, terms_at, row_of, received_so
 use Rattle.mrp_net.specs.FirmOrders.{firms_of}
 use Rattle.mrp_net.specs.Policies.{policy_of}
 use Rattle.mrp_net.specs.Terms.{terms_of}
+use Rattle.mrp_net.specs.Usages.{usages_to}
 use Rattle.mrp_master_data.specs.declared.rows.FirmRow.{FirmRow}
 use Rattle.mrp_net.proofs.Members.{In, In-from_contains, Contains-from_in, In-filter, filter_only, In-map, map_only, In-flat_map, flat_map_only, In-range}
 use Rattle.mrp_net.proofs.Members.{All-in}
@@ -36,7 +37,7 @@ use Rattle.mrp_loops.proofs.Edges.{demanders_edge, demanders_only, HasEdge-from_
 use Rattle.mrp_record.specs.declared.record.Record.{Record}
 use Rattle.mrp_protocol.specs.State as state
 use Rattle.mrp_protocol.specs.State.{IsReady}
-use Rattle.mrp_protocol.specs.LocalPlans.{amount_at, place_in, firms_in, sooner_in, terms_in, HasCome, AwaitsNothing}
+use Rattle.mrp_protocol.specs.LocalPlans.{amount_at, place_in, firms_in, sooner_in, usages_in, terms_in, HasCome, AwaitsNothing}
 use Rattle.mrp_protocol.specs.LocalLaws.{IsPairAt}
 
 -- ---- amounts
@@ -120,6 +121,10 @@ firms_are N plant x at = list_is N plant x (firms_of N) at
 
 sooner_are : (N : Table) (plant x : ℕ) → IsPairAt N plant x → sooner_in (plant_rows N plant) (record { 0 = x }) ≡ received_sooner N x
 sooner_are N plant x at = list_is N plant x (received_sooner N) at
+
+-- and its usage rows
+pub usages_are : (N : Table) (plant x : ℕ) → IsPairAt N plant x → usages_in (plant_rows N plant) (record { 0 = x }) ≡ usages_to N x
+usages_are N plant x at = list_is N plant x (usages_to N) at
 
 -- so planners say of it what the table does
 pub terms_are : (N : Table) (plant x : ℕ) → IsPairAt N plant x → terms_in (plant_rows N plant) (plant_pair N x) ≡ terms_at N x

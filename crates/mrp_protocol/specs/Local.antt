@@ -41,7 +41,7 @@ incoming_brought N taken x period = received_when_due N x period + brought N tak
 -- its gross requirements: its demand rows, what its parents at the plant ask, and what schedule lanes have called for
 abbrev pub gross_brought : Table → (ℕ → List Record) → List PlanRows → ℕ → ℕ → ℕ
 gross_brought N taken plans x period =
-    demand N x period + sum_by (asked_by_bill plans x period) N.bills + brought N taken is_schedule x period
+    demand N x period + sum_by (asked_by_bill N plans x period) N.bills + brought N taken is_schedule x period
 
 -- its local plan, beside the plans of its parents
 abbrev pub plan_brought : Table → (ℕ → List Record) → List PlanRows → ℕ → PlanRows

@@ -9,7 +9,9 @@ use Rattle.mrp_netting.specs.PlanningData.{PairData, PairTerms, planned, one}
 use Rattle.mrp_master_data.specs.declared.numbers.ItemNo.{ItemNo}
 use Rattle.mrp_master_data.specs.declared.numbers.PairNo.{PairNo}
 use Rattle.mrp_master_data.specs.declared.rows.FirmRow.{FirmRow}
+use Rattle.mrp_master_data.specs.declared.rows.UsageRow.{UsageRow}
 use Rattle.mrp_net.specs.Terms.{terms_of}
+use Rattle.mrp_net.specs.Usages.{pieces_for, usage_in}
 use Rattle.mrp_net.specs.declared.lane.LaneKind.{LaneKind}
 use Rattle.mrp_net.specs.declared.lane.LaneKind.TheVariants.{Despatch, Schedule}
 use Rattle.mrp_net.specs.LaneLaws.{is_despatch}
@@ -50,10 +52,15 @@ place_in V x = position_or_len (λ p. p.number.0 == x.0) V.pairs
 abbrev pub amount_at : PlantRows → List ℕ → PairNo → ℕ → ℕ
 amount_at V amounts x period = slice_index amounts (place_in V x * V.horizon + period)
 
--- what the releases of its parents ask of a pair
+-- the usage rows of a pair as a component
+abbrev pub usages_in : PlantRows → PairNo → List UsageRow
+usages_in V x = slice_index_or V.usages (place_in V x) []
+
+-- what the releases of its parents ask of a pair, by the usages in force
 abbrev pub asked_within : PlantRows → (ℕ → PlanRows) → PairNo → ℕ → ℕ
 asked_within V plans x period =
-    sum_by (λ e. if e.component.0 == x.0 then e.per * slice_index (plans e.parent.0).release period else 0) V.edges
+    sum_by (λ e. if e.component.0 == x.0
+    then pieces_for (usage_in (usages_in V x) e.parent.0 e.per period) (slice_index (plans e.parent.0).release period) else 0) V.edges
 
 -- scheduled receipts beside firm planned orders: the receipt rows that count when they come, and what has come on
 -- despatch lanes

@@ -1,4 +1,5 @@
 use Rattle.std.proofs.Common.{◌≡◌, sym, ap, ◌∙◌}
+use Rattle.mrp_agent.specs.Asking.{uses_by}
 use Rattle.mrp_agent.specs.Drafts.{drafted}
 use Rattle.mrp_agent.specs.Fields.{indexes_of}
 use Rattle.mrp_agent.specs.State.{AgentState}
@@ -19,10 +20,12 @@ pair_rows-rows-requires-clause-place c = place_within (placed (goal.at.pair_rows
 
 read : (c : After-deref-3) → IsAtPlace (the_view c.self.inside) (indexes_of c.self.inside) c.args.x c.in-Some.place
     → HasRead (the_view c.self.inside) (indexes_of c.self.inside) c.args.x c.in-Some.place c.planning_terms-terms.result
-    c.pair_rows-rows.result.incoming.now c.pair_rows-rows.result.demand.now c.pair_rows-rows.result.edges.now c.deref-3.result.now
+    c.pair_rows-rows.result.incoming.now c.pair_rows-rows.result.demand.now c.pair_rows-rows.result.edges.now (uses_by c.pair_rows-rows.result)
+    c.deref-3.result.now
 read c at =
     rows_read at (can_before c.self.view_is c.requires.can) c.deref.ensures.value c.deref-2.ensures.value c.deref-3.ensures.value
-    c.planning_terms-terms.ensures.terms c.planning_terms-terms.ensures.orders c.pair_rows-rows.ensures.incoming c.pair_rows-rows.ensures.demand c.pair_rows-rows.ensures.edges
+    c.planning_terms-terms.ensures.terms c.planning_terms-terms.ensures.orders c.pair_rows-rows.ensures.incoming c.pair_rows-rows.ensures.demand
+    c.pair_rows-rows.ensures.edges c.pair_rows-rows.ensures.uses
 
 same_horizon : (c : In-Some) → (the_view c.self.inside).view.horizon ≡ c.args.self.now.view.horizon
 same_horizon c = ap (λ (a : AgentState). a.view.horizon) c.self.view_is
@@ -35,6 +38,9 @@ planning_terms-terms-requires-clause-place c = place_within (placed (goal.at.pla
 
 pub planning_terms-terms-requires-clause-firms : goal.planning_terms-terms-requires-clause-firms
 planning_terms-terms-requires-clause-firms c = c.self.invariant.view.firms_by_pair
+
+pub pair_rows-rows-requires-clause-usages : goal.pair_rows-rows-requires-clause-usages
+pair_rows-rows-requires-clause-usages c = c.self.invariant.view.usages_by_pair
 
 pub planning_terms-terms-requires-clause-sooner : goal.planning_terms-terms-requires-clause-sooner
 planning_terms-terms-requires-clause-sooner c = c.self.invariant.view.sooner_by_pair

@@ -1,5 +1,6 @@
 use Rattle.std.proofs.Common.{length, sym, ap, ◌∙◌, arith}
 use Rattle.mrp_netting.specs.PlanRows.{PlanRows}
+use Rattle.mrp_agent.specs.Asking.{uses_by}
 use Rattle.mrp_agent.specs.Fields.{indexes_of}
 use Rattle.mrp_agent.specs.contracts.agent.Agent.{the_view}
 use Rattle.mrp_agent.proofs.Rooms.{kept_written, old_periods, plans_written, same_periods}
@@ -12,11 +13,13 @@ pub pair_rows-rows-requires-clause-place : goal.pair_rows-rows-requires-clause-p
 pair_rows-rows-requires-clause-place c = place_within (placed_at c.self.view_is c.self.invariant c.requires.can c.requires.place)
 
 read : (c : After-deref-3) → HasRead (the_view c.self.inside) (indexes_of c.self.inside) c.args.x c.args.place c.planning_terms-terms.result
-    c.pair_rows-rows.result.incoming.now c.pair_rows-rows.result.demand.now c.pair_rows-rows.result.edges.now c.deref-3.result.now
+    c.pair_rows-rows.result.incoming.now c.pair_rows-rows.result.demand.now c.pair_rows-rows.result.edges.now (uses_by c.pair_rows-rows.result)
+    c.deref-3.result.now
 read c =
     rows_read (placed_at c.self.view_is c.self.invariant c.requires.can c.requires.place) (can_before c.self.view_is c.requires.can)
     c.deref.ensures.value c.deref-2.ensures.value c.deref-3.ensures.value
-    c.planning_terms-terms.ensures.terms c.planning_terms-terms.ensures.orders c.pair_rows-rows.ensures.incoming c.pair_rows-rows.ensures.demand c.pair_rows-rows.ensures.edges
+    c.planning_terms-terms.ensures.terms c.planning_terms-terms.ensures.orders c.pair_rows-rows.ensures.incoming c.pair_rows-rows.ensures.demand
+    c.pair_rows-rows.ensures.edges c.pair_rows-rows.ensures.uses
 
 pub draft_rows-requires-clause-draft : goal.draft_rows-requires-clause-draft
 draft_rows-requires-clause-draft c = draft_asked (read (goal.at.draft_rows-requires-clause-draft c).After-deref-3)
@@ -26,6 +29,9 @@ planning_terms-terms-requires-clause-place c = place_within (placed_at c.self.vi
 
 pub planning_terms-terms-requires-clause-firms : goal.planning_terms-terms-requires-clause-firms
 planning_terms-terms-requires-clause-firms c = c.self.invariant.view.firms_by_pair
+
+pub pair_rows-rows-requires-clause-usages : goal.pair_rows-rows-requires-clause-usages
+pair_rows-rows-requires-clause-usages c = c.self.invariant.view.usages_by_pair
 
 pub planning_terms-terms-requires-clause-sooner : goal.planning_terms-terms-requires-clause-sooner
 planning_terms-terms-requires-clause-sooner c = c.self.invariant.view.sooner_by_pair
