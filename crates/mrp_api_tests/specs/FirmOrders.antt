@@ -50,6 +50,7 @@ firm_and_planned = record {
   resets = [];
   firms = record { pair = record { 0 = 0 }; start = 0; due = 3; quantity = 20 } ∷ [];
   policies = [];
+  usages = [];
 }
 
 abbrev pub FirmAndPlannedIsWritten : Type 0
@@ -132,6 +133,7 @@ firm_call = record {
   resets = [];
   firms = record { pair = record { 0 = 0 }; start = 0; due = 1; quantity = 30 } ∷ [];
   policies = [];
+  usages = [];
 }
 
 -- the firm order is a call in the period of its release, and the cumulative figure has it

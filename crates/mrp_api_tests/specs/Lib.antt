@@ -4,3 +4,4 @@ pub mod Policies
 pub mod Pumps
 pub mod PumpsReports
 pub mod ShortParts
+pub mod Usages

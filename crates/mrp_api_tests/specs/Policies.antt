@@ -80,6 +80,7 @@ by_policy = record {
         policy = record { fence = 0; sooner = 0; cover = 1; least = 0; multiple = 0 };
       }
       ∷ [];
+  usages = [];
 }
 
 abbrev pub ByPolicyIsWritten : Type 0

@@ -173,6 +173,7 @@ pumps = record {
       ∷ [];
   firms = [];
   policies = [];
+  usages = [];
 }
 
 -- its rows, field by field

@@ -75,6 +75,7 @@ phantom = record {
         policy = record { fence = 1; sooner = 0; cover = 0; least = 0; multiple = 0 };
       }
       ∷ [];
+  usages = [];
 }
 
 abbrev pub PhantomIsWritten : Type 0
@@ -165,6 +166,7 @@ two_demanders = record {
         policy = record { fence = 0; sooner = 2; cover = 0; least = 0; multiple = 0 };
       }
       ∷ [];
+  usages = [];
 }
 
 abbrev pub TwoDemandersAreWritten : Type 0

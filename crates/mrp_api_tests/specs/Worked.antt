@@ -43,6 +43,7 @@ bicycle = record {
   resets = [];
   firms = [];
   policies = [];
+  usages = [];
 }
 
 -- its rows, field by field
@@ -106,6 +107,7 @@ firm_of_two = record {
   resets = [];
   firms = [];
   policies = [];
+  usages = [];
 }
 
 abbrev pub FirmOfTwoIsWritten : Type 0

@@ -11,12 +11,13 @@ mod worked;
 
 pub use worked::{
     bicycle_is_planned, bicycle_is_written, by_policy_is_advised, by_policy_is_ordered,
-    by_policy_is_planned, by_policy_is_written, firm_and_planned_is_ordered,
-    firm_and_planned_is_planned, firm_and_planned_is_written, firm_call_is_scheduled,
-    firm_of_two_is_planned, firm_of_two_is_written, phantom_is_short_of_parts, phantom_is_written,
-    pumps_are_advised, pumps_are_counted, pumps_are_ordered, pumps_are_planned,
-    pumps_are_scheduled, pumps_are_written, two_demanders_are_short_of_parts,
-    two_demanders_are_written,
+    by_policy_is_planned, by_policy_is_written, by_usage_is_pegged, by_usage_is_planned,
+    by_usage_is_written, firm_and_planned_is_ordered, firm_and_planned_is_planned,
+    firm_and_planned_is_written, firm_call_is_scheduled, firm_of_two_is_planned,
+    firm_of_two_is_written, phantom_is_short_of_parts, phantom_is_written, pumps_are_advised,
+    pumps_are_counted, pumps_are_ordered, pumps_are_planned, pumps_are_scheduled,
+    pumps_are_written, scrapped_thrice_is_planned, scrapped_thrice_is_written,
+    two_demanders_are_short_of_parts, two_demanders_are_written,
 };
 
 #[cfg(test)]

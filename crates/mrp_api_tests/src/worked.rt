@@ -9,6 +9,8 @@ ghost use Rattle.mrp_api_tests.specs.Pumps.{PumpsArePlanned, PumpsAreWritten};
 ghost use Rattle.mrp_api_tests.specs.PumpsReports.{PumpsAreAdvised, PumpsAreCounted, PumpsAreOrdered, PumpsAreScheduled};
 ghost use Rattle.mrp_api_tests.specs.ShortParts.{PhantomIsWritten, PhantomLacks};
 ghost use Rattle.mrp_api_tests.specs.ShortParts.{TwoDemandersAreWritten, TwoDemandersLack};
+ghost use Rattle.mrp_api_tests.specs.Usages.{ByUsageIsPegged, ByUsageIsPlanned, ByUsageIsWritten};
+ghost use Rattle.mrp_api_tests.specs.Usages.{ScrappedThriceIsPlanned, ScrappedThriceIsWritten};
 ghost use Rattle.mrp_api_tests.specs.Worked.{BicycleIsPlanned, BicycleIsWritten, FirmOfTwoIsPlanned, FirmOfTwoIsWritten};
 
 /// The rows that are written of the bicycle, field by field.
@@ -128,4 +130,30 @@ pub fn two_demanders_are_written()
 /// other plant and then by the bill, and at the other plant a shipment by demand.
 pub fn two_demanders_are_short_of_parts()
     ensures { TwoDemandersLack }
+{}
+
+/// The rows that are written of a plant with usages, field by field.
+pub fn by_usage_is_written()
+    ensures { ByUsageIsWritten }
+{}
+
+/// Its plan report, to the byte: scrap and fractions rounded up period by period, an old component that runs out as a new
+/// one comes, and one that isn't used for a period.
+pub fn by_usage_is_planned()
+    ensures { ByUsageIsPlanned }
+{}
+
+/// Its pegging, to the byte: the pieces for so many parents as they are in force, and no row where none are used.
+pub fn by_usage_is_pegged()
+    ensures { ByUsageIsPegged }
+{}
+
+/// The rows that are written of a plant with scrap at each of three levels, field by field.
+pub fn scrapped_thrice_is_written()
+    ensures { ScrappedThriceIsWritten }
+{}
+
+/// Its plan report, to the byte: each level asks for 3% more, rounded up.
+pub fn scrapped_thrice_is_planned()
+    ensures { ScrappedThriceIsPlanned }
 {}

@@ -1,6 +1,6 @@
 -- Each report is the rows of its sheet.
 use Rattle.std.proofs.Common.{◌≡◌, ◌-◌, ◌∷◌, ◌++◌, ◌∙◌, ℕ, List, [], Option, decimal, length, map, All, refl, sym, ap, arith}
-use Rattle.std.specs.Prelude.{slice_index}
+use Rattle.std.specs.Prelude.{◌==◌, Bool, true, false, if◌then◌else◌, slice_index}
 use Rattle.std.specs.List.{flat_map, range_with_len}
 use Rattle.std.proofs.lemmas.List.Elements.{All-append}
 use Rattle.std.proofs.lemmas.Grind.{flat_map-append}
@@ -32,7 +32,7 @@ use Rattle.mrp_report.specs.Orders.{order_fields, order_word, listed_order_row, 
 use Rattle.mrp_report.specs.Pegs.{pair_pegs_text, pegs_fields, pegs_row, pegs_text, period_pegs_text}
 use Rattle.mrp_report.specs.Report.{late_fields, late_text, pair_text, plan_fields, plan_text}
 use Rattle.mrp_report.specs.Codes.{code_fields, code_row, code_text}
-use Rattle.mrp_report.specs.Terms.{peg_fields, peg_row, peg_text, source_word}
+use Rattle.mrp_report.specs.Terms.{peg_fields, peg_row, peg_text, per_text, source_word}
 use Rattle.mrp_csv_out.specs.DateLists.{date_in}
 use Rattle.mrp_csv_out.specs.Names.{item_of, pairs_of, plant_of}
 use Rattle.mrp_csv_out.specs.Rows.{row}
@@ -40,8 +40,8 @@ use Rattle.mrp_csv_out.specs.Sheets.{IsPlain}
 use Rattle.mrp_report.specs.Sheets.{code_sheet, lane_sheet, late_sheet, pair_orders_sheet, pair_pegs_sheet, pair_sheet, peg_sheet, pegs_sheet}
 use Rattle.mrp_report.specs.Sheets.{period_pegs_sheet, plan_sheet}
 use Rattle.mrp_csv_out.proofs.FieldFacts.{ArePlain, headed_read, more, none, number}
-use Rattle.mrp_csv_out.proofs.PlainFacts.{dates_plain, item_plain, plant_plain}
-use Rattle.mrp_report.proofs.SupplyTexts.{supply_plain}
+use Rattle.mrp_csv_out.proofs.PlainFacts.{dates_plain, item_plain, number_plain, plant_plain}
+use Rattle.mrp_report.proofs.SupplyTexts.{both_plain, supply_plain}
 use Rattle.mrp_csv_out.proofs.ReadBack.{IsRow, all_each, all_map, row_each, rows_each, sheet_read}
 
 -- ---- the plan
@@ -131,13 +131,20 @@ source_plain Demand = refl
 source_plain Bill = refl
 source_plain Plant = refl
 
+per_plain_if : (one : Bool) (per base : List ℕ) → IsPlain per → IsPlain base → IsPlain (if one then per else per ++ (47 ∷ base))
+per_plain_if true per base p b = p
+per_plain_if false per base p b = both_plain per (47 ∷ base) p b
+
+per_plain : (per base : ℕ) → IsPlain (per_text per base)
+per_plain per base = per_plain_if (base == 1) (decimal per) (decimal base) (number_plain per) (number_plain base)
+
 peg_is_row : (N : Table) → IsTable N → (term : PegTerm) → IsRow (peg_fields N term)
 unfolding row strip_bom
 peg_is_row N is term = record {
   plain =
       let are : ArePlain (peg_fields N term) =
       more refl (more (source_plain term.source) (more (plant_plain N is (pair_at N term.pair.0).plant.0) (more (item_plain N is (pair_at N term.pair.0).item.0)
-      (number term.release (number term.per (number term.quantity none)))))) in
+      (number term.release (more (per_plain term.per term.base) (number term.quantity none)))))) in
       are.all;
   many = omega arith;
   front = λ rest. refl;
@@ -169,7 +176,7 @@ pegs_is_row N is x t term = record {
       let are : ArePlain (pegs_fields N x t term) =
       more refl (more (plant_plain N is (pair_at N x).plant.0) (more (item_plain N is (pair_at N x).item.0) (number t
       (more (source_plain term.source) (more (plant_plain N is (pair_at N term.pair.0).plant.0) (more (item_plain N is (pair_at N term.pair.0).item.0)
-      (number term.release (number term.per (number term.quantity none))))))))) in
+      (number term.release (more (per_plain term.per term.base) (number term.quantity none))))))))) in
       are.all;
   many = omega arith;
   front = λ rest. refl;

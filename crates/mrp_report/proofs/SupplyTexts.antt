@@ -26,7 +26,7 @@ rest_plain : (a b : Bool) → (a || b) ≡ false → (a ≡ false) × (b ≡ fal
 rest_plain true b e = absurd (cc)
 rest_plain false b e = (refl, e)
 
-both_plain : (xs ys : List ℕ) → IsPlain xs → IsPlain ys → IsPlain (xs ++ ys)
+pub both_plain : (xs ys : List ℕ) → IsPlain xs → IsPlain ys → IsPlain (xs ++ ys)
 both_plain [] ys p q = q
 both_plain (x ∷ xs) ys p q =
     let parts = rest_plain (needs_byte default_writer x) _ p in

@@ -12,7 +12,7 @@ use Rattle.mrp_csv_out.specs.Writing.{joined}
 use Rattle.mrp_report.specs.declared.pegging.PegLine.{PegLine}
 use Rattle.mrp_report.specs.declared.room.TheConstants.{LONGEST_PAIR}
 use Rattle.mrp_report.specs.Pegs.{pegs_row}
-use Rattle.mrp_report.specs.Terms.{source_word}
+use Rattle.mrp_report.specs.Terms.{per_text, source_word}
 
 -- what all rows of a pair begin with: the word, its plant and its item
 abbrev pub pegs_part : List ℕ → List ℕ → List ℕ
@@ -22,7 +22,7 @@ pegs_part plant item = joined (text_bytes "pegs" ∷ plant ∷ item ∷ [])
 abbrev pub term_part : Table → ℕ → PegTerm → List ℕ
 term_part N t term =
     joined (decimal t ∷ source_word term.source ∷ plant_of N term.pair.0 ∷ item_of N term.pair.0
-    ∷ decimal term.release ∷ decimal term.per ∷ decimal term.quantity ∷ [])
+    ∷ decimal term.release ∷ per_text term.per term.base ∷ decimal term.quantity ∷ [])
 
 -- the row of a term, if it asks for anything
 abbrev pub term_text : Table → ℕ → ℕ → PegTerm → List ℕ

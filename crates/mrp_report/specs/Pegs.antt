@@ -7,15 +7,15 @@ use Rattle.mrp_plan.specs.Peg.{peg_terms}
 use Rattle.mrp_plan.specs.declared.terms.PegTerm.{PegTerm}
 use Rattle.mrp_csv_out.specs.Names.{item_of, pairs_of, plant_of}
 use Rattle.mrp_csv_out.specs.Rows.{row}
-use Rattle.mrp_report.specs.Terms.{source_word}
+use Rattle.mrp_report.specs.Terms.{per_text, source_word}
 
 -- the fields of the row of a term of a pair's gross requirement in a period: the pair and the period, where the
--- requirement comes from, the pair that asks, its release, the pieces for each piece of it, and their product
+-- requirement comes from, the pair that asks, its release, the pieces for each or for so many of it, and what is asked
 abbrev pub pegs_fields : Table → ℕ → ℕ → PegTerm → List (List ℕ)
 pegs_fields N x t term =
     text_bytes "pegs" ∷ plant_of N x ∷ item_of N x ∷ decimal t ∷ source_word term.source ∷ plant_of N term.pair.0
     ∷ item_of N term.pair.0
-    ∷ decimal term.release ∷ decimal term.per ∷ decimal term.quantity ∷ []
+    ∷ decimal term.release ∷ per_text term.per term.base ∷ decimal term.quantity ∷ []
 
 -- that row
 unfoldable pub pegs_row : Table → ℕ → ℕ → PegTerm → List ℕ

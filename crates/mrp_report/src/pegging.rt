@@ -13,7 +13,7 @@ ghost use Rattle.mrp_report.specs.Headings.{pegs_names};
 ghost use Rattle.mrp_report.specs.Pegs.{pair_pegs_text, pegs_text, period_pegs_text};
 ghost use Rattle.mrp_report.specs.PegParts.{IsPegLine, edges_text, term_part, term_text};
 
-use crate::before::{number_before, text_before};
+use crate::before::{number_before, per_before, text_before};
 use crate::pegs::source_word;
 use crate::room::{LONGEST_PAIR, LONGEST_ROW, Room, name_pair};
 use itoa::write_digits;
@@ -25,9 +25,9 @@ use mrp_plan::{PegTerm, Plan, asking_edges, demand_term, edge_term};
 use std::alloc::Global;
 use std::io::Write;
 
-/// The most bytes of what a row has of its term: four numbers of 20 digits, a word of 6, two names of
-/// 20 and the commas between.
-const LONGEST_TERM: usize = 132;
+/// The most bytes of what a row has of its term: five numbers of 20 digits, a word of 6, two names of
+/// 20, and the commas and the slash between.
+const LONGEST_TERM: usize = 153;
 
 /// What the rows of a pair have in common: the pair, what each begins with, and the network and the plan
 /// that they are of.
@@ -42,8 +42,9 @@ pub(crate) struct PegLine<'a> {
 /// Writes what each gross requirement of the plan consists of: pairs in table order, periods in rising
 /// order, and in each period the terms that [`mrp_plan::peg`] gives. Of each term it writes `pegs`,
 /// plant and item of the pair, the period, the source (`demand`, `bill` or `plant`), plant and item of
-/// the pair that asks, its release in pieces, the pieces for each piece of it, and their product. The
-/// names of the columns stand above them where `heading` says so.
+/// the pair that asks, its release in pieces, the pieces for each piece of it as `2`, or for so many of
+/// it as `103/100`, and the pieces that are asked. The names of the columns stand above them where
+/// `heading` says so.
 ///
 /// The quantities of a pair in a period add up to its gross requirement there
 /// ([`mrp_plan::terms_add_up`]).
@@ -226,7 +227,7 @@ fn write_term(text: &mut [u8; LONGEST_TERM], network: &Network, t: usize, term: 
 {
     let (plant, item) = network.pair_name(term.pair);
     let quantity = write_digits(term.quantity, text, LONGEST_TERM);
-    let per = number_before(text, quantity, term.per);
+    let per = per_before(text, quantity, term.per, term.base);
     let release = number_before(text, per, term.release);
     let by_item = text_before(text, release, item.as_bytes());
     let by_plant = text_before(text, by_item, plant.as_bytes());

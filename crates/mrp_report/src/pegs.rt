@@ -6,8 +6,9 @@ ghost use Rattle.mrp_csv_out.specs.Headings.{header_row};
 ghost use Rattle.mrp_report.specs.Headings.{peg_names};
 ghost use Rattle.mrp_csv_out.specs.Writing.{IsBetweenRows, written};
 ghost use Rattle.mrp_csv_out.specs.Sent.{SendsReport};
-ghost use Rattle.mrp_report.specs.Terms.{peg_row, peg_text, source_word};
+ghost use Rattle.mrp_report.specs.Terms.{peg_row, peg_text, per_text, source_word};
 
+use crate::before::write_per;
 use csv::Writer;
 use itoa::Buffer;
 use mrp_commands::Heading;
@@ -18,12 +19,16 @@ use mrp_plan::{PegSource, PegTerm};
 use std::alloc::Global;
 use std::io::Write;
 
-/// The most bytes of a row: two words, two names of 20, two quantities of 16, a factor of 7 digits,
-/// the commas and the line feed.
-const LONGEST_ROW: usize = 95;
+/// The most bytes of a row: two words, two names of 20, two quantities of 16, two factors of 7 digits
+/// with a slash between, the commas and the line feed.
+const LONGEST_ROW: usize = 103;
+
+/// The most bytes of the pieces for so many parents: two numbers of 20 digits and a slash.
+const LONGEST_PER: usize = 41;
 
 /// Writes a row for each term in its order: `peg`, the source (`demand`, `bill` or `plant`), plant and
-/// item of the pair that asks, its release, the pieces for each piece of it, and their product.
+/// item of the pair that asks, its release, the pieces for each piece of it as `2`, or for so many of it
+/// as `103/100`, and the pieces that are asked.
 ///
 /// Each term names a pair of the network. The names of the columns stand above the terms where `heading`
 /// says so.
@@ -91,6 +96,14 @@ pub(crate) fn source_word<'a>(source: PegSource) -> &'a [u8]
     }
 }
 
+/// The pieces for so many parents as a row has them, written into `room`.
+fn per_field(room: &mut [u8; LONGEST_PER], per: u64, base: u64) -> &[u8]
+    ensures { result.now ≡ per_text per base }
+{
+    let start = write_per(room, LONGEST_PER, per, base);
+    &room[start..]
+}
+
 /// Adds the row of a term.
 fn put_term<'a>(
     rows: &mut Writer<Vec<u8>>,
@@ -105,7 +118,7 @@ fn put_term<'a>(
 {
     let (plant, item) = network.pair_name(term.pair);
     let mut release = Buffer::new();
-    let mut per = Buffer::new();
+    let mut per = [0; LONGEST_PER];
     let mut quantity = Buffer::new();
     put_row(
         rows,
@@ -115,7 +128,7 @@ fn put_term<'a>(
             plant.as_bytes(),
             item.as_bytes(),
             release.format(term.release).as_bytes(),
-            per.format(term.per).as_bytes(),
+            per_field(&mut per, term.per, term.base),
             quantity.format(term.quantity).as_bytes(),
         ],
     )

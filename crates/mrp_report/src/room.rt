@@ -16,7 +16,7 @@ use std::marker::Model;
 const ROOM: usize = 65536;
 
 /// The most bytes of a row, and of what a room begins with.
-pub(crate) const LONGEST_ROW: usize = 180;
+pub(crate) const LONGEST_ROW: usize = 201;
 
 /// The most bytes of what all rows of a pair begin with: a word of 4 letters, two names of
 /// 20 and the commas between.

@@ -4,6 +4,7 @@ use crate::tables::{
     COUNTED_SOONER, COVERED, FENCED, FIVE_ARTICLES_BY_POLICY, FOUR_PLANTS, FOUR_PLANTS_BY_POLICY,
     IDLE_RING, LONG_RING, NO_LANES, NO_PLANTS, ONE_SHARED, RESET_AT_RELEASE, RESET_LATER, RING,
     ROUNDED_UP, SHARED, SHARED_AFTER_SHIPMENT, TWO_CUSTOMERS, TWO_PLANTS, TWO_SHIPMENTS,
+    USED_BY_PERIOD,
 };
 
 /// What a table comes to, whoever plans it and in whatever order.
@@ -189,6 +190,21 @@ pub const ROUNDED_UP_ENDING: Ending = Ending {
     records: &[2, 5],
     figures: &[&[(0, 0)], &[(0, 50)]],
     orders: &[&[0, 15, 15, 20], &[20, 20, 20, 0]],
+};
+
+/// What [`USED_BY_PERIOD`] comes to. A releases 10 in each of 0 to 2. B wants 11 Y for each of the first two, and A makes
+/// them of 22 and of 3 Z.
+pub const USED_BY_PERIOD_ENDING: Ending = Ending {
+    table: USED_BY_PERIOD,
+    records: &[2, 5, 2, 4],
+    figures: &[&[(0, 0)], &[(0, 30)], &[(0, 0)], &[(0, 22)]],
+    orders: &[
+        &[0, 10, 10, 10],
+        &[11, 11, 0, 0],
+        &[17, 3, 0, 0],
+        &[10, 10, 10, 0],
+        &[11, 11, 0, 0],
+    ],
 };
 
 /// What [`FOUR_PLANTS_BY_POLICY`] comes to. Releases, period by period, are 3 4 0 0 10 0 of A's X, 0 2 0 10 0 0 of

@@ -115,6 +115,14 @@ reset,C,B,Y,3,,,\nfirm,A,X,0,2,3,,\nfirm,B,X,1,1,2,,\nfirm,D,X,0,4,5,,\n\
 policy,A,X,2,2,0,0,2\npolicy,A,Y,2,0,1,9,2\npolicy,B,X,0,0,0,9,2\npolicy,B,Y,3,2,1,4,3\n\
 policy,C,X,3,2,1,2,0\npolicy,D,X,3,2,1,4,3\npolicy,D,Z,3,0,1,0,2\n";
 
+/// A takes X from B, which makes it of A's Y, which is made of Z. Three of 103 Y are scrap until period 2, from which on X
+/// is made without it; two Z go into a Y, and from period 1 on one into four.
+pub const USED_BY_PERIOD: &str = "run,2026-01-05,7,4,,,,\nplant,A,,,,,,\nplant,B,,,,,,\n\
+pair,A,X,from:B,lot,1,0,0\npair,A,Y,make,lot,0,0,0\npair,A,Z,buy,lot,0,5,0\n\
+pair,B,X,make,lot,0,0,0\npair,B,Y,from:A,lot,0,0,0\nbill,A,Y,Z,2,,,\nbill,B,X,Y,1,,,\n\
+demand,A,X,1,10,,,\ndemand,A,X,2,10,,,\ndemand,A,X,3,10,,,\nusage,B,X,Y,2,0,1,\n\
+usage,B,X,Y,0,103,100,\nusage,A,Y,Z,1,1,4,\n";
+
 /// A ring that goes through both plants twice: B's X is made at A of Y, which is made at B of W, which is
 /// made at A of V, which is made at B of U, which is bought at A. Neither plant is done in two turns.
 pub const LONG_RING: &str = "run,2026-01-05,7,1,,,,\nplant,A,,,,,,\nplant,B,,,,,,\n\

@@ -16,9 +16,9 @@ returns-clause-rows g c =
     let N = c.args.line.now.network.now in
     let text = c.write_term-start.new.text in
     let start = c.write_term-start.result in
-    let part : take (132 - start) (drop start text) ≡ term_part N c.args.t c.args.term =
+    let part : take (153 - start) (drop start text) ≡ term_part N c.args.t c.args.term =
     take_all _ _ (omega (arith, length-drop start text)) ∙ c.write_term-start.ensures.part in
-    let same : row (c.args.line.now.begins.now ∷ take (132 - start) (drop start text) ∷ []) ≡ term_text N c.args.line.now.x.0 c.args.t c.args.term =
+    let same : row (c.args.line.now.begins.now ∷ take (153 - start) (drop start text) ∷ []) ≡ term_text N c.args.line.now.x.0 c.args.t c.args.term =
     rw (c.requires.line.part, part) (pegs_parts_row N c.args.line.now.x.0 c.args.t c.args.term
     ∙ row_asked N c.args.line.now.x.0 c.args.t c.args.term c.if-term-eq0.false) in
     on_ok_weaker c.put_row.result (gathers-as _ _ _ _ _ _ same) c.put_row.ensures.row
@@ -28,9 +28,9 @@ returns-clause-prefix g c =
     let N = c.args.line.now.network.now in
     let text = c.write_term-start.new.text in
     let start = c.write_term-start.result in
-    let part : take (132 - start) (drop start text) ≡ term_part N c.args.t c.args.term =
+    let part : take (153 - start) (drop start text) ≡ term_part N c.args.t c.args.term =
     take_all _ _ (omega (arith, length-drop start text)) ∙ c.write_term-start.ensures.part in
-    let same : row (c.args.line.now.begins.now ∷ take (132 - start) (drop start text) ∷ []) ≡ term_text N c.args.line.now.x.0 c.args.t c.args.term =
+    let same : row (c.args.line.now.begins.now ∷ take (153 - start) (drop start text) ∷ []) ≡ term_text N c.args.line.now.x.0 c.args.t c.args.term =
     rw (c.requires.line.part, part) (pegs_parts_row N c.args.line.now.x.0 c.args.t c.args.term
     ∙ row_asked N c.args.line.now.x.0 c.args.t c.args.term c.if-term-eq0.false) in
     on_err_weaker c.put_row.result (cut-as _ _ _ _ _ same) c.put_row.ensures.prefix

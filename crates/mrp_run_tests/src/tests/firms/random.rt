@@ -6,7 +6,7 @@ use super::trials::{Trial, holds_of};
 use super::{are_received, follows, is_at_the_end, is_planned_whole};
 use crate::{
     COUNTED_SOONER, COVERED, FENCED, FOUR_PLANTS, FOUR_PLANTS_BY_POLICY, RESET_AT_RELEASE,
-    RESET_LATER, RING, ROUNDED_UP, SHARED_AFTER_SHIPMENT,
+    RESET_LATER, RING, ROUNDED_UP, SHARED_AFTER_SHIPMENT, USED_BY_PERIOD,
 };
 use mrp_book::LaneFigure;
 use mrp_loops::SizedNet;
@@ -220,6 +220,7 @@ fn firms_keep_the_laws_in_any_order(rt: HostRuntime) -> Result<(), Fail> {
         SHARED_AFTER_SHIPMENT,
         RESET_LATER,
         RESET_AT_RELEASE,
+        USED_BY_PERIOD,
         FOUR_PLANTS,
     ] {
         assert!(rt; table_keeps_on(&rt, table, ORDERS)?, "{table}");
