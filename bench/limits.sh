@@ -127,6 +127,9 @@ try one_for_all plan "20000 of 2080000" '$4 == 103 && $6 == ($3 == "ONE" ? 19999
 try one_for_all "peg P ONE 103" "19999 of 19999" '$2 == "bill" && $7 == 1'
 bills 0 >"$table"
 try bills plan "20000 of 2080000" '$4 == 103 && $6 == (substr($3, 2) + 0 < 10000 ? 1 : 20) && $8 == $6'
+bills 0 | "$top/bench/usages.sh" 103 100 >"$table"
+try "200,000 usages" plan "20000 of 2080000" '$4 == 103 && $6 == (substr($3, 2) + 0 < 10000 ? 1 : 40) && $8 == $6'
+try "200,000 usages" "peg P I10000 103" "20 of 20" '$2 == "bill" && $6 == "103/100" && $7 == 2'
 lanes >"$table"
 for words in "plan --single" "plan --capacity 1" "plan --workers 2 --capacity 65536"; do
     try lanes "$words" "19968 of 2076672" '$4 == 103 && $6 == (substr($2, 2) + 0 < 4 ? 60 : 4) && $8 == $6'
@@ -154,6 +157,9 @@ rows 2 20001 0 0 0 >"$table"
 try "20,001 pairs" check "mrp: row 20004: TooMany"
 bills 1 >"$table"
 try "200,001 bills" check "mrp: row 220003: TooMany"
+bills 0 | "$top/bench/usages.sh" same >"$table"
+echo "usage,P,I0,I10000,1,1,1," >>"$table"
+try "200,001 usages" check "mrp: row 430003: TooMany"
 rows 2 2 1000001 0 0 >"$table"
 try "1,000,001 demands" check "mrp: row 1000006: TooMany"
 rows 2 2 0 1000001 0 >"$table"

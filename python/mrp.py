@@ -68,12 +68,34 @@ def one_of(*words):
     return Spelling("|".join(words))
 
 
+class Per(NamedTuple):
+    """So many pieces of a component go into so many parents, as a usage row says where these aren't 1. It is spelled 103/100."""
+
+    per: int
+    base: int
+    # (it is no number)
+    __mul__ = __rmul__ = None
+
+    def __str__(self):
+        return f"{self.per}/{self.base}"
+
+    def pieces(self, parents):
+        """Returns the pieces for some parents, rounded up."""
+        return -(-self.per * parents // self.base)
+
+
+def per_of(text):
+    """Returns how many pieces go into one parent, or a Per."""
+    per, mark, base = text.partition("/")
+    return Per(int(per), int(base)) if mark else int(per)
+
+
 NAME = Spelling("[A-Za-z0-9._-]{1,20}")
 NUMBER = Spelling("0|[1-9][0-9]{0,15}", int)
 # (in a table a date may stand in the place of a period)
 PERIOD = Spelling(NUMBER.pattern, int, is_period=True)
-# Pieces of a component in a parent.
-PER = Spelling(NUMBER.pattern, int)
+# Pieces of a component in a parent: in reports a number, or a Per.
+PER = Spelling(f"(?:{NUMBER.pattern})(?:/[1-9][0-9]{{0,15}})?", per_of)
 DATE = Spelling("[0-9]{4}-[0-9]{2}-[0-9]{2}", day_of)
 SUPPLY = Spelling("make|buy|from:[A-Za-z0-9._:-]{1,99}")
 RULE = Spelling("lot|(?:fixed|periods|min):[0-9:]{1,27}")
@@ -114,7 +136,7 @@ class Bill(NamedTuple):
     plant: NAME
     parent: NAME
     component: NAME
-    per: PER
+    per: NUMBER
 
 
 class Demand(NamedTuple):
@@ -211,9 +233,20 @@ class Policy(NamedTuple):
         return self.plant, self.item
 
 
+class Usage(NamedTuple):
+    """Of parents that are released in a period and later, so many pieces of a component go into so many, and not what the bill says."""
+
+    plant: NAME
+    parent: NAME
+    component: NAME
+    period: PERIOD
+    per: NUMBER
+    base: NUMBER
+
+
 # The kinds of rows, by the names of their lists in a table.
 LISTS = {"runs": Run, "plants": Plant, "pairs": Pair, "bills": Bill, "demands": Demand}
-LISTS |= {"receipts": Receipt, "ships": Ship, "cums": Cum, "resets": Reset, "firms": Firm, "policies": Policy}
+LISTS |= {"receipts": Receipt, "ships": Ship, "cums": Cum, "resets": Reset, "firms": Firm, "policies": Policy, "usages": Usage}
 KINDS = tuple(LISTS.values())
 
 

@@ -90,14 +90,14 @@ def each_name_is_tested(program):
     around += ("demand,{},X,0,1,,,", "demand,A,{},0,1,,,", "receipt,{},X,0,1,,,", "receipt,A,{},0,1,,,")
     around += ("ship,{},A,Y,0,1,,", "ship,B,{},Y,0,1,,", "ship,B,A,{},0,1,,", "cum,{},A,Y,1,,,", "cum,B,{},Y,1,,,", "cum,B,A,{},1,,,")
     around += ("reset,{},A,Y,1,,,", "reset,B,{},Y,1,,,", "reset,B,A,{},1,,,", "firm,{},X,0,0,1,,", "firm,A,{},0,0,1,,")
-    around += ("policy,{},X,0,0,0,0,0", "policy,A,{},0,0,0,0,0")
+    around += ("policy,{},X,0,0,0,0,0", "policy,A,{},0,0,0,0,0", "usage,{},X,Y,0,1,1,", "usage,A,{},Y,0,1,1,", "usage,A,X,{},0,1,1,")
     for name in ("", "A/B", "A:B", "A B", "X!", "?", "@A", "A[", "A`B", "{A", '"A,B"', "Ü", "NAME-OF-21-CHARACTERS"):
         refused(program, f"run,2026-01-05,7,4,,,,\nplant,{name},,,,,,\n", "row 2: BadName", ("check",))
         for row in around:
             refused(program, f"{HEAD}{row.replace('{}', name)}\n", "row 7: BadName", ("check",))
     plants, items = ("Plant-of-20.letters1", "Plant-of-20.letters2"), ("ITEM_OF_MORE_LETTERS", "ITEM_OF_20_LETTERS.Z")
     table = HEAD + "bill,A,X,Y,1,,,\ndemand,A,X,0,1,,,\nreceipt,A,X,0,1,,,\nship,B,A,Y,0,1,,\ncum,B,A,Y,1,,,\nreset,B,A,Y,1,,,\nfirm,A,X,0,1,1,,\n"
-    table += "policy,A,X,1,0,0,0,0\n"
+    table += "policy,A,X,1,0,0,0,0\nusage,A,X,Y,1,1,4,\n"
     for short, long in zip("ABXY", (*plants, *reversed(items))):
         table = re.sub(rf"(?<=[,:]){short}(?=,)", long, table)
     expect(program, "check", table, "accepted\n")
@@ -122,6 +122,7 @@ def rows_that_are_no_text(program):
     refused(program, b"\xff,2026-01-05,7,4,,,,\n", "row 1: NotUtf8")
     refused(program, HEAD.encode() + b"firm,A,X,0,\xff,0,,\n", "row 7: NotUtf8")
     refused(program, HEAD.encode() + b"policy,A,X,0,0,0,0,\xff\n", "row 7: NotUtf8")
+    refused(program, HEAD.encode() + b"usage,A,X,Y,0,1,\xff,\n", "row 7: NotUtf8")
 
 
 def tables_of_other_programs(program):
@@ -137,13 +138,14 @@ def tables_of_other_programs(program):
 
 def tables_cut_within_a_row(program):
     """A firm of two plants, cut behind each of its characters that neither ends a row nor stands before the end of one."""
-    rows = "demand,A,X,2,30,,,\nship,B,A,X,2,8,,\ncum,B,A,X,100,,,\nreset,B,A,X,2,,,\nfirm,A,X,0,1,12,,\npolicy,A,X,1,2,0,30,5\n"
-    firm = "run,2026-01-05,7,4,,,,\nplant,A,,,,,,\nplant,B,,,,,,\npair,A,X,from:B,lot,1,0,0\npair,B,X,buy,lot,0,0,0\n" + rows
+    rows = "demand,A,X,2,30,,,\nship,B,A,X,2,8,,\ncum,B,A,X,100,,,\nreset,B,A,X,2,,,\nfirm,A,X,0,1,12,,\npolicy,A,X,1,2,0,30,5\nusage,A,Z,X,2,103,100,\n"
+    firm = "run,2026-01-05,7,4,,,,\nplant,A,,,,,,\nplant,B,,,,,,\npair,A,X,from:B,lot,1,0,0\npair,B,X,buy,lot,0,0,0\n"
+    firm += f"pair,A,Z,make,lot,0,0,0\nbill,A,Z,X,1,,,\n{rows}"
     for count in range(1, len(firm)):
         if "\n" not in firm[count - 1 : count + 1]:
             row = firm.count("\n", 0, count) + 1
             # (where the last digit of a row of eight fields is cut off its last field is empty)
-            fault = "BadNumber" if row in (4, 5, 11) and firm[count + 1] == "\n" else "FieldCount"
+            fault = "BadNumber" if row in (4, 5, 6, 13) and firm[count + 1] == "\n" else "FieldCount"
             refused(program, firm[:count], f"row {row}: {fault}", ("plan --single",))
 
 
@@ -175,6 +177,11 @@ def kinds_have_their_limits(program):
         if answer(program, "check", most).startswith("1 mrp: row"):
             raise Different(f"{row - 1} rows are refused: {answer(program, 'check', most)}")
         refused(program, most + more, f"row {row}: TooMany", ("check",))
+    # (the bills make loops, which are found once all rows are read)
+    usages = bills.replace("7,1", "7,2") + re.sub(r"bill(,A,X\d+,X\d+),1,,,", r"usage\1,0,103,100,", bills[bills.index("bill") :])
+    if not answer(program, "check", usages).startswith("1 mrp: loop"):
+        raise Different(f"200,000 usages are refused: {answer(program, 'check', usages)}")
+    refused(program, f"{usages}usage,A,X0,X1,1,1,1,\n", f"row {usages.count(chr(10)) + 1}: TooMany", ("check",))
     amounts = {"demand,A,X,0,1,,,\n": "", "receipt,A,X,0,1,,,\n": "advice,cancel,receipt,A,X,,0,2026-01-05,1,,\n"}
     amounts["ship,B,A,X,0,1,,\n"] = "advice,cancel,ship,A,X,B,0,2026-01-05,1,,\n"
     amounts["firm,A,X,0,0,1,,\n"] = "advice,cancel,firm,A,X,,0,2026-01-05,1,,\n"
@@ -218,6 +225,10 @@ def a_part_goes_into_all_others(program):
     expect(program, "pegs", table, numbered(19_999, "pegs,A,F,0,bill,A,X", ",1,1,1"))
     # (they are made at once, so that of them nothing is lacking)
     expect(program, "shortages", table, numbered(19_999, "shortage,A,F,bill,A,X", ",1,1"))
+    # (103 go into 100 of each, so that of each order for a piece two are taken)
+    table += numbered(19_999, "usage,A,X", ",F,0,103,100,")
+    expect(program, "pegs", table, numbered(19_999, "pegs,A,F,0,bill,A,X", ",1,103/100,2"))
+    expect(program, "plan --single", table, numbered(19_999, "plan,A,X", ",0,2026-01-05,0,0,1,1,1") + "plan,A,F,0,2026-01-05,39998,0,39998,39998,0\n")
 
 
 def each_of_20000_pairs_has_a_late_order(program):

@@ -39,7 +39,7 @@ class Waits:
     def taken(self, pair, release):
         """Returns when all that a release takes is there."""
         edges = ((it, edge) for it, edges in self.firm.demanders.items() for edge in edges if edge.pair == pair)
-        return max([release, *(self.until(it, release) for it, edge in edges if edge.part(self.firm.plans[pair].release[release]))])
+        return max([release, *(self.until(it, release) for it, edge in edges if edge.asks(release, self.firm.plans[pair].release[release]))])
 
     def until(self, pair, period):
         """Returns when all that is required up to a period is there."""
@@ -91,7 +91,7 @@ def played(firm, chance):
     for now in range(firm.periods + sum(longest) + 1):
         for pair in pairs if now < firm.periods else ():
             stock[pair] += arrives[pair][now]
-            asked = [(None, firm.demand[pair][now])] + [(it.pair, it.per * it.part(firm.plans[it.pair].release[now])) for it in firm.demanders[pair]]
+            asked = [(None, firm.demand[pair][now])] + [(it.pair, it.asks(now, firm.plans[it.pair].release[now])) for it in firm.demanders[pair]]
             waiting[pair] += [[now, chance.random(), *it] for it in asked if it[1]]
             for by, quantity in asked:
                 missing[by, now] = missing.get((by, now), 0) + quantity

@@ -11,7 +11,7 @@ QUANTITIES = (1, 2, 5, 7, 30, 99, 1000, 10**6)
 # What is put in the place of a field or of a byte.
 FIELDS = ("", "0", "1", "31", "32", "104", "105", "02", "+1", "1.5", "1000000000000", "1000000000001", "9999999999999999")
 FIELDS += ("A", "B", "X" * 21, "a b", "make", "buy", "lot", "fixed:0", "fixed:7", "periods:105", "min:3:2", "min:1")
-FIELDS += ("from:A", "from:A:500:B:500", "from:B:600:A:300", "2026-02-30", "2199-12-31", '"A"', '"', "103", "policy")
+FIELDS += ("from:A", "from:A:500:B:500", "from:B:600:A:300", "2026-02-30", "2199-12-31", '"A"', '"', "103", "policy", "usage", "1000000", "1000001")
 BYTES = b',,,"\r\n\n019ABXx:-._ \x00\x7f\xc3\xff'
 
 
@@ -28,6 +28,7 @@ def table(chance, plants=12, pairs=30):
     rows += [*firm.period_rows(mrp.Demand, kept), *firm.period_rows(mrp.Receipt, kept), *firm.lane_rows()]
     rows += [*firm.firm_rows([(it.receiver, it.item) for it in rows if isinstance(it, mrp.Reset)])]
     rows += [*firm.policy_rows([it for it in rows if isinstance(it, mrp.Pair)], [it.pair for it in rows if isinstance(it, mrp.Receipt)])]
+    rows += [*firm.usage_rows([it for it in rows if isinstance(it, mrp.Bill)])]
     return bytes(mrp.Table(rows))
 
 
@@ -130,6 +131,25 @@ class Draft:
             return self.chance.choice((1, 1, 2, 3, self.periods - 1, self.periods, 104))
         return self.chance.choice(self.quantities)
 
+    def usage_rows(self, bills):
+        """Yields usage rows, but in some firms none: of a bill row one or several, in any order, and of many none."""
+        often = self.chance.choice((0, 0.5, 0.9))
+        for it in self.chance.sample(bills, len(bills)):
+            usages = self.usages(it.per) if self.chance.random() < often else {}
+            for period in self.chance.sample([*usages], len(usages)):
+                yield mrp.Usage(*it[:3], period, *usages[period])
+
+    def usages(self, per):
+        """Returns pieces and their parents by the period from which on they hold: scrap, a fraction, an end, a beginning, a gap with a
+        return to the bill or to more, or anything.
+        """
+        some, later, end = sorted(self.chance.randrange(self.periods) for _ in "123")
+        scrap = min(per * (100 + self.chance.choice((1, 3, 50, 150))), 10**6), 100
+        fraction = self.chance.choice(((1, 4), (2, 8), (1, 1000), (5, 2), (10**6, 10**6), (1, 10**6), (999_983, 1), (0, 10**6)))
+        ways = {0: scrap}, {some: fraction}, {some: (0, 1)}, {0: (0, 1), later: (per, 1)}, {some: (0, 1), later: (per, 1), end: scrap}
+        anything = {self.chance.randrange(self.periods): (self.chance.choice((0, 1, 2, 7, 100)), self.chance.choice((1, 1, 2, 3, 100))) for _ in "1234"}
+        return self.chance.choice((*ways, {0: scrap, some: fraction}, anything))
+
 
 def damaged(chance, text):
     """Returns a table with one or two damages."""
@@ -177,4 +197,19 @@ def other_ends(chance, text):
     return chance.choice((b"", b"\xef\xbb\xbf", b"\n")) + text.replace(b"\n", chance.choice((b"\r\n", b"\n\n", b"\r")))
 
 
-DAMAGES = (cut, changed_byte, changed_byte, changed_rows, swapped_rows, changed_field, changed_field, changed_field, other_ends)
+def more_usage(chance, text):
+    """Adds usage rows: once or twice one of a bill or usage row, of two pairs, or with any word in a field, at the end or anywhere."""
+    rows = text.splitlines(keepends=True)
+    found = [it.rstrip(b"\r\n").split(b",") for it in rows]
+    pairs = [it[1:3] for it in found if it[0] == b"pair" and len(it) > 2] or [[b"A", b"X"]]
+    names = [*chance.choice(pairs), chance.choice(pairs)[-1]]
+    joined = [it[1:4] for it in found if it[0] in (b"bill", b"usage") and len(it) > 3]
+    row = [b"usage", *chance.choice([names, *joined]), b"0", *chance.choice(((b"0", b"1"), (b"103", b"100"), (b"1", b"4"))), b""]
+    if chance.random() < 0.6:
+        row[chance.randrange(len(row))] = chance.choice(FIELDS).encode()
+    place = chance.choice((len(rows), len(rows), chance.randrange(len(rows) + 1)))
+    rows[place:place] = [b",".join(row) + b"\n"] * chance.choice((1, 1, 2))
+    return b"".join(rows)
+
+
+DAMAGES = (cut, changed_byte, changed_byte, changed_rows, swapped_rows, changed_field, changed_field, changed_field, other_ends, more_usage)

@@ -31,6 +31,7 @@ COLUMNS = {
     "reset": ("name", "name", "name", "period"),
     "firm": ("name", "name", "period", "period", "quantity"),
     "policy": ("name", "name", "period", "ahead", "ahead", "stock", "stock"),
+    "usage": ("name", "name", "name", "period", "any per", "per"),
 }
 KINDS = list(COLUMNS)
 RANGES = {
@@ -40,10 +41,11 @@ RANGES = {
     "ahead": (0, 104),
     "stock": (0, 10**12),
     "per": (1, 10**6),
+    "any per": (0, 10**6),
     "quantity": (1, 10**12),
     "figure": (0, 10**15),
 }
-MOST = {"plant": 64, "pair": 20_000, "bill": 200_000, **dict.fromkeys(("demand", "receipt", "ship", "cum", "firm"), 10**6)}
+MOST = {"plant": 64, "pair": 20_000, "bill": 200_000, "usage": 200_000, **dict.fromkeys(("demand", "receipt", "ship", "cum", "firm"), 10**6)}
 # The names of the columns, as --header writes them above a report.
 HEADERS = {
     "check": "row,plant,item,code",
@@ -84,16 +86,44 @@ class Pair(NamedTuple):
     safety: int
 
 
+class Usage(NamedTuple):
+    """How many pieces of a component go into so many parents, of those that are released in a period and later."""
+
+    period: int
+    per: int
+    base: int
+
+    def pieces(self, parents):
+        """Returns the pieces for some parents, rounded up."""
+        return -(-self.per * parents // self.base)
+
+
 class Edge(NamedTuple):
-    """A demander of a pair, and what it asks of a release."""
+    """A demander of a pair, and what it asks of a release: the usage of the bill, and those of usage rows by period."""
 
     pair: tuple
-    per: int
+    usages: list
     low: int
     high: int
 
     def part(self, release):
         return release * self.high // 1000 - release * self.low // 1000
+
+    def usage(self, t):
+        """Returns the usage of what is released in a period: the last that begins by then."""
+        return next(it for it in reversed(self.usages) if it.period <= t)
+
+    def asks(self, t, release):
+        """Returns the pieces that a release of a period asks for."""
+        return self.usage(t).pieces(self.part(release))
+
+    def most(self):
+        """Returns the greatest number of pieces that one parent may ask for."""
+        return max(it.pieces(1) for it in self.usages)
+
+
+# What a plant asks of another.
+PART = [Usage(0, 1, 1)]
 
 
 class FirmOrder(NamedTuple):
@@ -198,6 +228,7 @@ class Firm:
         self.periods, self.kind, self.counts, self.said = 0, None, {}, set()
         self.plants, self.pairs, self.bills, self.cums, self.ships, self.resets = [], {}, {}, {}, [], {}
         self.demand, self.incoming, self.receipts, self.open_orders, self.firm_orders, self.policies = {}, {}, {}, {}, {}, {}
+        self.usages = {}
         count = 0
         for count, fields in enumerate(rows(table), 1):
             fault = self.spelling_fault(fields) or self.fault([it.decode() for it in fields])
@@ -257,9 +288,10 @@ class Firm:
         if not set(named) <= set(self.plants):
             return "UnknownPlant"
         pair = (item, texts[3]) if moves else (plant, item)
-        if kind not in ("plant", "pair") and pair not in self.pairs or kind == "bill" and (plant, texts[3]) not in self.pairs:
+        of_bill = kind in ("bill", "usage")
+        if kind not in ("plant", "pair") and pair not in self.pairs or of_bill and (plant, texts[3]) not in self.pairs:
             return "UnknownPair"
-        if kind == "bill" and self.pairs[pair].supply != "make":
+        if kind == "bill" and self.pairs[pair].supply != "make" or kind == "usage" and tuple(texts[1:4]) not in self.bills:
             return "NotMade"
         if moves and plant not in [it for it, _, _ in self.pairs[pair].sources]:
             return "NotSourced"
@@ -274,7 +306,7 @@ class Firm:
     @staticmethod
     def key(texts):
         """Returns what no second row says again, or nothing where rows may."""
-        sizes = {"plant": 2, "pair": 3, "bill": 4, "cum": 4, "reset": 4, "policy": 3}
+        sizes = {"plant": 2, "pair": 3, "bill": 4, "cum": 4, "reset": 4, "policy": 3, "usage": 5}
         return tuple(texts[: sizes[texts[0]]]) if texts[0] in sizes else None
 
     def add(self, count, *texts):
@@ -315,6 +347,8 @@ class Firm:
             self.open_orders[first, second].append((order.due, kind, "", order.quantity))
         elif kind == "policy":
             self.policies[first, second] = Policy(int(third), *map(int, more[:4]))
+        elif kind == "usage":
+            self.usages.setdefault((first, second, third), []).append(Usage(*map(int, more[:3])))
 
     def policy(self, pair):
         """Returns the policy of a pair."""
@@ -329,12 +363,14 @@ class Firm:
         self.demanders = {it: [] for it in self.pairs}
         parents = {}
         for (plant, parent, component), per in self.bills.items():
-            parents.setdefault((plant, parent), []).append(((plant, component), per))
+            # (where a usage row begins in period 0 it stands behind the bill's)
+            usages = [Usage(0, per, 1), *sorted(self.usages.get((plant, parent, component), ()))]
+            parents.setdefault((plant, parent), []).append(((plant, component), usages))
         for pair, row in self.pairs.items():
-            for component, per in parents.get(pair, ()):
-                self.demanders[component].append(Edge(pair, per, 0, 1000))
+            for component, usages in parents.get(pair, ()):
+                self.demanders[component].append(Edge(pair, usages, 0, 1000))
             for plant, low, high in row.sources:
-                self.demanders[plant, pair[1]].append(Edge(pair, 1, low, high))
+                self.demanders[plant, pair[1]].append(Edge(pair, PART, low, high))
 
     def find_codes(self):
         """Finds the low-level codes, or refuses the loop that a walk from demander to demander comes to."""
@@ -362,7 +398,7 @@ class Firm:
                 raise Refused("mrp: SupplyTooLarge " + "/".join(pair))
         for pair in sorted(self.pairs, key=self.codes.get):
             row = self.pairs[pair]
-            asked = sum(it.per * need[it.pair] for it in self.demanders[pair])
+            asked = sum(it.most() * need[it.pair] for it in self.demanders[pair])
             firm = sum(it.quantity for it in self.firm_orders[pair])
             lots = sum(self.policy(pair)[3:]) + (0 if row.rule[0] == "periods" else sum(row.rule[1:]))
             need[pair] = sum(self.demand[pair]) + asked + row.safety + firm + lots
@@ -374,7 +410,7 @@ class Firm:
         plans = {}
         for pair in sorted(self.pairs, key=self.codes.get):
             edges = [(it, plans[it.pair].release) for it in self.demanders[pair]]
-            gross = [self.demand[pair][t] + sum(it.per * it.part(release[t]) for it, release in edges) for t in range(self.periods)]
+            gross = [self.demand[pair][t] + sum(it.asks(t, release[t]) for it, release in edges) for t in range(self.periods)]
             plans[pair] = self.plan_of(pair, gross)
         return plans
 
@@ -473,8 +509,9 @@ class Firm:
         own = self.demand[pair][t]
         terms = [("demand", *pair, own, 1, own)]
         for edge in self.demanders[pair]:
-            released = edge.part(self.plans[edge.pair].release[t])
-            terms.append(("bill" if edge.pair[0] == pair[0] else "plant", *edge.pair, released, edge.per, released * edge.per))
+            release, usage = self.plans[edge.pair].release[t], edge.usage(t)
+            per = usage.per if usage.base == 1 else f"{usage.per}/{usage.base}"
+            terms.append(("bill" if edge.pair[0] == pair[0] else "plant", *edge.pair, edge.part(release), per, edge.asks(t, release)))
         return [it for it in terms if it[-1]]
 
     def pegs_report(self):
@@ -507,7 +544,7 @@ class Firm:
             taken = {item: row.sources for (plant, item), row in self.pairs.items() if plant == customer and row.sources}
             for supplier in self.plants:
                 found = ((item, low, high) for item, sources in taken.items() for plant, low, high in sources if plant == supplier)
-                yield supplier, customer, {item: Edge((customer, item), 1, low, high) for item, low, high in found}
+                yield supplier, customer, {item: Edge((customer, item), PART, low, high) for item, low, high in found}
 
     def figures(self, lane, edge):
         """Returns the cumulative figure of a lane's item, what is in transit, and what is called for in each period."""

@@ -260,7 +260,7 @@ def test_both_sheets_or_none(tmp_path, monkeypatch):
     assert (tmp_path / "receipts.csv").read_text() == NO_RECEIPTS
 
 
-KINDS = "run", "plant", "pair", "bill", "demand", "receipt", "ship", "cum", "reset", "firm", "policy"
+KINDS = "run", "plant", "pair", "bill", "demand", "receipt", "ship", "cum", "reset", "firm", "policy", "usage"
 
 
 def planned(rows):

@@ -51,14 +51,14 @@ def test_numbers_are_read_as_they_are_exported(tmp_path, text, number):
         ("1,234.", "isn't written as --numbers 1,234.5 says"),
         ("1 200", "is no whole number; write it as 1200"),
         ("025", f"begins with a 0; write 25, or where 0.25 is meant {SMALLER}"),
-        ("2,000,000", ": '2000000' is not from 1 to 1000000"),
+        ("2,000,000,000,000", ": '2000000000000' is not from 0 to 1000000000000"),
     ],
 )
 def test_numbers_of_another_form_are_slips(tmp_path, text, told):
     for form, cell in ((COMMAS, text), (POINTS, in_points(text))):
-        found = {**BICYCLE, "bills.csv": f'Plant,Parent,Component,Per\nP1,BIKE,WHEEL,"{cell}"\n'}
+        found = {**BICYCLE, "items.csv": BICYCLE["items.csv"].replace("buy,lot,1,0,0", f'buy,lot,1,0,"{cell}"')}
         between = "" if told[0] == ":" else " "
-        said = f"bills.csv row 2, Per: {cell!r}{between}{told.replace(COMMAS, form)}\n{REFUSED}"
+        said = f"items.csv row 3, Safety stock: {cell!r}{between}{told.replace(COMMAS, form)}\n{REFUSED}"
         assert sheets(tmp_path, found, "--numbers", form) == (1, "", said)
 
 

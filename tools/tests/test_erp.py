@@ -84,6 +84,39 @@ def test_policies_end_the_table_of_postgresql(room):
         assert rows == firm + policies
 
 
+# Usages: two that count from the first day, of which the first is older, and one from a day within a period; what ends and begins again; and one
+# that begins in a period behind the last. Then such as mrp refuses, of no bill and without a day.
+USAGES = """INSERT INTO usages VALUES ('NORTH', 'BIKE', 'WHEEL', '2026-01-05', 206, 100), ('NORTH', 'BIKE', 'WHEEL', '2025-11-01', 5, 2),
+    ('NORTH', 'BIKE', 'WHEEL', '2026-01-13', 21, 10), ('SOUTH', 'FRAME', 'TUBE', '2026-01-12', 0, 1),
+    ('SOUTH', 'FRAME', 'TUBE', '2026-02-09', 3, NULL), ('NORTH', 'WHEEL', 'RIM', '2026-02-10', 2, 1)"""
+USAGE_ROWS = "usage,NORTH,BIKE,WHEEL,0,206,100,\nusage,NORTH,BIKE,WHEEL,2,21,10,\nusage,SOUTH,FRAME,TUBE,1,0,1,\nusage,SOUTH,FRAME,TUBE,5,3,1,\n"
+WRONG_USAGES = "INSERT INTO usages VALUES ('NORTH', 'BIKE', 'RIM', '2026-01-05', 1, 1), ('NORTH', 'WHEEL', 'RIM', '5.1.2026', 1, 3)"
+WRONG_USAGE_ROWS = "usage,NORTH,BIKE,RIM,0,1,1,\nusage,NORTH,WHEEL,RIM,,1,3,\n"
+
+
+def test_usages_end_the_table(room):
+    """They stand behind the policies, by the periods of their days, as they were entered."""
+    wants("sqlite3")
+    table = "sqlite3 -bail -list -separator , firm.db < examples/erp/table.sql"
+    added = "tail -n +$(($(wc -l < examples/three_plants.csv) + 1))"
+    room.run(f'sqlite3 firm.db < examples/erp/firm.sql; sqlite3 firm.db "{USAGES}; {POLICIES}"; {table} > table.csv')
+    assert room.run(f"{added} table.csv") == POLICY_ROWS + USAGE_ROWS
+    assert oracle.Oracle(room.run("cat table.csv").encode()).refused is None
+    assert room.run(f'sqlite3 firm.db "{WRONG_USAGES}"; {table} | {added}') == POLICY_ROWS + USAGE_ROWS + WRONG_USAGE_ROWS
+    for days, period in (("2026-01-04", 0), ("2026-01-06", 1), ("2026-01-11", 1), ("2026-01-12", 1), ("2026-02-03", 5)):
+        one = f"DELETE FROM usages; INSERT INTO usages VALUES ('NORTH', 'BIKE', 'WHEEL', '{days}', 1, 1)"
+        assert room.run(f'sqlite3 firm.db "{one}"; {table} | grep ^usage') == f"usage,NORTH,BIKE,WHEEL,{period},1,1,\n"
+
+
+def test_usages_end_the_table_of_postgresql(room):
+    """By their names."""
+    with postgresql(room):
+        room.run(f'createdb firm && psql -qd firm -f examples/erp/firm.sql && psql -qd firm -c "{USAGES}; {POLICIES}; {WRONG_USAGES}"')
+        rows = room.run("psql -qd firm -f examples/erp/table.postgresql.sql | grep -vxFf examples/three_plants.csv").splitlines(keepends=True)
+        policies, usages = (sorted(it.splitlines(keepends=True)) for it in (POLICY_ROWS, USAGE_ROWS + WRONG_USAGE_ROWS))
+        assert rows == policies + usages
+
+
 # A firm order that comes a period too soon, in the reports of a table of five periods: 5 of P are on hand, and 30 and 10
 # are wanted in periods 3 and 4. P takes two periods and two pieces of C, which is bought in one. By hand: the plan is that
 # of an order of 20 that comes in 2, of which 5 are missing in 3 and 10 in 4; C is asked for by releases 20, 5 and 10.
@@ -118,7 +151,7 @@ pegs,A,P,3,demand,A,P,30,1,30
 pegs,A,P,4,demand,A,P,10,1,10
 pegs,A,C,0,bill,A,P,20,2,40
 pegs,A,C,1,bill,A,P,5,2,10
-pegs,A,C,2,bill,A,P,10,2,20
+pegs,A,C,2,bill,A,P,10,200/100,20
 """,
     "advice": """\
 row,action,kind,plant,item,supplier,period,date,quantity,needed,needed_date
@@ -143,6 +176,11 @@ A|C|buy|20|1|2026-01-12|2|2026-01-19|0
     "to_release": "A|P|make|20|2026-01-19|0|firm\nA|C|buy|40|2026-01-05|1|order\nA|C|buy|10|2026-01-12|0|order\n",
     "late": "A|C|0|2026-01-05|40|1|1\n",
     "exception_message": "defer|firm|A|P||20|2026-01-19|2026-01-26\n",
+    "pegging WHERE period < 3": """\
+A|C|0|bill|A|P|20|2|40|1
+A|C|1|bill|A|P|5|2|10|1
+A|C|2|bill|A|P|10|200|20|100
+""",
     "record WHERE period < 3": """\
 A|P|0|2026-01-05|0|0|5|5|0|20|0
 A|P|1|2026-01-12|0|0|5|5|0|5|0
@@ -181,7 +219,9 @@ def test_postgresql_tells_firm_orders_too(room):
         earlier = "DROP TABLE run; DROP VIEW firm_order, to_release, record; DROP INDEX firm_orders_due; CREATE VIEW to_release AS "
         earlier += "SELECT plant, item, supply, quantity, due_date, periods_late "
         earlier += "FROM planned_order WHERE release_period = 0"
-        for before in ("SELECT", earlier):
+        numbers = "DROP VIEW pegging; TRUNCATE pegs_rows; ALTER TABLE pegs_rows ALTER per TYPE BIGINT USING 1; CREATE VIEW pegging AS "
+        numbers += "SELECT plant, item, period, source, by_plant, by_item, release, per, quantity FROM pegs_rows"
+        for before in ("SELECT", earlier, numbers, f"{numbers}; {earlier}"):
             assert room.run(f"psql -qd firm -Atc '{before}'; {read}").strip() == ""
             for name, rows in FIRM_VIEWS.items():
                 assert room.run(f"psql -d firm -Atc 'SELECT * FROM {name}'") == rows, name

@@ -215,6 +215,37 @@ def test_orders_behind_a_fence_hit_demands(room):
     assert room.run("MRP=words/files bin/hit < table.csv") == "hit,A,X,2,2026-01-19,20,1,A,X\n"
 
 
+# A quarter of C goes into each P. Of three that go into each Q none do in period 1.
+FRACTION = """\
+run,2026-01-05,7,4,,,,
+plant,A,,,,,,
+pair,A,P,make,lot,1,0,0
+pair,A,Q,make,lot,1,0,0
+pair,A,C,buy,lot,2,2,0
+bill,A,P,C,1,,,
+bill,A,Q,C,3,,,
+demand,A,P,1,10,,,
+demand,A,Q,2,40,,,
+demand,A,C,0,1,,,
+demand,A,C,1,1,,,
+usage,A,P,C,0,1,4,
+usage,A,Q,C,2,3,1,
+usage,A,Q,C,1,0,1,
+"""
+
+
+def test_hits_take_the_usage_of_the_period(room):
+    """By hand. The 10 P of period 0 take 2.5, so 3 C, and one is wanted: 2 are there, and 2 come two periods later, and so do the P. The C that
+    is wanted in period 1 comes a period later. The 40 Q of period 1 don't wait, for they take none; by the bill they would.
+    """
+    reports_from_files(room, FRACTION, "orders", "plan")
+    assert room.run("grep ^late plan.csv") == "late,A,C,0,2,2\nlate,A,C,1,1,1\n"
+    hit = "hit,A,C,0,2026-01-05,1,2,A,C\nhit,A,P,1,2026-01-12,10,2,A,C\nhit,A,C,1,2026-01-12,1,1,A,C\n"
+    assert room.run("MRP=words/files bin/hit < table.csv") == hit
+    reports_from_files(room, FRACTION.replace("usage,A,Q,C,1,0,1,\n", ""), "orders", "plan")
+    assert room.run("MRP=words/files bin/hit < table.csv") == f"{hit}hit,A,Q,2,2026-01-19,40,1,A,C\n"
+
+
 def late_ones(firm, chance):
     """Returns open orders of a firm that come late, by kind and pair, as `reports.coming_late` gives them."""
     found = {"receipt": {}, "firm": {}}

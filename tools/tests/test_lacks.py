@@ -57,13 +57,29 @@ def test_lacks_of_firms(tmp_path):
             found.take(it)
         own = {pair: [*rows] for pair, rows in found.of.items()}
         with mrp.open_table(path) as lines:
-            found.pass_up(hits.Takes(lines), reports.Policies(path), orders.rows)
+            policies = reports.Policies(path)
+            found.pass_up(hits.Takes(lines, policies.usages), policies, orders.rows)
         for pair in judge.firm.pairs:
             wanted = by_definition(table, judge, pair, shortages)
             assert {*found.of.get(pair, ())} == wanted
             assert len(found.of.get(pair, ())) == len(wanted)
         passed_up += sum(len(it) for it in found.of.values()) - sum(len(it) for it in own.values())
     assert passed_up > 5
+
+
+def test_phantoms_that_nothing_takes_now_pass_nothing_up():
+    """By hand. Of the 60 sets that are made, of which 15 go into a thousand pumps, 50 lack rings: a pump takes one, and no fan does yet."""
+    bills = "".join(f"bill,A,{it},SET,1,,,\n" for it in ("PUMP", "FAN"))
+    pairs = "".join(f"pair,A,{it},make,lot,{lead},0,0\n" for it, lead in (("PUMP", 1), ("FAN", 1), ("SET", 0)))
+    table = f"run,2026-01-05,7,2,,,,\nplant,A,,,,,,\n{pairs}pair,A,RING,buy,lot,1,0,0\n{bills}bill,A,SET,RING,1,,,\n"
+    usages = {("A", "PUMP", "SET"): [mrp.Usage("A", "PUMP", "SET", 0, 15, 1000)], ("A", "FAN", "SET"): [mrp.Usage("A", "FAN", "SET", 0, 0, 1)]}
+    orders = {("A", "PUMP"): [(1, 1, 0)], ("A", "FAN"): [(1, 5, 0)], ("A", "SET"): [(0, 60, 0)]}
+    for more, wanted in (([], ["SET", "PUMP"]), ([mrp.Usage("A", "FAN", "SET", 1, 1, 1)], ["SET", "PUMP"]), (None, ["SET", "PUMP", "FAN"])):
+        found, of_fan = lacks.Lacks(), ("A", "FAN", "SET")
+        found.take(mrp.Shortage("A", "RING", "bill", "A", "SET", 60, 50))
+        known = {**usages, of_fan: usages[of_fan] + more if more is not None else []}
+        found.pass_up(hits.Takes(io.StringIO(table), known), reports.Policies(), lambda pair: orders.get(pair, ()))
+        assert sorted(found.of) == sorted(("A", it) for it in wanted)
 
 
 def test_phantoms_without_an_order_that_is_due_pass_nothing_up():
@@ -79,7 +95,7 @@ bill,A,SET,RING,1,,,
 firm,A,PUMP,0,1,1,,
 firm,A,SET,0,1,5,,
 """
-    takes, found, orders = hits.Takes(io.StringIO(table)), lacks.Lacks(), {("A", "PUMP"): [(1, 1, 0)], ("A", "SET"): [(1, 5, 0)]}
+    takes, found, orders = hits.Takes(io.StringIO(table), {}), lacks.Lacks(), {("A", "PUMP"): [(1, 1, 0)], ("A", "SET"): [(1, 5, 0)]}
     found.take(mrp.Shortage("A", "RING", "bill", "A", "SET", 5, 5))
     found.pass_up(takes, reports.Policies(), lambda pair: orders.get(pair, ()))
     assert [*found.of] == [("A", "SET")]

@@ -1,6 +1,8 @@
 """The second planner, tools/oracle.py: the plan of one pair, the plans and reports of a firm, and the command."""
 import csv
+import fractions
 import itertools
+import math
 import random
 import re
 
@@ -229,7 +231,11 @@ def asked(table, plans, pair, t):
     found = sum(it.quantity for it in table.demands if (it.plant, it.item, it.period) == (plant, item, t))
     for it in table.bills:
         if (it.plant, it.component) == pair:
-            found += it.per * plans[plant, it.parent].release[t]
+            begun = {row.period: row[4:] for row in table.usages if row[:3] == it[:3] and row.period <= t}
+            per, base = begun[max(begun)] if begun else (it.per, 1)
+            # (whole parents' bases, and what is begun of one)
+            whole, rest = divmod(plans[plant, it.parent].release[t], base)
+            found += per * whole + math.ceil(fractions.Fraction(per * rest, base))
     for it in table.pairs:
         if it.item == item and it.supply not in ("make", "buy"):
             whole, low = plans[it.plant, item].release[t], 0
@@ -265,9 +271,10 @@ def test_plans_of_firms():
     """Each pair's gross requirement is what its demands and the releases of its demanders say, and its plan that of its own
     planning data, by definitions that keep no sums.
     """
-    kinds, policies = set(), set()
+    kinds, policies, usages = set(), set(), set()
     for table, judge in some_firms():
         periods, plans = table.run.periods, judge.firm.plans
+        usages |= {(it.period > 0, it.per > 0, it.base > 1) for it in table.usages}
         policies |= {frozenset(place for place, figure in enumerate(it[2:]) if figure) for it in table.policies}
         for it in table.pairs:
             pair = it.plant, it.item
@@ -277,6 +284,7 @@ def test_plans_of_firms():
             assert (given.gross, plan.incoming, plan.order, plan.release, plan.available) == tuple(plans[pair]), pair
     assert kinds == {*itertools.product(("make", "buy", "from"), (False, True))}
     assert policies >= {*(frozenset([it]) for it in range(5)), frozenset(range(5))}
+    assert usages == {*itertools.product((False, True), repeat=3)}
 
 
 def rows_of(judge, command, *words):
@@ -415,6 +423,11 @@ SOONER = HEAD + "pair,A,X,buy,lot,1,10,5\ndemand,A,X,0,5,,,\ndemand,A,X,1,40,,,\
 SOONER += "policy,A,X,0,2,0,0,0\n"
 COVERED = HEAD + "pair,A,X,buy,lot,1,10,0\ndemand,A,X,0,5,,,\ndemand,A,X,1,5,,,\ndemand,A,X,2,20,,,\ndemand,A,X,3,5,,,\n"
 COVERED += "policy,A,X,0,0,1,0,0\n"
+# The pieces of four components that go into P, of which 10 are released in each of three periods: another one takes the place of OLD.
+PARTS = {"OLD": (2, "2,0,1"), "NEW": (2, "0,0,1", "2,2,1"), "CASTING": (1, "0,103,100"), "PAINT": (1, "0,1,4")}
+CHANGED = HEAD + "pair,A,P,make,lot,0,0,0\n" + "".join(f"pair,A,{it},buy,lot,0,0,0\n" for it in PARTS)
+CHANGED += "".join(f"bill,A,P,{it},{per},,,\n" for it, (per, *_) in PARTS.items()) + "".join(f"demand,A,P,{t},10,,,\n" for t in range(3))
+CHANGED += "".join(f"usage,A,P,{it},{usage},\n" for it, (_, *usages) in PARTS.items() for usage in usages)
 DAYS = ("2026-01-05", "2026-01-12", "2026-01-19", "2026-01-26", "2026-02-02")
 
 
@@ -436,6 +449,24 @@ WORKED = {
     (SOONER, "orders"): "order,A,X,buy,10,2,2026-01-19,3,2026-01-26,0\n",
     (SOONER, "advice"): "advice,expedite,receipt,A,X,,3,2026-01-26,60,1,2026-01-12\n",
     (COVERED, "plan"): plan_lines("X", (5, 5, 20, 5, 0), (0, 0, 0, 0, 0), (0, 20, 5, 0, 0), (20, 5, 0, 0, 0), (5, 20, 5, 0, 0)),
+    # Of the two usage rows of NEW the second is in force from period 2 on. 10.3 castings are 11, and 2.5 litres of paint 3.
+    (CHANGED, "plan"): "".join(
+        plan_lines(item, row, (0,) * 5, row, row, (0,) * 5)
+        for item, row in (
+            ("P", (10, 10, 10, 0, 0)),
+            ("OLD", (20, 20, 0, 0, 0)),
+            ("NEW", (0, 0, 20, 0, 0)),
+            ("CASTING", (11, 11, 11, 0, 0)),
+            ("PAINT", (3, 3, 3, 0, 0)),
+        )
+    ),
+    (CHANGED, "pegs"): "".join(f"pegs,A,P,{t},demand,A,P,10,1,10\n" for t in range(3))
+    + "".join(
+        f"pegs,A,{item},{t},bill,A,P,10,{per}\n"
+        for item, per, periods in (("OLD", "2,20", (0, 1)), ("NEW", "2,20", (2,)), ("CASTING", "103/100,11", range(3)), ("PAINT", "1/4,3", range(3)))
+        for t in periods
+    ),
+    (CHANGED, "check"): "code,A,P,0\n" + "".join(f"code,A,{it},1\n" for it in PARTS),
     (COVERED, "orders"): "order,A,X,buy,20,0,2026-01-05,1,2026-01-12,0\norder,A,X,buy,5,1,2026-01-12,2,2026-01-19,0\n",
 }
 
@@ -446,19 +477,26 @@ def test_worked_tables(table, report):
     assert oracle.Oracle(table.encode()).answer(report) == oracle.Answer(0, WORKED[table, report].encode(), b"")
 
 
-with open(f"{TOP}/cases/shortages.txt", encoding="utf-8") as CASES:
-    SHORTAGES = [*cases.blocks(CASES.read())]
+def worked(name):
+    """Returns the cases of a file of cases/."""
+    with open(f"{TOP}/cases/{name}.txt", encoding="utf-8") as file:
+        return [*cases.blocks(file.read())]
 
 
-@pytest.mark.parametrize("title, table, asks", SHORTAGES, ids=[it[0] for it in SHORTAGES])
-def test_worked_shortages(title, table, asks):
+WORKED_BY_HAND = [*worked("shortages"), *worked("usages")]
+
+
+@pytest.mark.parametrize("title, table, asks", WORKED_BY_HAND, ids=[it[0] for it in WORKED_BY_HAND])
+def test_worked_cases(title, table, asks):
     """Those of cases/, by the second planner."""
-    text = "\n".join([*asks, ""])
-    for words, answer in re.findall(r"^\$ mrp (.*)\n((?:[^$].*\n)*)", text, re.MULTILINE):
+    text, row = "\n".join([*asks, ""]), table.count("\n") + 1
+    for words, answer in re.findall(r"^\$ mrp (.*)\n((?:[^$!].*\n)*)", text, re.MULTILINE):
         command, *given = words.split()
         asked = [it for it in given if not it.startswith("--")]
         got = oracle.Oracle(table.encode()).answer(command, *asked, header="--header" in given)
         assert (f"{got.status} {got.err.decode()}" if got.status else got.out.decode()) == answer, (title, words)
+    for fault, more in re.findall(r"^! (\w+)  (.*)\n", text, re.MULTILINE):
+        assert oracle.Oracle(f"{table}{more}\n".encode()).refused == f"mrp: row {row}: {fault}", (title, more)
 
 
 @pytest.mark.parametrize("table, report", WORKED, ids=lambda it: it if len(it) < 10 else "")
@@ -483,7 +521,7 @@ def test_messages_with_shipments_and_cover():
     assert judge.answer("advice").out.decode() == expedite.format(5) + expedite.format(8)
 
 
-# The faults of a row, first come, behind HEAD and two pairs.
+# The faults of a row, first come, behind HEAD and two pairs; and behind a bill of two of three pairs with a usage row.
 TWO = HEAD + "pair,A,X,buy,lot,1,0,0\npair,A,Y,buy,lot,1,0,0\npolicy,A,Y,0,0,0,0,0\n"
 FAULTS = {
     "policy,A,X,0,0,0,0,": "BadNumber",
@@ -507,22 +545,64 @@ FAULTS = {
     "policy,A,Z,0,0,0,0,0": "UnknownPair",
     "policy,A,X,4,104,104,1000000000000,1000000000000": None,
 }
+THREE = HEAD + "pair,A,X,make,lot,1,0,0\npair,A,Y,buy,lot,1,0,0\npair,A,Z,make,lot,1,0,0\nbill,A,X,Y,1,,,\nbill,A,Z,X,1,,,\n"
+THREE += "usage,A,X,Y,1,1,1,\n"
+FAULTS_OF_USAGES = {
+    "usage,A,X,Y,0,1,1": "FieldCount",
+    "usage,A,X,Y,0,1,1,0": "FieldCount",
+    "usage,A,X,Y,0,1,1,,": "FieldCount",
+    "usage,A,X,Y,0,1,,": "BadNumber",
+    "usages,A,X,Y,0,1,1,": "UnknownKind",
+    "Usage,A,X,Y,0,1,1,": "UnknownKind",
+    "policy,A,X,0,0,0,0,0": "KindOrder",
+    "firm,A,X,0,0,1,,": "KindOrder",
+    "bill,A,X,Z,1,,,": "KindOrder",
+    "usage,,X,Y,5,1,1,": "BadName",
+    "usage,A,X!,Y,0,1,1,": "BadName",
+    "usage,A,X,Y Z,0,1,0,": "BadName",
+    "usage,B,X,Y,5,1,1,": "BadNumber",
+    "usage,A,X,Y,-1,1,1,": "BadNumber",
+    "usage,A,X,Y,00,1,1,": "BadNumber",
+    "usage,A,X,Y,,1,1,": "BadNumber",
+    "usage,A,X,Y,2026-01-12,1,1,": "BadNumber",
+    "usage,A,X,Y,0,,1,": "BadNumber",
+    "usage,A,X,Y,0,1000001,1,": "BadNumber",
+    "usage,A,X,Y,0,103/100,1,": "BadNumber",
+    "usage,A,X,Y,0,1.03,1,": "BadNumber",
+    "usage,A,X,Y,0,1,0,": "BadNumber",
+    "usage,A,X,Y,0,1,1000001,": "BadNumber",
+    "usage,A,X,Y,1,1,0,": "BadNumber",
+    "usage,A,X,Y,1,0,7,": "Repeated",
+    "usage,B,X,Y,0,1,1,": "UnknownPlant",
+    "usage,A,W,Y,0,1,1,": "UnknownPair",
+    "usage,A,X,W,0,1,1,": "UnknownPair",
+    "usage,A,X,Z,0,1,1,": "NotMade",
+    "usage,A,Y,X,0,1,1,": "NotMade",
+    "usage,A,Z,Y,0,1,1,": "NotMade",
+    "usage,A,X,X,0,1,1,": "NotMade",
+    "usage,A,Z,X,1,1,1,": None,
+    "usage,A,X,Y,4,0,1,": None,
+    "usage,A,X,Y,0,1000000,1000000,": None,
+}
 
 
-@pytest.mark.parametrize("row", FAULTS)
-def test_faults_of_policies(row):
+@pytest.mark.parametrize("row", [*FAULTS, *FAULTS_OF_USAGES])
+def test_faults_of_rows(row):
     """The first in the order of tests; the greatest figures have none."""
-    said = oracle.Oracle(f"{TWO}{row}\n".encode()).refused
-    assert said == (FAULTS[row] and f"mrp: row 6: {FAULTS[row]}")
+    table, fault = (TWO, FAULTS[row]) if row in FAULTS else (THREE, FAULTS_OF_USAGES[row])
+    said = oracle.Oracle(f"{table}{row}\n".encode()).refused
+    assert said == (fault and f"mrp: row {table.count(chr(10)) + 1}: {fault}")
 
 
-@pytest.mark.parametrize("row", FAULTS)
-def test_faults_of_policies_by_the_program(program, row):
+@pytest.mark.parametrize("row", [*FAULTS, *FAULTS_OF_USAGES])
+def test_faults_of_rows_by_the_program(program, row):
     """By each command."""
-    if FAULTS[row]:
-        cases.refused(program, f"{TWO}{row}\n", f"row 6: {FAULTS[row]}")
+    table, fault = (TWO, FAULTS[row]) if row in FAULTS else (THREE, FAULTS_OF_USAGES[row])
+    codes = "code,A,X,0\ncode,A,Y,0\n" if row in FAULTS else "code,A,X,1\ncode,A,Y,2\ncode,A,Z,0\n"
+    if fault:
+        cases.refused(program, f"{table}{row}\n", f"row {table.count(chr(10)) + 1}: {fault}")
     else:
-        cases.expect(program, "check", f"{TWO}{row}\n", "code,A,X,0\ncode,A,Y,0\n")
+        cases.expect(program, "check", f"{table}{row}\n", codes)
 
 
 def test_bound_of_policies():
@@ -531,3 +611,31 @@ def test_bound_of_policies():
     assert oracle.Oracle(table.encode()).refused is None
     for more in ("policy,A,Y,0,0,0,1,0\n", "policy,A,Y,0,0,0,0,1\n"):
         assert oracle.Oracle(f"{table}{more}".encode()).refused == "mrp: NeedTooLarge A/Y"
+
+
+def test_bound_of_usages():
+    """By hand. C's need is that of P times the most pieces that go into one P by the bill or any usage row, rounded up: 10^9 times
+    1,000,000 are 10^15, and 2,999,994,000 times 333,334 are 4,000 less.
+    """
+    table = HEAD + "pair,A,P,make,lot,1,0,0\npair,A,C,buy,lot,1,0,0\nbill,A,P,C,{},,,\ndemand,A,P,0,{},,,\n"
+    refused = {
+        (1, 10**9, "4,1000000,1"): False,
+        (1, 10**9 + 1, "4,1000000,1"): True,
+        (1, 10**9 + 1, "4,999999,1"): False,
+        (10**6, 10**9 + 1, "0,1,1"): True,
+        (1, 2_999_994_000, "2,1000000,3"): False,
+        (1, 2_999_994_001, "2,1000000,3"): True,
+        (1, 10**12, "2,1,1000000"): False,
+    }
+    for (per, quantity, usage), wanted in refused.items():
+        judge = oracle.Oracle(f"{table.format(per, quantity)}usage,A,P,C,{usage},\n".encode())
+        assert judge.refused == ("mrp: NeedTooLarge A/C" if wanted else None), (per, quantity, usage)
+
+
+def test_most_usages():
+    """200,000 of them, of bills of 1,924 pairs and 104 periods; and one more."""
+    pairs = [f"pair,A,X{it},{'make' if it else 'buy'},lot,0,0,0" for it in range(1925)]
+    rows = [*pairs, *(f"bill,A,X{it},X0,1,,," for it in range(1, 1925))]
+    usages = itertools.islice((f"usage,A,X{it},X0,{t},1,1," for it in range(1, 1925) for t in range(104)), 200_001)
+    table = "\n".join([HEAD.replace("7,5", "7,104") + rows[0], *rows[1:], *usages])
+    assert oracle.Oracle(table.encode()).refused == f"mrp: row {2 + len(rows) + 200_001}: TooMany"

@@ -35,6 +35,7 @@ def test_python_writes_tables(room):
     rows += [mrp.Reset("B", *one, datetime.date(2026, 2, 1)), mrp.Firm(*one, first, datetime.date(2026, 1, 20), 12)]
     # (how many periods a policy says is none of them)
     rows += [mrp.Policy(*one, 2, 1, 0, 30, 12), mrp.Policy("B", "X", first, 0, 0, 0, 0)]
+    rows += [mrp.Usage("A", "X", "Y", datetime.date(2026, 1, 26), 103, 100), mrp.Usage("A", "X", "Y", 1, first, 1)]
     assert bytes(mrp.Table(rows)).decode() == WRITTEN
     assert (
         bytes(
@@ -70,6 +71,8 @@ reset,B,A,X,3,,,
 firm,A,X,0,2,12,,
 policy,A,X,2,1,0,30,12
 policy,B,X,2026-01-05,0,0,0,0
+usage,A,X,Y,3,103,100,
+usage,A,X,Y,1,2026-01-05,1,
 """
 RUN_AS_TEXT = """\
 run,2026-01-05,7,4,,,,

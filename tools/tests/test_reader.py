@@ -76,7 +76,7 @@ def test_columns_are_those_of_the_database(path):
         form = mrp.REPORT_FORMS[SQL[name]]
         assert [it.strip('"') for it in columns] == ["row", *form.kind._fields]
         for column, spelling in zip([*columns][1:], form.spellings):
-            wanted = {int: (number, "INTEGER"), mrp.day_of: (day,), str: ("TEXT",)}[spelling.read]
+            wanted = {int: (number, "INTEGER"), mrp.day_of: (day,), str: ("TEXT",), mrp.per_of: ("TEXT",)}[spelling.read]
             assert (name, column, columns[column] in wanted) == (name, column, True)
 
 
@@ -98,6 +98,8 @@ reset,B,A,Y,2,,,
 firm,A,X,1,3,20,,
 firm,A,Y,0,0,5,,
 policy,A,Y,3,1,2,40,8
+usage,A,X,Y,0,103,100,
+usage,A,X,Y,2,0,1,
 """
 
 
@@ -129,6 +131,9 @@ def test_table_is_read_by_names(tmp_path, text):
     policy = table.policies[0]
     assert (policy.pair, policy.fence, policy.sooner, policy.cover) == (("A", "Y"), 3, 1, 2)
     assert (policy.least, policy.multiple) == (40, 8)
+    assert table.usages == [("A", "X", "Y", 0, 103, 100), ("A", "X", "Y", 2, 0, 1)]
+    usage = table.usages[0]
+    assert (usage.parent, usage.component, usage.period, usage.per, usage.base) == ("X", "Y", 0, 103, 100)
     assert bytes(table).decode() == ROWS
 
 
@@ -141,7 +146,7 @@ def test_some_kinds_are_read_alone(text):
 
 def test_rows_of_no_kind_are_refused():
     lines = [*ROWS.splitlines(keepends=True), "demands,A,X,2,30,,,\n"]
-    with pytest.raises(mrp.Refused, match="row 16: no kind of row is 'demands'"):
+    with pytest.raises(mrp.Refused, match="row 18: no kind of row is 'demands'"):
         mrp.Table.read(lines)
     with pytest.raises(mrp.Refused, match="no kind of row is 'demands'"):
         list(mrp.table_rows(lines, mrp.Run))

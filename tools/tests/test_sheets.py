@@ -2,12 +2,15 @@
 import csv
 import datetime
 import io
+import itertools
+import math
 import os
 import random
 import re
 import shutil
 import subprocess
 import unicodedata
+from fractions import Fraction
 
 import firms
 import reports
@@ -29,7 +32,11 @@ SHEETS = {
         *(("Fence (periods)", "Planning time fence in days"), ("Sooner (periods)", "Sooner in days"), ("Cover (Perioden)", "Safety time (days)")),
         *(("Least", "Minimum order quantity"), ("Multiple", "Rounding value")),
     ),
-    "bill": ("bills", ("Plant", "Works"), ("Parent", "Parent item"), ("Component", "Component no"), ("Per", "Qty per")),
+    "bill": (
+        *("bills", ("Plant", "Works"), ("Parent", "Parent item"), ("Component", "Component no"), ("Per", "Qty per")),
+        # (what usages say)
+        *(("Scrap %", "Ausschuss in %"), ("Valid from", "Gültig ab"), ("Valid to", "Gültig bis")),
+    ),
     "demand": ("demands", ("Plant", "Site"), ("Item", "Material"), ("Due", "Need date"), ("Quantity", "Order qty")),
     "receipt": (
         "receipts",
@@ -65,6 +72,7 @@ def sheets_of(chance, table):
     found, first, days = {}, datetime.date.fromisoformat(rows[0][1]), int(rows[0][2])
     policies = {(*it[1:3],): it[3:] for it in rows if it[0] == "policy"}
     rows = [it + policies.get((*it[1:3],), ["0"] * 5) if it[0] == "pair" else it for it in rows]
+    rows = [*itertools.chain(*(bill_rows(chance, rows, it) if it[0] == "bill" else [it] for it in rows))]
     for kind, (name, *columns) in SHEETS.items():
         heads = [chance.choice(it) for it in columns] + ["Remark", "Customer name"]
         cells = [
@@ -81,8 +89,10 @@ def sheets_of(chance, table):
                     for it in cells
                 ),
             ]
-            file = io.StringIO()
-            writer = csv.writer(file, delimiter=chance.choice(",;\t"), lineterminator=chance.choice(("\n", "\r\n")))
+            file, mark = io.StringIO(), chance.choice(",;\t")
+            if kind == "bill" and mark != "," and chance.random() < 0.5:
+                texts[1:] = [[*it[:3], *(text.replace(".", ",") for text in it[3:5]), *it[5:]] for it in texts[1:]]
+            writer = csv.writer(file, delimiter=mark, lineterminator=chance.choice(("\n", "\r\n")))
             writer.writerows([it[place] for place in order] for it in texts)
             found[f"{name}.csv"] = file.getvalue().encode(chance.choice(("utf-8", "utf-8-sig", "utf-8-sig", "utf-16")))
     if [it[1] for it in rows if it[0] == "plant"] == sorted(
@@ -90,6 +100,41 @@ def sheets_of(chance, table):
     ) and chance.random() < 0.5:
         del found["plants.csv"]
     return found
+
+
+def steps_of(rows, bill):
+    """Returns the pieces that go into one parent by the period from which on they do, of the rows of a table and a bill row."""
+    usages = {int(it[4]): Fraction(int(it[5]), int(it[6])) for it in rows if it[0] == "usage" and it[1:4] == bill[1:4]}
+    steps = sorted(({0: Fraction(bill[4])} | usages).items())
+    return dict(steps[:1] + [it for before, it in itertools.pairwise(steps) if it[1] != before[1]])
+
+
+def bill_rows(chance, rows, bill):
+    """Yields the rows of a sheet for a bill row and its usages: each with pieces, scrap, the day from which on they hold, and the last one."""
+    first, days, periods = datetime.date.fromisoformat(rows[0][1]), int(rows[0][2]), int(rows[0][3])
+    steps = [*steps_of(rows, bill).items()]
+    # (a day within a period counts from the next one on)
+    bounds = [sorted(first + datetime.timedelta(days=period * days - chance.randrange(days)) for _ in "12") for period, _ in steps]
+    for place, (period, each) in enumerate(steps):
+        scrap = chance.choice([it for it in (0, 3, 25, Fraction(5, 2)) if is_decimal(each / (100 + it) * 100)])
+        ends = place + 1 < len(steps)
+        begin = bounds[place][1] if period or chance.random() < 0.3 else ""
+        end = bounds[place + 1][0] - datetime.timedelta(days=1) if ends else first + datetime.timedelta(days=periods * days + 40)
+        if each:
+            until = end if ends or chance.random() < 0.3 else ""
+            yield [*bill[:4], decimal(each / (100 + scrap) * 100), decimal(scrap) if scrap else "", str(begin), str(until)]
+
+
+def is_decimal(number):
+    """Returns whether a number has few decimals, and can be a usage."""
+    return 10**6 % number.denominator == 0 and max(number.as_integer_ratio()) <= 10**6
+
+
+def decimal(number):
+    """Returns the text of a number, with a point before decimals, of which there are never three: then a point may part thousands."""
+    text = f"{number.numerator * 10**6 // number.denominator:07d}"
+    whole, decimals = text[:-6], text[-6:].rstrip("0")
+    return f"{whole}.{decimals + '0' * (len(decimals) == 3)}" if decimals else whole
 
 
 def cell_of(chance, kind, head, text, first, days):
@@ -161,11 +206,22 @@ def with_firm_orders(chance, table):
 
 
 def in_order_of_sheets(table):
-    """Returns a table with its policies behind all other rows, in the order of its pairs, without those that say nothing."""
+    """Returns a table with its policies behind all other rows, in the order of its pairs, without those that say nothing; and then its
+    usages in the order of its bills, with fractions that have few decimals, none that says what is said already, and bills of the most pieces.
+    """
     rows = [it.split(",") for it in table.decode().splitlines()]
     pairs = [it[1:3] for it in rows if it[0] == "pair"]
     policies = [it for it in rows if it[0] == "policy" and {*it[3:]} != {"0"}]
-    rows = [it for it in rows if it[0] != "policy"] + sorted(policies, key=lambda it: pairs.index(it[1:3]))
+    bills, usages, decimals = [], [], [it[:6] + [it[6] if is_decimal(Fraction(int(it[5]), int(it[6]))) else "1", ""] for it in rows if it[0] == "usage"]
+    for it in (it for it in rows if it[0] == "bill"):
+        steps = steps_of(decimals, it)
+        if most := max(map(math.ceil, steps.values())):
+            bills.append([*it[:4], str(most), *it[5:]])
+            begun = {period: each for period, each in steps.items() if period or each != most}
+            usages += (["usage", *it[1:4], str(period), *map(str, each.as_integer_ratio()), ""] for period, each in begun.items())
+    front, others = (it for it in rows if it[0] in ("run", "plant", "pair")), ("run", "plant", "pair", "bill", "policy", "usage")
+    behind = (it for it in rows if it[0] not in others)
+    rows = [*front, *bills, *behind, *sorted(policies, key=lambda it: pairs.index(it[1:3])), *usages]
     return "".join(",".join(it) + "\n" for it in rows).encode()
 
 
@@ -173,7 +229,7 @@ def test_sheets_are_refused_whole(room, program, trials=60):
     """Sheets with a damage or two: slips and no table, or a table that mrp refuses for loops and bounds alone."""
     for seed in range(trials):
         chance = random.Random(seed)
-        found = sheets_of(chance, firms.table(chance))
+        found = sheets_of(chance, in_order_of_sheets(firms.table(chance)))
         name = chance.choice([*found])
         write_sheets(room, "firm", {**found, name: firms.damaged(chance, found[name])})
         status, written, said = table_of_sheets(room, "--dates", "m/d/y", "firm")

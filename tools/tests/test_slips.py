@@ -84,8 +84,8 @@ def test_a_good_folder_is_silent(tmp_path):
     ],
 )
 def test_what_to_write_for_what_is_no_whole_number(tmp_path, text, told):
-    said = f"bills.csv row 2, Per: {text!r} {told}\n{REFUSED}"
-    assert sheets(tmp_path, {**BICYCLE, "bills.csv": f'Plant,Parent,Component,Per\nP1,BIKE,WHEEL,"{text}"\n'}) == (1, "", said)
+    said = f"items.csv row 3, Safety stock: {text!r} {told}\n{REFUSED}"
+    assert sheets(tmp_path, {**BICYCLE, "items.csv": BICYCLE["items.csv"].replace("buy,lot,1,0,0", f'buy,lot,1,0,"{text}"')}) == (1, "", said)
 
 
 @pytest.mark.parametrize(
@@ -697,3 +697,223 @@ def test_slips_of_policies(tmp_path, heads, bike, place, told):
     rows = ITEM_ROWS.format(f",{bike}", "," * (heads.count(",") + 1))
     status, _, said = sheets(tmp_path, with_policies(f"{ITEM_HEADS},{heads}\n{rows}"))
     assert (status, said) == ((1, f"items.csv row {place}: {told}\n{REFUSED}") if told else (0, ""))
+
+
+# What sheets say of scrap, fractions, and bills that change. A plan has four weeks, from 2026-01-05 on: they begin on the 5th, 12th, 19th and 26th.
+
+
+def with_bills(text):
+    """Returns the sheets of the bicycle with these bills."""
+    return {**BICYCLE, "bills.csv": text}
+
+
+def rows_of_bills(table):
+    """Returns the bill rows and the usage rows of a table, without their words, plants and empty fields."""
+    return [re.sub(",+$", "", it.split(",", 2)[2]) for it in table.splitlines() if it.startswith(("bill,", "usage,"))]
+
+
+@pytest.mark.parametrize(
+    "mark, form, text, rows",
+    [
+        (",", None, "0.25", ["1", "0,1,4"]),
+        (",", None, "1.5", ["2", "0,3,2"]),
+        (",", None, "2.0", ["2"]),
+        (",", None, "1.125", ["2", "0,9,8"]),
+        (",", None, "0.000001", ["1", "0,1,1000000"]),
+        (",", None, "999999.5", None),
+        (",", None, "499999.5", ["500000", "0,999999,2"]),
+        (",", None, "1000000", ["1000000"]),
+        (";", None, "0,25", ["1", "0,1,4"]),
+        ("\t", None, "0,25", ["1", "0,1,4"]),
+        (";", None, "0.25", ["1", "0,1,4"]),
+        (";", None, "0.125", ["1", "0,1,8"]),
+        (";", None, "1,1250", ["2", "0,9,8"]),
+        (";", None, "12,00", ["12"]),
+        (",", "1.234,5", "1.234,5", ["1235", "0,2469,2"]),
+        (",", "1.234,5", "1,125", ["2", "0,9,8"]),
+        (",", "1.234,5", "1.125", ["1125"]),
+        (";", "1,234.5", "1,125", ["1125"]),
+        (";", "1,234.5", "1.125", ["2", "0,9,8"]),
+    ],
+)
+def test_per_takes_fractions(tmp_path, mark, form, text, rows):
+    """The bill has them rounded up, and a usage exactly, in the lowest terms."""
+    cells = mark.join(("P1", "BIKE", "WHEEL", f'"{text}"'))
+    words = ("--numbers", form) if form else ()
+    status, table, said = sheets(tmp_path, with_bills(f"{mark.join(('Plant', 'Parent', 'Component', 'Per'))}\n{cells}\n"), *words)
+    if rows:
+        assert (status, said, rows_of_bills(table)) == (0, "", [f"BIKE,WHEEL,{it}" for it in rows])
+        assert table.startswith(TABLE.partition("bill")[0])
+    else:
+        assert (status, said) == (1, f"bills.csv row 2, Per: '999999.5' is 1999999/2, and no number in it may be above 1000000; round it\n{REFUSED}")
+
+
+@pytest.mark.parametrize(
+    "mark, text, told",
+    [
+        (",", "0,25", "'0,25': write it as 0.25"),
+        (",", "1,250", "'1,250': write 1250 or 1.25, whichever is meant"),
+        (",", "1,125", "'1,125': write 1125 or 1.125, whichever is meant"),
+        (",", "12,00", "'12,00': write it as 12"),
+        (";", "1,125", "'1,125': write 1125 or 1.1250, whichever is meant"),
+        (";", "1,250", "'1,250': write 1250 or 1.25, whichever is meant"),
+        ("\t", "0,125", "'0,125': write it as 0.125"),
+        (";", "1.125", "'1.125': write 1125 or 1.1250, whichever is meant"),
+        (";", "12.000", "'12.000': write 12000 or 12, whichever is meant"),
+        (",", "1.200,50", "'1.200,50' is no whole number; write it as 1200.50"),
+        (",", "1 200", "'1 200' is no whole number; write it as 1200"),
+        (",", "12 Stk", "'12 Stk' is no whole number; write one as 1200"),
+        (",", "025", "'025' begins with a 0; write 25, or where 0.25 is meant write that"),
+        (",", "0", "'0' is not from 1 to 1000000"),
+        (",", "0.0", "'0.0': '0' is not from 1 to 1000000"),
+        (",", "-0.5", "'-0.5' is not above 0"),
+        (",", "-1", "'-1' is not from 1 to 1000000"),
+        (",", "1000001", "'1000001' is not from 1 to 1000000"),
+        (",", "0.0000001", "'0.0000001' is 1/10000000, and no number in it may be above 1000000; round it"),
+        (",", "0.3333333", "'0.3333333' is 3333333/10000000, and no number in it may be above 1000000; round it"),
+        (",", "1000000.5", "'1000000.5' is 2000001/2, and no number in it may be above 1000000; round it"),
+    ],
+)
+def test_slips_of_fractions(tmp_path, mark, text, told):
+    """What may be a thousand times as much is asked, and what no usage can say is refused."""
+    cells = mark.join(("P1", "BIKE", "WHEEL", f'"{text}"'))
+    said = sheets(tmp_path, with_bills(f"{mark.join(('Plant', 'Parent', 'Component', 'Per'))}\n{cells}\n"))
+    assert said == (1, "", f"bills.csv row 2, Per: {told}\n{REFUSED}")
+
+
+@pytest.mark.parametrize(
+    "per, scrap, rows",
+    [
+        ("1", "3", ["2", "0,103,100"]),
+        ("2", "5", ["3", "0,21,10"]),
+        ("4", "25", ["5"]),
+        ("0.25", "2.5", ["1", "0,41,160"]),
+        ("3", "3%", ["4", "0,309,100"]),
+        ("3", "3 %", ["4", "0,309,100"]),
+        ("2", "", ["2"]),
+        ("2", "0", ["2"]),
+        ("2", "150", ["5"]),
+        ("500000", "100", ["1000000"]),
+        ("2", "-1", "Scrap %: '-1' is below 0"),
+        ("2", "x", "Scrap %: 'x' is no whole number; write one as 1200"),
+        ("1000000", "1", "Scrap %: '1': with it 1000000 for one parent is 1010000, and no number in it may be above 1000000; round it"),
+        ("0.99999", "0.5", "Scrap %: '0.5': with it 0.99999 for one parent is 20099799/20000000, and no number in it may be above 1000000; round it"),
+    ],
+)
+def test_scrap_is_taken_exactly(tmp_path, per, scrap, rows):
+    status, table, said = sheets(tmp_path, with_bills(f"Plant,Parent,Component,Per,Scrap %\nP1,BIKE,WHEEL,{per},{scrap}\n"))
+    if isinstance(rows, list):
+        assert (status, said, rows_of_bills(table)) == (0, "", [f"BIKE,WHEEL,{it}" for it in rows])
+    else:
+        assert (status, said) == (1, f"bills.csv row 2, {rows}\n{REFUSED}")
+
+
+@pytest.mark.parametrize(
+    "bills, rows",
+    [
+        # (another component from a period on: until the 18th, a Sunday, and from the 19th on)
+        (["WHEEL,2,,2026-01-18", "DISC,2,2026-01-19,"], ["WHEEL,2", "DISC,2", "WHEEL,2,0,1", "DISC,0,0,1", "DISC,2,2,1"]),
+        # (a day within a period counts from the next one on, the day behind the last one too)
+        (["WHEEL,2,,2026-01-14", "DISC,2,2026-01-15,"], ["WHEEL,2", "DISC,2", "WHEEL,2,0,1", "DISC,0,0,1", "DISC,2,2,1"]),
+        (["WHEEL,2,2026-01-06,2026-01-11"], ["left out"]),
+        (["WHEEL,2,2026-01-06,2026-01-12"], ["WHEEL,2", "WHEEL,0,0,1", "WHEEL,1,2,1", "WHEEL,2,0,1"]),
+        # (what holds from the first period on to the last is what the bill says)
+        (["WHEEL,2,2025-06-01,9999-12-31"], ["WHEEL,2"]),
+        (["WHEEL,2,2026-01-05,2026-01-26"], ["WHEEL,2"]),
+        (["WHEEL,2,2026-01-05,2026-01-25"], ["WHEEL,2", "WHEEL,3,0,1"]),
+        # (more from a period on, less again, and the same; the bill has the most)
+        (["WHEEL,2,,2026-01-11", "WHEEL,3,2026-01-12,2026-01-18", "WHEEL,2,2026-01-19,"], ["WHEEL,3", "WHEEL,0,2,1", "WHEEL,1,3,1", "WHEEL,2,2,1"]),
+        (["WHEEL,3,,2026-01-11", "WHEEL,2,2026-01-12,2026-01-18", "WHEEL,3,2026-01-19,"], ["WHEEL,3", "WHEEL,1,2,1", "WHEEL,2,3,1"]),
+        (["WHEEL,2,,2026-01-11", "WHEEL,2,2026-01-12,"], ["WHEEL,2"]),
+        # (a gap and a return, in any order of rows)
+        (["WHEEL,1.5,2026-01-26,", "WHEEL,1,,2026-01-11"], ["WHEEL,2", "WHEEL,0,1,1", "WHEEL,1,0,1", "WHEEL,3,3,2"]),
+        # (a row that holds within a week alone leaves no gap where others meet it)
+        (["WHEEL,2,,2026-01-12", "WHEEL,9,2026-01-13,2026-01-14", "WHEEL,4,2026-01-15,"], ["left out", "WHEEL,4", "WHEEL,0,2,1", "WHEEL,2,4,1"]),
+        # (what holds before the plan alone, or behind it)
+        (["WHEEL,2,,2026-01-04", "WHEEL,3,2026-01-05,", "DISC,7,,2025-12-31"], ["left out", "WHEEL,3"]),
+        (["WHEEL,2,,2026-01-26", "WHEEL,3,2026-01-27,", "DISC,7,2026-02-02,"], ["left out", "WHEEL,2"]),
+        (["WHEEL,2,,2026-01-05"], ["WHEEL,2", "WHEEL,1,0,1"]),
+    ],
+)
+def test_days_of_bills_are_usages(tmp_path, bills, rows):
+    """A bill row for each parent and component, with the most pieces, and usages by the first day of a period."""
+    text = "Plant,Parent,Component,Per,Valid from,Valid to\n" + "".join(f"P1,BIKE,{it}\n" for it in bills)
+    items = BICYCLE["items.csv"] + "P1,DISC,buy,lot,1,0,0\n"
+    status, table, said = sheets(tmp_path, {**with_bills(text), "items.csv": items})
+    assert (status, "left out" in said) == (0, rows[0] == "left out")
+    assert rows_of_bills(table) == [f"BIKE,{it}" for it in rows if it != "left out"]
+
+
+def test_bills_that_are_left_out_are_told(tmp_path):
+    """And with scrap and a fraction the days are what they are."""
+    bills = "Plant,Parent,Component,Per,Valid from,Valid to,Scrap %\nP1,BIKE,WHEEL,0.5,,11.1.2026,4\nP1,BIKE,WHEEL,2,12.1.2026,31.12.9999,\n"
+    bills += "P1,BIKE,WHEEL,5,1.1.2025,1.1.2025,\nP1,BIKE,BELL,5,2.2.2026,,\n"
+    bills = bills.replace("WHEEL,0.5,,", "WHEEL,0.5,2.1.2025,")
+    items = BICYCLE["items.csv"] + "P1,BELL,buy,lot,1,0,0\n"
+    status, table, said = sheets(tmp_path, {**with_bills(bills), "items.csv": items})
+    assert (status, rows_of_bills(table)) == (0, ["BIKE,WHEEL,2", "BIKE,WHEEL,0,13,25", "BIKE,WHEEL,1,2,1"])
+    assert said.splitlines() == [
+        "bills.csv: 2 rows not in force in any period left out (rows 4, 5)",
+        "items.csv row 4: P1 BELL has no demand, and nothing takes it",
+    ]
+
+
+@pytest.mark.parametrize(
+    "bills, told",
+    [
+        (["2,,", "3,,"], "Component: P1 BIKE WHEEL stands in row 2 already"),
+        (["2,,2026-01-19", "3,2026-01-19,"], "Component: P1 BIKE WHEEL stands in row 2, which holds on 2026-01-19 too"),
+        (["2,2026-01-19,", "3,,2026-01-25"], "Component: P1 BIKE WHEEL stands in row 2, which holds on 2026-01-19 too"),
+        (["2,,2026-01-18", "3,,2026-01-25"], "Component: P1 BIKE WHEEL stands in row 2, which holds on 2026-01-18 too"),
+        (["2,,", "3,2027-01-01,"], "Component: P1 BIKE WHEEL stands in row 2, which holds on 2027-01-01 too"),
+        (["2,,", "3,2025-01-01,2025-02-01"], "Component: P1 BIKE WHEEL stands in row 2, which holds on 2025-01-01 too"),
+        (["2,,2026-01-18", "3,2026-01-19,2026-01-12"], "Valid to: 2026-01-12 is before 2026-01-19"),
+        (["2,,2026-01-18", "3,2026-01-32,"], "Valid from: '2026-01-32' is on no calendar"),
+        (["2,,2026-01-18", "3,2026-01-19,never"], "Valid to: 'never' is no date; write it as 2026-12-01"),
+    ],
+)
+def test_slips_of_days_of_bills(tmp_path, bills, told):
+    """Two rows hold on no day together, not even within a period or outside the plan."""
+    text = "Plant,Parent,Component,Per,Valid from,Valid to\n" + "".join(f"P1,BIKE,WHEEL,{it}\n" for it in bills)
+    assert sheets(tmp_path, with_bills(text)) == (1, "", f"bills.csv row 3, {told}\n{REFUSED}")
+
+
+@pytest.mark.parametrize(
+    "heads",
+    [
+        "Plant,Parent,Component,Per,Scrap %,Valid from,Valid to",
+        "Site,Assembly,Child,Qty per,Component scrap (%),Effective date,Expiry date",
+        "Werk,Baugruppe,Komponente,Menge je,Komponentenausschuss in %,Gültig ab,Gültig bis",
+        "Werk,Oberteil,Unterteil,Menge,Ausschuß (Prozent),Gueltigkeitsbeginn,Gueltigkeitsende",
+        "Usine,Ensemble,Composant,Quantité,Taux de rebut %,Valable du,Valable jusqu'au",
+        "Planta,Conjunto,Componente,Cantidad,% merma,Válido desde,Válido hasta",
+    ],
+)
+def test_columns_of_bills_have_other_headings(tmp_path, heads):
+    text = f"{heads}\nP1,BIKE,WHEEL,1,3,2026-01-12,2026-01-18\n"
+    status, table, said = sheets(tmp_path, with_bills(text))
+    assert (status, said, rows_of_bills(table)) == (0, "", [f"BIKE,WHEEL,{it}" for it in ("2", "0,0,1", "1,103,100", "2,0,1")])
+
+
+def test_scrap_wants_its_unit(tmp_path):
+    """Be it in another language; other columns are other columns."""
+    for head in ("Scrap", "Ausschuss", "Taux de rebut"):
+        said = f"bills.csv row 1, {head}: in which unit? Head it Scrap %, with 3 where 103 are taken for 100\n{REFUSED}"
+        assert sheets(tmp_path, with_bills(f"Plant,Parent,Component,Per,{head}\nP1,BIKE,WHEEL,2,3\n")) == (1, "", said)
+    bills = "Plant,Parent,Component,Per,Position,Changed on,Unit,Text\nP1,BIKE,WHEEL,2,10,2026-01-12,pc,28 inch\n"
+    assert sheets(tmp_path, with_bills(bills)) == (0, TABLE, "")
+    both = "Plant,Parent,Component,Per,Valid from,Effective date\nP1,BIKE,WHEEL,2,,\n"
+    said = f"bills.csv row 1: Valid from stands twice, as Valid from and Effective date\n{REFUSED}"
+    assert sheets(tmp_path, with_bills(both)) == (1, "", said)
+
+
+def test_firm_orders_beyond_the_end_take_what_is_in_force_then(tmp_path):
+    """By hand. 10 that start in the week of the 19th take 2.5 wheels, so 3, and no disc any more; a week before they take 20 discs."""
+    items = BICYCLE["items.csv"] + "P1,DISC,buy,lot,1,0,0\n"
+    bills = "Plant,Parent,Component,Per,Valid from,Valid to\nP1,BIKE,WHEEL,0.25,2026-01-19,\nP1,BIKE,DISC,2,,2026-01-18\n"
+    heads, said = "Plant,Item,Start,Due,Quantity\n", {}
+    for start in ("2026-01-18", "2026-01-19"):
+        found = {**with_bills(bills), "items.csv": items, "firm_orders.csv": f"{heads}P1,BIKE,{start},2026-02-09,10\n"}
+        said[start] = sheets(tmp_path, found)[2].splitlines()[-1]
+    assert said["2026-01-18"].endswith("left out; in their place write as demands of 2026-01-18: 20 of P1 DISC")
+    assert said["2026-01-19"].endswith("left out; in their place write as demands of 2026-01-19: 3 of P1 WHEEL")

@@ -1,7 +1,7 @@
 """bin/why."""
 import reports
 from support import reports_from_files, TOP
-from test_oracle import COVERED
+from test_oracle import CHANGED, COVERED
 from test_record import FIRM, FIRM_ORDERS, FIRM_PEGS
 
 
@@ -211,3 +211,18 @@ A X: 8 released in period 0, due in period 0 (2026-01-05)
         "  5 for safety stock",
         "  5 required in period 0",
     ]
+
+
+def test_why_says_of_how_many_parents(room):
+    """By hand. 10.3 castings are 11; of OLD 2 go into each, and from period 2 on none."""
+    reports_from_files(room, CHANGED, "orders", "pegs")
+    assert room.run("MRP=words/files bin/why A CASTING 1 < table.csv") == """\
+A CASTING: 11 released in period 1, due in period 1 (2026-01-12)
+  11 required in period 1
+    11 for A P, 103/100 each: 10 released in period 1, due in period 1 (2026-01-12)
+      10 required in period 1
+        10 demand
+"""
+    assert "\n    20 for A P, 2 each: 10 released in period 1" in room.run("MRP=words/files bin/why A OLD 1 < table.csv")
+    said = room.run("MRP=words/files bin/why A OLD 2 < table.csv", status=1)
+    assert said == "bin/why: no order of A OLD is released in period 2; releases are in 0, 1\n"
