@@ -9,6 +9,7 @@ import itertools
 import os
 import re
 import unicodedata
+from fractions import Fraction
 
 MOST_SLIPS, DIGITS = 100, re.compile("-?(0|[1-9][0-9]{0,98})")
 # A number with marks between thousands, with decimals, or with both.
@@ -64,10 +65,19 @@ SOONER = "sooner countsooner receiptssooner receiptscountsooner reschedulinghori
 COVER = "cover covers safetytime sicherheitszeit delaidesecurite tiempodeseguridad"
 TIMES = {"Lead": LEAD, "Fence": FENCE, "Frozen releases": FROZEN, "Sooner": SOONER, "Cover": COVER}
 TIME_UNITS = {column: units(fronts) for column, fronts in TIMES.items()}
+# How scrap is headed with its unit, a per cent sign or the words for it, and without.
+SCRAP = "scrap componentscrap scraprate ausschuss komponentenausschuss baugruppenausschuss rebut tauxderebut tauxrebut merma desperdicio"
+PERCENTS = ("percent", "inpercent", "percentage", "inprozent", "prozent", "pourcent", "enpourcent", "porciento", "enporciento")
+# From which day on a row holds, and until which.
+FROM = "validityfrom validfromdate effectivefrom effective effectivedate fromdate gueltigab gueltigvon gueltigvom gueltigabdatum gueltigkeitsbeginn"
+FROM += " valableapartirdu valabledu debutvalidite debutdevalidite datedebutvalidite validodesde vigentedesde iniciovalidez validezdesde"
+UNTIL = "validityto validtodate validuntil validthrough effectiveto effectiveuntil expirydate expirationdate todate gueltigbis gueltigbisdatum gueltigkeitsende"
+UNTIL += " valablejusquau valableau finvalidite findevalidite datefinvalidite validohasta vigentehasta finvalidez validezhasta"
 # The columns that name things. A row in which two cells are empty, and one of these is, may be a sum.
 NAMING = {"Plant", "Item", "Parent", "Component", "From", "To", "Customer", "Vendor", "Advice"}
 # The columns that a sheet may lack. Their cells may be empty.
 OPTIONAL = {"Starts again", "Comes", "Since", "In transit", "Backward consumption", "Forward consumption", "Fence", "Frozen releases", "Sooner", "Cover", "Least", "Multiple"}
+OPTIONAL |= {"Scrap %", "Valid from", "Valid to"}
 # What stands for yes and for no in a cell, as `plain` has it.
 YES, NO = {*"x yes y ja j oui o si s true wahr vrai verdadero 1".split()}, {*"no n nein non false falsch faux falso 0 -".split(), ""}
 # How the periods are headed in which orders consume forecasts, in front of a word for periods, and without it.
@@ -108,6 +118,9 @@ SHEETS = {
         "Parent": "parentitem assembly baugruppe oberteil ensemble articleparent conjunto padre articulopadre",
         "Component": "componentitem child komponente unterteil composant componente",
         "Per": f"quantityper quantityperparent quantity usage mengeje mengepro quantitepar cantidadpor {PIECES}",
+        "Scrap %": " ".join(word + unit for word in SCRAP.split() for unit in PERCENTS) + " " + " ".join("percent" + word for word in SCRAP.split()),
+        "Valid from": FROM,
+        "Valid to": UNTIL,
     },
     "demands.csv": WANTED,
     "calls.csv": {
@@ -178,6 +191,7 @@ UNCLEAR = {
         "cum cumulative cumshipped cumulativeshipped fortschrittszahl lieferfortschrittszahl cumul acumulado",
         "with what is on its way? Give the figure without it, headed Cum received",
     ),
+    "Scrap %": (SCRAP, "in which unit? Head it Scrap %, with 3 where 103 are taken for 100"),
     "Backward consumption": (BACKWARD, "in which unit? Head it Backward consumption (periods)"),
     "Forward consumption": (FORWARD, "in which unit? Head it Forward consumption (periods)"),
 }
@@ -222,7 +236,7 @@ def plain(text):
 
 def key(heading):
     """Returns what is compared of a heading: letters and digits, without marks, and without a word as number at the end."""
-    word = "".join(it for it in plain(heading).casefold() if it.isalnum()).replace("qty", "quantity")
+    word = "".join(it for it in plain(heading).casefold().replace("%", "percent") if it.isalnum()).replace("qty", "quantity")
     return re.sub("(?<=.)(number|nummer|no|nr|code|id)$", "", word)
 
 
@@ -257,17 +271,28 @@ def instead(text, part):
     return f"write {digits} if that is meant" + (f", else {part}" if part else "")
 
 
-def unsigned(text, form, part):
-    """Returns a number without the signs by which a form parts thousands and decimals. Decimals of 0 say nothing."""
+def is_signed(text, form):
+    """Returns whether a number has signs by which a form parts thousands and decimals."""
+    return form[1] in text or form[5] in text
+
+
+def in_form(text, form):
+    """Returns the whole number and the decimals of a text in the form that --numbers says."""
     group, mark = form[1], form[5]
-    if group not in text and mark not in text:
-        return text
     found = re.fullmatch(f"(-?(?:0|[1-9][0-9]*|[1-9][0-9]{{0,2}}(?:[{group}][0-9]{{3}})+))(?:[{mark}]([0-9]+))?", text)
     if not found:
         raise Slip(f"{text!r} isn't written as --numbers {form} says")
-    if (found[2] or "").strip("0"):
+    return found[1].replace(group, ""), found[2] or ""
+
+
+def unsigned(text, form, part):
+    """Returns a number without the signs by which a form parts thousands and decimals. Decimals of 0 say nothing."""
+    if not is_signed(text, form):
+        return text
+    whole, decimals = in_form(text, form)
+    if decimals.strip("0"):
         raise Slip(f"{text!r} is no whole number" + (f"; {part}" if part else ""))
-    return found[1].replace(group, "")
+    return whole
 
 
 def quoted(part):
@@ -299,6 +324,47 @@ def number(least, most, part=SMALLER, form=None):
         if not least <= int(text) <= most:
             raise Slip(f"{text!r} is not from {least} to {most}")
         return int(text)
+
+    return read
+
+
+def with_point(text, parting):
+    """Returns the whole number and the decimals of a text with a point before them, or a comma where another sign parts the cells of its sheet.
+    Where a comma or, in such a sheet, a point stands before exactly three digits it may part thousands, and is a slip.
+    """
+    found = re.fullmatch("(-?(?:0|[1-9][0-9]{0,98}))(?:([.,])([0-9]{1,98}))?", text)
+    if not found:
+        # (which is no whole number either)
+        number(0, 0, point_for(text))(text)
+    whole, mark, decimals = found.groups("")
+    thousands = len(decimals) == 3 and whole.lstrip("-") != "0"
+    if mark == "," and (len(decimals) == 3 or parting == ",") or mark == "." and parting != "," and thousands:
+        more = decimals.rstrip("0")
+        point = whole + "." * bool(more) + more + "0" * (len(more) == 3 and thousands and parting != ",")
+        raise Slip(f"{text!r}: write {whole}{decimals} or {point}, whichever is meant" if thousands else f"{text!r}: write it as {point}")
+    return whole, decimals
+
+
+def point_for(text):
+    """Returns what is told of decimals in a text that has other signs too, or which begins with a 0."""
+    found = MARKED.fullmatch(text)
+    if not found or not found["decimals"]:
+        return "write that"
+    return f"write it as {'-' * text.startswith('-')}{re.sub('[^0-9]', '', found['whole'])}.{found['decimals']}"
+
+
+def ratio(form, parting):
+    """Returns what reads a number that may have decimals, exactly, in the form that --numbers says, and else as a sheet has it in which this sign
+    parts cells.
+    """
+
+    def read(text):
+        if DIGITS.fullmatch(text):
+            return int(text)
+        whole, decimals = in_form(text, form) if form and is_signed(text, form) else with_point(text, parting)
+        if len(whole + decimals) > 198:
+            raise Slip(f"{text!r} is no number; write one as 2 or 0.25")
+        return Fraction(f"{whole}.{decimals or 0}")
 
     return read
 

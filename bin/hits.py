@@ -12,6 +12,7 @@ import sys
 from array import array
 from bisect import bisect_left
 from itertools import accumulate, takewhile
+from typing import NamedTuple
 
 import reports
 import mrp
@@ -80,18 +81,37 @@ class Orders:
         return zip(figures, figures, figures, figures)
 
 
+class Taken(NamedTuple):
+    """What goes into a pair: how many pieces into one by the bill, and between which thousandths of a release its part lies. Of
+    usage rows, by rising periods, the last one that begins by then holds in the place of the bill.
+    """
+
+    per: int
+    low: int
+    high: int
+    usages: list = ()
+
+    def asks(self, period, release):
+        """Returns the pieces that a release of a period asks for."""
+        part = release * self.high // 1000 - release * self.low // 1000
+        if not self.usages or self.usages[0].period > period:
+            return self.per * part
+        found = next(it for it in reversed(self.usages) if it.period <= period)
+        return mrp.Per(found.per, found.base).pieces(part)
+
+
 class Takes:
     """What a table says of its pairs: their rows, and what goes into what.
 
-    `takes` has of each pair what goes into it, the components and the suppliers' pairs, each with how many pieces go into one,
-    and between which thousandths of a release its part lies.
+    `takes` has of each pair what goes into it, the components and the suppliers' pairs, each with what it asks of a release.
     """
 
     # What stands behind the pairs and the bills of a table.
-    BEHIND = tuple(f"{it.__name__.lower()}," for it in (mrp.Demand, mrp.Receipt, mrp.Ship, mrp.Cum, mrp.Reset, mrp.Firm, mrp.Policy))
+    BEHIND = tuple(f"{it.__name__.lower()}," for it in (mrp.Demand, mrp.Receipt, mrp.Ship, mrp.Cum, mrp.Reset, mrp.Firm, mrp.Policy, mrp.Usage))
 
-    def __init__(self, lines):
-        self.rows, self.takes = {}, {}
+    def __init__(self, lines, usages):
+        """Takes the lines of the table, and its usage rows by plant, parent and component."""
+        self.rows, self.takes, self.usages = {}, {}, usages
         front = takewhile(lambda it: not it.startswith(self.BEHIND), lines)
         for row in mrp.table_rows(front, mrp.Run, mrp.Pair, mrp.Bill):
             self.take(row)
@@ -99,11 +119,12 @@ class Takes:
     def take(self, row):
         """Takes over a row of the table."""
         if isinstance(row, mrp.Bill):
-            self.takes[row.plant, row.parent][row.plant, row.component] = row.per, 0, 1000
+            usages = self.usages.get(row[:3], ())
+            self.takes[row.plant, row.parent][row.plant, row.component] = Taken(row.per, 0, 1000, usages)
         elif isinstance(row, mrp.Pair):
             self.rows[pair := (row.plant, row.item)], self.takes[pair], low = row, {}, 0
             for plant, share in mrp.sources(row.supply):
-                self.takes[pair][plant, row.item] = 1, low, low + share
+                self.takes[pair][plant, row.item] = Taken(1, low, low + share)
                 low += share
         else:
             self.calendar, self.periods = mrp.calendar_of(row), row.periods
@@ -122,7 +143,7 @@ class Firm(Takes):
 
     def __init__(self, lines, orders, policies, delays):
         """Takes the lines of the table, its Orders, its policies, and the receipts of each pair that come later than they are due."""
-        super().__init__(lines)
+        super().__init__(lines, policies.usages)
         self.orders, self.policies, self.delays, self.ends = orders, policies, delays, {}
         self.settle()
         lists = ({pair: array("q", [0]) * min(end, self.periods) for pair, end in self.ends.items() if end} for _ in "123")
@@ -177,11 +198,10 @@ class Firm(Takes):
         """Takes over what a release takes of what can wait, which is no demand of customers there."""
         taken = self.taken[pair]
         for it in taken:
-            per, low, high = self.takes[pair][it]
-            part = release * high // 1000 - release * low // 1000
-            if part and period < self.ends[it]:
+            asks = self.takes[pair][it].asks(period, release)
+            if asks and period < self.ends[it]:
                 taken[it] |= 1 << period
-                self.demand[it][period] -= per * part
+                self.demand[it][period] -= asks
 
     def worst_first(self):
         """Returns the demands that wait, the worst first, then by period, then in table order."""

@@ -34,10 +34,10 @@ class Lacks:
         if not any(map(is_phantom, self.of)):
             return
         for pair in takes.order:
-            parts = [(part, low, high) for part, (_, low, high) in takes.takes[pair].items() if part in self.of]
+            parts = [(part, taken) for part, taken in takes.takes[pair].items() if part in self.of]
             released = sum(quantity for _, quantity, release, *_ in orders(pair) if release == 0) if parts else 0
-            for part, low, high in parts:
-                if released * low // 1000 < released * high // 1000 and is_phantom(part):
+            for part, taken in parts:
+                if taken.asks(0, released) and is_phantom(part):
                     self.add(pair, self.of[part])
 
     def lines(self, pair, item, number=str):

@@ -96,27 +96,29 @@ class Comes(NamedTuple):
 
 
 class Policies:
-    """How a table says that pairs are planned beyond their own rows. Without a table it says nothing."""
+    """How a table says that pairs are planned beyond their own rows and bills. Without a table it says nothing."""
 
     NONE = mrp.Policy("", "", 0, 0, 0, 0, 0)
     LISTS = {mrp.Receipt: "receipts", mrp.Ship: "ships", mrp.Firm: "firm"}
 
     def __init__(self, path=None):
         self.path, self.of, self.periods = path, {}, 0
-        for row in self.rows(mrp.Run, mrp.Policy) if path and self.may_have_some() else ():
+        for row in self.rows(mrp.Run, mrp.Policy) if self.may_have(b"policy,") else ():
             if isinstance(row, mrp.Run):
                 self.periods = row.periods
             else:
                 self.of[row.pair] = row
 
-    def may_have_some(self):
-        """Tells whether the table may have policies, so that one without isn't read for them."""
+    def may_have(self, word):
+        """Tells whether the table may have rows with a word, so that one without isn't read for them."""
+        if not self.path:
+            return False
         with open(self.path, "rb") as file:
             if os.fstat(file.fileno()).st_size == 0:
                 return False
             with mmap.mmap(file.fileno(), 0, access=mmap.ACCESS_READ) as text:
                 # (in quotes words may be spelled otherwise)
-                return text.find(b"policy,") >= 0 or text.find(b'"') >= 0
+                return text.find(word) >= 0 or text.find(b'"') >= 0
 
     def rows(self, *kinds):
         """Yields the rows of some kinds in the table."""
@@ -125,6 +127,14 @@ class Policies:
                 yield from mrp.table_rows(lines, *kinds)
         except (IndexError, TypeError, ValueError, csv.Error) as fault:
             raise Refused(f"{self.path} is no table of mrp") from fault
+
+    @functools.cached_property
+    def usages(self):
+        """The usage rows of each plant, parent and component, by their periods."""
+        found = {}
+        for row in self.rows(mrp.Usage) if self.may_have(b"usage,") else ():
+            found.setdefault(row[:3], []).append(row)
+        return {names: sorted(rows, key=lambda it: it.period) for names, rows in found.items()}
 
     def policy(self, pair):
         """Returns the policy of a pair."""

@@ -10,6 +10,9 @@ CREATE TABLE open_orders (plant TEXT, item TEXT, due TEXT, quantity INTEGER);
 CREATE TABLE firm_orders (plant TEXT, item TEXT, start TEXT, due TEXT, quantity INTEGER);
 -- (how an item is planned beyond its row: times in periods, NULL or 0 where it is planned as ever; there is none this morning)
 CREATE TABLE policies (plant TEXT, item TEXT, fence INTEGER, sooner INTEGER, cover INTEGER, least INTEGER, multiple INTEGER, PRIMARY KEY (plant, item));
+-- (scrap, fractions and changes: from a day on so many pieces go into so many parents in the place of what the bill says, into one where base is
+-- NULL, and none where per is 0; there is none this morning)
+CREATE TABLE usages (plant TEXT, parent TEXT, component TEXT, valid_from TEXT, per INTEGER, base INTEGER, PRIMARY KEY (plant, parent, component, valid_from));
 CREATE TABLE shipments (supplier TEXT, customer TEXT, item TEXT, shipped TEXT, arrives TEXT, received TEXT, quantity INTEGER);
 
 INSERT INTO calendar VALUES ('2026-01-05', 7, 6);

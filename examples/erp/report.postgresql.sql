@@ -4,7 +4,9 @@
 -- is as it was, and the status is 3. Others read the old plan until the new one is whole; a second run waits.
 \set ON_ERROR_STOP on
 BEGIN;
-SELECT to_regclass('run') IS NULL AS is_first \gset
+SELECT to_regclass('run') IS NULL OR EXISTS (
+    SELECT FROM pg_attribute WHERE attrelid = to_regclass('pegs_rows') AND attname = 'per' AND atttypid = 'bigint'::regtype
+) AS is_first \gset
 \if :is_first
 SET LOCAL client_min_messages = warning;
 CREATE TABLE IF NOT EXISTS plan_rows ("row" TEXT, plant TEXT, item TEXT, period INTEGER, date DATE,
@@ -16,13 +18,18 @@ CREATE TABLE IF NOT EXISTS order_rows ("row" TEXT, plant TEXT, item TEXT, supply
 CREATE TABLE IF NOT EXISTS schedule_rows ("row" TEXT, kind TEXT, supplier TEXT, customer TEXT, item TEXT,
     period INTEGER, date DATE, quantity BIGINT, cumulative BIGINT);
 CREATE TABLE IF NOT EXISTS pegs_rows ("row" TEXT, plant TEXT, item TEXT, period INTEGER, source TEXT, by_plant TEXT, by_item TEXT,
-    release BIGINT, per BIGINT, quantity BIGINT);
+    release BIGINT, per TEXT, quantity BIGINT);
 CREATE TABLE IF NOT EXISTS advice_rows ("row" TEXT, action TEXT, kind TEXT, plant TEXT, item TEXT, supplier TEXT,
     period INTEGER, date DATE, quantity BIGINT, needed INTEGER, needed_date DATE);
 CREATE TABLE IF NOT EXISTS run (first_day DATE, made_at TIMESTAMPTZ, "rows" BIGINT, pairs BIGINT, orders BIGINT, late BIGINT,
     seconds NUMERIC);
 CREATE INDEX IF NOT EXISTS late_orders ON order_rows (plant, item) WHERE late > 0;
 CREATE INDEX IF NOT EXISTS firm_orders_due ON order_rows (plant, item) WHERE "row" = 'firm';
+
+-- (of an earlier version per is a number)
+DROP VIEW IF EXISTS pegging;
+TRUNCATE pegs_rows;
+ALTER TABLE pegs_rows ALTER per TYPE TEXT;
 
 CREATE OR REPLACE VIEW record AS
 SELECT plant, item, period, date AS first_day, gross AS gross_requirements, incoming AS scheduled_receipts, available AS projected_available,
@@ -62,7 +69,9 @@ WHERE despatch.kind = 'despatch' AND schedule.kind = 'schedule';
 CREATE OR REPLACE VIEW delivery_schedule AS
 SELECT supplier, customer, item, kind, date AS leaves, quantity, cumulative FROM schedule_rows;
 CREATE OR REPLACE VIEW pegging AS
-SELECT plant, item, period, source, by_plant, by_item, release, per, quantity FROM pegs_rows;
+SELECT plant, item, period, source, by_plant, by_item, release, split_part(per, '/', 1)::bigint AS per, quantity,
+    coalesce(nullif(split_part(per, '/', 2), '')::bigint, 1) AS base
+FROM pegs_rows;
 CREATE OR REPLACE VIEW exception_message AS
 SELECT action, kind, plant, item, supplier, quantity, date AS comes, needed_date AS needed FROM advice_rows;
 \endif

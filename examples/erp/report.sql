@@ -22,7 +22,7 @@ CREATE TABLE order_rows ("row" TEXT, plant TEXT, item TEXT, supply TEXT, quantit
 CREATE TABLE schedule_rows ("row" TEXT, kind TEXT, supplier TEXT, customer TEXT, item TEXT,
     period INTEGER, date TEXT, quantity INTEGER, cumulative INTEGER);
 CREATE TABLE pegs_rows ("row" TEXT, plant TEXT, item TEXT, period INTEGER, source TEXT, by_plant TEXT, by_item TEXT,
-    release INTEGER, per INTEGER, quantity INTEGER);
+    release INTEGER, per TEXT, quantity INTEGER);
 CREATE TABLE advice_rows ("row" TEXT, action TEXT, kind TEXT, plant TEXT, item TEXT, supplier TEXT,
     period INTEGER, date TEXT, quantity INTEGER, needed INTEGER, needed_date TEXT);
 -- how old the plan is: the last row is of this plan, and those before it are of earlier ones
@@ -116,10 +116,13 @@ CREATE VIEW delivery_schedule AS
 SELECT supplier, customer, item, kind, nullif(date, '') AS leaves, nullif(quantity, '') AS quantity, cumulative
 FROM schedule_rows;
 
--- what each gross requirement consists of; the largest table makes some 30 million rows, and who asks for none leaves them out
+-- what each gross requirement consists of, of components with the pieces that go into so many parents (base); the largest table makes some 30
+-- million rows, and who asks for none leaves them out
 DROP VIEW IF EXISTS pegging;
 CREATE VIEW pegging AS
-SELECT plant, item, period, source, by_plant, by_item, release, per, quantity FROM pegs_rows;
+SELECT plant, item, period, source, by_plant, by_item, release, CAST(per AS INTEGER) AS per, quantity,
+    CASE instr(per, '/') WHEN 0 THEN 1 ELSE CAST(substr(per, instr(per, '/') + 1) AS INTEGER) END AS base
+FROM pegs_rows;
 
 -- open orders and firm ones to expedite, to defer and to cancel; one to cancel isn't needed before the horizon ends
 DROP VIEW IF EXISTS exception_message;

@@ -1,7 +1,8 @@
 -- Writes the table of mrp from PostgreSQL: psql -qd firm -f table.postgresql.sql
 -- What was due before the first day counts in period 0, and so does the start of a firm order. What is due after the last period is
 -- left out, a firm order too, and then nothing asks for what it takes; a shipment that arrives then counts in the cumulative figure.
--- Lead times, fence, sooner and cover are in periods. A date is 2026-12-16: where it is none the period is empty, and where stock is of no item the row is a
+-- Lead times, fence, sooner and cover are in periods. What goes into parents from a day on counts from the first period that begins on it or later, and of
+-- two that count from one period the later. A date is 2026-12-16: where it is none the period is empty, and where stock is of no item the row is a
 -- receipt of now. mrp refuses both, and a firm order that is due in a period before its start.
 \set ON_ERROR_STOP on
 SET datestyle = ISO, YMD;
@@ -21,6 +22,15 @@ CREATE TEMP VIEW firm AS
 SELECT plant, item, CASE WHEN start::text ~ '^\d{4}-\d\d-\d\d' THEN greatest(0, (start::date - first_day::date) / days) END AS start,
     CASE WHEN due::text ~ '^\d{4}-\d\d-\d\d' THEN greatest(0, (due::date - first_day::date) / days) END AS due, quantity
 FROM firm_orders, calendar;
+
+-- (of each period the row with the latest day)
+CREATE TEMP VIEW usage AS
+SELECT DISTINCT ON (plant, parent, component, period) plant, parent, component, period, per, coalesce(base, 1) AS base
+FROM (
+    SELECT usages.*, CASE WHEN valid_from::text ~ '^\d{4}-\d\d-\d\d' THEN greatest(0, (valid_from::date - first_day::date + days - 1) / days) END AS period
+    FROM usages, calendar
+) AS dated
+ORDER BY plant, parent, component, period, valid_from DESC;
 
 -- what the rows of shipments don't have: received, or to arrive after the last period
 CREATE TEMP VIEW shipped_before AS
@@ -67,6 +77,10 @@ COPY (
         SELECT 10, 'policy', plant, item, coalesce(fence, 0)::text, coalesce(sooner, 0)::text, coalesce(cover, 0)::text, coalesce(least, 0)::text,
             coalesce(multiple, 0)::text
         FROM policies
+        UNION ALL
+        SELECT 11, 'usage', plant, parent, component, period::text, per::text, base::text, NULL
+        FROM usage, calendar
+        WHERE coalesce(period, 0) < periods
     ) AS rows
     ORDER BY place, b, c, d, e, f
 ) TO STDOUT (FORMAT csv);

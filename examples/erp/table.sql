@@ -1,7 +1,8 @@
 -- Writes the table of mrp: sqlite3 -list -separator , firm.db < table.sql
 -- What was due before the first day counts in period 0, and so does the start of a firm order. What is due after the last period is
 -- left out, a firm order too, and then nothing asks for what it takes; a shipment that arrives then counts in the cumulative figure.
--- Lead times, fence, sooner and cover are in periods. A date is 2026-12-16: where it is none the period is empty, and where stock is of no item the row is a
+-- Lead times, fence, sooner and cover are in periods. What goes into parents from a day on counts from the first period that begins on it or later, and of
+-- two that count from one period the later. A date is 2026-12-16: where it is none the period is empty, and where stock is of no item the row is a
 -- receipt of now. mrp refuses both, and a firm order that is due in a period before its start.
 CREATE TEMP VIEW wanted AS
 SELECT 'demand' AS kind, plant, item,
@@ -27,6 +28,15 @@ SELECT plant, item,
     CASE WHEN date(due, '+0 days') = substr(due, 1, 10) THEN max(0, CAST((julianday(due) - julianday(first_day)) / days AS INTEGER)) END AS due,
     quantity, firm_orders.rowid AS row
 FROM firm_orders, calendar;
+
+-- (of each period the row with the latest day)
+CREATE TEMP VIEW usage AS
+SELECT plant, parent, component,
+    CASE WHEN date(valid_from, '+0 days') = substr(valid_from, 1, 10)
+        THEN max(0, (CAST(julianday(valid_from) - julianday(first_day) AS INTEGER) + days - 1) / days) END AS period,
+    per, coalesce(base, 1) AS base, max(valid_from), usages.rowid AS row
+FROM usages, calendar
+GROUP BY plant, parent, component, period;
 
 -- what the rows of shipments don't have: received, or to arrive after the last period
 CREATE TEMP VIEW shipped_before AS
@@ -71,5 +81,9 @@ FROM (
     UNION ALL
     SELECT 10, rowid, 'policy', plant, item, coalesce(fence, 0), coalesce(sooner, 0), coalesce(cover, 0), coalesce(least, 0), coalesce(multiple, 0)
     FROM policies
+    UNION ALL
+    SELECT 11, row, 'usage', plant, parent, component, coalesce(period, ''), per, base, ''
+    FROM usage, calendar
+    WHERE coalesce(period, 0) < periods
 )
 ORDER BY place, row;
