@@ -173,6 +173,10 @@ const ENDINGS: &[Ending] = &[
     NO_PLANTS_ENDING,
     RESET_LATER_ENDING,
     RESET_AT_RELEASE_ENDING,
+];
+
+/// The same of tables with policies or usages.
+const ENDINGS_WITH_POLICIES: &[Ending] = &[
     COUNTED_SOONER_ENDING,
     FENCED_ENDING,
     COVERED_ENDING,
@@ -185,6 +189,14 @@ const ENDINGS: &[Ending] = &[
 #[test]
 fn runs_come_to_their_endings(rt: HostRuntime) -> Result<(), Fail> {
     for ending in ENDINGS {
+        assert!(&rt; ends(&rt, rt.alloc(), ending)?, "{}", ending.table);
+    }
+    Ok(())
+}
+
+#[test]
+fn runs_with_policies_come_to_their_endings(rt: HostRuntime) -> Result<(), Fail> {
+    for ending in ENDINGS_WITH_POLICIES {
         assert!(&rt; ends(&rt, rt.alloc(), ending)?, "{}", ending.table);
     }
     Ok(())
