@@ -1,6 +1,5 @@
 -- The end of calendars in day numbers, and that a text spells one day.
-use Rattle.std.proofs.Common.{rules, ◌≡◌, ℕ, ◌+◌, ◌*◌, ◌<◌, ◌≤◌, ℤ, pos, ◌+ℤ◌, ◌-ℤ◌, ◌<ℤ◌, ◌≤ℤ◌, refl, arith}
-use Rattle.std.proofs.Math.Nat.{mul-le-mul_right}
+use Rattle.std.proofs.Common.{rules, ◌≡◌, ℕ, ◌+◌, ◌-◌, ◌*◌, ◌<◌, ◌≤◌, ℤ, pos, ◌+ℤ◌, refl, arith}
 use Rattle.jiff.specs.Types.{Date}
 use Rattle.std.specs.Int.{IsInRange}
 use Rattle.jiff.specs.Words.{IsYmd, IsYear, days_in_month, epoch_day, IsEpochDay}
@@ -9,7 +8,7 @@ use Rattle.jiff.proofs.SpanFacts.{signed_arith}
 use Rattle.mrp_cal.specs.Calendar.{last_date}
 use Rattle.mrp_cal.proofs.Digits.{day_zero, epoch_day-day_zero}
 
-pub last_date-is : last_date ≡ pos 84005
+pub last_date-is : last_date ≡ 84005
 unfolding last_date
 last_date-is = refl
 
@@ -30,27 +29,20 @@ pub epoch_day-end_date : epoch_day end_date ≡ pos 84005
 unfolding jiff_on_literals end_date
 epoch_day-end_date = refl
 
--- so many days from that day on end after the last date
-pub ends_after : (first : ℤ) (number days : ℕ) → first ≡ pos number → 84006 < number + days → last_date <ℤ (first +ℤ pos days -ℤ pos 1)
-ends_after first number days e h = rw (last_date-is, e) (omega (arith, signed_arith))
+-- so many periods from that day on end after the last date
+pub ends_after : (first days periods : ℕ) → 84006 < first + periods * days → last_date < first + (periods - 0) * days - 1
+ends_after first days periods h =
+    let all : periods - 0 ≡ periods = omega arith in
+    rw (last_date-is, all) (omega arith)
 
 -- or not
-pub ends_by : (first : ℤ) (number days : ℕ) → first ≡ pos number → number + days ≤ 84006 → (first +ℤ pos days -ℤ pos 1) ≤ℤ last_date
-ends_by first number days e h = rw (last_date-is, e) (omega (arith, signed_arith))
+pub ends_by : (first days periods : ℕ) → first + periods * days ≤ 84006 → first + (periods - 0) * days ≤ last_date + 1
+ends_by first days periods h =
+    let all : periods - 0 ≡ periods = omega arith in
+    rw (last_date-is, all) (omega arith)
 
-pub not_before : (first : ℤ) (number : ℕ) → first ≡ pos number → pos 0 ≤ℤ first
-not_before first number e = rw e (omega (arith, signed_arith))
-
--- each period begins on a day of the calendar
-pub begins_within : (first t days periods : ℕ) → (pos first +ℤ pos (periods * days) -ℤ pos 1) ≤ℤ last_date → 1 ≤ days → t < periods → first + t * days ≤ 84005
-begins_within first t days periods until some h =
-    let more : t + 1 ≤ periods = omega arith in
-    let up = mul-le-mul_right days more in
-    let last = rw last_date-is at until in
-    omega (arith, signed_arith, last, up, some)
-
-pub not_after : (day : ℤ) (number : ℕ) → day ≡ pos number → number ≤ 84005 → day ≤ℤ last_date
-not_after day number e h = rw (last_date-is, e) (omega (arith, signed_arith))
+pub not_after : (day : ℕ) → day ≤ last_date → day ≤ 84005
+not_after day h = rw (← last_date-is) h
 
 -- so many days after day 0 is a day that the library has
 pub has_day : (first : ℤ) (number : ℕ) → first ≡ pos 0 → number ≤ 84005 → IsEpochDay (first +ℤ pos number)

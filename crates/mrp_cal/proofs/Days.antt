@@ -1,17 +1,15 @@
 -- The dates that the calendar has day by day are those of the day numbers.
-use Rattle.std.proofs.Common.{◌≡◌, ℕ, zero, suc, ◌+◌, ◌<◌, ◌≤◌, nat_lt, cond, List, Bool, true, false, inl, ℤ, pos, ◌+ℤ◌, ◌≤ℤ◌, ◌<ℤ◌, unsigned_abs, refl, subst}
+use Rattle.std.proofs.Common.{◌≡◌, ℕ, zero, suc, ◌+◌, ◌<◌, ◌≤◌, nat_lt, cond, List, Bool, true, false, ℤ, pos, ◌+ℤ◌, ◌≤ℤ◌, unsigned_abs, refl}
 use Rattle.std.proofs.Common.{sym, ap, ◌∙◌, arith}
 use Rattle.std.proofs.lemmas.Bool.{ltb-true, ltb-false}
 use Rattle.std.proofs.lemmas.Int.{by_lt_z}
 use Rattle.jiff.specs.Types.{Date}
 use Rattle.jiff.specs.Words.{days_in_month, epoch_day}
 use Rattle.jiff.proofs.SpanFacts.{signed_arith}
-use Rattle.jiff.proofs.Family.{epoch_day-lt, epoch_day_injective, epoch_day_same, days_from_civil-day, days_from_civil-next_month, days_from_civil-next_year}
-use Rattle.mrp_cal.specs.Calendar.{last_date}
+use Rattle.jiff.proofs.Family.{epoch_day_injective, epoch_day_same, days_from_civil-day, days_from_civil-next_month, days_from_civil-next_year, days_from_civil-max, epoch_day_range}
 use Rattle.mrp_cal.specs.DateText.{SpellsDay}
 use Rattle.mrp_cal.specs.Days.{Parts, date_at, date_text, day_text}
-use Rattle.mrp_cal.proofs.Calendars.{end_date, epoch_day-end_date, last_date-is}
-use Rattle.mrp_cal.proofs.Digits.{day_zero, epoch_day-day_zero, not_negative, text_spells}
+use Rattle.mrp_cal.proofs.Digits.{day_zero, epoch_day-day_zero, text_spells}
 
 pub record HasParts (date : Date) (p : Parts) (n : ℕ) : Type 0 where
   pub year : date.year ≡ pos p.year
@@ -19,14 +17,14 @@ pub record HasParts (date : Date) (p : Parts) (n : ℕ) : Type 0 where
   pub day : date.day ≡ p.day
   pub number : epoch_day date ≡ pos n
 
--- no date of calendars has a year after 2199
-year_by : (date : Date) (n : ℕ) → epoch_day date ≡ pos n → n ≤ 84005 → date.year ≤ℤ pos 2199
-unfolding end_date
-year_by date n number h =
-    by_lt_z (pos 2199) date.year
+-- the last day of a year before the last date has a next year
+year_by : (date : Date) (n : ℕ) → epoch_day date ≡ pos n → n < 2932896 → date.month ≡ 12 → date.day ≡ 31 → date.year ≤ℤ pos 9998
+year_by date n number h month day =
+    by_lt_z (pos 9998) date.year
     (λ after.
-    let late : end_date.year <ℤ date.year = after in
-    absurd (omega (arith, signed_arith, number, epoch_day-lt end_date date (inl late), epoch_day-end_date)))
+    let year : date.year ≡ pos 9999 = omega (arith, signed_arith, date.year_in, after) in
+    let last : epoch_day date ≡ pos 2932896 = rw (year, month, day) days_from_civil-max in
+    absurd (omega (arith, signed_arith, number, last)))
     (λ by. by)
 
 short : (y : ℤ) (m : ℕ) → (28 ≤ days_in_month y m) × (days_in_month y m ≤ 31)
@@ -74,9 +72,13 @@ in_year date last more =
     let whole : date.day ≡ days_in_month date.year date.month = omega (arith, last, date.day_in.1) in
     (next, record { year = refl; month = refl; day = refl; number = days_from_civil-next_month date.year date.month date.day date.month_in.0 whole })
 
-after_year : (date : Date) → date.year ≤ℤ pos 2199 → days_in_month date.year date.month ≤ date.day → 12 ≤ date.month
+after_year : (date : Date) (n : ℕ) → epoch_day date ≡ pos n → n < 2932896 → days_in_month date.year date.month ≤ date.day → 12 ≤ date.month
     → (next : Date) × IsNext date next (date.year +ℤ pos 1) 1 1
-after_year date by last end =
+after_year date n at before last end =
+    let december : date.month ≡ 12 = omega (arith, end, date.month_in.1) in
+    let whole : date.day ≡ days_in_month date.year date.month = omega (arith, last, date.day_in.1) in
+    let day : date.day ≡ 31 = rw december at whole in
+    let by = year_by date n at before december day in
     let next : Date = record {
       year = date.year +ℤ pos 1;
       month = 1;
@@ -86,10 +88,7 @@ after_year date by last end =
       month_in = (omega arith, omega arith);
       day_in =
           (omega arith, omega (arith, (short (date.year +ℤ pos 1) 1).0));
-    } in
-    let december : date.month ≡ 12 = omega (arith, end, date.month_in.1) in
-    let whole : date.day ≡ days_in_month date.year date.month = omega (arith, last, date.day_in.1) in
-    let day : date.day ≡ 31 = rw december at whole in (
+    } in (
       next,
       record {
         year = refl;
@@ -105,7 +104,7 @@ has_next : (date next : Date) (p q : Parts) (n : ℕ) (y : ℤ) (m d : ℕ) → 
 has_next date next p q n y m d h k year month day =
     record { year = k.year ∙ year; month = k.month ∙ month; day = k.day ∙ day; number = omega (arith, signed_arith, k.number, h.number) }
 
-next_by : (date : Date) (p : Parts) (n : ℕ) → HasParts date p n → n < 84005 → (in_month in_year : Bool)
+next_by : (date : Date) (p : Parts) (n : ℕ) → HasParts date p n → n < 2932896 → (in_month in_year : Bool)
     → nat_lt p.day (days_in_month (pos p.year) p.month) ≡ in_month → nat_lt p.month 12 ≡ in_year
     → (next : Date) × HasParts next (cond in_month (record { year = p.year; month = p.month; day = p.day + 1 })
     (cond in_year (record { year = p.year; month = p.month + 1; day = 1 }) (record { year = p.year + 1; month = 1; day = 1 }))) (suc n)
@@ -121,11 +120,11 @@ next_by date p n h by false true e e₂ =
 next_by date p n h by false false e e₂ =
     let last : days_in_month (pos p.year) p.month ≤ p.day = ltb-false _ _ e in
     let end : 12 ≤ p.month = ltb-false _ _ e₂ in
-    let next = after_year date (year_by date n h.number (omega arith)) (rw (h.day, h.year, h.month) last) (rw h.month end) in
+    let next = after_year date n h.number by (rw (h.day, h.year, h.month) last) (rw h.month end) in
     (next.0, has_next _ _ p _ n _ _ _ h next.1 (ap (λ y. y +ℤ pos 1) h.year) refl refl)
 
--- every day up to the last of calendars is a date, the one that the calendar has there
-date_on : (n : ℕ) → n ≤ 84005 → (date : Date) × HasParts date (date_at n) n
+-- every day up to 9999-12-31 is a date, the one that the calendar has there
+date_on : (n : ℕ) → n ≤ 2932896 → (date : Date) × HasParts date (date_at n) n
 unfolding date_at day_zero
 date_on zero h = (day_zero, record { year = refl; month = refl; day = refl; number = epoch_day-day_zero })
 date_on (suc n) h =
@@ -133,26 +132,23 @@ date_on (suc n) h =
     next_by before.0 (date_at n) n before.1 (omega arith) _ _ refl refl
 
 -- and a date with that number has those parts
-pub parts_at : (date : Date) (n : ℕ) → epoch_day date ≡ pos n → n ≤ 84005 → HasParts date (date_at n) n
+pub parts_at : (date : Date) (n : ℕ) → epoch_day date ≡ pos n → n ≤ 2932896 → HasParts date (date_at n) n
 parts_at date n number h =
     let on = date_on n h in
     let same = epoch_day_injective date on.0 (number ∙ sym on.1.number) in
     record { year = same.0 ∙ on.1.year; month = same.1 ∙ on.1.month; day = same.2 ∙ on.1.day; number = number }
 
-abbrev from_zero : ℤ → Type 0
-from_zero day = pos 0 ≤ℤ day
-
 same_text : (y₁ y₂ m₁ m₂ d₁ d₂ : ℕ) → y₁ ≡ y₂ → m₁ ≡ m₂ → d₁ ≡ d₂ → date_text y₁ m₁ d₁ ≡ date_text y₂ m₂ d₂
 same_text y₁ y₂ m₁ m₂ d₁ d₂ y m d = rw (y, m, d) refl
 
+-- no date is after 9999-12-31
+pub has_text : (date : Date) (n : ℕ) → epoch_day date ≡ pos n → n ≤ 2932896
+has_text date n number = omega (arith, signed_arith, number, epoch_day_range date)
+
 -- so the text of a date is that of its day
-pub date_text-day_text : (date : Date) (day : ℤ) → epoch_day date ≡ day → pos 0 ≤ℤ epoch_day date → epoch_day date ≤ℤ last_date
-    → date_text (unsigned_abs date.year) date.month date.day ≡ day_text day
-date_text-day_text date day number since until =
-    let last = rw last_date-is at until in
-    let whole : epoch_day date ≡ pos (unsigned_abs day) = number ∙ not_negative day (subst from_zero number since) in
-    let by : unsigned_abs day ≤ 84005 = omega (arith, signed_arith, whole, last) in
-    let parts = parts_at date _ whole by in
+pub date_text-day_text : (date : Date) (day : ℕ) → epoch_day date ≡ pos day → date_text (unsigned_abs date.year) date.month date.day ≡ day_text day
+date_text-day_text date day number =
+    let parts = parts_at date day number (has_text date day number) in
     same_text _ _ _ _ _ _ (ap unsigned_abs parts.year) parts.month parts.day
 
 -- a text spells one day at most
@@ -165,10 +161,7 @@ one_day text a b h k =
     sym h.2 ∙ epoch_day_same h.0 k.0 (p.0 ∙ sym q.0) month day ∙ k.2
 
 -- and the text of a day spells it
-pub spells_day : (day : ℤ) → pos 0 ≤ℤ day → day ≤ℤ last_date → SpellsDay (day_text day) day
-spells_day day since until =
-    let last = rw last_date-is at until in
-    let whole : day ≡ pos (unsigned_abs day) = not_negative day since in
-    let by : unsigned_abs day ≤ 84005 = omega (arith, signed_arith, whole, last) in
-    let on = date_on (unsigned_abs day) by in
-    (on.0, text_spells on.0 _ _ _ on.1.year on.1.month on.1.day, on.1.number ∙ sym whole)
+pub spells_day : (day : ℕ) → day ≤ 2932896 → SpellsDay (day_text day) (pos day)
+spells_day day by =
+    let on = date_on day by in
+    (on.0, text_spells on.0 _ _ _ on.1.year on.1.month on.1.day, on.1.number)

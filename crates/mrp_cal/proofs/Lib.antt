@@ -1,4 +1,7 @@
+pub mod BegunFacts
 pub mod Calendars
 pub mod Days
 pub mod Digits
+pub mod Since
+pub mod Spelled
 pub mod Written

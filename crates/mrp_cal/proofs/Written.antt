@@ -1,7 +1,6 @@
--- A day from 1970-01-01 to 2199-12-31 has one text.
-use Rattle.std.proofs.Common.{◌≡◌, ℕ, ◌+◌, ◌-◌, ◌*◌, ◌/◌, ◌%◌, List, [], ◌∷◌, ℤ, pos, ◌≤ℤ◌, unsigned_abs, refl, ap, sym, ◌∙◌, arith}
+-- A day from 1970-01-01 on has one text.
+use Rattle.std.proofs.Common.{◌≡◌, ℕ, ◌+◌, ◌-◌, ◌*◌, ◌/◌, ◌%◌, List, [], ◌∷◌, pos, unsigned_abs, refl, ap, sym, ◌∙◌, arith}
 use Rattle.jiff.specs.Words.{epoch_day}
-use Rattle.mrp_cal.specs.Calendar.{last_date}
 use Rattle.mrp_cal.specs.DateText.{day_of, HasDateShape, IsDigit, month_of, SpellsDay, year_of}
 use Rattle.mrp_cal.specs.Days.{date_text}
 use Rattle.mrp_cal.specs.Days.{day_text}
@@ -56,11 +55,11 @@ shaped [] s = absurd (omega (arith, s.ten))
 date_same : (y₁ y₂ m₁ m₂ d₁ d₂ : ℕ) → y₁ ≡ y₂ → m₁ ≡ m₂ → d₁ ≡ d₂ → date_text y₁ m₁ d₁ ≡ date_text y₂ m₂ d₂
 date_same y₁ y₂ m₁ m₂ d₁ d₂ y m d = rw (y, m, d) refl
 
-pub day_is_written : (text : List ℕ) (day : ℤ) → pos 0 ≤ℤ day → day ≤ℤ last_date → SpellsDay text day → text ≡ day_text day
-day_is_written text day since until spells =
+pub day_is_written : (text : List ℕ) (day : ℕ) → SpellsDay text (pos day) → text ≡ day_text day
+day_is_written text day spells =
     let date = spells.0 in
     let p = spells.1.parts in
     let year : year_of text ≡ unsigned_abs date.year = sym (ap unsigned_abs p.0) in
     let month : month_of text ≡ date.month = cc in
     let day_is : day_of text ≡ date.day = cc in
-    shaped text spells.1.shape ∙ date_same _ _ _ _ _ _ year month day_is ∙ date_text-day_text date day spells.2 (rw spells.2 since) (rw spells.2 until)
+    shaped text spells.1.shape ∙ date_same _ _ _ _ _ _ year month day_is ∙ date_text-day_text date day spells.2

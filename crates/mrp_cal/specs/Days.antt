@@ -1,5 +1,5 @@
 -- The calendar day by day: the date that each day from 1970-01-01 on has, and its text.
-use Rattle.std.specs.Prelude.{ℕ, zero, suc, ◌+◌, ◌/◌, ◌%◌, nat_lt, if◌then◌else◌, List, [], ◌∷◌, ℤ, pos, unsigned_abs}
+use Rattle.std.specs.Prelude.{ℕ, zero, suc, ◌+◌, ◌/◌, ◌%◌, nat_lt, if◌then◌else◌, List, [], ◌∷◌, pos}
 use Rattle.jiff.specs.Words.{days_in_month}
 
 -- the text of a year up to 9999, a month and a day, with zeros before them
@@ -28,5 +28,5 @@ date_at zero = record { year = 1970; month = 1; day = 1 }
 date_at (suc n) = next_day (date_at n)
 
 -- the text of the date that a day from 1970-01-01 on has
-abbrev pub day_text : ℤ → List ℕ
-day_text day = let p = date_at (unsigned_abs day) in date_text p.year p.month p.day
+abbrev pub day_text : ℕ → List ℕ
+day_text day = let p = date_at day in date_text p.year p.month p.day

@@ -1,3 +1,4 @@
+pub mod Begins
 pub mod Calendar
 pub mod DateText
 pub mod Days

@@ -1,5 +1,5 @@
 -- Names, numbers, dates and words need no quotes: none of their bytes comes before the dash.
-use Rattle.std.proofs.Common.{◌≡◌, ◌≤◌, ◌<◌, ◌+◌, ◌/◌, ◌%◌, ◌&&◌, ℕ, zero, suc, Bool, true, false, List, [], ◌∷◌, length, get_or, decimal, All, unsigned_abs}
+use Rattle.std.proofs.Common.{◌≡◌, ◌≤◌, ◌<◌, ◌+◌, ◌/◌, ◌%◌, ◌&&◌, ℕ, zero, suc, Bool, true, false, List, [], ◌∷◌, length, get_or, decimal, All}
 use Rattle.std.proofs.Common.{cond, eqb, ltb, refl, sym, subst, arith, ⊎_elim}
 use Rattle.std.specs.List.{list_all, range_with_len}
 use Rattle.std.proofs.lemmas.Bool.{cases_lt, ne_eqb}
@@ -37,7 +37,7 @@ name_bytes (b ∷ rest) e =
     let p = both_true (is_name_byte b) (list_all is_name_byte rest) e in
     plain_more b rest (name_byte b p.0) (name_bytes rest p.1)
 
-name_plain : (text : List ℕ) → IsName text → IsPlain text
+pub name_plain : (text : List ℕ) → IsName text → IsPlain text
 name_plain text e = name_bytes text (both_true _ (list_all is_name_byte text) e).1
 
 -- a field of a list of them, or none
@@ -93,7 +93,7 @@ date_plain year month day = (date_has year month day).plain
 
 period_plain : (calendar : CalendarTerms) (t : ℕ) → IsPlain (period_date calendar t)
 unfolding period_date
-period_plain calendar t = let p = day_parts (unsigned_abs (first_day calendar t)) in date_plain p.year p.month p.day
+period_plain calendar t = let p = day_parts (first_day calendar t) in date_plain p.year p.month p.day
 
 pub dates_plain : (calendar : CalendarTerms) (t : ℕ) → IsPlain (date_in (dates_of calendar) t)
 dates_plain calendar t = plain_at (dates_of calendar) t (All-map IsPlain (period_date calendar) (range_with_len 0 calendar.periods)

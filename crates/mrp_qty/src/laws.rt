@@ -1,5 +1,5 @@
 //! Laws of the limits, each the contract of a function that does nothing.
-ghost use Rattle.std.specs.Prelude.{◌≡◌, ◌+◌, ◌*◌, ◌^◌};
+ghost use Rattle.std.specs.Prelude.{◌≡◌, ◌+◌, ◌-◌, ◌*◌, ◌^◌};
 ghost use Rattle.mrp_qty.specs.declared.horizon.TheConstants.{LONGEST};
 ghost use Rattle.mrp_qty.specs.declared.quantity.TheConstants.{MOST};
 ghost use Rattle.mrp_qty.specs.declared.limits.TheConstants.{MAX_TURNS, MOST_BILLS, MOST_IN_ROW, MOST_OF_A_KIND};
@@ -28,7 +28,9 @@ pub fn limits_are_numbers()
     ensures turns { MOST_TURNS ≡ 2 ^ 62 }
 {}
 
-/// The most turns of reading: the run, each other kind of row up to its limit, and the end.
+/// The most turns of reading: the run, each other kind of row up to its limit (first days of all periods but the first
+/// one), and the end.
 pub fn turns_are_rows()
-    ensures { MAX_TURNS ≡ 1 + MOST_PLANTS + 2 * MOST_PAIRS + MOST_BILLS + MOST_USAGES + 5 * MOST_OF_A_KIND + MOST_SOURCES + 1 }
+    ensures { MAX_TURNS ≡ 1 + MOST_PLANTS + 3 * MOST_PAIRS + MOST_BILLS + MOST_USAGES + 5 * MOST_OF_A_KIND + MOST_SOURCES
+        + (LONGEST - 1) + 1 }
 {}

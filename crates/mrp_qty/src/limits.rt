@@ -3,7 +3,7 @@
 /// The most plants of a table.
 pub const MOST_PLANTS: usize = 64;
 
-/// The most pairs of a table, and so the most items and policy rows.
+/// The most pairs of a table, and so the most items, policy and vendor rows.
 pub const MOST_PAIRS: usize = 20_000;
 
 /// The most sources of one pair.
@@ -31,8 +31,8 @@ pub const MOST_PER: u64 = 1_000_000;
 /// All shares of one pair together, in thousandths.
 pub const MOST_SHARE: u64 = 1000;
 
-/// The most turns of reading a table: a row of each kind up to its limit, and the end.
-pub const MAX_TURNS: u64 = 5_520_066;
+/// The most turns of reading a table: the rows of each kind up to their limit, and the end.
+pub const MAX_TURNS: u64 = 5_540_169;
 
 /// The most records of one text.
 pub const MOST_RECORDS: u64 = 4_000_000;
