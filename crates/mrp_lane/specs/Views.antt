@@ -1,5 +1,5 @@
 -- What the passes to a lane's mailbox know, and the rule that holds at each of its steps.
-use Rattle.std.specs.Prelude.{◌≡◌, ℕ, true, false, List, [], ◌∷◌, ◌++◌, length, pos}
+use Rattle.std.specs.Prelude.{◌≡◌, ℕ, true, false, List, [], ◌∷◌, ◌++◌, length}
 use mathlib.Core.Option.{some}
 use lib.ListN.{get_elem?}
 use Rattle.mrp_master_data.specs.Table.{Table}
@@ -18,7 +18,7 @@ IsLegal N l records = IsBeginning (loads N (lane_at N l)) records
 
 -- the first pass of a mailbox may push and pop, and isn't told yet whose mailbox it is
 abbrev pub blank : Table
-blank = empty_table (record { first = pos 0; days = 0; periods = 0 })
+blank = empty_table (record { first = 0; days = 0; periods = 0; begun = [] })
 
 abbrev pub unnamed : LaneView
 unnamed = record {

@@ -29,6 +29,7 @@ read_without N is =
         firms = is.limits.firms;
         policies = is.limits.policies;
         usages = omega arith;
+        vendors = is.limits.vendors;
       };
       plants = is.plants;
       items = is.items;
@@ -58,6 +59,7 @@ read_without N is =
         multiple = p.multiple;
       };
       usages = All-nil (IsUsageRow M);
+      vendors = λ k d h. let v = is.vendors k d h in record { name = v.name; pair = v.pair; figure = v.figure; transit = v.transit; reset = v.reset };
     }
 
 pub table_without : (N : Table) → IsTable N → IsTable (without_bills_and_demands N)
@@ -78,6 +80,7 @@ table_without N is =
         resets = once.resets;
         policies = once.policies;
         usages = IsDistinct-nil is_same_usage;
+        vendors = once.vendors;
       };
       sourced = record {
         items = sourced.items;
@@ -91,6 +94,8 @@ table_without N is =
         cums = sourced.cums;
         resets = sourced.resets;
         usages = All-nil (λ (u : UsageRow). is_joined M u.parent.0 u.component.0 ≡ true);
+        vendors = sourced.vendors;
+        named = sourced.named;
         arrive = sourced.arrive;
       };
     }

@@ -1,16 +1,17 @@
 -- Rows that are in range stay so while a table grows.
 use Rattle.std.proofs.Common.{◌≡◌, true, false, if◌then◌else◌, ℕ, ◌+◌, ◌≤◌, ◌<◌, List, [], ◌∷◌, ◌++◌, length, arith, refl, ap, sym, subst, Result, Ok, Err}
-use Rattle.std.proofs.Common.{OnOk, OnErr}
+use Rattle.std.proofs.Common.{OnOk, OnErr, IfSome, Option, Some, None}
 use Rattle.std.specs.List.{All, list_any}
 use Rattle.std.specs.Str.{bytes_eq}
 use Rattle.std.proofs.lemmas.List.Elements.{All-push, All-weaker}
 use Rattle.std.proofs.lemmas.List.{length_push}
 use Rattle.mrp_cal.specs.Calendar.{CalendarTerms, IsCalendar}
 use Rattle.mrp_qty.specs.declared.limits.TheConstants.{MOST_BILLS, MOST_OF_A_KIND, MOST_PAIRS, MOST_PLANTS, MOST_SOURCES, MOST_USAGES}
+use Rattle.mrp_master_data.specs.Rows.{Vendor}
 use Rattle.mrp_master_data.specs.Table.{Table, IsName, IsRead, horizon, IsPairRow, IsSourceRow}
-use Rattle.mrp_master_data.specs.Table.{IsBillRow, IsDemandRow, IsReceiptRow, IsShipRow, IsCumRow, IsResetRow, IsFirmRow, IsPolicyRow, IsUsageRow}
+use Rattle.mrp_master_data.specs.Table.{IsBillRow, IsDemandRow, IsReceiptRow, IsShipRow, IsCumRow, IsResetRow, IsFirmRow, IsPolicyRow, IsUsageRow, IsVendorRow}
 use Rattle.mrp_master_data.specs.Growing.{add_item, with_plant, with_item, with_pair, with_source, with_bill, with_demand, with_receipt, with_ship, with_cum}
-use Rattle.mrp_master_data.specs.Growing.{with_firm, with_policy, with_reset, with_usage}
+use Rattle.mrp_master_data.specs.Growing.{with_calendar, with_firm, with_policy, with_reset, with_usage, with_vendor}
 use Rattle.mrp_master_data.proofs.Naming.{item_added}
 use Rattle.mrp_master_data.specs.declared.rows.PairRow.{PairRow}
 use Rattle.mrp_master_data.specs.declared.rows.SourceRow.{SourceRow}
@@ -24,16 +25,18 @@ use Rattle.mrp_master_data.specs.declared.rows.FirmRow.{FirmRow}
 use Rattle.mrp_master_data.specs.declared.rows.PolicyRow.{PolicyRow}
 use Rattle.mrp_master_data.specs.declared.rows.UsageRow.{UsageRow}
 
--- the same calendar, and at least as many names and pairs
+-- as many periods, of a calendar that is one, and at least as many names and pairs
 pub record Grows (N M : Table) : Type 0 where
-  pub calendar : M.calendar ≡ N.calendar
+  pub calendar : IsCalendar N.calendar → IsCalendar M.calendar
+  pub periods : horizon M ≡ horizon N
   pub plants : length N.plants ≤ length M.plants
   pub items : length N.items ≤ length M.items
   pub pairs : length N.pairs ≤ length M.pairs
 
 pub same_names : (N M : Table) → M.calendar ≡ N.calendar → M.plants ≡ N.plants → M.items ≡ N.items → M.pairs ≡ N.pairs → Grows N M
 same_names N M calendar plants items pairs = record {
-  calendar = calendar;
+  calendar = λ is. subst IsCalendar (sym calendar) is;
+  periods = ap (λ (c : CalendarTerms). c.periods) calendar;
   plants = omega (arith, ap length plants);
   items =
       omega (arith, ap length items);
@@ -44,7 +47,7 @@ same_names N M calendar plants items pairs = record {
 
 module _ {N M : Table} (g : Grows N M) where
   same_periods : horizon M ≡ horizon N
-  same_periods = ap (λ (c : CalendarTerms). c.periods) g.calendar
+  same_periods = g.periods
 
   pair_grows : (x : PairRow) → IsPairRow N x → IsPairRow M x
   pair_grows x h = record {
@@ -114,6 +117,19 @@ module _ {N M : Table} (g : Grows N M) where
     base = h.base;
   }
 
+  reset_within : (reset : Option ℕ) → IfSome reset (λ period. period < horizon N) → IfSome reset (λ period. period < horizon M)
+  reset_within (Some period) h = omega (arith, same_periods, h)
+  reset_within None h = tt
+
+  pub vendor_grows : (x : Vendor) → IsVendorRow N x → IsVendorRow M x
+  vendor_grows x h = record {
+    name = h.name;
+    pair = omega (arith, g.pairs, h.pair);
+    figure = h.figure;
+    transit = h.transit;
+    reset = reset_within x.reset h.reset;
+  }
+
 -- ---- all rows
 
 -- a list that changes: what holds of all its rows still does, and it has no more rows than it may have
@@ -136,11 +152,12 @@ pub read_grows : (N M : Table) → IsRead N → Grows N M
     → Changes (IsShipRow M) MOST_OF_A_KIND N.ships M.ships → Changes (IsCumRow M) MOST_OF_A_KIND N.cums M.cums
     → Changes (IsResetRow M) MOST_SOURCES N.resets M.resets → Changes (IsFirmRow M) MOST_OF_A_KIND N.firms M.firms
     → Changes (IsPolicyRow M) MOST_PAIRS N.policies M.policies → Changes (IsUsageRow M) MOST_USAGES N.usages M.usages
+    → Changes (IsVendorRow M) MOST_PAIRS N.vendors M.vendors
     → IsRead M
-read_grows N M read g plants items pairs sources bills demands receipts ships cums resets firms policies usages =
+read_grows N M read g plants items pairs sources bills demands receipts ships cums resets firms policies usages vendors =
     let most = read.limits in
     record {
-      calendar = subst IsCalendar (sym g.calendar) read.calendar;
+      calendar = g.calendar read.calendar;
       limits = record {
         some_periods = omega (arith, same_periods g, most.some_periods);
         periods = omega (arith, same_periods g, most.periods);
@@ -157,6 +174,7 @@ read_grows N M read g plants items pairs sources bills demands receipts ships cu
         firms = firms.few most.firms;
         policies = policies.few most.policies;
         usages = usages.few most.usages;
+        vendors = vendors.few most.vendors;
       };
       plants = plants.each read.plants;
       items = items.each read.items;
@@ -171,15 +189,16 @@ read_grows N M read g plants items pairs sources bills demands receipts ships cu
       firms = firms.each (All-weaker (IsFirmRow N) (IsFirmRow M) (firm_grows g) N.firms read.firms);
       policies = policies.each (All-weaker (IsPolicyRow N) (IsPolicyRow M) (policy_grows g) N.policies read.policies);
       usages = usages.each (All-weaker (IsUsageRow N) (IsUsageRow M) (usage_grows g) N.usages read.usages);
+      vendors = vendors.each (All-weaker (IsVendorRow N) (IsVendorRow M) (vendor_grows g) N.vendors read.vendors);
     }
 
 -- ---- one row more
 
 pub read-with_plant : (N : Table) (x : List ℕ) → IsRead N → IsName x → length N.plants < MOST_PLANTS → IsRead (with_plant N x)
 read-with_plant N x read named room =
-    let g : Grows N (with_plant N x) = record { calendar = refl; plants = omega (arith, length_push N.plants x); items = omega arith; pairs = omega arith } in
+    let g : Grows N (with_plant N x) = record { calendar = λ is. is; periods = refl; plants = omega (arith, length_push N.plants x); items = omega arith; pairs = omega arith } in
     read_grows N (with_plant N x) read g (one_more x named room) same_rows same_rows same_rows same_rows same_rows same_rows same_rows same_rows same_rows same_rows same_rows
-    same_rows
+    same_rows same_rows
 
 -- what holds anyway
 pub on_ok : {T E X : Type 0} (r : Result T E) → X → OnOk r X
@@ -197,69 +216,82 @@ read-pushed_plant N x plants (Err _) read named room more same =
 
 pub read-with_pair : (N : Table) (x : PairRow) → IsRead N → IsPairRow N x → length N.pairs < MOST_PAIRS → IsRead (with_pair N x)
 read-with_pair N x read row room =
-    let g : Grows N (with_pair N x) = record { calendar = refl; plants = omega arith; items = omega arith; pairs = omega (arith, length_push N.pairs x) } in
+    let g : Grows N (with_pair N x) = record { calendar = λ is. is; periods = refl; plants = omega arith; items = omega arith; pairs = omega (arith, length_push N.pairs x) } in
     read_grows N (with_pair N x) read g same_rows same_rows (one_more x (pair_grows g x row) room) same_rows same_rows same_rows same_rows same_rows same_rows
-    same_rows same_rows same_rows same_rows
+    same_rows same_rows same_rows same_rows same_rows
 
 pub read-with_source : (N : Table) (x : SourceRow) → IsRead N → IsSourceRow N x → length N.sources < MOST_SOURCES → IsRead (with_source N x)
 read-with_source N x read row room =
     let g = same_names N (with_source N x) refl refl refl refl in
     read_grows N (with_source N x) read g same_rows same_rows same_rows
-    (one_more x (source_grows g x row) room) same_rows same_rows same_rows same_rows same_rows same_rows same_rows same_rows same_rows
+    (one_more x (source_grows g x row) room) same_rows same_rows same_rows same_rows same_rows same_rows same_rows same_rows same_rows same_rows
 
 pub read-with_bill : (N : Table) (x : BillRow) → IsRead N → IsBillRow N x → length N.bills < MOST_BILLS → IsRead (with_bill N x)
 read-with_bill N x read row room =
     let g = same_names N (with_bill N x) refl refl refl refl in
     read_grows N (with_bill N x) read g same_rows same_rows same_rows same_rows
-    (one_more x (bill_grows g x row) room) same_rows same_rows same_rows same_rows same_rows same_rows same_rows same_rows
+    (one_more x (bill_grows g x row) room) same_rows same_rows same_rows same_rows same_rows same_rows same_rows same_rows same_rows
 
 pub read-with_demand : (N : Table) (x : DemandRow) → IsRead N → IsDemandRow N x → length N.demands < MOST_OF_A_KIND → IsRead (with_demand N x)
 read-with_demand N x read row room =
     let g = same_names N (with_demand N x) refl refl refl refl in
     read_grows N (with_demand N x) read g same_rows same_rows same_rows same_rows same_rows
-    (one_more x (demand_grows g x row) room) same_rows same_rows same_rows same_rows same_rows same_rows same_rows
+    (one_more x (demand_grows g x row) room) same_rows same_rows same_rows same_rows same_rows same_rows same_rows same_rows
 
 pub read-with_receipt : (N : Table) (x : ReceiptRow) → IsRead N → IsReceiptRow N x → length N.receipts < MOST_OF_A_KIND → IsRead (with_receipt N x)
 read-with_receipt N x read row room =
     let g = same_names N (with_receipt N x) refl refl refl refl in
     read_grows N (with_receipt N x) read g same_rows same_rows same_rows same_rows same_rows same_rows
-    (one_more x (receipt_grows g x row) room) same_rows same_rows same_rows same_rows same_rows same_rows
+    (one_more x (receipt_grows g x row) room) same_rows same_rows same_rows same_rows same_rows same_rows same_rows
 
 pub read-with_ship : (N : Table) (x : ShipRow) → IsRead N → IsShipRow N x → length N.ships < MOST_OF_A_KIND → IsRead (with_ship N x)
 read-with_ship N x read row room =
     let g = same_names N (with_ship N x) refl refl refl refl in
     read_grows N (with_ship N x) read g same_rows same_rows same_rows same_rows same_rows same_rows same_rows
-    (one_more x (ship_grows g x row) room) same_rows same_rows same_rows same_rows same_rows
+    (one_more x (ship_grows g x row) room) same_rows same_rows same_rows same_rows same_rows same_rows
 
 pub read-with_cum : (N : Table) (x : CumRow) → IsRead N → IsCumRow N x → length N.cums < MOST_OF_A_KIND → IsRead (with_cum N x)
 read-with_cum N x read row room =
     let g = same_names N (with_cum N x) refl refl refl refl in
     read_grows N (with_cum N x) read g same_rows same_rows same_rows same_rows same_rows same_rows same_rows same_rows
-    (one_more x (cum_grows g x row) room) same_rows same_rows same_rows same_rows
+    (one_more x (cum_grows g x row) room) same_rows same_rows same_rows same_rows same_rows
 
 pub read-with_reset : (N : Table) (x : ResetRow) → IsRead N → IsResetRow N x → length N.resets < MOST_SOURCES → IsRead (with_reset N x)
 read-with_reset N x read row room =
     let g = same_names N (with_reset N x) refl refl refl refl in
     read_grows N (with_reset N x) read g same_rows same_rows same_rows same_rows same_rows same_rows same_rows same_rows same_rows
-    (one_more x (reset_grows g x row) room) same_rows same_rows same_rows
+    (one_more x (reset_grows g x row) room) same_rows same_rows same_rows same_rows
 
 pub read-with_firm : (N : Table) (x : FirmRow) → IsRead N → IsFirmRow N x → length N.firms < MOST_OF_A_KIND → IsRead (with_firm N x)
 read-with_firm N x read row room =
     let g = same_names N (with_firm N x) refl refl refl refl in
     read_grows N (with_firm N x) read g same_rows same_rows same_rows same_rows same_rows same_rows same_rows same_rows same_rows same_rows
-    (one_more x (firm_grows g x row) room) same_rows same_rows
+    (one_more x (firm_grows g x row) room) same_rows same_rows same_rows
 
 pub read-with_policy : (N : Table) (x : PolicyRow) → IsRead N → IsPolicyRow N x → length N.policies < MOST_PAIRS → IsRead (with_policy N x)
 read-with_policy N x read row room =
     let g = same_names N (with_policy N x) refl refl refl refl in
     read_grows N (with_policy N x) read g same_rows same_rows same_rows same_rows same_rows same_rows same_rows same_rows same_rows same_rows
-    same_rows (one_more x (policy_grows g x row) room) same_rows
+    same_rows (one_more x (policy_grows g x row) room) same_rows same_rows
 
 pub read-with_usage : (N : Table) (x : UsageRow) → IsRead N → IsUsageRow N x → length N.usages < MOST_USAGES → IsRead (with_usage N x)
 read-with_usage N x read row room =
     let g = same_names N (with_usage N x) refl refl refl refl in
     read_grows N (with_usage N x) read g same_rows same_rows same_rows same_rows same_rows same_rows same_rows same_rows same_rows same_rows
-    same_rows same_rows (one_more x (usage_grows g x row) room)
+    same_rows same_rows (one_more x (usage_grows g x row) room) same_rows
+
+pub read-with_vendor : (N : Table) (x : Vendor) → IsRead N → IsVendorRow N x → length N.vendors < MOST_PAIRS → IsRead (with_vendor N x)
+read-with_vendor N x read row room =
+    let g = same_names N (with_vendor N x) refl refl refl refl in
+    read_grows N (with_vendor N x) read g same_rows same_rows same_rows same_rows same_rows same_rows same_rows same_rows same_rows same_rows
+    same_rows same_rows same_rows (one_more x (vendor_grows g x row) room)
+
+-- with another calendar of as many periods
+pub read-with_calendar : (N : Table) (c : CalendarTerms) → IsRead N → IsCalendar c → c.periods ≡ horizon N → IsRead (with_calendar N c)
+read-with_calendar N c read is periods =
+    let g : Grows N (with_calendar N c) = record { calendar = λ _. is; periods = periods; plants = omega arith; items = omega arith; pairs = omega arith } in
+    read_grows N (with_calendar N c) read g same_rows same_rows same_rows same_rows same_rows same_rows same_rows same_rows same_rows same_rows
+    same_rows same_rows same_rows same_rows
 
 -- one item more, or none
 pub length-add_item-le : (items : List (List ℕ)) (name : List ℕ)
@@ -284,9 +316,9 @@ name_added items name named room =
 
 pub read-with_item : (N : Table) (name : List ℕ) → IsRead N → IsName name → length N.items < MOST_PAIRS → IsRead (with_item N name)
 read-with_item N name read named room =
-    let g : Grows N (with_item N name) = record { calendar = refl; plants = omega arith; items = (length-add_item-le N.items name).0; pairs = omega arith } in
+    let g : Grows N (with_item N name) = record { calendar = λ is. is; periods = refl; plants = omega arith; items = (length-add_item-le N.items name).0; pairs = omega arith } in
     read_grows N (with_item N name) read g same_rows (name_added N.items name named room) same_rows same_rows same_rows same_rows same_rows same_rows same_rows
-    same_rows same_rows same_rows same_rows
+    same_rows same_rows same_rows same_rows same_rows
 
 -- the items after one more was pushed, whether it found room or not
 pub read-pushed_item : {E : Type 0} (N : Table) (x : List ℕ) (items : List (List ℕ)) (pushed : Result (Unit {0}) E) → IsRead N → IsName x

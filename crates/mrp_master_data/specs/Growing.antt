@@ -3,6 +3,7 @@ use Rattle.std.specs.Prelude.{ℕ, ◌∷◌, ◌++◌, [], List, length, if◌t
 use Rattle.std.specs.List.{list_any}
 use Rattle.std.specs.Str.{bytes_eq}
 use Rattle.mrp_cal.specs.Calendar.{CalendarTerms}
+use Rattle.mrp_master_data.specs.Rows.{Vendor}
 use Rattle.mrp_master_data.specs.Table.{Table, source_pair}
 use Rattle.mrp_master_data.specs.declared.rows.PairRow.{PairRow}
 use Rattle.mrp_master_data.specs.declared.rows.SourceRow.{SourceRow}
@@ -20,8 +21,8 @@ use Rattle.mrp_master_data.specs.declared.rows.UsageRow.{UsageRow}
 abbrev pub table_of : CalendarTerms → List (List ℕ) → List (List ℕ) → List PairRow → List SourceRow → List BillRow
     → List DemandRow
     → List ReceiptRow → List ShipRow → List CumRow → List ResetRow → List FirmRow → List PolicyRow → List UsageRow
-    → Table
-table_of calendar plants items pairs sources bills demands receipts ships cums resets firms policies usages = record {
+    → List Vendor → Table
+table_of calendar plants items pairs sources bills demands receipts ships cums resets firms policies usages vendors = record {
   calendar = calendar;
   plants = plants;
   items = items;
@@ -36,6 +37,7 @@ table_of calendar plants items pairs sources bills demands receipts ships cums r
   firms = firms;
   policies = policies;
   usages = usages;
+  vendors = vendors;
 }
 
 -- whether the pair behind a source has no row
@@ -86,6 +88,13 @@ with_policy N p = record N { policies = N.policies ++ p ∷ [] }
 abbrev pub with_usage : Table → UsageRow → Table
 with_usage N u = record N { usages = N.usages ++ u ∷ [] }
 
+abbrev pub with_vendor : Table → Vendor → Table
+with_vendor N v = record N { vendors = N.vendors ++ v ∷ [] }
+
+-- the table with another calendar
+abbrev pub with_calendar : Table → CalendarTerms → Table
+with_calendar N c = record N { calendar = c }
+
 -- the table of a calendar without any row
 abbrev pub empty_table : CalendarTerms → Table
-empty_table c = table_of c [] [] [] [] [] [] [] [] [] [] [] [] []
+empty_table c = table_of c [] [] [] [] [] [] [] [] [] [] [] [] [] []

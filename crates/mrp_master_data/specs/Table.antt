@@ -1,6 +1,6 @@
 -- A table as its rows say it, and what every accepted table says.
 use Rattle.std.specs.Prelude.{◌≡◌, ℕ, ◌≤◌, ◌<◌, ◌==◌, ◌&&◌, Bool, true, false, List, [], ◌∷◌, length, map, filter}
-use Rattle.std.specs.Prelude.{nat_le, All, position, unwrap_or}
+use Rattle.std.specs.Prelude.{nat_le, All, IfSome, position, unwrap_or}
 use Rattle.std.specs.Prelude.{option_map, slice_get}
 use Rattle.std.specs.List.{IsDistinct, list_any}
 use Rattle.std.specs.List.Sorted.{IsNonDecreasingBy}
@@ -26,6 +26,7 @@ use Rattle.mrp_master_data.specs.declared.rows.SourceRow.{SourceRow}
 use Rattle.mrp_master_data.specs.declared.rows.Supply.{Supply}
 use Rattle.mrp_master_data.specs.declared.rows.Supply.TheVariants as supply
 use Rattle.mrp_master_data.specs.declared.rows.UsageRow.{UsageRow}
+use Rattle.mrp_master_data.specs.Rows.{Vendor}
 use Rattle.mrp_master_data.specs.Spelling.{is_name}
 
 -- The lists of rows, each in table order. A name is the list of its bytes; everywhere else a plant,
@@ -45,6 +46,7 @@ pub record Table : Type 0 where
   pub firms : List FirmRow
   pub policies : List PolicyRow
   pub usages : List UsageRow
+  pub vendors : List Vendor
 
 -- the number of periods
 abbrev pub horizon : Table → ℕ
@@ -141,6 +143,14 @@ pub record IsUsageRow (N : Table) (u : UsageRow) : Type 0 where
   pub some : 1 ≤ u.usage.base
   pub base : u.usage.base ≤ MOST_PER
 
+-- a vendor with a name, figures of at most 10^15 pieces, and a reset within the horizon, if there is one
+pub record IsVendorRow (N : Table) (v : Vendor) : Type 0 where
+  pub name : IsName v.name
+  pub pair : IsPair N v.pair.0
+  pub figure : v.figure ≤ MOST
+  pub transit : v.transit ≤ MOST
+  pub reset : IfSome v.reset (λ period. period < horizon N)
+
 -- the table has a period, and no more periods, names and rows of each kind than a table may have
 pub record IsLimited (N : Table) : Type 0 where
   pub some_periods : 1 ≤ horizon N
@@ -158,6 +168,7 @@ pub record IsLimited (N : Table) : Type 0 where
   pub firms : length N.firms ≤ MOST_OF_A_KIND
   pub policies : length N.policies ≤ MOST_PAIRS
   pub usages : length N.usages ≤ MOST_USAGES
+  pub vendors : length N.vendors ≤ MOST_PAIRS
 
 -- the calendar is one, there are no more rows than a table may have, names are names, and each row is in range and
 -- names plants, items and pairs of the table
@@ -177,6 +188,7 @@ pub record IsRead (N : Table) : Type 0 where
   pub firms : All (IsFirmRow N) N.firms
   pub policies : All (IsPolicyRow N) N.policies
   pub usages : All (IsUsageRow N) N.usages
+  pub vendors : All (IsVendorRow N) N.vendors
 
 -- the item of the pair at a place
 abbrev pub item_at : Table → ℕ → ℕ
@@ -209,8 +221,11 @@ is_same_policy p q = p.pair.0 == q.pair.0
 abbrev pub is_same_usage : UsageRow → UsageRow → Bool
 is_same_usage u v = (u.parent.0 == v.parent.0) && (u.component.0 == v.component.0) && (u.period == v.period)
 
--- no plant, item, pair, source, bill row, cumulative figure or reset stands twice, no pair has two policies, and no
--- component of a parent two usages from one period on
+abbrev pub is_same_vendor : Vendor → Vendor → Bool
+is_same_vendor v w = v.pair.0 == w.pair.0
+
+-- no plant, item, pair, source, bill row, cumulative figure or reset stands twice, no pair has two policies or two
+-- vendors, and no component of a parent two usages from one period on
 pub record IsOnce (N : Table) : Type 0 where
   pub plants : IsDistinct bytes_eq N.plants
   pub items : IsDistinct bytes_eq N.items
@@ -221,6 +236,7 @@ pub record IsOnce (N : Table) : Type 0 where
   pub resets : IsDistinct is_same_reset N.resets
   pub policies : IsDistinct is_same_policy N.policies
   pub usages : IsDistinct is_same_usage N.usages
+  pub vendors : IsDistinct is_same_vendor N.vendors
 
 -- ---- where pairs come from
 
@@ -276,8 +292,8 @@ is_item_of_pair N item = list_any (λ p. p.item.0 == item) N.pairs
 -- where pairs come from: what is taken from plants has sources whose shares are the whole, and nothing else has any.
 -- Sources stand in the order of their pairs, at most four to a pair, and none is the pair's own plant.
 -- A parent is made, at its component's plant. Shipments, cumulative figures and resets are of a source of the table.
--- The shipments of a source with a reset stand in the order of their arrival. Usages are of a bill row. Each item is
--- some pair's.
+-- The shipments of a source with a reset stand in the order of their arrival. Usages are of a bill row. What a vendor
+-- delivers is bought, and no vendor has a plant's name. Each item is some pair's.
 pub record IsSourced (N : Table) : Type 0 where
   pub items : (item : ℕ) → item < length N.items → is_item_of_pair N item ≡ true
   pub order : IsNonDecreasingBy (λ s. s.pair.0) N.sources
@@ -290,6 +306,8 @@ pub record IsSourced (N : Table) : Type 0 where
   pub cums : All (λ c. is_taken_from N c.pair.0 c.from.0 ≡ true) N.cums
   pub resets : All (λ r. is_taken_from N r.pair.0 r.from.0 ≡ true) N.resets
   pub usages : All (λ u. is_joined N u.parent.0 u.component.0 ≡ true) N.usages
+  pub vendors : All (λ v. supply_at N v.pair.0 ≡ supply.Buy) N.vendors
+  pub named : All (λ v. list_any (bytes_eq v.name) N.plants ≡ false) N.vendors
   pub arrive : All (λ r. rises_from 0 (arrivals N r.from.0 r.pair.0) ≡ true) N.resets
 
 -- an accepted table: its rows are in range, those of `IsOnce` stand once, pairs come from where it says, and each

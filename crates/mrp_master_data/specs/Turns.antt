@@ -2,8 +2,9 @@
 use Rattle.std.specs.Prelude.{ℕ, ◌+◌, length}
 use Rattle.mrp_master_data.specs.Table.{Table}
 
--- the run row, and the rows of each of the other kinds
+-- the run row, and the rows of each of the other kinds; a first day that is given is a row
 abbrev pub row_count : Table → ℕ
 row_count N =
     1 + length N.plants + length N.pairs + length N.bills + length N.demands + length N.receipts + length N.ships
     + length N.cums + length N.resets + length N.firms + length N.policies + length N.usages
+    + length N.vendors + length N.calendar.begun

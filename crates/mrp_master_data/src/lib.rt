@@ -30,7 +30,7 @@ pub use numbers::{ItemNo, PairNo, PlantNo};
 pub use row_lists::RowLists;
 pub use rows::{
     BillRow, CumRow, DemandRow, FirmRow, PairRow, PolicyRow, ReceiptRow, ResetRow, ShipRow,
-    SourceRow, Supply, Usage, UsageRow,
+    SourceRow, Supply, Usage, UsageRow, VendorRow,
 };
 pub use spelled_names::is_name;
 pub use spelled_numbers::{number, number_within};

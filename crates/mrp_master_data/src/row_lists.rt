@@ -3,9 +3,9 @@
 use crate::names::{name_at, place_of_name, push_name};
 use crate::{
     BillRow, CumRow, DemandRow, FirmRow, ItemNo, PairNo, PairRow, PlantNo, PolicyRow, ReceiptRow,
-    ResetRow, ShipRow, SourceRow, UsageRow,
+    ResetRow, ShipRow, SourceRow, UsageRow, VendorRow,
 };
-use mrp_cal::Calendar;
+use mrp_cal::{CalFault, Calendar};
 use std::alloc::{AllocError, Global};
 use std::collections::HashMap;
 use std::marker::Model;
@@ -36,6 +36,7 @@ pub struct RowLists {
     firms: Vec<FirmRow>,
     policies: Vec<PolicyRow>,
     pub(crate) usages: Vec<UsageRow>,
+    vendors: Vec<VendorRow>,
 }
 
 impl Model for RowLists {
@@ -44,6 +45,7 @@ impl Model for RowLists {
     ghost use Rattle.std.specs.String.{string_bytes};
     ghost use Rattle.mrp_master_data.specs.Growing.{table_of};
     ghost use Rattle.mrp_master_data.specs.Places.{is_same_place, FindsPairs};
+    ghost use Rattle.mrp_master_data.specs.Rows.{vendor_of};
     ghost use Rattle.mrp_master_data.specs.Table.{IsRead, Table};
 
     ghost Value = { Table };
@@ -51,18 +53,19 @@ impl Model for RowLists {
     ghost view = { λ r. table_of r.calendar (map string_bytes r.plants.items)
         (map string_bytes r.items.items) r.pairs.items r.sources.items
         r.bills.items r.demands.items r.receipts.items r.ships.items r.cums.items r.resets.items
-        r.firms.items r.policies.items r.usages.items };
+        r.firms.items r.policies.items r.usages.items (map vendor_of r.vendors.items) };
 
     // the rows are in range, and each pair is found
     ghost invariant = { λ r. IsRead (table_of r.calendar (map string_bytes r.plants.items)
         (map string_bytes r.items.items) r.pairs.items r.sources.items
         r.bills.items r.demands.items r.receipts.items r.ships.items r.cums.items r.resets.items
-        r.firms.items r.policies.items r.usages.items)
+        r.firms.items r.policies.items r.usages.items (map vendor_of r.vendors.items))
         × FindsPairs (get is_same_place r.pair_places) r.pairs.items };
 }
 
 impl RowLists {
-    ghost use Rattle.std.specs.Prelude.{◌≡◌, ◌≤◌, ◌<◌, ◌==◌, ◌&&◌, length, option_map, position, IfOk, IfSome, OnOk};
+    ghost use Rattle.std.specs.Prelude.{◌≡◌, ◌≤◌, ◌<◌, ◌==◌, ◌&&◌, length, map, option_map, position};
+    ghost use Rattle.std.specs.Prelude.{Err, Ok, IfErr, IfOk, IfSome, OnErr, OnOk};
     ghost use Rattle.mrp_qty.specs.declared.limits.TheConstants.{MOST_BILLS, MOST_OF_A_KIND, MOST_PAIRS, MOST_PLANTS};
     ghost use Rattle.mrp_qty.specs.declared.limits.TheConstants.{MOST_SOURCES, MOST_USAGES};
     ghost use Rattle.std.specs.Prelude.{false, slice_get, Some};
@@ -72,11 +75,13 @@ impl RowLists {
     ghost use Rattle.mrp_master_data.specs.Growing.{lacks_pair, with_plant, with_item};
     ghost use Rattle.mrp_master_data.specs.Growing.{with_pair, with_source, with_bill};
     ghost use Rattle.mrp_master_data.specs.Growing.{with_demand, with_receipt, with_ship, with_cum, with_reset};
-    ghost use Rattle.mrp_master_data.specs.Growing.{with_firm, with_policy, with_usage};
+    ghost use Rattle.mrp_master_data.specs.Growing.{with_calendar, with_firm, with_policy, with_usage, with_vendor};
+    ghost use Rattle.mrp_cal.specs.Begins.{begins, latest_begun};
+    ghost use Rattle.mrp_master_data.specs.Rows.{vendor_of};
     ghost use Rattle.mrp_master_data.specs.Table.{item_at, IsName, IsRead, IsPairRow, IsSourceRow, IsBillRow};
     ghost use Rattle.mrp_master_data.specs.Growing.{empty_table};
     ghost use Rattle.mrp_master_data.specs.Table.{IsDemandRow, IsReceiptRow, IsShipRow, IsCumRow, IsResetRow};
-    ghost use Rattle.mrp_master_data.specs.Table.{IsFirmRow, IsPolicyRow, IsUsageRow};
+    ghost use Rattle.mrp_master_data.specs.Table.{horizon, IsFirmRow, IsPolicyRow, IsUsageRow, IsVendorRow};
 
     /// The lists after the run row.
     pub fn new(alloc: Global, calendar: Calendar) -> RowLists
@@ -99,6 +104,7 @@ impl RowLists {
             firms: Vec::new(alloc),
             policies: Vec::new(alloc),
             usages: Vec::new(alloc),
+            vendors: Vec::new(alloc),
         }
     }
 
@@ -306,6 +312,43 @@ impl RowLists {
         Ok(())
     }
 
+    /// Adds a vendor row.
+    ///
+    /// # Errors
+    ///
+    /// [`AllocError`] where a growth is refused.
+    pub fn add_vendor(&mut self, row: VendorRow) -> Result<(), AllocError>
+        requires row { IsVendorRow self.old (vendor_of row) }
+        requires room { length self.old.vendors < MOST_PAIRS }
+        ensures rows { OnOk result (IsRead self.new) }
+        ensures table { OnOk result (self.new ≡ with_vendor self.old (vendor_of row)) }
+    {
+        self.vendors.push(row)?;
+        Ok(())
+    }
+
+    /// Says on which date, as `yyyy-mm-dd`, a period begins: above those that were said before, and below the number of
+    /// periods. The periods after it follow by the days of a period.
+    ///
+    /// # Errors
+    ///
+    /// - [`CalFault::BadDate`] where `date` isn't a date from 1970-01-01 on, or isn't later than the first day of the
+    ///   period before.
+    /// - [`CalFault::PastEnd`] where it is, and the last day of the last period would be after 2199-12-31.
+    ///
+    /// The lists are as they were then.
+    pub fn begin(&mut self, period: usize, date: &str) -> Result<(), CalFault>
+        requires later { latest_begun self.old.calendar < period }
+        requires within { period < horizon self.old }
+        ensures rows { OnOk result (IsRead self.new) }
+        ensures begun { OnOk result (begins self.old.calendar period date.now ≡ Ok self.new.calendar) }
+        ensures table { OnOk result (self.new ≡ with_calendar self.old self.new.calendar) }
+        ensures fault { IfErr result (λ fault. begins self.old.calendar period date.now ≡ Err fault) }
+        ensures unchanged { OnErr result (self.new ≡ self.old) }
+    {
+        self.calendar.begin(period, date)
+    }
+
     /// The pair of a plant and an item.
     pub fn find_pair(&self, plant: PlantNo, item: ItemNo) -> Option<PairNo>
         ensures place { option_map (λ x. x.0) result
@@ -429,6 +472,13 @@ impl RowLists {
         ensures value { result.now ≡ self.now.usages }
     {
         self.usages.as_slice()
+    }
+
+    /// The vendor rows in table order.
+    pub fn vendors(&self) -> &[VendorRow]
+        ensures value { map vendor_of result.now ≡ self.now.vendors }
+    {
+        self.vendors.as_slice()
     }
 
     /// How many items there are.

@@ -183,3 +183,18 @@ pub struct UsageRow {
     /// How much goes into the parents that are released from then on, until the next row of both begins.
     pub usage: Usage,
 }
+
+/// Who delivers a bought pair by cumulative schedules. A pair has at most one.
+#[derive(Debug, Drop)]
+pub struct VendorRow {
+    /// The vendor's name, which no plant has.
+    pub name: String,
+    /// The pair that is bought.
+    pub pair: PairNo,
+    /// The cumulative figure of what has been received from the vendor, in pieces, at most 10^15.
+    pub figure: Qty,
+    /// How many pieces are on their way from the vendor, at most 10^15.
+    pub transit: Qty,
+    /// The first period from which the figures start anew, below the horizon, if they do.
+    pub reset: Option<usize>,
+}

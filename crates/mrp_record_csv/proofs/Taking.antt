@@ -1,5 +1,5 @@
 -- What taking a row answers.
-use Rattle.std.proofs.Common.{◌≡◌, ◌<◌, ℕ, Bool, true, false, List, ◌∷◌, length, Option, Some, None, Result, Ok, Err, inr, pos as integer, refl, ap, ◌∙◌, arith}
+use Rattle.std.proofs.Common.{◌≡◌, ◌<◌, ℕ, Bool, true, false, List, [], ◌∷◌, length, Option, Some, None, Result, Ok, Err, inr, refl, ap, ◌∙◌, arith}
 use Rattle.std.specs.List.{list_all}
 use Rattle.std.specs.Str.{is_utf8}
 use Rattle.std.proofs.lemmas.Bool.{false≢true}
@@ -82,4 +82,4 @@ pub one_more : (before after : Option (List (List (List ℕ)))) (row : List (Lis
 one_more before after row answer kind failed full is own taken same = inr (is, row_there none before after row answer own (taken none))
   where
     none : Table
-    none = empty_table (record { first = integer 0; days = 0; periods = 0 })
+    none = empty_table (record { first = 0; days = 0; periods = 0; begun = [] })

@@ -82,7 +82,7 @@ pair_answered N plant item x is there = by (plant_no N plant) x is there
     by (Some p) (Some x) is some = rw (sym is) refl
 
 -- what is made of the pair alone
-of_pair : {A : Type 0} (r : Result (PlantNo × PairNo) TableFaultKind) (then : PairNo → Result A TableFaultKind)
+pub of_pair : {A : Type 0} (r : Result (PlantNo × PairNo) TableFaultKind) (then : PairNo → Result A TableFaultKind)
     → (r >>= λ f. then f.1) ≡ (seen (λ (f : PlantNo × PairNo). f.1) r >>= then)
 of_pair (Ok f) then = refl
 of_pair (Err e) then = refl
@@ -101,7 +101,7 @@ then_known N row t x is found =
 
 -- ---- a firm row of no pair
 
-unseen : (r : Result (PlantNo × PairNo) TableFaultKind) (e : TableFaultKind)
+pub unseen : (r : Result (PlantNo × PairNo) TableFaultKind) (e : TableFaultKind)
     → ◌≡◌ {A = Result PairNo TableFaultKind} (Err e) (seen (λ (f : PlantNo × PairNo). f.1) r) → r ≡ Err e
 unseen (Ok f) e is = absurd (cc)
 unseen (Err g) e is = cc

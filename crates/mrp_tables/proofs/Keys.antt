@@ -5,13 +5,15 @@ use Rattle.std.specs.List.{All, IsDistinct, list_any}
 use Rattle.std.proofs.Math.Bool.{and_assoc}
 use Rattle.std.proofs.lemmas.List.{length-map, length_push}
 use Rattle.std.proofs.lemmas.List.Elements.{All-map, All-push, All-weaker}
+use Rattle.mrp_master_data.specs.Rows.{Vendor}
 use Rattle.mrp_master_data.specs.declared.rows.PolicyRow.{PolicyRow}
 use Rattle.mrp_master_data.specs.declared.rows.ResetRow.{ResetRow}
-use Rattle.mrp_master_data.specs.Table.{IsPolicyRow, IsRead, Table}
+use Rattle.mrp_master_data.specs.Table.{IsPolicyRow, IsRead, IsVendorRow, Table}
 use Rattle.mrp_qty.specs.declared.limits.TheConstants.{MOST_PAIRS}
 use Rattle.mrp_validation.proofs.KeepingFew.{few, HasBelow}
 use Rattle.mrp_validation.specs.Grammar.{cum_between, reset_between}
 use Rattle.mrp_tables.specs.Lists.{bill_key_of, cum_key_of, key_between, lane_of, policy_key_of, reset_key_of, usage_key_of}
+use Rattle.mrp_tables.specs.Lists.{vendor_key_of}
 use Rattle.mrp_tables.specs.contracts.draft.BillKeyPartialEq.TheImpl as bill
 use Rattle.mrp_tables.specs.contracts.draft.LaneKeyPartialEq.TheImpl as lane
 use Rattle.mrp_tables.specs.contracts.draft.UsageKeyPartialEq.TheImpl as usage
@@ -60,6 +62,12 @@ any_policy x keys policies same =
     ap (list_any (pair.eq-value.it x)) same
     ∙ list_any_keys policy_key_of _ (λ p. p.pair.0 == x.0) (λ p. same_test x.0 p.pair.0) policies
 
+pub any_vendor : (x : PairNo) (keys : List PairNo) (vendors : List Vendor) → keys ≡ map vendor_key_of vendors
+    → list_any (pair.eq-value.it x) keys ≡ list_any (λ v. v.pair.0 == x.0) vendors
+any_vendor x keys vendors same =
+    ap (list_any (pair.eq-value.it x)) same
+    ∙ list_any_keys vendor_key_of _ (λ v. v.pair.0 == x.0) (λ v. same_test x.0 v.pair.0) vendors
+
 -- whether there is a usage row of two pairs from a period on
 swap3 : (a b c d e f : ℕ) → ((a == b) && ((c == d) && (e == f))) ≡ ((b == a) && (d == c) && (f == e))
 swap3 a b c d e f = rw (same_test a b, same_test c d, same_test e f) (sym (and_assoc (b == a) (d == c) (f == e)))
@@ -103,13 +111,24 @@ no_reset N (Some f) (Some x) e = absurd (cc e)
 abbrev place : PairNo → ℕ
 place k = k.0
 
--- there is room for a policy of a pair that has none: each pair has one at most
-pub policies_room : (N : Table) (x : PolicyRow) (keys new : List PairNo) → IsRead N → keys ≡ map policy_key_of N.policies → new ≡ keys ++ x.pair ∷ []
-    → IsDistinct pair.eq-value.it new → x.pair.0 < length N.pairs → length N.policies < MOST_PAIRS
+-- there is room for a row of a pair that has none: each pair has one at most
+pairs_room : {R : Type 0} (key : R → PairNo) (N : Table) (rows : List R) (x : PairNo) (keys new : List PairNo) → IsRead N → keys ≡ map key rows
+    → All (λ r. (key r).0 < length N.pairs) rows → new ≡ keys ++ x ∷ [] → IsDistinct pair.eq-value.it new → x.0 < length N.pairs
+    → length rows < MOST_PAIRS
+pairs_room key N rows x keys new read are each with_it apart within =
+    let old : All (HasBelow place (length N.pairs)) (map key rows) = All-map (HasBelow place (length N.pairs)) key rows each in
+    let all = All-push (HasBelow place (length N.pairs)) keys x (subst (All (HasBelow place (length N.pairs))) (sym are) old) within in
+    let le = few place (keys ++ x ∷ []) (length N.pairs) (subst (IsDistinct pair.eq-value.it) with_it apart) all in
+    omega (arith, le, length_push keys x, ap length are, length-map rows key, read.limits.pairs)
+
+pub policies_room : (N : Table) (x : PairNo) (keys new : List PairNo) → IsRead N → keys ≡ map policy_key_of N.policies → new ≡ keys ++ x ∷ []
+    → IsDistinct pair.eq-value.it new → x.0 < length N.pairs → length N.policies < MOST_PAIRS
 policies_room N x keys new read are with_it apart within =
-    let old : All (HasBelow place (length N.pairs)) (map policy_key_of N.policies) =
-    All-map (HasBelow place (length N.pairs)) policy_key_of N.policies (All-weaker (IsPolicyRow N) (λ p. p.pair.0 < length N.pairs) (λ p h. h.pair) N.policies
-    read.policies) in
-    let all = All-push (HasBelow place (length N.pairs)) keys x.pair (subst (All (HasBelow place (length N.pairs))) (sym are) old) within in
-    let le = few place (keys ++ x.pair ∷ []) (length N.pairs) (subst (IsDistinct pair.eq-value.it) with_it apart) all in
-    omega (arith, le, length_push keys x.pair, ap length are, length-map N.policies policy_key_of, read.limits.pairs)
+    let each = All-weaker (IsPolicyRow N) (λ p. p.pair.0 < length N.pairs) (λ p h. h.pair) N.policies read.policies in
+    pairs_room policy_key_of N N.policies x keys new read are each with_it apart within
+
+pub vendors_room : (N : Table) (x : PairNo) (keys new : List PairNo) → IsRead N → keys ≡ map vendor_key_of N.vendors → new ≡ keys ++ x ∷ []
+    → IsDistinct pair.eq-value.it new → x.0 < length N.pairs → length N.vendors < MOST_PAIRS
+vendors_room N x keys new read are with_it apart within =
+    let each = All-weaker (IsVendorRow N) (λ v. v.pair.0 < length N.pairs) (λ v h. h.pair) N.vendors read.vendors in
+    pairs_room vendor_key_of N N.vendors x keys new read are each with_it apart within

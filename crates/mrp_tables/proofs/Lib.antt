@@ -2,6 +2,7 @@ pub mod Taken
 pub mod Adding
 pub mod AmountFacts
 pub mod Arrivals
+pub mod DayFacts
 pub mod Finding
 pub mod Found
 pub mod Keys
@@ -10,5 +11,6 @@ pub mod NewPair
 pub mod Starting
 pub mod StepCount
 pub mod TurnCount
+pub mod VendorFacts
 pub mod Waiting
 pub mod Words

@@ -10,9 +10,12 @@ use denote.Enum.Bare.{sameb}
 use Rattle.mrp_validation.specs.contracts.kind.Kind.{the_type as kind_type}
 use Rattle.mrp_validation.specs.declared.kind.Kind.{Kind}
 use Rattle.mrp_validation.specs.declared.kind.Kind.TheVariants as kind
+use Rattle.mrp_cal.specs.Calendar.{CalendarTerms}
+use Rattle.mrp_cal.specs.declared.begun.Begun.{Begun}
+use Rattle.mrp_cal.specs.declared.fault.CalFault.{CalFault}
 use Rattle.mrp_master_data.specs.Table.{Table}
 use Rattle.mrp_validation.specs.Grammar.{◌>>=◌, may_follow, row_kind, run_terms, RunTerms, TellsFault}
-use Rattle.mrp_validation.specs.Reading.{first_terms, is_run, kind_of_row, row_after, row_of_kind, Starts, StartsWith, UnlessMemory}
+use Rattle.mrp_validation.specs.Reading.{first_terms, IsCalendarOf, is_run, kind_of_row, row_after, row_of_kind, started, Starts, StartsWith, UnlessMemory}
 
 -- fields that are text pass the test for it
 pub all_text : (fs : List (List ℕ)) → AllText fs → list_all is_utf8 fs ≡ true
@@ -47,6 +50,20 @@ module _ (row : List (List ℕ)) (text : AllText row) where
   unfolding first_terms
   first-run k is run = rw (text_kind row text, is, run) refl
 
+-- the first days that a table has given, where it is one
+abbrev given : Result Table TableFaultKind → List Begun
+given (Ok N) = N.calendar.begun
+given (Err e) = []
+
+no_days-by : (t : RunTerms) (N : Table) (c : Result CalendarTerms CalFault) → IsCalendarOf t c → Ok N ≡ started c → N.calendar.begun ≡ []
+no_days-by t N (Ok c) is same = ap given same ∙ is.0.begun
+no_days-by t N (Err e) is same = ap given same
+
+-- a run gives no first day but its own
+pub no_days : (terms : Result RunTerms TableFaultKind) (N : Table) → StartsWith terms (Ok N) → N.calendar.begun ≡ []
+no_days (Ok t) N starts = no_days-by t N starts.0 starts.1 starts.2
+no_days (Err e) N starts = ap given starts
+
 -- terms that are refused make no table
 starts-refused : (terms : Result RunTerms TableFaultKind) (e : TableFaultKind) → terms ≡ Err e → StartsWith terms (Err e)
 starts-refused terms e is = subst (λ (r : Result RunTerms TableFaultKind). StartsWith r (Err e)) (sym is) refl
@@ -77,6 +94,8 @@ same_run kind.Reset = refl
 same_run kind.Firm = refl
 same_run kind.Policy = refl
 same_run kind.Usage = refl
+same_run kind.Vendor = refl
+same_run kind.Day = refl
 
 pub other_kind : (k : Kind) → true ≡ not (sameb kind_type k kind.Run) → is_run k ≡ false
 other_kind k h = by (is_run k) (h ∙ ap not (same_run k))

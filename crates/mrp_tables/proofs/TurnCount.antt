@@ -1,9 +1,11 @@
 -- How many rows a table may have.
-use Rattle.std.proofs.Common.{◌≤◌, arith}
+use Rattle.std.proofs.Common.{◌≤◌, length, arith}
+use Rattle.mrp_cal.proofs.BegunFacts.{begun-few}
 use Rattle.mrp_tables.specs.declared.draft.Draft.{Draft}
 use Rattle.mrp_tables.specs.Lists.{IsDraft}
 
-pub draft_rows-le : (d : Draft) → IsDraft d → d.rows ≤ 5520065
+pub draft_rows-le : (d : Draft) → IsDraft d → d.rows ≤ 5540168
 draft_rows-le d is =
     let l = is.holds.rows.limits in
-    omega (arith, is.count, l.plants, l.pairs, l.bills, l.demands, l.receipts, l.ships, l.cums, l.resets, l.firms, l.policies, l.usages)
+    let days : length d.lists.calendar.begun ≤ 103 = omega (arith, begun-few d.lists.calendar is.holds.rows.calendar, l.periods) in
+    omega (arith, is.count, l.plants, l.pairs, l.bills, l.demands, l.receipts, l.ships, l.cums, l.resets, l.firms, l.policies, l.usages, l.vendors, days)

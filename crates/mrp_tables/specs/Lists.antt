@@ -16,6 +16,7 @@ use Rattle.mrp_master_data.specs.declared.rows.CumRow.{CumRow}
 use Rattle.mrp_master_data.specs.declared.rows.PolicyRow.{PolicyRow}
 use Rattle.mrp_master_data.specs.declared.rows.ResetRow.{ResetRow}
 use Rattle.mrp_master_data.specs.declared.rows.UsageRow.{UsageRow}
+use Rattle.mrp_master_data.specs.Rows.{Vendor}
 use Rattle.mrp_validation.specs.declared.fault.TableFaultKind.{TableFaultKind}
 use Rattle.mrp_validation.specs.declared.fault.TableFaultKind.TheVariants as fault
 use Rattle.mrp_tables.specs.Keys.{Knows}
@@ -81,6 +82,9 @@ policy_key_of p = p.pair
 abbrev pub usage_key_of : UsageRow → UsageKey
 usage_key_of u = record { parent = u.parent; component = u.component; period = u.period }
 
+abbrev pub vendor_key_of : Vendor → PairNo
+vendor_key_of v = v.pair
+
 -- the key of a plant and a pair, where both are there
 abbrev pub key_between : Option PlantNo → Option PairNo → Option LaneKey
 key_between None x = None
@@ -100,6 +104,7 @@ pub record HoldsRows (d : Draft) : Type 0 where
   pub reset_keys : d.reset_keys.keys ≡ map reset_key_of d.lists.resets
   pub policy_keys : d.policy_keys.keys ≡ map policy_key_of d.lists.policies
   pub usage_keys : d.usage_keys.keys ≡ map usage_key_of d.lists.usages
+  pub vendor_keys : d.vendor_keys.keys ≡ map vendor_key_of d.lists.vendors
   pub resets : AreLanes d.lane_keys.keys d.reset_keys.keys
   pub fits : FitsRows d.lists d.lane_keys.keys d.arrivals.items
 
@@ -125,6 +130,7 @@ pub record AddsSources (old new : Draft) (count : ℕ) : Type 0 where
   pub resets : (new.reset_keys.keys ≡ old.reset_keys.keys) × (new.lists.resets ≡ old.lists.resets)
   pub policies : (new.policy_keys.keys ≡ old.policy_keys.keys) × (new.lists.policies ≡ old.lists.policies)
   pub usages : (new.usage_keys.keys ≡ old.usage_keys.keys) × (new.lists.usages ≡ old.lists.usages)
+  pub vendors : (new.vendor_keys.keys ≡ old.vendor_keys.keys) × (new.lists.vendors ≡ old.lists.vendors)
   pub lanes : AreLanes old.lane_keys.keys old.reset_keys.keys → AreLanes new.lane_keys.keys new.reset_keys.keys
   pub pairs : length new.lists.pairs ≡ length old.lists.pairs
   pub sources : length new.lists.sources ≡ length old.lists.sources + count
@@ -160,6 +166,12 @@ pub record FindsPair (N : Table) (row : List (List ℕ)) (x : Option PairNo) : T
   pub pair : option_map (λ p. p.0) x ≡ pair_named N (plant_no N (field row 1)) (field row 2)
   pub within : IfSome x (λ p. p.0 < length N.pairs)
   pub plant : OnSome x (is_some (plant_no N (field row 1)) ≡ true)
+
+-- what the reading finds of the third and the fourth field of a row, the names of a vendor's pair
+pub record FindsBought (N : Table) (row : List (List ℕ)) (x : Option PairNo) : Type 0 where
+  pub pair : option_map (λ p. p.0) x ≡ pair_named N (plant_no N (field row 2)) (field row 3)
+  pub within : IfSome x (λ p. p.0 < length N.pairs)
+  pub plant : OnSome x (is_some (plant_no N (field row 2)) ≡ true)
 
 -- the lane of the names that were found, where all of it is there
 unfoldable pub known_found : NamedLane → Result KnownLane TableFaultKind

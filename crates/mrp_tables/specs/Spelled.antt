@@ -8,8 +8,10 @@ use Rattle.mrp_tables.specs.declared.spelled.SpelledFirm.{SpelledFirm}
 use Rattle.mrp_tables.specs.declared.spelled.SpelledPair.{SpelledPair}
 use Rattle.mrp_tables.specs.declared.spelled.SpelledRun.{SpelledRun}
 use Rattle.mrp_tables.specs.declared.usages.SpelledUsage.{SpelledUsage}
+use Rattle.mrp_tables.specs.declared.vendors.SpelledVendor.{SpelledVendor}
 use Rattle.mrp_master_data.specs.Table.{IsName}
-use Rattle.mrp_validation.specs.Grammar.{field, AmountTerms, BillTerms, FirmTerms, LaneTerms, PairTerms, PolicyTerms, RunTerms, UsageTerms}
+use Rattle.mrp_validation.specs.Grammar.{field, AmountTerms, BillTerms, FirmTerms, LaneTerms, PairTerms, PolicyTerms, RunTerms}
+use Rattle.mrp_validation.specs.Grammar.{UsageTerms, VendorTerms}
 
 -- a pair row whose item is a name, and whose numbers are in their ranges
 pub record IsSpelledPair (p : SpelledPair) : Type 0 where
@@ -39,6 +41,10 @@ pair_view p = record {
 
 abbrev pub HasTwoNames : List (List ℕ) → Type 0
 HasTwoNames row = IsName (field row 1) × IsName (field row 2)
+
+-- the names of a vendor's pair, behind the vendor's
+abbrev pub HasPairBehind : List (List ℕ) → Type 0
+HasPairBehind row = IsName (field row 2) × IsName (field row 3)
 
 abbrev pub HasThreeNames : List (List ℕ) → Type 0
 HasThreeNames row = IsName (field row 1) × IsName (field row 2) × IsName (field row 3)
@@ -84,6 +90,16 @@ terms_of_usage row u = record {
   period = u.period;
   per = u.usage.per;
   base = u.usage.base;
+}
+
+abbrev pub terms_of_vendor : List (List ℕ) → SpelledVendor → VendorTerms
+terms_of_vendor row v = record {
+  vendor = field row 1;
+  plant = field row 2;
+  item = field row 3;
+  figure = v.figure;
+  transit = v.transit;
+  reset = v.reset;
 }
 
 abbrev pub terms_of_lane : List (List ℕ) → LaneTerms

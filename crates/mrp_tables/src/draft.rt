@@ -71,6 +71,8 @@ pub(crate) struct Draft {
     pub(crate) policy_keys: IndexSet<PairNo>,
     /// The usage rows by their keys, in the order of the rows.
     pub(crate) usage_keys: IndexSet<UsageKey>,
+    /// The pairs of the vendor rows, in the order of the rows.
+    pub(crate) vendor_keys: IndexSet<PairNo>,
     /// The kind of the last row, and how many rows there are.
     pub(crate) last: Kind,
     pub(crate) rows: u64,
@@ -106,6 +108,7 @@ impl Draft {
             reset_keys: IndexSet::new(alloc),
             policy_keys: IndexSet::new(alloc),
             usage_keys: IndexSet::new(alloc),
+            vendor_keys: IndexSet::new(alloc),
             last: Kind::Run,
             rows: 1,
         })
@@ -155,6 +158,8 @@ impl Draft {
             Kind::Firm => self.add_firm(row),
             Kind::Policy => self.add_policy(row),
             Kind::Usage => self.add_usage(row),
+            Kind::Vendor => self.add_vendor(alloc, row),
+            Kind::Day => self.add_day(row),
         }
     }
 }

@@ -53,6 +53,10 @@ fn kind_of(word: &str) -> Option<Kind>
         Some(Kind::Cum)
     } else if is_same_text(word, "reset") {
         Some(Kind::Reset)
+    } else if is_same_text(word, "vendor") {
+        Some(Kind::Vendor)
+    } else if is_same_text(word, "day") {
+        Some(Kind::Day)
     } else if is_same_text(word, "plant") {
         Some(Kind::Plant)
     } else if is_same_text(word, "run") {

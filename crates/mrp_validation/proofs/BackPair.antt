@@ -199,6 +199,7 @@ at_its_place (y ∷ before) x after = at_its_place before x after
 module _ (N : Table) (table : IsTable N) where
   abbrev pub of_parts : List (List ℕ) → List PairRow → List SourceRow → Table
   of_parts items pairs sources = record N {
+    calendar = record N.calendar { begun = [] };
     items = items;
     pairs = pairs;
     sources = sources;
@@ -212,6 +213,7 @@ module _ (N : Table) (table : IsTable N) where
     firms = [];
     policies = [];
     usages = [];
+    vendors = [];
   }
 
   same_parts : {i j : List (List ℕ)} {a b : List PairRow} {c d : List SourceRow} → i ≡ j → a ≡ b → c ≡ d → of_parts i a c ≡ of_parts j b d

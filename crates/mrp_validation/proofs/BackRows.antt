@@ -216,7 +216,7 @@ has_room before x after all most e few =
     let lt : length before < most = omega (arith, n, m, few) in
     grind (arith, nat_tests)
 
-period_written : (n periods : ℕ) → n < periods → periods ≤ LONGEST → number_within (decimal n) 0 (periods - 1) ≡ Some n
+pub period_written : (n periods : ℕ) → n < periods → periods ≤ LONGEST → number_within (decimal n) 0 (periods - 1) ≡ Some n
 period_written n periods lt few = number_written 0 (periods - 1) n (omega arith) (omega (arith, lt)) (omega (arith, lt, few))
 
 -- a pair, a period and a quantity that a row may have
@@ -232,39 +232,45 @@ module _ (N : Table) (table : IsTable N) where
   pub plant_is_name : (p : ℕ) → p < length N.plants → is_name (plant_name N p) ≡ true
   plant_is_name p lt = All-get_or IsName N.plants p [] lt table.read.plants
 
-  plant_of_pair_is_name : (x : ℕ) → IsPair N x → is_name (pair_plant N x) ≡ true
+  pub plant_of_pair_is_name : (x : ℕ) → IsPair N x → is_name (pair_plant N x) ≡ true
   plant_of_pair_is_name x is = plant_is_name (plant_at N x) (stands N table x is).plant
 
-  item_of_pair_is_name : (x : ℕ) → IsPair N x → is_name (pair_item N x) ≡ true
+  pub item_of_pair_is_name : (x : ℕ) → IsPair N x → is_name (pair_item N x) ≡ true
   item_of_pair_is_name x is = All-get_or IsName N.items _ [] (stands N table x is).item table.read.items
+
+  -- the table without the first days that are given
+  abbrev pub undated : Table
+  undated = record N { calendar = record N.calendar { begun = [] } }
 
   -- the table whose rows of a kind are these, and that has no rows of the kinds after it
   abbrev pub with_usages : List UsageRow → Table
-  with_usages usages = record N { usages = usages }
+  with_usages usages = record undated { usages = usages; vendors = [] }
 
   abbrev pub with_policies : List PolicyRow → Table
-  with_policies policies = record N { policies = policies; usages = [] }
+  with_policies policies = record undated { policies = policies; usages = []; vendors = [] }
 
   abbrev pub with_firms : List FirmRow → Table
-  with_firms firms = record N { firms = firms; policies = []; usages = [] }
+  with_firms firms = record undated { firms = firms; policies = []; usages = []; vendors = [] }
 
   abbrev pub with_resets : List ResetRow → Table
-  with_resets resets = record N { resets = resets; firms = []; policies = []; usages = [] }
+  with_resets resets = record undated { resets = resets; firms = []; policies = []; usages = []; vendors = [] }
 
   abbrev pub with_cums : List CumRow → Table
-  with_cums cums = record N { cums = cums; resets = []; firms = []; policies = []; usages = [] }
+  with_cums cums = record undated { cums = cums; resets = []; firms = []; policies = []; usages = []; vendors = [] }
 
   abbrev pub with_ships : List ShipRow → Table
-  with_ships ships = record N { ships = ships; cums = []; resets = []; firms = []; policies = []; usages = [] }
+  with_ships ships = record undated { ships = ships; cums = []; resets = []; firms = []; policies = []; usages = []; vendors = [] }
 
   abbrev pub with_receipts : List ReceiptRow → Table
-  with_receipts receipts = record N { receipts = receipts; ships = []; cums = []; resets = []; firms = []; policies = []; usages = [] }
+  with_receipts receipts = record undated { receipts = receipts; ships = []; cums = []; resets = []; firms = []; policies = []; usages = []; vendors = [] }
 
   abbrev pub with_demands : List DemandRow → Table
-  with_demands demands = record N { demands = demands; receipts = []; ships = []; cums = []; resets = []; firms = []; policies = []; usages = [] }
+  with_demands demands =
+      record undated { demands = demands; receipts = []; ships = []; cums = []; resets = []; firms = []; policies = []; usages = []; vendors = [] }
 
   abbrev pub with_bills : List BillRow → Table
-  with_bills bills = record N { bills = bills; demands = []; receipts = []; ships = []; cums = []; resets = []; firms = []; policies = []; usages = [] }
+  with_bills bills =
+      record undated { bills = bills; demands = []; receipts = []; ships = []; cums = []; resets = []; firms = []; policies = []; usages = []; vendors = [] }
 
   bill_step : (before : List BillRow) (b : BillRow) (after : List BillRow) (last : Kind) → before ++ b ∷ after ≡ N.bills
       → kind_place last ≤ kind_place kind.Bill
@@ -294,7 +300,7 @@ module _ (N : Table) (table : IsTable N) where
   -- demand and receipt rows are read alike
   abbrev with_amounts : List DemandRow → List ReceiptRow → Table
   with_amounts demands receipts =
-      record N { demands = demands; receipts = receipts; ships = []; cums = []; resets = []; firms = []; policies = []; usages = [] }
+      record undated { demands = demands; receipts = receipts; ships = []; cums = []; resets = []; firms = []; policies = []; usages = []; vendors = [] }
 
   abbrev amount_fields : List ℕ → ℕ → ℕ → ℕ → Row
   amount_fields word x period quantity = word ∷ pair_plant N x ∷ pair_item N x ∷ decimal period ∷ decimal quantity ∷ [] ∷ [] ∷ [] ∷ []
@@ -347,7 +353,7 @@ module _ (N : Table) (table : IsTable N) where
 
   -- the names of a lane, whatever stands of the ship, cum and reset rows
   abbrev with_lanes : List ShipRow → List CumRow → List ResetRow → Table
-  with_lanes ships cums resets = record N { ships = ships; cums = cums; resets = resets; firms = []; policies = []; usages = [] }
+  with_lanes ships cums resets = record undated { ships = ships; cums = cums; resets = resets; firms = []; policies = []; usages = []; vendors = [] }
 
   names_lane : (ships : List ShipRow) (cums : List CumRow) (resets : List ResetRow) (f x : ℕ) → f < length N.plants → IsPair N x → is_taken_from N x f ≡ true
       → NamesLane (with_lanes ships cums resets) (plant_name N f) (pair_plant N x) (pair_item N x) f (plant_at N x) x
@@ -519,56 +525,56 @@ module _ (N : Table) (table : IsTable N) where
       (number_written 1 MOST_PER u.usage.base is.some is.base base)
       (none_before is_same_usage before u after N.usages e table.once.usages) (has_room before u after N.usages MOST_USAGES e table.read.limits.usages))
 
-  -- ---- the rows from the bills on
+  -- ---- the rows from the bills on, where those after the usages end in the table
 
-  usages_end : (last : Kind) → kind_place last ≤ kind_place kind.Usage → Ends (with_usages [], last) (map (usage_fields N) N.usages) N
-  usages_end last low =
-      subst (λ (rows : List Row). Ends (with_usages [], last) rows N) (append-nil (map (usage_fields N) N.usages))
-      (one_by_one kind.Usage with_usages (usage_fields N) N.usages [] N usage_step (λ l h. ends_here N l) [] N.usages last refl low)
+  module _ (rest : List Row) (end : (last : Kind) → kind_place last ≤ kind_place kind.Usage → Ends (with_usages N.usages, last) rest N) where
+    abbrev from_policies : List Row
+    from_policies = map (policy_fields N) N.policies ++ (map (usage_fields N) N.usages ++ rest)
 
-  abbrev from_policies : List Row
-  from_policies = map (policy_fields N) N.policies ++ map (usage_fields N) N.usages
+    usages_end : (last : Kind) → kind_place last ≤ kind_place kind.Usage → Ends (with_usages [], last) (map (usage_fields N) N.usages ++ rest) N
+    usages_end last low = one_by_one kind.Usage with_usages (usage_fields N) N.usages rest N usage_step end [] N.usages last refl low
 
-  policies_end : (last : Kind) → kind_place last ≤ kind_place kind.Policy → Ends (with_policies [], last) from_policies N
-  policies_end last low = one_by_one kind.Policy with_policies (policy_fields N) N.policies _ N policy_step (λ l h. usages_end l (omega (arith, h))) []
-      N.policies last refl low
+    policies_end : (last : Kind) → kind_place last ≤ kind_place kind.Policy → Ends (with_policies [], last) from_policies N
+    policies_end last low = one_by_one kind.Policy with_policies (policy_fields N) N.policies _ N policy_step (λ l h. usages_end l (omega (arith, h))) []
+        N.policies last refl low
 
-  abbrev from_firms : List Row
-  from_firms = map (firm_fields N) N.firms ++ from_policies
+    abbrev from_firms : List Row
+    from_firms = map (firm_fields N) N.firms ++ from_policies
 
-  firms_end : (last : Kind) → kind_place last ≤ kind_place kind.Firm → Ends (with_firms [], last) from_firms N
-  firms_end last low = one_by_one kind.Firm with_firms (firm_fields N) N.firms _ N firm_step (λ l h. policies_end l (omega (arith, h))) [] N.firms last refl low
+    firms_end : (last : Kind) → kind_place last ≤ kind_place kind.Firm → Ends (with_firms [], last) from_firms N
+    firms_end last low = one_by_one kind.Firm with_firms (firm_fields N) N.firms _ N firm_step (λ l h. policies_end l (omega (arith, h))) [] N.firms last
+        refl low
 
-  abbrev from_resets : List Row
-  from_resets = map (reset_fields N) N.resets ++ from_firms
+    abbrev from_resets : List Row
+    from_resets = map (reset_fields N) N.resets ++ from_firms
 
-  resets_end : (last : Kind) → kind_place last ≤ kind_place kind.Reset → Ends (with_resets [], last) from_resets N
-  resets_end last low = one_by_one kind.Reset with_resets (reset_fields N) N.resets _ N reset_step (λ l h. firms_end l (omega (arith, h))) [] N.resets last
-      refl low
+    resets_end : (last : Kind) → kind_place last ≤ kind_place kind.Reset → Ends (with_resets [], last) from_resets N
+    resets_end last low = one_by_one kind.Reset with_resets (reset_fields N) N.resets _ N reset_step (λ l h. firms_end l (omega (arith, h))) [] N.resets last
+        refl low
 
-  cums_end : (last : Kind) → kind_place last ≤ kind_place kind.Cum → Ends (with_cums [], last) (map (cum_fields N) N.cums ++ from_resets) N
-  cums_end last low = one_by_one kind.Cum with_cums (cum_fields N) N.cums _ N cum_step (λ l h. resets_end l (omega (arith, h))) [] N.cums last refl low
+    cums_end : (last : Kind) → kind_place last ≤ kind_place kind.Cum → Ends (with_cums [], last) (map (cum_fields N) N.cums ++ from_resets) N
+    cums_end last low = one_by_one kind.Cum with_cums (cum_fields N) N.cums _ N cum_step (λ l h. resets_end l (omega (arith, h))) [] N.cums last refl low
 
-  abbrev from_ships : List Row
-  from_ships = map (ship_fields N) N.ships ++ (map (cum_fields N) N.cums ++ from_resets)
+    abbrev from_ships : List Row
+    from_ships = map (ship_fields N) N.ships ++ (map (cum_fields N) N.cums ++ from_resets)
 
-  ships_end : (last : Kind) → kind_place last ≤ kind_place kind.Ship → Ends (with_ships [], last) from_ships N
-  ships_end last low = one_by_one kind.Ship with_ships (ship_fields N) N.ships _ N ship_step (λ l h. cums_end l (omega (arith, h))) [] N.ships last refl low
+    ships_end : (last : Kind) → kind_place last ≤ kind_place kind.Ship → Ends (with_ships [], last) from_ships N
+    ships_end last low = one_by_one kind.Ship with_ships (ship_fields N) N.ships _ N ship_step (λ l h. cums_end l (omega (arith, h))) [] N.ships last refl low
 
-  receipts_end : (last : Kind) → kind_place last ≤ kind_place kind.Receipt → Ends (with_receipts [], last) (map (receipt_fields N) N.receipts ++ from_ships) N
-  receipts_end last low = one_by_one kind.Receipt with_receipts (receipt_fields N) N.receipts from_ships N receipt_step
-      (λ l h. ships_end l (omega (arith, h))) [] N.receipts last refl low
+    receipts_end : (last : Kind) → kind_place last ≤ kind_place kind.Receipt → Ends (with_receipts [], last) (map (receipt_fields N) N.receipts ++ from_ships) N
+    receipts_end last low = one_by_one kind.Receipt with_receipts (receipt_fields N) N.receipts from_ships N receipt_step
+        (λ l h. ships_end l (omega (arith, h))) [] N.receipts last refl low
 
-  abbrev from_demands : List Row
-  from_demands = map (demand_fields N) N.demands ++ (map (receipt_fields N) N.receipts ++ from_ships)
+    abbrev from_demands : List Row
+    from_demands = map (demand_fields N) N.demands ++ (map (receipt_fields N) N.receipts ++ from_ships)
 
-  demands_end : (last : Kind) → kind_place last ≤ kind_place kind.Demand → Ends (with_demands [], last) from_demands N
-  demands_end last low = one_by_one kind.Demand with_demands (demand_fields N) N.demands _ N demand_step
-      (λ l h. receipts_end l (omega (arith, h))) [] N.demands last refl low
+    demands_end : (last : Kind) → kind_place last ≤ kind_place kind.Demand → Ends (with_demands [], last) from_demands N
+    demands_end last low = one_by_one kind.Demand with_demands (demand_fields N) N.demands _ N demand_step
+        (λ l h. receipts_end l (omega (arith, h))) [] N.demands last refl low
 
-  abbrev pub from_bills : List Row
-  from_bills = map (bill_fields N) N.bills ++ from_demands
+    abbrev pub from_bills : List Row
+    from_bills = map (bill_fields N) N.bills ++ from_demands
 
-  pub bills_end : (last : Kind) → kind_place last ≤ kind_place kind.Bill → Ends (with_bills [], last) from_bills N
-  bills_end last low = one_by_one kind.Bill with_bills (bill_fields N) N.bills from_demands N bill_step
-      (λ l h. demands_end l (omega (arith, h))) [] N.bills last refl low
+    pub bills_end : (last : Kind) → kind_place last ≤ kind_place kind.Bill → Ends (with_bills [], last) from_bills N
+    bills_end last low = one_by_one kind.Bill with_bills (bill_fields N) N.bills from_demands N bill_step
+        (λ l h. demands_end l (omega (arith, h))) [] N.bills last refl low

@@ -1,14 +1,18 @@
 -- A table that is written out is read as it.
-use Rattle.std.proofs.Common.{◌≡◌, ◌≤◌, ◌<◌, ◌^◌, ℕ, ◌↔◌, true, false, ltb, List, [], ◌∷◌, ◌++◌, codes, length, Some, Ok, refl, ap, sym, ◌∙◌, subst, arith}
+use Rattle.std.proofs.Common.{◌≡◌, ◌≤◌, ◌<◌, ◌^◌, ℕ, ◌+◌, ◌-◌, ◌*◌, pos, ◌↔◌, true, false, ltb, List, [], ◌∷◌, ◌++◌, codes, length, map, Some, Ok, refl}
+use Rattle.std.proofs.Common.{ap, sym, ◌∙◌, subst, arith}
 use Rattle.std.specs.List.{list_all, list_any}
 use Rattle.std.specs.Str.{bytes_eq, is_utf8}
 use Rattle.std.specs.Prelude.{decimal}
 use Rattle.csv.specs.Records.{field_at}
-use Rattle.mrp_cal.specs.Calendar.{CalendarTerms, IsCalendar}
+use Rattle.mrp_cal.specs.Calendar.{CalendarTerms, IsCalendar, last_date}
 use Rattle.mrp_cal.specs.Made.{IsCalendarFrom}
 use Rattle.mrp_cal.specs.DateText.{SpellsDay}
 use Rattle.mrp_cal.specs.Days.{day_text}
+use Rattle.mrp_cal.proofs.BegunFacts.{with_begun}
+use Rattle.mrp_cal.proofs.Calendars.{last_date-is}
 use Rattle.mrp_cal.proofs.Days.{spells_day}
+use Rattle.mrp_cal.proofs.Since.{ends_of}
 use Rattle.mrp_qty.specs.declared.horizon.TheConstants.{LONGEST}
 use Rattle.mrp_qty.specs.declared.limits.TheConstants.{MOST_PLANTS}
 use Rattle.mrp_master_data.specs.Growing.{with_plant}
@@ -22,15 +26,16 @@ use Rattle.mrp_validation.specs.declared.kind.Kind.{Kind}
 use Rattle.mrp_validation.specs.declared.kind.Kind.TheVariants as kind
 use Rattle.mrp_validation.specs.Grammar.{kind_place, plant_in_row, plant_row, run_terms, RunTerms}
 use Rattle.mrp_validation.specs.Reading.{first_terms, go_on, kind_of_row, Reads, row_after, row_of_kind, StartsWith, waiting}
-use Rattle.mrp_validation.specs.Written.{AreNumbered, later_rows, pair_rows, plant_fields, rows_of, run_fields}
+use Rattle.mrp_validation.specs.Written.{AreNumbered, day_fields, later_rows, pair_rows, plant_fields, rows_of, run_fields, vendor_fields}
 use Rattle.mrp_validation.proofs.Accept.{what_is_read}
+use Rattle.mrp_validation.proofs.BackDay.{days_end}
 use Rattle.mrp_validation.proofs.BackNames.{at_place, none_before}
 use Rattle.mrp_validation.proofs.BackPair.{no_sources, pairs_end, with_pairs}
-use Rattle.mrp_validation.proofs.BackRows.{bills_end, Ends, from_bills, has_room, kind_read, may_stand, one_by_one, Row, row_read}
+use Rattle.mrp_validation.proofs.BackRows.{bills_end, Ends, from_bills, has_room, kind_read, may_stand, one_by_one, Row, row_read, with_usages}
 use Rattle.mrp_validation.proofs.BackTexts.{date_is_text, name_is_text, number_is_text, word_is_text}
+use Rattle.mrp_validation.proofs.BackVendor.{vendors_end}
 use Rattle.mrp_validation.proofs.KeepingLists.{any_agree, bytes_flip}
 use Rattle.mrp_validation.proofs.Missing.{missing_told}
-use Rattle.mrp_validation.proofs.WrittenDay.{first_within}
 use Rattle.mrp_validation.proofs.WrittenTable.{items_numbered, written_out}
 
 -- ---- the run
@@ -46,8 +51,18 @@ unfolding first_terms run_terms field_at
 run_fields_read a b c days periods named days_are periods_are = rw (named, days_are, periods_are) refl
 
 -- the text of a calendar's first day spells it
-first_spelled : (c : CalendarTerms) → IsCalendar c → SpellsDay (day_text c.first) c.first
-first_spelled c is = spells_day c.first is.since (first_within c.first _ c.days c.periods is.until is.length.0 is.periods.0)
+first_of : (first more last : ℕ) → first + more ≤ last → first ≤ last
+first_of first more last e = omega (arith, e)
+
+first_spelled : (c : CalendarTerms) → IsCalendar c → SpellsDay (day_text c.first) (pos c.first)
+first_spelled c is =
+    let by = first_of c.first ((c.periods - 0) * c.days) (last_date + 1) (ends_of c.days c.periods 0 c.first c.begun is.begun) in
+    let last : c.first ≤ 84005 + 1 = subst (λ (d : ℕ). c.first ≤ d + 1) last_date-is by in
+    spells_day c.first (omega (arith, last))
+
+-- without the first days that are given it is a calendar too
+undated_is : (c : CalendarTerms) → IsCalendar c → IsCalendar (with_begun c [])
+undated_is c is = record { length = is.length; periods = is.periods; begun = ends_of c.days c.periods 0 c.first c.begun is.begun }
 
 run_read : (c : CalendarTerms) → IsCalendar c → first_terms (run_fields c) ≡ Ok (record { first = day_text c.first; days = c.days; periods = c.periods })
 unfolding field_at
@@ -73,7 +88,7 @@ plant_read N name named new room = rw (named, new, room) refl
 module _ (N : Table) (table : IsTable N) where
   -- the table with these plants alone
   abbrev with_plants : List (List ℕ) → Table
-  with_plants plants = record (empty_table N.calendar) { plants = plants }
+  with_plants plants = record (empty_table (record N.calendar { begun = [] })) { plants = plants }
 
   plant_step : (before : List (List ℕ)) (name : List ℕ) (after : List (List ℕ)) (last : Kind) → before ++ name ∷ after ≡ N.plants
       → kind_place last ≤ kind_place kind.Plant
@@ -91,28 +106,37 @@ module _ (N : Table) (table : IsTable N) where
   -- ---- the whole table
 
   module _ (numbered : AreNumbered 0 N.pairs (length N.items)) where
+    -- the rows from the vendors on
+    abbrev from_vendors : List Row
+    from_vendors = map (vendor_fields N) N.vendors ++ map day_fields N.calendar.begun
+
+    after_usages : (last : Kind) → kind_place last ≤ kind_place kind.Usage → Ends (with_usages N table N.usages, last) from_vendors N
+    after_usages last low = vendors_end N table (map day_fields N.calendar.begun) (λ l h. days_end N table l (omega (arith, h))) last (omega (arith, low))
+
     abbrev later : List Row
-    later = from_bills N table
+    later = from_bills N table from_vendors after_usages
 
     pairs_read : (last : Kind) → kind_place last ≤ kind_place kind.Plant → Ends (with_plants N.plants, last) (pair_rows N 0 N.pairs ++ later) N
     pairs_read last low =
         let start : with_pairs N table [] [] 0 ≡ with_plants N.plants =
         ap (λ ss. let m : Table = record (with_plants N.plants) { sources = ss } in m) (no_sources N.sources) in
         subst (λ (m : Table). Ends (m, last) (pair_rows N 0 N.pairs ++ later) N) start
-        (pairs_end N table later (λ l h. bills_end N table l (omega (arith, h))) [] N.pairs [] N.items last refl refl numbered (omega (arith, low)))
+        (pairs_end N table later (λ l h. bills_end N table from_vendors after_usages l (omega (arith, h))) []
+        N.pairs [] N.items last refl refl numbered (omega (arith, low)))
 
-    rows_end : Ends (empty_table N.calendar, kind.Run) (later_rows N) N
+    rows_end : Ends (empty_table (with_begun N.calendar []), kind.Run) (later_rows N) N
     rows_end = one_by_one kind.Plant with_plants plant_fields N.plants (pair_rows N 0 N.pairs ++ later) N plant_step pairs_read [] N.plants kind.Run refl
         (omega arith)
 
     read_back : Reads (rows_of N) (Ok N)
     read_back =
+        let c = with_begun N.calendar [] in
         let t : RunTerms = record { first = day_text N.calendar.first; days = N.calendar.days; periods = N.calendar.periods } in
-        let from : IsCalendarFrom t.first t.days t.periods N.calendar =
-        record { first = first_spelled N.calendar table.read.calendar; days = refl; periods = refl } in
-        let starts : StartsWith (Ok t) (Ok (empty_table N.calendar)) = (Ok N.calendar, (from, table.read.calendar), refl) in (
-          Ok (empty_table N.calendar),
-          subst (λ r. StartsWith r (Ok (empty_table N.calendar))) (sym (run_read N.calendar table.read.calendar)) starts,
+        let from : IsCalendarFrom t.first t.days t.periods c =
+        record { first = first_spelled N.calendar table.read.calendar; days = refl; periods = refl; begun = refl } in
+        let starts : StartsWith (Ok t) (Ok (empty_table c)) = (Ok c, (from, undated_is N.calendar table.read.calendar), refl) in (
+          Ok (empty_table c),
+          subst (λ r. StartsWith r (Ok (empty_table c))) (sym (run_read N.calendar table.read.calendar)) starts,
           sym (ap (λ r. go_on r waiting) (rows_end 2) ∙ (missing_told N).none table.source_pairs),
         )
 

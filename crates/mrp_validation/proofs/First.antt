@@ -28,13 +28,15 @@ use Rattle.mrp_validation.specs.Grammar.{demand_made, demand_of, field, has_bill
 use Rattle.mrp_validation.specs.Grammar.{knows_sources, lane_terms, LaneTerms, may_follow, name_field, pair_fits, pair_terms, PairTerms, plant_in_row}
 use Rattle.mrp_validation.specs.Grammar.{receipt_made, receipt_of, reset_between, reset_in_row, row_kind, run_terms, RunTerms, ship_of, ship_terms}
 use Rattle.mrp_validation.specs.Grammar.{firm_of, firm_terms, FirmTerms, has_policy, policy_made, policy_of, policy_terms, PolicyTerms, used}
-use Rattle.mrp_validation.specs.Grammar.{usage_fits, usage_terms}
+use Rattle.mrp_validation.specs.Grammar.{day_in_row, usage_fits, usage_terms, vendor_fits, vendor_terms}
 use Rattle.mrp_validation.specs.Reading.{first_terms, is_run, kind_of_row, row_after, row_of_kind}
 use Rattle.mrp_validation.specs.Tests.{amount_passes, bill_passes, cum_passes, first_failed, fits_kind, has_number, HasFirstFault, is_in_order, is_lane, pair_in}
 use Rattle.mrp_validation.specs.Tests.{firm_passes, first_due, pair_passes, passes, passes_of, plant_in, plant_passes, policy_passes}
 use Rattle.mrp_validation.specs.Tests.{reset_passes, row_passes, run_passes, ship_passes, sources_in, stands_well, three_names, two_names}
+use Rattle.mrp_validation.proofs.FirstDay.{day-first}
 use Rattle.mrp_validation.proofs.FirstSteps.{checked, find_none, find_some, kept, kept-in, last, more, name_same}
 use Rattle.mrp_validation.proofs.FirstUsage.{usage-first}
+use Rattle.mrp_validation.proofs.FirstVendor.{vendor-first}
 use Rattle.mrp_validation.proofs.KeepingRows.{on_lane}
 use Rattle.mrp_validation.proofs.KeepingSteps.{after, after_check, after_some, same_Ok}
 
@@ -619,6 +621,8 @@ of-kind kind.Reset last N row u follows = kept (reset_in_row N row) _ ∙ reset-
 of-kind kind.Firm last N row u follows = kept (firm_of N row) _ ∙ firm-first N row
 of-kind kind.Policy last N row u follows = kept (policy_of N row) _ ∙ policy-first N row
 of-kind kind.Usage last N row u follows = kept (usage_terms row (horizon N) >>= usage_fits N) _ ∙ usage-first N row
+of-kind kind.Vendor last N row u follows = kept (vendor_terms row (horizon N) >>= vendor_fits N) _ ∙ vendor-first N row
+of-kind kind.Day last N row u follows = kept (day_in_row N row) _ ∙ day-first N row
 
 of-named : (k : Kind) (o : Option Kind) (last : Kind) (N : Table) (row : List (List ℕ)) (u : Unit {0}) → o ≡ Some k
     → check (may_follow k last) fault.KindOrder ≡ Ok u

@@ -12,18 +12,20 @@ use Rattle.mrp_master_data.specs.declared.rows.ReceiptRow.{ReceiptRow}
 use Rattle.mrp_master_data.specs.declared.rows.ResetRow.{ResetRow}
 use Rattle.mrp_master_data.specs.declared.rows.ShipRow.{ShipRow}
 use Rattle.mrp_master_data.specs.declared.rows.UsageRow.{UsageRow}
+use Rattle.mrp_master_data.specs.Rows.{Vendor}
 use Rattle.std.specs.Str.{bytes_eq}
 use Rattle.mrp_cal.specs.Calendar.{CalendarTerms, IsCalendar}
 use Rattle.mrp_validation.specs.declared.fault.TableFaultKind.{TableFaultKind}
 use Rattle.mrp_validation.specs.declared.kind.Kind.{Kind}
 use Rattle.mrp_validation.specs.declared.kind.Kind.TheVariants as kind
 use Rattle.mrp_validation.specs.Grammar.{◌>>=◌, bill_of, cum_of, demand_of, may_follow, kind_place, plant_in_row, receipt_of, reset_in_row, ship_of}
-use Rattle.mrp_validation.specs.Grammar.{firm_of, policy_of, usage_of}
+use Rattle.mrp_validation.specs.Grammar.{day_in_row, firm_of, policy_of, usage_of, vendor_in_row}
 use Rattle.mrp_master_data.specs.Growing.{with_plant, with_bill, with_demand, with_receipt, with_ship, with_cum, with_reset, with_firm, with_policy, with_usage}
+use Rattle.mrp_master_data.specs.Growing.{with_calendar, with_vendor}
 use Rattle.mrp_validation.specs.Reading.{IsReadSoFar, kind_of_row, row_after, row_of_kind}
 use Rattle.mrp_master_data.specs.Table.{Table, IsBillRow, IsCumRow, IsDemandRow, IsFirmRow, IsName, IsPairRow, IsPolicyRow}
-use Rattle.mrp_master_data.specs.Table.{IsReceiptRow, IsResetRow, IsShipRow, IsSourceRow, IsUsageRow, is_same_pair}
-use Rattle.mrp_master_data.specs.Table.{is_same_source, is_same_bill, is_same_cum, is_same_policy, is_same_reset, is_same_usage}
+use Rattle.mrp_master_data.specs.Table.{IsReceiptRow, IsResetRow, IsShipRow, IsSourceRow, IsUsageRow, IsVendorRow, is_same_pair}
+use Rattle.mrp_master_data.specs.Table.{is_same_source, is_same_bill, is_same_cum, is_same_policy, is_same_reset, is_same_usage, is_same_vendor}
 use Rattle.mrp_master_data.specs.Growing.{empty_table}
 use Rattle.mrp_validation.proofs.KeepingBill.{bill_keeps}
 use Rattle.mrp_master_data.proofs.SpelledLists.{IsDistinct-nil}
@@ -33,6 +35,8 @@ use Rattle.mrp_validation.proofs.KeepingRead.{usage_read}
 use Rattle.mrp_validation.proofs.KeepingRows.{plant_keeps, demand_keeps, receipt_keeps, ship_keeps, cum_keeps, reset_keeps, firm_keeps, policy_keeps}
 use Rattle.mrp_validation.proofs.KeepingSteps.{after, after_check, same_Ok}
 use Rattle.mrp_validation.proofs.KeepingUsage.{usage_keeps}
+use Rattle.mrp_validation.proofs.KeepingDay.{day_once, day_read, day_sourced}
+use Rattle.mrp_validation.proofs.KeepingVendor.{vendor_keeps, vendor_read}
 
 -- a kind stands with the kinds before it
 pub follows : (k last : Kind) → may_follow k last ≡ true → kind_place last ≤ kind_place k
@@ -41,7 +45,7 @@ follows k last e = let parts = and_parts (ltb 0 (kind_place k)) (leb (kind_place
 module _ (N : Table) (last : Kind) (row : List (List ℕ)) (so_far : IsReadSoFar N last) where
   plant_more : (x : List ℕ) → kind_place last ≤ 1 → plant_in_row N row ≡ Ok x → IsReadSoFar (with_plant N x) kind.Plant
   plant_more x before is =
-      let kept = plant_keeps N row x so_far.once so_far.sourced is in
+      let kept = plant_keeps N row x so_far.once so_far.sourced (so_far.vendors (omega (arith, before))) is in
       record {
         read = plant_read N row x so_far.read is;
         once = kept.0;
@@ -50,6 +54,7 @@ module _ (N : Table) (last : Kind) (row : List (List ℕ)) (so_far : IsReadSoFar
         sources = so_far.sources;
         resets =
             λ lt. so_far.resets (omega (arith, before));
+        vendors = λ lt. so_far.vendors (omega (arith, before));
       }
 
   bill_more : (x : BillRow) → kind_place last ≤ 3 → bill_of N row ≡ Ok x → IsReadSoFar (with_bill N x) kind.Bill
@@ -63,6 +68,7 @@ module _ (N : Table) (last : Kind) (row : List (List ℕ)) (so_far : IsReadSoFar
         sources = so_far.sources;
         resets =
             λ lt. so_far.resets (omega (arith, before));
+        vendors = λ lt. so_far.vendors (omega (arith, before));
       }
 
   demand_more : (x : DemandRow) → kind_place last ≤ 4 → demand_of N row ≡ Ok x → IsReadSoFar (with_demand N x) kind.Demand
@@ -76,6 +82,7 @@ module _ (N : Table) (last : Kind) (row : List (List ℕ)) (so_far : IsReadSoFar
         sources = so_far.sources;
         resets =
             λ lt. so_far.resets (omega (arith, before));
+        vendors = λ lt. so_far.vendors (omega (arith, before));
       }
 
   receipt_more : (x : ReceiptRow) → kind_place last ≤ 5 → receipt_of N row ≡ Ok x → IsReadSoFar (with_receipt N x) kind.Receipt
@@ -89,6 +96,7 @@ module _ (N : Table) (last : Kind) (row : List (List ℕ)) (so_far : IsReadSoFar
         sources = so_far.sources;
         resets =
             λ lt. so_far.resets (omega (arith, before));
+        vendors = λ lt. so_far.vendors (omega (arith, before));
       }
 
   ship_more : (x : ShipRow) → kind_place last ≤ 6 → ship_of N row ≡ Ok x → IsReadSoFar (with_ship N x) kind.Ship
@@ -102,6 +110,7 @@ module _ (N : Table) (last : Kind) (row : List (List ℕ)) (so_far : IsReadSoFar
         sources = so_far.sources;
         resets =
             λ lt. so_far.resets (omega (arith, before));
+        vendors = λ lt. so_far.vendors (omega (arith, before));
       }
 
   cum_more : (x : CumRow) → kind_place last ≤ 7 → cum_of N row ≡ Ok x → IsReadSoFar (with_cum N x) kind.Cum
@@ -115,10 +124,11 @@ module _ (N : Table) (last : Kind) (row : List (List ℕ)) (so_far : IsReadSoFar
         sources = so_far.sources;
         resets =
             λ lt. so_far.resets (omega (arith, before));
+        vendors = λ lt. so_far.vendors (omega (arith, before));
       }
 
-  reset_more : (x : ResetRow) → reset_in_row N row ≡ Ok x → IsReadSoFar (with_reset N x) kind.Reset
-  reset_more x is =
+  reset_more : (x : ResetRow) → kind_place last ≤ 8 → reset_in_row N row ≡ Ok x → IsReadSoFar (with_reset N x) kind.Reset
+  reset_more x before is =
       let kept = reset_keeps N row x so_far.once so_far.sourced is in
       record {
         read = reset_read N row x so_far.read kept.0 kept.1 is;
@@ -128,10 +138,11 @@ module _ (N : Table) (last : Kind) (row : List (List ℕ)) (so_far : IsReadSoFar
         sources = so_far.sources;
         resets =
             λ lt. absurd (omega arith);
+        vendors = λ lt. so_far.vendors (omega (arith, before));
       }
 
-  firm_more : (x : FirmRow) → firm_of N row ≡ Ok x → IsReadSoFar (with_firm N x) kind.Firm
-  firm_more x is =
+  firm_more : (x : FirmRow) → kind_place last ≤ 9 → firm_of N row ≡ Ok x → IsReadSoFar (with_firm N x) kind.Firm
+  firm_more x before is =
       let kept = firm_keeps N x so_far.once so_far.sourced in
       record {
         read = firm_read N row x so_far.read is;
@@ -141,10 +152,11 @@ module _ (N : Table) (last : Kind) (row : List (List ℕ)) (so_far : IsReadSoFar
         sources = so_far.sources;
         resets =
             λ lt. absurd (omega arith);
+        vendors = λ lt. so_far.vendors (omega (arith, before));
       }
 
-  policy_more : (x : PolicyRow) → policy_of N row ≡ Ok x → IsReadSoFar (with_policy N x) kind.Policy
-  policy_more x is =
+  policy_more : (x : PolicyRow) → kind_place last ≤ 10 → policy_of N row ≡ Ok x → IsReadSoFar (with_policy N x) kind.Policy
+  policy_more x before is =
       let kept = policy_keeps N row x so_far.once so_far.sourced is in
       record {
         read = policy_read N row x so_far.read kept.0 is;
@@ -154,10 +166,11 @@ module _ (N : Table) (last : Kind) (row : List (List ℕ)) (so_far : IsReadSoFar
         sources = so_far.sources;
         resets =
             λ lt. absurd (omega arith);
+        vendors = λ lt. so_far.vendors (omega (arith, before));
       }
 
-  usage_more : (x : UsageRow) → usage_of N row ≡ Ok x → IsReadSoFar (with_usage N x) kind.Usage
-  usage_more x is =
+  usage_more : (x : UsageRow) → kind_place last ≤ 11 → usage_of N row ≡ Ok x → IsReadSoFar (with_usage N x) kind.Usage
+  usage_more x before is =
       let kept = usage_keeps N row x so_far.once so_far.sourced is in
       record {
         read = usage_read N row x so_far.read is;
@@ -167,7 +180,32 @@ module _ (N : Table) (last : Kind) (row : List (List ℕ)) (so_far : IsReadSoFar
         sources = so_far.sources;
         resets =
             λ lt. absurd (omega arith);
+        vendors = λ lt. so_far.vendors (omega (arith, before));
       }
+
+  vendor_more : (v : Vendor) → vendor_in_row N row ≡ Ok v → IsReadSoFar (with_vendor N v) kind.Vendor
+  vendor_more v is =
+      let kept = vendor_keeps N row v so_far.once so_far.sourced is in
+      record {
+        read = vendor_read N row v so_far.read kept.0 is;
+        once = kept.0;
+        sourced = kept.1;
+        items = so_far.items;
+        sources = so_far.sources;
+        resets = λ lt. absurd (omega arith);
+        vendors = λ lt. absurd (omega arith);
+      }
+
+  day_more : (c : CalendarTerms) → day_in_row N row ≡ Ok c → IsReadSoFar (with_calendar N c) kind.Day
+  day_more c is = record {
+    read = day_read N row c so_far.read is;
+    once = day_once N c so_far.once;
+    sourced = day_sourced N c so_far.sourced;
+    items = so_far.items;
+    sources = so_far.sources;
+    resets = λ lt. absurd (omega arith);
+    vendors = λ lt. absurd (omega arith);
+  }
 
 -- what was read of a row makes the table with it
 made_keeps : {X : Type 0} (k : Kind) (read : Result X TableFaultKind) (made : X → Table) (M : Table) → ((x : X) → read ≡ Ok x → IsReadSoFar (made x) k)
@@ -190,10 +228,13 @@ row_keeps kind.Receipt last N M row so_far before is = made_keeps kind.Receipt (
     (λ x. receipt_more N last row so_far x before) is
 row_keeps kind.Ship last N M row so_far before is = made_keeps kind.Ship (ship_of N row) (with_ship N) M (λ x. ship_more N last row so_far x before) is
 row_keeps kind.Cum last N M row so_far before is = made_keeps kind.Cum (cum_of N row) (with_cum N) M (λ x. cum_more N last row so_far x before) is
-row_keeps kind.Reset last N M row so_far before is = made_keeps kind.Reset (reset_in_row N row) (with_reset N) M (λ x. reset_more N last row so_far x) is
-row_keeps kind.Firm last N M row so_far before is = made_keeps kind.Firm (firm_of N row) (with_firm N) M (λ x. firm_more N last row so_far x) is
-row_keeps kind.Policy last N M row so_far before is = made_keeps kind.Policy (policy_of N row) (with_policy N) M (λ x. policy_more N last row so_far x) is
-row_keeps kind.Usage last N M row so_far before is = made_keeps kind.Usage (usage_of N row) (with_usage N) M (λ x. usage_more N last row so_far x) is
+row_keeps kind.Reset last N M row so_far before is = made_keeps kind.Reset (reset_in_row N row) (with_reset N) M (λ x. reset_more N last row so_far x before) is
+row_keeps kind.Firm last N M row so_far before is = made_keeps kind.Firm (firm_of N row) (with_firm N) M (λ x. firm_more N last row so_far x before) is
+row_keeps kind.Policy last N M row so_far before is = made_keeps kind.Policy (policy_of N row) (with_policy N) M (λ x. policy_more N last row so_far x before) is
+row_keeps kind.Usage last N M row so_far before is = made_keeps kind.Usage (usage_of N row) (with_usage N) M (λ x. usage_more N last row so_far x before) is
+row_keeps kind.Vendor last N M row so_far before is = made_keeps kind.Vendor (vendor_in_row N row) (with_vendor N) M
+    (λ v. vendor_more N last row so_far v) is
+row_keeps kind.Day last N M row so_far before is = made_keeps kind.Day (day_in_row N row) (with_calendar N) M (λ c. day_more N last row so_far c) is
 
 -- a table and the kind of its last row
 abbrev Kept : Table × Kind → Type 0
@@ -228,6 +269,7 @@ empty_keeps c calendar = record {
       firms = omega arith;
       policies = omega arith;
       usages = omega arith;
+      vendors = omega arith;
     };
     plants = All-nil IsName;
     items = All-nil IsName;
@@ -242,6 +284,7 @@ empty_keeps c calendar = record {
     firms = All-nil (IsFirmRow (empty_table c));
     policies = All-nil (IsPolicyRow (empty_table c));
     usages = All-nil (IsUsageRow (empty_table c));
+    vendors = All-nil (IsVendorRow (empty_table c));
   };
   once = record {
     plants = IsDistinct-nil bytes_eq;
@@ -253,6 +296,7 @@ empty_keeps c calendar = record {
     resets = IsDistinct-nil is_same_reset;
     policies = IsDistinct-nil is_same_policy;
     usages = IsDistinct-nil is_same_usage;
+    vendors = IsDistinct-nil is_same_vendor;
   };
   sourced = record {
     items = λ i lt. absurd (omega arith);
@@ -267,8 +311,11 @@ empty_keeps c calendar = record {
     cums = λ k d lt. absurd (omega arith);
     resets = λ k d lt. absurd (omega arith);
     usages = λ k d lt. absurd (omega arith);
+    vendors = λ k d lt. absurd (omega arith);
+    named = λ k d lt. absurd (omega arith);
   };
   items = omega arith;
   sources = omega arith;
   resets = λ lt. refl;
+  vendors = λ lt. refl;
 }

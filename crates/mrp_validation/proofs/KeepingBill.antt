@@ -83,8 +83,8 @@ bill_keeps N row b once sourced is =
     let a = after (bill_terms row) (bill_fits N) b is in
     let says = fits N a.0 b a.2 in (
       stays_once N (with_bill N b) refl once once.plants (distinct_push is_same_bill N.bills b once.bills says.new) once.cums once.resets once.policies
-          once.usages,
+          once.usages once.vendors,
       stays_sourced N (with_bill N b) refl sourced (All-push (λ b. supply_at N b.parent.0 ≡ supply.Make) N.bills b sourced.parents says.made)
           (All-push (λ b. plant_at N b.parent.0 ≡ plant_at N b.component.0) N.bills b sourced.plants says.plant) sourced.ships sourced.cums sourced.resets
-          (λ k d lt. any_left _ N.bills (b ∷ []) (sourced.usages k d lt)) sourced.arrive,
+          (λ k d lt. any_left _ N.bills (b ∷ []) (sourced.usages k d lt)) sourced.vendors sourced.named sourced.arrive,
     )

@@ -232,6 +232,7 @@ module _ (N : Table) (plant : PlantNo) (t : PairTerms) (read : IsRead N) (once :
     resets = once.resets;
     policies = once.policies;
     usages = once.usages;
+    vendors = once.vendors;
   }
 
   pub old_kept : (x : ℕ) → x < length N.pairs → sources_of_pair M x ≡ sources_of_pair N x
@@ -334,6 +335,8 @@ module _ (N : Table) (plant : PlantNo) (t : PairTerms) (read : IsRead N) (once :
     cums = λ k d lt. any_left _ N.sources new_rows (sourced.cums k d lt);
     resets = λ k d lt. any_left _ N.sources new_rows (sourced.resets k d lt);
     usages = sourced.usages;
+    vendors = λ k d lt. old_supply _ (read.vendors k d lt).pair ∙ sourced.vendors k d lt;
+    named = sourced.named;
   }
 
   -- ---- the pair, its item and its sources are in range
@@ -348,7 +351,7 @@ module _ (N : Table) (plant : PlantNo) (t : PairTerms) (read : IsRead N) (once :
   more_sources = omega (arith, length-append N.sources new_rows, new_size)
 
   grows : Grows N M
-  grows = record { calendar = refl; plants = omega arith; items = (length-add_item-le N.items t.item).0; pairs = omega (arith, more_pairs) }
+  grows = record { calendar = λ is. is; periods = refl; plants = omega arith; items = (length-add_item-le N.items t.item).0; pairs = omega (arith, more_pairs) }
 
   row_in : IsPairRow M new_row
   row_in = record {
@@ -382,7 +385,7 @@ module _ (N : Table) (plant : PlantNo) (t : PairTerms) (read : IsRead N) (once :
       } in
       let item : Changes IsName MOST_PAIRS N.items M.items = name_added N.items t.item says.item (omega (arith, few_items, fit.room)) in
       read_grows N M read grows same_rows item (one_more new_row row_in fit.room) sources same_rows same_rows same_rows same_rows same_rows same_rows same_rows
-      same_rows same_rows
+      same_rows same_rows same_rows
 
 -- a pair row more stands after the run, the plants and other pairs
 pub pair_keeps : (N M : Table) (last : Kind) (row : List (List ℕ)) → IsReadSoFar N last → kind_place last ≤ kind_place kind.Pair → pair_row N row ≡ Ok M
@@ -404,5 +407,6 @@ pair_keeps N M last row so_far before is =
       items = omega (arith, more_items N b.0 a.0 read once sourced fit says, more_pairs N b.0 a.0 read once sourced fit says, so_far.items);
       sources = omega (arith, more_sources N b.0 a.0 read once sourced fit says, more_pairs N b.0 a.0 read once sourced fit says, so_far.sources);
       resets = λ lt. so_far.resets (omega (arith, before));
+      vendors = λ lt. so_far.vendors (omega (arith, before));
     } in
     subst (λ (m : Table). IsReadSoFar m kind.Pair) same kept

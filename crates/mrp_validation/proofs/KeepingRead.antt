@@ -95,7 +95,7 @@ pair_within N (Some p) item x is = by (position (bytes_eq item) N.items) is
     by None e = absurd (cc)
     by (Some i) e = (position_there (λ q. (q.plant.0 == p) && (q.item.0 == i)) N.pairs x e).1
 
-known_within : (N : Table) (plant item : List ℕ) (found : PlantNo × PairNo) → known_pair N plant item ≡ Ok found → found.1.0 < length N.pairs
+pub known_within : (N : Table) (plant item : List ℕ) (found : PlantNo × PairNo) → known_pair N plant item ≡ Ok found → found.1.0 < length N.pairs
 unfolding known_pair
 known_within N plant item found is =
     let a = after_some (plant_no N plant) _ _ found is in
@@ -163,10 +163,10 @@ bill_read N row b read is =
 -- ---- demands and receipts
 
 -- a period of the plan
-abbrev Falls : Table → ℕ → Type 0
+abbrev pub Falls : Table → ℕ → Type 0
 Falls N t = t < horizon N
 
-period_is : (N : Table) (text : List ℕ) (t : ℕ) → IsRead N → ranged text 0 (horizon N - 1) ≡ Ok t → Falls N t
+pub period_is : (N : Table) (text : List ℕ) (t : ℕ) → IsRead N → ranged text 0 (horizon N - 1) ≡ Ok t → Falls N t
 period_is N text t read is = let within = ranged_is text 0 (horizon N - 1) t is in omega (arith, within.1, read.limits.some_periods)
 
 -- a period and a quantity, as they are read of two fields

@@ -35,34 +35,38 @@ new_plant N row name is =
     let same : a.0 ≡ name = same_Ok a.0 name c.1 in
     not-true (has_plant N name) (ap (λ n. not (has_plant N n)) (sym same) ∙ b.0)
 
-pub plant_keeps : (N : Table) (row : List (List ℕ)) (name : List ℕ) → IsOnce N → IsSourced N → plant_in_row N row ≡ Ok name
+pub plant_keeps : (N : Table) (row : List (List ℕ)) (name : List ℕ) → IsOnce N → IsSourced N → N.vendors ≡ [] → plant_in_row N row ≡ Ok name
     → IsOnce (with_plant N name) × IsSourced (with_plant N name)
-plant_keeps N row name once sourced is = (
+plant_keeps N row name once sourced none is = (
   stays_once N (with_plant N name) refl once (distinct_name N.plants name once.plants (new_plant N row name is)) once.bills once.cums once.resets once.policies
-      once.usages,
-  stays_sourced N (with_plant N name) refl sourced sourced.parents sourced.plants sourced.ships sourced.cums sourced.resets sourced.usages sourced.arrive,
+      once.usages once.vendors,
+  stays_sourced N (with_plant N name) refl sourced sourced.parents sourced.plants sourced.ships sourced.cums sourced.resets sourced.usages sourced.vendors
+      (λ k d lt. absurd (omega (arith, ap length none, lt))) sourced.arrive,
 )
 
 -- ---- demands and receipts
 
 pub demand_keeps : (N : Table) (x : DemandRow) → IsOnce N → IsSourced N → IsOnce (with_demand N x) × IsSourced (with_demand N x)
 demand_keeps N x once sourced = (
-  stays_once N (with_demand N x) refl once once.plants once.bills once.cums once.resets once.policies once.usages,
-  stays_sourced N (with_demand N x) refl sourced sourced.parents sourced.plants sourced.ships sourced.cums sourced.resets sourced.usages sourced.arrive,
+  stays_once N (with_demand N x) refl once once.plants once.bills once.cums once.resets once.policies once.usages once.vendors,
+  stays_sourced N (with_demand N x) refl sourced sourced.parents sourced.plants sourced.ships sourced.cums sourced.resets sourced.usages sourced.vendors
+      sourced.named sourced.arrive,
 )
 
 pub receipt_keeps : (N : Table) (x : ReceiptRow) → IsOnce N → IsSourced N → IsOnce (with_receipt N x) × IsSourced (with_receipt N x)
 receipt_keeps N x once sourced = (
-  stays_once N (with_receipt N x) refl once once.plants once.bills once.cums once.resets once.policies once.usages,
-  stays_sourced N (with_receipt N x) refl sourced sourced.parents sourced.plants sourced.ships sourced.cums sourced.resets sourced.usages sourced.arrive,
+  stays_once N (with_receipt N x) refl once once.plants once.bills once.cums once.resets once.policies once.usages once.vendors,
+  stays_sourced N (with_receipt N x) refl sourced sourced.parents sourced.plants sourced.ships sourced.cums sourced.resets sourced.usages sourced.vendors
+      sourced.named sourced.arrive,
 )
 
 -- ---- firm orders
 
 pub firm_keeps : (N : Table) (x : FirmRow) → IsOnce N → IsSourced N → IsOnce (with_firm N x) × IsSourced (with_firm N x)
 firm_keeps N x once sourced = (
-  stays_once N (with_firm N x) refl once once.plants once.bills once.cums once.resets once.policies once.usages,
-  stays_sourced N (with_firm N x) refl sourced sourced.parents sourced.plants sourced.ships sourced.cums sourced.resets sourced.usages sourced.arrive,
+  stays_once N (with_firm N x) refl once once.plants once.bills once.cums once.resets once.policies once.usages once.vendors,
+  stays_sourced N (with_firm N x) refl sourced sourced.parents sourced.plants sourced.ships sourced.cums sourced.resets sourced.usages sourced.vendors
+      sourced.named sourced.arrive,
 )
 
 -- ---- policies
@@ -87,8 +91,9 @@ pub policy_keeps : (N : Table) (row : List (List ℕ)) (x : PolicyRow) → IsOnc
     → IsOnce (with_policy N x) × IsSourced (with_policy N x)
 policy_keeps N row x once sourced is = (
   stays_once N (with_policy N x) refl once once.plants once.bills once.cums once.resets
-      (distinct_push is_same_policy N.policies x once.policies (policy_new N row x is)) once.usages,
-  stays_sourced N (with_policy N x) refl sourced sourced.parents sourced.plants sourced.ships sourced.cums sourced.resets sourced.usages sourced.arrive,
+      (distinct_push is_same_policy N.policies x once.policies (policy_new N row x is)) once.usages once.vendors,
+  stays_sourced N (with_policy N x) refl sourced sourced.parents sourced.plants sourced.ships sourced.cums sourced.resets sourced.usages sourced.vendors
+      sourced.named sourced.arrive,
 )
 
 -- ---- lanes
@@ -123,9 +128,10 @@ ship_lane N row x is =
 pub ship_keeps : (N : Table) (row : List (List ℕ)) (x : ShipRow) → IsOnce N → IsSourced N → N.resets ≡ [] → ship_of N row ≡ Ok x
     → IsOnce (with_ship N x) × IsSourced (with_ship N x)
 ship_keeps N row x once sourced none is = (
-  stays_once N (with_ship N x) refl once once.plants once.bills once.cums once.resets once.policies once.usages,
+  stays_once N (with_ship N x) refl once once.plants once.bills once.cums once.resets once.policies once.usages once.vendors,
   stays_sourced N (with_ship N x) refl sourced sourced.parents sourced.plants
       (All-push (λ s. is_taken_from N s.pair.0 s.from.0 ≡ true) N.ships x sourced.ships (ship_lane N row x is)) sourced.cums sourced.resets sourced.usages
+      sourced.vendors sourced.named
       (λ k d lt. absurd (omega (arith, ap length none, lt))),
 )
 
@@ -148,9 +154,10 @@ cum_lane N row x is =
 pub cum_keeps : (N : Table) (row : List (List ℕ)) (x : CumRow) → IsOnce N → IsSourced N → cum_of N row ≡ Ok x → IsOnce (with_cum N x) × IsSourced (with_cum N x)
 cum_keeps N row x once sourced is =
     let says = cum_lane N row x is in (
-      stays_once N (with_cum N x) refl once once.plants once.bills (distinct_push is_same_cum N.cums x once.cums says.1) once.resets once.policies once.usages,
+      stays_once N (with_cum N x) refl once once.plants once.bills (distinct_push is_same_cum N.cums x once.cums says.1) once.resets once.policies once.usages once.vendors,
       stays_sourced N (with_cum N x) refl sourced sourced.parents sourced.plants sourced.ships
-          (All-push (λ s. is_taken_from N s.pair.0 s.from.0 ≡ true) N.cums x sourced.cums says.0) sourced.resets sourced.usages sourced.arrive,
+          (All-push (λ s. is_taken_from N s.pair.0 s.from.0 ≡ true) N.cums x sourced.cums says.0) sourced.resets sourced.usages sourced.vendors sourced.named
+          sourced.arrive,
     )
 
 -- ---- new starts
@@ -177,8 +184,8 @@ pub reset_keeps : (N : Table) (row : List (List ℕ)) (x : ResetRow) → IsOnce 
 reset_keeps N row x once sourced is =
     let says = reset_lane N row x is in (
       stays_once N (with_reset N x) refl once once.plants once.bills once.cums (distinct_push is_same_reset N.resets x once.resets says.1) once.policies
-          once.usages,
+          once.usages once.vendors,
       stays_sourced N (with_reset N x) refl sourced sourced.parents sourced.plants sourced.ships sourced.cums
-          (All-push (λ s. is_taken_from N s.pair.0 s.from.0 ≡ true) N.resets x sourced.resets says.0) sourced.usages
+          (All-push (λ s. is_taken_from N s.pair.0 s.from.0 ≡ true) N.resets x sourced.resets says.0) sourced.usages sourced.vendors sourced.named
           (All-push (λ s. rises_from 0 (arrivals N s.from.0 s.pair.0) ≡ true) N.resets x sourced.arrive says.2),
     )

@@ -37,7 +37,8 @@ usage_keeps N row u once sourced is =
     let a = after (usage_terms row (horizon N)) (usage_fits N) u is in
     let says = fits N a.0 u a.2 in (
       stays_once N (with_usage N u) refl once once.plants once.bills once.cums once.resets once.policies
-          (distinct_push is_same_usage N.usages u once.usages says.new),
+          (distinct_push is_same_usage N.usages u once.usages says.new) once.vendors,
       stays_sourced N (with_usage N u) refl sourced sourced.parents sourced.plants sourced.ships sourced.cums sourced.resets
-          (All-push (λ u. is_joined N u.parent.0 u.component.0 ≡ true) N.usages u sourced.usages says.joined) sourced.arrive,
+          (All-push (λ u. is_joined N u.parent.0 u.component.0 ≡ true) N.usages u sourced.usages says.joined) sourced.vendors sourced.named
+          sourced.arrive,
     )

@@ -1,6 +1,6 @@
 -- Each fault that a row may have stands in the list of its kind.
 use Rattle.std.proofs.Common.{◌≡◌, ℕ, ◌-◌, Bool, true, false, List, length, Some, is_some, not, nat_lt, ◌==◌, Result, Ok, Err, IfErr, refl, sym, ap, ◌∙◌, subst}
-use Rattle.std.proofs.Common.{arith}
+use Rattle.std.proofs.Common.{if◌then◌else◌, Option, None, arith}
 use Rattle.std.specs.List.{Contains, list_all}
 use Rattle.std.specs.Str.{is_utf8}
 use Rattle.std.proofs.lemmas.Bool.{false≢true}
@@ -28,8 +28,9 @@ use Rattle.mrp_validation.specs.Grammar.{field, firm_of, firm_terms, has_policy,
 use Rattle.mrp_validation.specs.Grammar.{has_bill, has_cum, has_reset, is_made, knows_sources, lane_terms, LaneTerms, may_follow, name_field}
 use Rattle.mrp_validation.specs.Grammar.{pair_fits, pair_terms, PairTerms, plant_in_row, policy_of, policy_terms, ranged, receipt_made, receipt_of, reset_in_row}
 use Rattle.mrp_validation.specs.Grammar.{row_kind, run_terms, RunTerms, ship_of, ship_terms, TellsFault, used}
-use Rattle.mrp_validation.specs.Grammar.{has_usage, usage_fits, usage_terms, UsageTerms}
+use Rattle.mrp_validation.specs.Grammar.{has_usage, has_vendor, is_bought, is_empty, ranged_if_any, usage_fits, usage_terms, UsageTerms, vendor_fits, vendor_terms, VendorTerms}
 use Rattle.mrp_validation.specs.Reading.{first_terms, is_run, kind_of_row, row_after, row_of_kind, started, Starts, StartsWith, UnlessMemory}
+use Rattle.mrp_validation.proofs.ListedDay.{day_listed}
 use Rattle.mrp_validation.proofs.KeepingSteps.{chosen, found, steps, tested}
 
 module _ (P : TableFaultKind → Type 0) where
@@ -78,6 +79,20 @@ module _ (P : TableFaultKind → Type 0) where
       steps P _ _ (name (field row 1) m) (λ plant. steps P _ _ (name (field row 2) m)
       (λ parent. steps P _ _ (name (field row 3) m) (λ component. steps P _ _ (number (field row 4) 0 (periods - 1) n)
       (λ period. steps P _ _ (number (field row 5) 0 MOST_PER n) (λ per. steps P _ _ (number (field row 6) 1 MOST_PER n) (λ base. tt))))))
+
+  number_if_any : (text : List ℕ) (low high : ℕ) → P fault.BadNumber → IfErr (ranged_if_any text low high) P
+  number_if_any text low high h = by (is_empty text)
+    where
+      by : (b : Bool) → IfErr {T = Option ℕ} (if b then Ok None else (ranged text low high >>= λ n. Ok (Some n))) P
+      by true = tt
+      by false = steps P _ _ (number text low high h) (λ n. tt)
+
+  vendor-terms : (row : List (List ℕ)) (periods : ℕ) → P fault.BadName → P fault.BadNumber → IfErr (vendor_terms row periods) P
+  unfolding vendor_terms
+  vendor-terms row periods m n =
+      steps P _ _ (name (field row 1) m) (λ vendor. steps P _ _ (name (field row 2) m)
+      (λ plant. steps P _ _ (name (field row 3) m) (λ item. steps P _ _ (number (field row 4) 0 MOST n)
+      (λ figure. steps P _ _ (number (field row 5) 0 MOST n) (λ transit. steps P _ _ (number_if_any (field row 6) 0 (periods - 1) n) (λ reset. tt))))))
 
   lane-terms : (row : List (List ℕ)) → P fault.BadName → IfErr (lane_terms row) P
   unfolding lane_terms
@@ -139,6 +154,14 @@ module _ (P : TableFaultKind → Type 0) where
   known-pair : (N : Table) (plant item : List ℕ) → P fault.UnknownPlant → P fault.UnknownPair → IfErr (known_pair N plant item) P
   unfolding known_pair
   known-pair N plant item u p = steps P _ _ (found P (plant_no N plant) _ u) (λ k. steps P _ _ (found P (pair_named N (Some k) item) _ p) (λ x. tt))
+
+  vendor-fits : (N : Table) (t : VendorTerms) → P fault.Repeated → P fault.UnknownPlant → P fault.UnknownPair → P fault.NotSourced → P fault.SelfSource
+      → IfErr (vendor_fits N t) P
+  unfolding vendor_fits
+  vendor-fits N t r u p n s =
+      steps P _ _ (tested P (not (has_vendor N (pair_named N (plant_no N t.plant) t.item))) _ r)
+      (λ fresh. steps P _ _ (known-pair N t.plant t.item u p) (λ found. steps P _ _ (tested P (is_bought N found.1.0) _ n)
+      (λ bought. steps P _ _ (tested P (not (has_plant N t.vendor)) _ s) (λ others. tt))))
 
   amount-of : {A : Type 0} (N : Table) (row : List (List ℕ)) (has_room : Bool) (made : PairNo → ℕ → ℕ → A) → P fault.BadName → P fault.BadNumber
       → P fault.UnknownPlant → P fault.UnknownPair → P fault.TooMany
@@ -252,6 +275,13 @@ of-kind kind.Usage N row =
     let P = Contains (faults_of (Ok kind.Usage)) in
     steps P _ _ (steps P _ _ (usage-terms P row (horizon N) (4, omega arith, refl) (5, omega arith, refl))
     (λ t. usage-fits P N t (6, omega arith, refl) (7, omega arith, refl) (8, omega arith, refl) (9, omega arith, refl) (10, omega arith, refl))) (λ x. tt)
+of-kind kind.Vendor N row =
+    let P = Contains (faults_of (Ok kind.Vendor)) in
+    steps P _ _ (steps P _ _ (vendor-terms P row (horizon N) (4, omega arith, refl) (5, omega arith, refl))
+    (λ t. vendor-fits P N t (6, omega arith, refl) (7, omega arith, refl) (8, omega arith, refl) (9, omega arith, refl) (10, omega arith, refl))) (λ x. tt)
+of-kind kind.Day N row =
+    let P = Contains (faults_of (Ok kind.Day)) in
+    steps P _ _ (day_listed P (5, omega arith, refl) (6, omega arith, refl) N row (4, omega arith, refl)) (λ c. tt)
 
 -- the first four faults are in every list
 order : (k : Kind) → Contains (faults_of (Ok k)) fault.KindOrder
@@ -267,6 +297,8 @@ order kind.Reset = (3, omega arith, refl)
 order kind.Firm = (3, omega arith, refl)
 order kind.Policy = (3, omega arith, refl)
 order kind.Usage = (3, omega arith, refl)
+order kind.Vendor = (3, omega arith, refl)
+order kind.Day = (3, omega arith, refl)
 
 no-kind : (row : List (List ℕ)) → IfErr (kind_of_row row) (Contains faults_of_any)
 no-kind row = kind-of-row (Contains faults_of_any) row (0, omega arith, refl) (1, omega arith, refl) (2, omega arith, refl)
@@ -322,6 +354,8 @@ by-kind kind.Reset row e starts = of-order kind.Reset e starts
 by-kind kind.Firm row e starts = of-order kind.Firm e starts
 by-kind kind.Policy row e starts = of-order kind.Policy e starts
 by-kind kind.Usage row e starts = of-order kind.Usage e starts
+by-kind kind.Vendor row e starts = of-order kind.Vendor e starts
+by-kind kind.Day row e starts = of-order kind.Day e starts
 
 of-first : (r : Result Kind TableFaultKind) (row : List (List ℕ)) (e : TableFaultKind) → IfErr r (Contains faults_of_any)
     → StartsWith (r >>= λ k. check (is_run k) fault.KindOrder >>= λ u. run_terms row) (Err e) → Contains (faults_of r) e
@@ -410,6 +444,20 @@ rise kind.Usage = (
     ),
   ),
 )
+rise kind.Vendor = (
+  omega arith,
+  (
+    omega arith,
+    (
+      omega arith,
+      (
+        omega arith,
+        (omega arith, (omega arith, (omega arith, (omega arith, (omega arith, (omega arith, tt)))))),
+      ),
+    ),
+  ),
+)
+rise kind.Day = (omega arith, (omega arith, (omega arith, (omega arith, (omega arith, (omega arith, tt))))))
 
 -- ---- no list has a failed read
 
@@ -430,6 +478,8 @@ all_of_row (Ok kind.Reset) = refl
 all_of_row (Ok kind.Firm) = refl
 all_of_row (Ok kind.Policy) = refl
 all_of_row (Ok kind.Usage) = refl
+all_of_row (Ok kind.Vendor) = refl
+all_of_row (Ok kind.Day) = refl
 all_of_row (Err e) = refl
 
 unlisted : (row : List (List ℕ)) → IsListedFault row fault.ReadFault → ⊥

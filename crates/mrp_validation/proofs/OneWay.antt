@@ -1,8 +1,9 @@
 -- Rows are read one way: their terms have one calendar or one fault, and so one answer follows.
-use Rattle.std.proofs.Common.{◌≡◌, ℕ, List, [], ◌∷◌, Result, Ok, Err, ℤ, ◌<ℤ◌, ◌≤ℤ◌, refl, sym, ap, ◌∙◌, subst, arith}
+use Rattle.std.proofs.Common.{◌≡◌, ◌≤◌, ℕ, List, [], ◌∷◌, Result, Ok, Err, pos, refl, sym, ap, ◌∙◌, subst, arith}
 use Rattle.std.proofs.lemmas.Int.{ints}
 use Rattle.mrp_cal.proofs.Days.{one_day}
-use Rattle.mrp_cal.specs.Calendar.{CalendarTerms, IsCalendar, IsPeriodLength, last_day}
+use Rattle.mrp_cal.specs.declared.begun.Begun.{Begun}
+use Rattle.mrp_cal.specs.Calendar.{CalendarTerms, IsCalendar, IsPeriodLength, last_date, last_day}
 use Rattle.mrp_cal.specs.Made.{IsCalendarFrom, IsPastEnd}
 use Rattle.mrp_cal.specs.declared.fault.CalFault.{CalFault}
 use Rattle.mrp_cal.specs.declared.fault.CalFault.TheVariants as cal
@@ -14,25 +15,30 @@ use Rattle.mrp_validation.specs.Reading.{first_terms, IsCalendarOf, read_from, R
 
 -- ---- the calendar of a run
 
-same_parts : (f g : ℤ) (d e p q : ℕ) → f ≡ g → d ≡ e → p ≡ q → ◌≡◌ {A =
-    CalendarTerms} (record { first = f; days = d; periods = p }) (record { first = g; days = e; periods = q })
-same_parts f g d e p q first days periods = rw (first, days, periods) refl
+same_day : (a b : ℕ) → pos a ≡ pos b → a ≡ b
+same_day a b e = omega (arith, ints, e)
+
+same_parts : (f g d e p q : ℕ) (b c : List Begun) → f ≡ g → d ≡ e → p ≡ q → b ≡ c
+    → ◌≡◌ {A = CalendarTerms} (record { first = f; days = d; periods = p; begun = b }) (record { first = g; days = e; periods = q; begun = c })
+same_parts f g d e p q b c first days periods begun = rw (first, days, periods, begun) refl
 
 -- two calendars of one text, one length and one count are one
 same_terms : (text : List ℕ) (days periods : ℕ) (a b : CalendarTerms) → IsCalendarFrom text days periods a → IsCalendarFrom text days periods b → a ≡ b
 same_terms text days periods a b h k =
-    same_parts a.first b.first a.days b.days a.periods b.periods (one_day text a.first b.first h.first k.first) (h.days ∙ sym k.days) (h.periods
-    ∙ sym k.periods)
+    same_parts a.first b.first a.days b.days a.periods b.periods a.begun b.begun (same_day a.first b.first (one_day text (pos a.first) (pos b.first) h.first
+    k.first)) (h.days ∙ sym k.days) (h.periods ∙ sym k.periods) (h.begun ∙ sym k.begun)
 
--- a day can't be both by another and after it
-not_both : (day last : ℤ) → day ≤ℤ last → last <ℤ day → ⊥
-not_both day last by past = omega (arith, ints, by, past)
+-- a calendar whose periods follow each other ends by the last date
+ends_by : (c : CalendarTerms) → IsCalendar c → c.begun ≡ [] → last_day c ≤ last_date
+ends_by c is none =
+    let ends = rw none at is.begun in
+    rw none (omega (arith, ends))
 
 -- a calendar doesn't end after the last date
 not_past : (text : List ℕ) (days periods : ℕ) (a b : CalendarTerms) → IsCalendarFrom text days periods a → IsCalendar a → IsPastEnd text days periods b → ⊥
 not_past text days periods a b h is past =
     let ends : IsCalendar b = subst IsCalendar (same_terms text days periods a b h past.from) is in
-    not_both (last_day b) _ ends.until past.past
+    omega (arith, ends_by b ends past.from.begun, past.past)
 
 has_length : (days : ℕ) (a : CalendarTerms) → a.days ≡ days → IsCalendar a → IsPeriodLength days
 has_length days a same is = subst IsPeriodLength same is.length
@@ -40,19 +46,19 @@ has_length days a same is = subst IsPeriodLength same is.length
 -- terms have one calendar, or one fault
 pub one_calendar : (t : RunTerms) (a b : Result CalendarTerms CalFault) → IsCalendarOf t a → IsCalendarOf t b → a ≡ b
 one_calendar t (Ok c) (Ok d) h k = ap (λ (x : CalendarTerms). Ok x) (same_terms t.first t.days t.periods c d h.0 k.0)
-one_calendar t (Ok c) (Err cal.BadDate) h k = absurd (k (c.first, h.0.first, h.1.since))
+one_calendar t (Ok c) (Err cal.BadDate) h k = absurd (k (c.first, h.0.first))
 one_calendar t (Ok c) (Err cal.DaysOutOfRange) h k = absurd (k.1 (has_length t.days c h.0.days h.1))
 one_calendar t (Ok c) (Err cal.PastEnd) h k = absurd (not_past t.first t.days t.periods c k.1.0 h.0 h.1 k.1.1)
-one_calendar t (Err cal.BadDate) (Ok d) h k = absurd (h (d.first, k.0.first, k.1.since))
+one_calendar t (Err cal.BadDate) (Ok d) h k = absurd (h (d.first, k.0.first))
 one_calendar t (Err cal.DaysOutOfRange) (Ok d) h k = absurd (h.1 (has_length t.days d k.0.days k.1))
 one_calendar t (Err cal.PastEnd) (Ok d) h k = absurd (not_past t.first t.days t.periods d h.1.0 k.0 k.1 h.1.1)
 one_calendar t (Err cal.BadDate) (Err cal.BadDate) h k = refl
 one_calendar t (Err cal.BadDate) (Err cal.DaysOutOfRange) h k = absurd (h k.0)
-one_calendar t (Err cal.BadDate) (Err cal.PastEnd) h k = absurd (h (k.1.0.first, k.1.1.from.first, k.1.1.since))
+one_calendar t (Err cal.BadDate) (Err cal.PastEnd) h k = absurd (h (k.1.0.first, k.1.1.from.first))
 one_calendar t (Err cal.DaysOutOfRange) (Err cal.BadDate) h k = absurd (k h.0)
 one_calendar t (Err cal.DaysOutOfRange) (Err cal.DaysOutOfRange) h k = refl
 one_calendar t (Err cal.DaysOutOfRange) (Err cal.PastEnd) h k = absurd (h.1 k.0)
-one_calendar t (Err cal.PastEnd) (Err cal.BadDate) h k = absurd (k (h.1.0.first, h.1.1.from.first, h.1.1.since))
+one_calendar t (Err cal.PastEnd) (Err cal.BadDate) h k = absurd (k (h.1.0.first, h.1.1.from.first))
 one_calendar t (Err cal.PastEnd) (Err cal.DaysOutOfRange) h k = absurd (k.1 h.0)
 one_calendar t (Err cal.PastEnd) (Err cal.PastEnd) h k = refl
 

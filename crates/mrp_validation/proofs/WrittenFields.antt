@@ -39,6 +39,8 @@ word_of kind.Reset = codes "reset"
 word_of kind.Firm = codes "firm"
 word_of kind.Policy = codes "policy"
 word_of kind.Usage = codes "usage"
+word_of kind.Vendor = codes "vendor"
+word_of kind.Day = codes "day"
 
 chosen : (w : List ℕ) (named : Kind) (rest : Option Kind) (k : Kind) → (if bytes_eq w (word_of named) then Some named else rest) ≡ Some k
     → (rest ≡ Some k → w ≡ word_of k) → w ≡ word_of k
@@ -55,7 +57,8 @@ word_is w k is =
     chosen w kind.Demand _ k is (λ e1. chosen w kind.Receipt _ k e1
     (λ e2. chosen w kind.Ship _ k e2 (λ e3. chosen w kind.Bill _ k e3 (λ e4. chosen w kind.Pair _ k e4
     (λ e5. chosen w kind.Firm _ k e5 (λ e6. chosen w kind.Policy _ k e6 (λ e7. chosen w kind.Usage _ k e7 (λ e8. chosen w kind.Cum _ k e8
-    (λ e9. chosen w kind.Reset _ k e9 (λ e10. chosen w kind.Plant _ k e10 (λ e11. chosen w kind.Run None k e11 (λ e12. absurd (cc)))))))))))))
+    (λ e9. chosen w kind.Reset _ k e9 (λ e10. chosen w kind.Vendor _ k e10 (λ e11. chosen w kind.Day _ k e11 (λ e12. chosen w kind.Plant _ k e12
+    (λ e13. chosen w kind.Run None k e13 (λ e14. absurd (cc)))))))))))))))
 
 -- ---- a row has eight fields
 
@@ -81,7 +84,7 @@ fields_same a b c d e f g h a' b' c' d' e' f' g' h' ea eb ec ed ee ef eg eh = cc
 same_length : (n m : ℕ) → (n == m) ≡ true → n ≡ m
 same_length n m e = eqb-true n m e
 
-empty : (text : List ℕ) → is_empty text ≡ true → text ≡ []
+pub empty : (text : List ℕ) → is_empty text ≡ true → text ≡ []
 empty [] e = refl
 empty (c ∷ cs) e = absurd (let n = eqb-true (length (c ∷ cs)) 0 e in omega (arith, n))
 
@@ -135,6 +138,12 @@ pub two_used : (row : List (List ℕ)) (word b : List ℕ) → length row ≡ 8 
     → row ≡ word ∷ b ∷ [] ∷ [] ∷ [] ∷ [] ∷ [] ∷ [] ∷ []
 two_used row word b size ew free eb =
     eight row size ∙ fields_same _ _ _ _ _ _ _ _ word b [] [] [] [] [] [] ew eb (empty _ free.two) (empty _ free.three) (empty _ free.four) (empty _ free.five)
+    (empty _ free.six) (empty _ free.seven)
+
+pub three_used : (row : List (List ℕ)) (word b c : List ℕ) → length row ≡ 8 → field row 0 ≡ word → AreFree row 3 → field row 1 ≡ b → field row 2 ≡ c
+    → row ≡ word ∷ b ∷ c ∷ [] ∷ [] ∷ [] ∷ [] ∷ [] ∷ []
+three_used row word b c size ew free eb ec =
+    eight row size ∙ fields_same _ _ _ _ _ _ _ _ word b c [] [] [] [] [] ew eb ec (empty _ free.three) (empty _ free.four) (empty _ free.five)
     (empty _ free.six) (empty _ free.seven)
 
 pub four_used : (row : List (List ℕ)) (word b c d : List ℕ) → length row ≡ 8 → field row 0 ≡ word → AreFree row 4 → field row 1 ≡ b → field row 2 ≡ c

@@ -100,7 +100,7 @@ amount_terms_said row periods t is =
       quantity = ranged_text (field row 4) 1 MOST_IN_ROW t.quantity read.quantity;
     }
 
-known_said : (N : Table) (plant item : List ℕ) (found : PlantNo × PairNo) → known_pair N plant item ≡ Ok found → IsNamed N plant item found.1.0
+pub known_said : (N : Table) (plant item : List ℕ) (found : PlantNo × PairNo) → known_pair N plant item ≡ Ok found → IsNamed N plant item found.1.0
 unfolding known_pair
 known_said N plant item found is =
     let a = after_some (plant_no N plant) _ _ found is in
@@ -323,6 +323,8 @@ run_kind kind.Reset e = absurd (cc)
 run_kind kind.Firm e = absurd (cc)
 run_kind kind.Policy e = absurd (cc)
 run_kind kind.Usage e = absurd (cc)
+run_kind kind.Vendor e = absurd (cc)
+run_kind kind.Day e = absurd (cc)
 
 pub run_said : (row : List (List ℕ)) (t : RunTerms) (c : CalendarTerms) → first_terms row ≡ Ok t → IsCalendarFrom t.first t.days t.periods c → IsCalendar c
     → row ≡ run_fields c
@@ -333,4 +335,4 @@ run_said row t c is from calendar =
     let k = of_kind row kind.Run (a.1 ∙ ap (λ (k : Kind). Ok k) (run_kind a.0 b.0)) in
     let says = run_terms_said row t b.1 in
     four_used row _ (day_text c.first) (decimal c.days) (decimal c.periods) k.size k.word k.free
-    (says.first ∙ first_text t.first c from.first calendar) (says.days ∙ ap decimal (sym from.days)) (says.periods ∙ ap decimal (sym from.periods))
+    (says.first ∙ first_text t.first c from.first) (says.days ∙ ap decimal (sym from.days)) (says.periods ∙ ap decimal (sym from.periods))

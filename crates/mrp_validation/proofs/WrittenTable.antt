@@ -14,27 +14,31 @@ use Rattle.mrp_master_data.specs.declared.rows.ResetRow.{ResetRow}
 use Rattle.mrp_master_data.specs.declared.rows.ShipRow.{ShipRow}
 use Rattle.mrp_master_data.specs.declared.rows.UsageRow.{UsageRow}
 use Rattle.mrp_master_data.specs.Growing.{with_bill, with_cum, with_demand, with_firm, with_plant, with_policy, with_receipt, with_reset, with_ship, with_usage}
+use Rattle.mrp_master_data.specs.Growing.{with_calendar, with_vendor}
+use Rattle.mrp_master_data.specs.Rows.{Vendor}
 use Rattle.mrp_master_data.specs.Table.{Table}
 use Rattle.mrp_master_data.specs.Growing.{empty_table}
 use Rattle.mrp_validation.specs.declared.fault.TableFaultKind.{TableFaultKind}
 use Rattle.mrp_validation.specs.declared.kind.Kind.{Kind}
 use Rattle.mrp_validation.specs.declared.kind.Kind.TheVariants as kind
 use Rattle.mrp_validation.specs.Grammar.{◌>>=◌, bill_of, cum_of, demand_of, may_follow, pair_fits, pair_row, pair_terms, PairTerms, kind_place, plant_in_row}
-use Rattle.mrp_validation.specs.Grammar.{firm_of, policy_of, receipt_of, reset_in_row, RunTerms, ship_of, usage_of, with_pair_terms}
+use Rattle.mrp_validation.specs.Grammar.{day_in_row, firm_of, policy_of, receipt_of, reset_in_row, RunTerms, ship_of, usage_of, vendor_in_row, with_pair_terms}
 use Rattle.mrp_validation.specs.Reading.{at_row, first_lacking, first_terms, IsCalendarOf, IsReadSoFar, kind_of_row, read_from, Reads, row_after, row_of_kind}
 use Rattle.mrp_validation.specs.Reading.{rows_after, started, Starts, StartsWith, waiting}
 use Rattle.mrp_validation.specs.Written.{AreNumbered, bill_fields, cum_fields, demand_fields, later_rows, pair_rows, plant_fields, receipt_fields, reset_fields}
-use Rattle.mrp_validation.specs.Written.{firm_fields, policy_fields, rows_of, run_fields, ship_fields, usage_fields}
+use Rattle.mrp_validation.specs.Written.{day_fields, firm_fields, policy_fields, rows_of, run_fields, ship_fields, usage_fields, vendor_fields}
 use Rattle.mrp_validation.proofs.Accept.{waited, was_read, went_on}
 use Rattle.mrp_validation.proofs.Keeping.{follows, row_after_keeps}
 use Rattle.mrp_validation.proofs.KeepingPair.{fits}
 use Rattle.mrp_validation.proofs.KeepingShares.{pair_terms_are}
 use Rattle.mrp_validation.proofs.KeepingSteps.{after, after_check, same_Ok}
 use Rattle.mrp_validation.proofs.Whole.{first_keeps}
+use Rattle.mrp_validation.proofs.WrittenBegun.{day_said}
 use Rattle.mrp_validation.proofs.WrittenFields.{IsOfKind, of_kind}
 use Rattle.mrp_validation.proofs.WrittenPair.{pair_numbered, pair_terms_said, pairs_written}
 use Rattle.mrp_validation.proofs.WrittenRows.{bill_said, cum_said, demand_said, firm_said, plant_said, policy_said, receipt_said, reset_said, run_said, ship_said}
 use Rattle.mrp_validation.proofs.WrittenRows.{usage_said}
+use Rattle.mrp_validation.proofs.WrittenVendor.{vendor_said}
 
 abbrev Row : Type 0
 Row = List (List ℕ)
@@ -76,6 +80,8 @@ record IsFresh (N : Table) (place : ℕ) : Type 0 where
   firms : place < 9 → N.firms ≡ []
   policies : place < 10 → N.policies ≡ []
   usages : place < 11 → N.usages ≡ []
+  vendors : place < 12 → N.vendors ≡ []
+  days : place < 13 → N.calendar.begun ≡ []
 
 stays_fresh : (N : Table) (m n : ℕ) → IsFresh N m → m ≤ n → IsFresh N n
 stays_fresh N m n fresh le = record {
@@ -89,11 +95,19 @@ stays_fresh N m n fresh le = record {
   firms = λ lt. fresh.firms (omega arith);
   policies = λ lt. fresh.policies (omega arith);
   usages = λ lt. fresh.usages (omega arith);
+  vendors = λ lt. fresh.vendors (omega arith);
+  days = λ lt. fresh.days (omega arith);
 }
 
 -- the rows from a kind on
+abbrev from_vendors : Table → List Row
+from_vendors N = map (vendor_fields N) N.vendors ++ map day_fields N.calendar.begun
+
+abbrev from_usages : Table → List Row
+from_usages N = map (usage_fields N) N.usages ++ from_vendors N
+
 abbrev from_policies : Table → List Row
-from_policies N = map (policy_fields N) N.policies ++ map (usage_fields N) N.usages
+from_policies N = map (policy_fields N) N.policies ++ from_usages N
 
 abbrev from_firms : Table → List Row
 from_firms N = map (firm_fields N) N.firms ++ from_policies N
@@ -120,8 +134,14 @@ abbrev from_pairs : Table → List Row
 from_pairs N = pair_rows N 0 N.pairs ++ from_bills N
 
 module _ (N : Table) (place : ℕ) (fresh : IsFresh N place) where
-  no_usages : place < 11 → map (usage_fields N) N.usages ≡ []
-  no_usages lt = none_of (usage_fields N) N.usages (fresh.usages lt)
+  no_days : place < 13 → map day_fields N.calendar.begun ≡ []
+  no_days lt = none_of day_fields N.calendar.begun (fresh.days lt)
+
+  no_vendors : place < 12 → from_vendors N ≡ []
+  no_vendors lt = none _ _ (none_of (vendor_fields N) N.vendors (fresh.vendors lt)) (no_days (omega arith))
+
+  no_usages : place < 11 → from_usages N ≡ []
+  no_usages lt = none _ _ (none_of (usage_fields N) N.usages (fresh.usages lt)) (no_vendors (omega arith))
 
   no_policies : place < 10 → from_policies N ≡ []
   no_policies lt = none _ _ (none_of (policy_fields N) N.policies (fresh.policies lt)) (no_usages (omega arith))
@@ -157,7 +177,7 @@ IsNumbered N = AreNumbered 0 N.pairs (length N.items)
 
 -- the table with a row more, written out, has that row more
 record Adds (N M : Table) (k : Kind) (row : Row) : Type 0 where
-  calendar : M.calendar ≡ N.calendar
+  calendar : run_fields M.calendar ≡ run_fields N.calendar
   numbered : IsNumbered N → IsNumbered M
   rows : later_rows M ≡ later_rows N ++ row ∷ []
   fresh : IsFresh M (kind_place k)
@@ -177,6 +197,8 @@ module _ (N : Table) (row : Row) where
         firms = fresh.firms;
         policies = fresh.policies;
         usages = fresh.usages;
+        vendors = fresh.vendors;
+        days = fresh.days;
       } in
       record {
         calendar = refl;
@@ -205,6 +227,8 @@ module _ (N : Table) (row : Row) where
       firms = fresh.firms;
       policies = fresh.policies;
       usages = fresh.usages;
+      vendors = fresh.vendors;
+      days = fresh.days;
     };
   }
 
@@ -227,6 +251,8 @@ module _ (N : Table) (row : Row) where
       firms = fresh.firms;
       policies = fresh.policies;
       usages = fresh.usages;
+      vendors = fresh.vendors;
+      days = fresh.days;
     };
   }
 
@@ -250,6 +276,8 @@ module _ (N : Table) (row : Row) where
       firms = fresh.firms;
       policies = fresh.policies;
       usages = fresh.usages;
+      vendors = fresh.vendors;
+      days = fresh.days;
     };
   }
 
@@ -274,6 +302,8 @@ module _ (N : Table) (row : Row) where
       firms = fresh.firms;
       policies = fresh.policies;
       usages = fresh.usages;
+      vendors = fresh.vendors;
+      days = fresh.days;
     };
   }
 
@@ -298,6 +328,8 @@ module _ (N : Table) (row : Row) where
       firms = fresh.firms;
       policies = fresh.policies;
       usages = fresh.usages;
+      vendors = fresh.vendors;
+      days = fresh.days;
     };
   }
 
@@ -322,6 +354,8 @@ module _ (N : Table) (row : Row) where
       firms = fresh.firms;
       policies = fresh.policies;
       usages = fresh.usages;
+      vendors = fresh.vendors;
+      days = fresh.days;
     };
   }
 
@@ -347,6 +381,8 @@ module _ (N : Table) (row : Row) where
       firms = λ lt. absurd (omega arith);
       policies = fresh.policies;
       usages = fresh.usages;
+      vendors = fresh.vendors;
+      days = fresh.days;
     };
   }
 
@@ -358,7 +394,7 @@ module _ (N : Table) (row : Row) where
         (behind (map (bill_fields N) N.bills) _ _ row (behind (map (demand_fields N) N.demands) _ _ row
         (behind (map (receipt_fields N) N.receipts) _ _ row (behind (map (ship_fields N) N.ships) _ _ row (behind (map (cum_fields N) N.cums) _ _ row
         (behind (map (reset_fields N) N.resets) _ _ row (behind (map (firm_fields N) N.firms) _ _ row
-        (at_end _ (map (policy_fields N) N.policies) (map (usage_fields N) N.usages) row
+        (at_end _ (map (policy_fields N) N.policies) (from_usages N) row
         (map_push (policy_fields N) N.policies x row (policy_said N row x k is)) (no_usages N 10 fresh (omega arith)))))))))));
     fresh = record {
       pairs = fresh.pairs;
@@ -372,6 +408,8 @@ module _ (N : Table) (row : Row) where
       firms = fresh.firms;
       policies = λ lt. absurd (omega arith);
       usages = fresh.usages;
+      vendors = fresh.vendors;
+      days = fresh.days;
     };
   }
 
@@ -384,7 +422,8 @@ module _ (N : Table) (row : Row) where
         (behind (map (receipt_fields N) N.receipts) _ _ row (behind (map (ship_fields N) N.ships) _ _ row (behind (map (cum_fields N) N.cums) _ _ row
         (behind (map (reset_fields N) N.resets) _ _ row (behind (map (firm_fields N) N.firms) _ _ row
         (behind (map (policy_fields N) N.policies) _ _ row
-        (map_push (usage_fields N) N.usages x row (usage_said N row x k is)))))))))));
+        (at_end _ (map (usage_fields N) N.usages) (from_vendors N) row (map_push (usage_fields N) N.usages x row (usage_said N row x k is))
+        (no_vendors N 11 fresh (omega arith))))))))))));
     fresh = record {
       pairs = fresh.pairs;
       bills = fresh.bills;
@@ -397,8 +436,66 @@ module _ (N : Table) (row : Row) where
       firms = fresh.firms;
       policies = fresh.policies;
       usages = λ lt. absurd (omega arith);
+      vendors = fresh.vendors;
+      days = fresh.days;
     };
   }
+
+  vendor_adds : (x : Vendor) → IsFresh N 12 → IsOfKind row kind.Vendor → vendor_in_row N row ≡ Ok x → Adds N (with_vendor N x) kind.Vendor row
+  vendor_adds x fresh k is = record {
+    calendar = refl;
+    numbered = λ h. h;
+    rows = behind (map plant_fields N.plants) _ _ row (behind (pair_rows N 0 N.pairs) _ _ row
+        (behind (map (bill_fields N) N.bills) _ _ row (behind (map (demand_fields N) N.demands) _ _ row
+        (behind (map (receipt_fields N) N.receipts) _ _ row (behind (map (ship_fields N) N.ships) _ _ row (behind (map (cum_fields N) N.cums) _ _ row
+        (behind (map (reset_fields N) N.resets) _ _ row (behind (map (firm_fields N) N.firms) _ _ row
+        (behind (map (policy_fields N) N.policies) _ _ row (behind (map (usage_fields N) N.usages) _ _ row
+        (at_end _ (map (vendor_fields N) N.vendors) (map day_fields N.calendar.begun) row
+        (map_push (vendor_fields N) N.vendors x row (vendor_said N row x k is)) (no_days N 12 fresh (omega arith)))))))))))));
+    fresh = record {
+      pairs = fresh.pairs;
+      bills = fresh.bills;
+      demands = fresh.demands;
+      receipts = fresh.receipts;
+      ships = fresh.ships;
+      cums =
+          fresh.cums;
+      resets = fresh.resets;
+      firms = fresh.firms;
+      policies = fresh.policies;
+      usages = fresh.usages;
+      vendors = λ lt. absurd (omega arith);
+      days = fresh.days;
+    };
+  }
+
+  day_adds : (c : CalendarTerms) → IsFresh N 13 → IsOfKind row kind.Day → day_in_row N row ≡ Ok c → Adds N (with_calendar N c) kind.Day row
+  day_adds c fresh k is =
+      let said = day_said N row c k is in record {
+        calendar = said.run;
+        numbered = λ h. h;
+        rows = behind (map plant_fields N.plants) _ _ row (behind (pair_rows N 0 N.pairs) _ _ row
+            (behind (map (bill_fields N) N.bills) _ _ row (behind (map (demand_fields N) N.demands) _ _ row
+            (behind (map (receipt_fields N) N.receipts) _ _ row (behind (map (ship_fields N) N.ships) _ _ row (behind (map (cum_fields N) N.cums) _ _ row
+            (behind (map (reset_fields N) N.resets) _ _ row (behind (map (firm_fields N) N.firms) _ _ row
+            (behind (map (policy_fields N) N.policies) _ _ row (behind (map (usage_fields N) N.usages) _ _ row
+            (behind (map (vendor_fields N) N.vendors) _ _ row
+            (ap (map day_fields) said.begun_are ∙ map_push day_fields N.calendar.begun said.begun row said.row_is))))))))))));
+        fresh = record {
+          pairs = fresh.pairs;
+          bills = fresh.bills;
+          demands = fresh.demands;
+          receipts = fresh.receipts;
+          ships = fresh.ships;
+          cums = fresh.cums;
+          resets = fresh.resets;
+          firms = fresh.firms;
+          policies = fresh.policies;
+          usages = fresh.usages;
+          vendors = fresh.vendors;
+          days = λ lt. absurd (omega arith);
+        };
+      }
 
 -- a pair, with its item and its sources
 pair_adds : (N M : Table) (last : Kind) (row : Row) → IsReadSoFar N last → IsFresh N 2 → IsOfKind row kind.Pair → pair_row N row ≡ Ok M → Adds N M kind.Pair row
@@ -430,6 +527,8 @@ pair_adds N M last row so_far fresh k is =
       firms = fresh.firms;
       policies = fresh.policies;
       usages = fresh.usages;
+      vendors = fresh.vendors;
+      days = fresh.days;
     }
 
 -- what was read of a row makes the table with it
@@ -455,6 +554,8 @@ row_adds kind.Reset last N M row so_far fresh k is = made_adds N kind.Reset row 
 row_adds kind.Firm last N M row so_far fresh k is = made_adds N kind.Firm row (firm_of N row) (with_firm N) M (λ x. firm_adds N row x fresh k) is
 row_adds kind.Policy last N M row so_far fresh k is = made_adds N kind.Policy row (policy_of N row) (with_policy N) M (λ x. policy_adds N row x fresh k) is
 row_adds kind.Usage last N M row so_far fresh k is = made_adds N kind.Usage row (usage_of N row) (with_usage N) M (λ x. usage_adds N row x fresh k) is
+row_adds kind.Vendor last N M row so_far fresh k is = made_adds N kind.Vendor row (vendor_in_row N row) (with_vendor N) M (λ x. vendor_adds N row x fresh k) is
+row_adds kind.Day last N M row so_far fresh k is = made_adds N kind.Day row (day_in_row N row) (with_calendar N) M (λ c. day_adds N row c fresh k) is
 
 abbrev AddsTo : Table → Row → Table × Kind → Type 0
 AddsTo N row t = Adds N t.0 t.1 row
@@ -471,7 +572,7 @@ row_after_adds s t row so_far fresh is =
 -- ---- the rows one after the other
 
 record AddsAll (N M : Table) (rows : List Row) : Type 0 where
-  calendar : M.calendar ≡ N.calendar
+  calendar : run_fields M.calendar ≡ run_fields N.calendar
   numbered : IsNumbered N → IsNumbered M
   written : later_rows M ≡ later_rows N ++ rows
 
@@ -506,7 +607,7 @@ run_has N row t (Ok c) is says e =
     let same : empty_table c ≡ N = cc in
     subst (λ (m : Table). HasRun m row) same (record {
       run = run_said row t c is says.0 says.1;
-      empty = refl;
+      empty = ap (map day_fields) says.0.begun;
       numbered = refl;
       fresh = record {
         pairs = λ lt. refl;
@@ -520,6 +621,8 @@ run_has N row t (Ok c) is says e =
         firms = λ lt. refl;
         policies = λ lt. refl;
         usages = λ lt. refl;
+        vendors = λ lt. refl;
+        days = λ lt. says.0.begun;
       };
     })
 run_has N row t (Err f) is says e = absurd (cc)
@@ -541,7 +644,7 @@ whole_written (Ok first) row rows N starts e =
     let w = waited a.0 N (first_lacking a.0 a.0.sources) a.2 in
     let has = start_has first row (first_terms row) refl starts in
     let all = rows_add rows 2 (first, kind.Run) a.0 (first_keeps first row starts) has.fresh a.1 in
-    let head : row ≡ run_fields a.0.calendar = has.run ∙ ap run_fields (sym all.calendar) in
+    let head : row ≡ run_fields a.0.calendar = has.run ∙ sym all.calendar in
     let rest : rows ≡ later_rows a.0 = sym (all.written ∙ ap (λ l. l ++ rows) has.empty) in
     subst (IsWritten (row ∷ rows)) w.1 (record {
       rows_are = ap (λ r. r ∷ rows) head ∙ ap (λ l. run_fields a.0.calendar ∷ l) rest;

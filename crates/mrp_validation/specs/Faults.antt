@@ -70,6 +70,10 @@ faults_of_kind kind.Policy = fault.BadName ∷ fault.BadNumber ∷ fault.Repeate
 faults_of_kind kind.Usage =
     fault.BadName ∷ fault.BadNumber ∷ fault.Repeated ∷ fault.UnknownPlant ∷ fault.UnknownPair ∷ fault.NotMade
     ∷ fault.TooMany ∷ []
+faults_of_kind kind.Vendor =
+    fault.BadName ∷ fault.BadNumber ∷ fault.Repeated ∷ fault.UnknownPlant ∷ fault.UnknownPair ∷ fault.NotSourced
+    ∷ fault.SelfSource ∷ []
+faults_of_kind kind.Day = fault.BadNumber ∷ fault.CalendarFault cal.BadDate ∷ fault.CalendarFault cal.PastEnd ∷ []
 
 -- the faults that a row may have, where it has a kind and where it has none
 abbrev pub faults_of : Result Kind TableFaultKind → List TableFaultKind

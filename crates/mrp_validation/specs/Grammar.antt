@@ -1,6 +1,6 @@
 -- The grammar of a table, row by row. Each row is tested against the table of the rows before it, in
 -- the order of the faults, and then adds to it.
-use Rattle.std.specs.Prelude.{◌≡◌, ℕ, ◌-◌, ◌==◌, ◌&&◌, ◌||◌, not, nat_lt, nat_le, Bool, true}
+use Rattle.std.specs.Prelude.{◌≡◌, ℕ, ◌+◌, ◌-◌, ◌==◌, ◌&&◌, ◌||◌, not, nat_lt, nat_le, Bool, true}
 use Rattle.std.specs.Prelude.{false, if◌then◌else◌, List, [], ◌∷◌, ◌++◌, length, map, codes, Option, Some}
 use Rattle.std.specs.Prelude.{None, is_some, option_map, position, slice_get, unwrap_or, Result, Ok, Err, ok_or}
 use Rattle.std.specs.List.{list_all, list_any}
@@ -8,6 +8,9 @@ use Rattle.std.specs.Str.{bytes_eq}
 use Rattle.csv.specs.Records.{field_at}
 use Rattle.mrp_qty.specs.declared.quantity.TheConstants.{MOST}
 use Rattle.mrp_qty.specs.declared.horizon.TheConstants.{LONGEST}
+use Rattle.mrp_cal.specs.Begins.{begins, latest_begun}
+use Rattle.mrp_cal.specs.Calendar.{CalendarTerms}
+use Rattle.mrp_cal.specs.declared.fault.CalFault.{CalFault}
 use Rattle.mrp_lot.specs.declared.rule.Rule.{Rule}
 use Rattle.mrp_lot.specs.declared.rule.TheConstants.{LONGEST_LEAD}
 use Rattle.mrp_master_data.specs.declared.spelled_supplies.SupplyFault.{SupplyFault}
@@ -34,13 +37,14 @@ use Rattle.mrp_master_data.specs.declared.rows.DemandRow.{DemandRow}
 use Rattle.mrp_master_data.specs.declared.rows.UsageRow.{UsageRow}
 use Rattle.mrp_master_data.specs.declared.numbers.PlantNo.{PlantNo}
 use Rattle.mrp_master_data.specs.declared.numbers.PairNo.{PairNo}
+use Rattle.mrp_master_data.specs.Rows.{Vendor}
 use Rattle.mrp_master_data.specs.Table.{Table, horizon}
 use Rattle.mrp_master_data.specs.declared.rows.PairRow.{PairRow}
 use Rattle.mrp_master_data.specs.declared.rows.SourceRow.{SourceRow}
 use Rattle.mrp_master_data.specs.Table.{arrivals, is_joined, is_taken_from, rises_from}
 use Rattle.mrp_master_data.specs.Growing.{add_item, with_plant, with_bill, with_demand}
 use Rattle.mrp_master_data.specs.Growing.{with_receipt, with_ship, with_cum}
-use Rattle.mrp_master_data.specs.Growing.{with_firm, with_policy, with_reset, with_usage}
+use Rattle.mrp_master_data.specs.Growing.{with_calendar, with_firm, with_policy, with_reset, with_usage, with_vendor}
 use Rattle.mrp_master_data.specs.Spelling.{is_name}
 use Rattle.mrp_master_data.specs.Parsing.{spelled_number, number_within, rule_of}
 
@@ -98,6 +102,8 @@ kind_of word =
     else if bytes_eq word (codes "usage") then Some kind.Usage
     else if bytes_eq word (codes "cum") then Some kind.Cum
     else if bytes_eq word (codes "reset") then Some kind.Reset
+    else if bytes_eq word (codes "vendor") then Some kind.Vendor
+    else if bytes_eq word (codes "day") then Some kind.Day
     else if bytes_eq word (codes "plant") then Some kind.Plant
     else if bytes_eq word (codes "run") then Some kind.Run
     else None
@@ -116,6 +122,8 @@ used kind.Reset = 5
 used kind.Firm = 6
 used kind.Policy = 8
 used kind.Usage = 7
+used kind.Vendor = 7
+used kind.Day = 3
 
 -- the place of a kind in the order of the kinds
 abbrev pub kind_place : Kind → ℕ
@@ -131,6 +139,8 @@ kind_place kind.Reset = 8
 kind_place kind.Firm = 9
 kind_place kind.Policy = 10
 kind_place kind.Usage = 11
+kind_place kind.Vendor = 12
+kind_place kind.Day = 13
 
 -- the run stands first and once, and rows of one kind stand together
 abbrev pub may_follow : Kind → Kind → Bool
@@ -261,6 +271,30 @@ usage_terms row periods = do
   per ← ranged (field row 5) 0 MOST_PER
   base ← ranged (field row 6) 1 MOST_PER
   Ok (record { plant = plant; parent = parent; component = component; period = period; per = per; base = base })
+
+-- a number, or none where the field is empty
+abbrev pub ranged_if_any : List ℕ → ℕ → ℕ → Result (Option ℕ) TableFaultKind
+ranged_if_any text low high =
+    if is_empty text then Ok None else (ranged text low high >>= λ number. Ok (Some number))
+
+-- a vendor row: who delivers the pair, the figure received, the pieces on their way, and from when figures start anew
+pub record VendorTerms : Type 0 where
+  pub vendor : List ℕ
+  pub plant : List ℕ
+  pub item : List ℕ
+  pub figure : ℕ
+  pub transit : ℕ
+  pub reset : Option ℕ
+
+unfoldable pub vendor_terms : List (List ℕ) → ℕ → Result VendorTerms TableFaultKind
+vendor_terms row periods = do
+  vendor ← name_field (field row 1)
+  plant ← name_field (field row 2)
+  item ← name_field (field row 3)
+  figure ← ranged (field row 4) 0 MOST
+  transit ← ranged (field row 5) 0 MOST
+  reset ← ranged_if_any (field row 6) 0 (periods - 1)
+  Ok (record { vendor = vendor; plant = plant; item = item; figure = figure; transit = transit; reset = reset })
 
 -- the names of a row on what one plant ships to another
 pub record LaneTerms : Type 0 where
@@ -399,6 +433,20 @@ has_reset N t = reset_between N (plant_no N t.from) (pair_named N (plant_no N t.
 abbrev pub has_policy : Table → Option ℕ → Bool
 has_policy N None = false
 has_policy N (Some x) = list_any (λ p. p.pair.0 == x) N.policies
+
+-- the pair at a place is bought
+abbrev pub is_buy : Supply → Bool
+is_buy supply.Make = false
+is_buy supply.Buy = true
+is_buy supply.From = false
+
+abbrev pub is_bought : Table → ℕ → Bool
+is_bought N x = unwrap_or (option_map (λ p. is_buy p.supply) (slice_get N.pairs x)) false
+
+-- a vendor row of that pair
+abbrev pub has_vendor : Table → Option ℕ → Bool
+has_vendor N None = false
+has_vendor N (Some x) = list_any (λ v. v.pair.0 == x) N.vendors
 
 -- a usage row of that parent and that component from that period on
 abbrev pub has_usage : Table → Option ℕ → Option ℕ → ℕ → Bool
@@ -574,6 +622,33 @@ policy_of N row = do
 abbrev pub usage_of : Table → List (List ℕ) → Result UsageRow TableFaultKind
 usage_of N row = usage_terms row (horizon N) >>= usage_fits N
 
+-- who delivers a pair, by what a vendor row spells
+abbrev pub vendor_made : PairNo → VendorTerms → Vendor
+vendor_made pair t =
+    record { name = t.vendor; pair = pair; figure = t.figure; transit = t.transit; reset = t.reset }
+
+unfoldable pub vendor_fits : Table → VendorTerms → Result Vendor TableFaultKind
+vendor_fits N t = do
+  _ ← check (not (has_vendor N (pair_named N (plant_no N t.plant) t.item))) fault.Repeated
+  found ← known_pair N t.plant t.item
+  _ ← check (is_bought N found.1.0) fault.NotSourced
+  _ ← check (not (has_plant N t.vendor)) fault.SelfSource
+  Ok (vendor_made found.1 t)
+
+abbrev pub vendor_in_row : Table → List (List ℕ) → Result Vendor TableFaultKind
+vendor_in_row N row = vendor_terms row (horizon N) >>= vendor_fits N
+
+-- a calendar whose period begins on a given date, or the fault of the date
+abbrev pub begun_or_fault : Result CalendarTerms CalFault → Result CalendarTerms TableFaultKind
+begun_or_fault (Ok c) = Ok c
+begun_or_fault (Err e) = Err (fault.CalendarFault e)
+
+-- a day row: its period is above those of the day rows before it
+unfoldable pub day_in_row : Table → List (List ℕ) → Result CalendarTerms TableFaultKind
+day_in_row N row = do
+  period ← ranged (field row 1) (latest_begun N.calendar + 1) (horizon N - 1)
+  begun_or_fault (begins N.calendar period (field row 2))
+
 abbrev pub bill_row : Table → List (List ℕ) → Result Table TableFaultKind
 bill_row N row = bill_of N row >>= λ x. Ok (with_bill N x)
 
@@ -600,3 +675,9 @@ policy_row N row = policy_of N row >>= λ x. Ok (with_policy N x)
 
 abbrev pub usage_row : Table → List (List ℕ) → Result Table TableFaultKind
 usage_row N row = usage_of N row >>= λ x. Ok (with_usage N x)
+
+abbrev pub vendor_row : Table → List (List ℕ) → Result Table TableFaultKind
+vendor_row N row = vendor_in_row N row >>= λ x. Ok (with_vendor N x)
+
+abbrev pub day_row : Table → List (List ℕ) → Result Table TableFaultKind
+day_row N row = day_in_row N row >>= λ c. Ok (with_calendar N c)

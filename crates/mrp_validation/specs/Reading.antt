@@ -18,9 +18,9 @@ use Rattle.mrp_master_data.specs.Growing.{empty_table}
 use Rattle.mrp_qty.specs.declared.limits.TheConstants.{MOST_SOURCES_OF_PAIR}
 use Rattle.mrp_master_data.specs.Growing.{lacks_pair}
 use Rattle.mrp_validation.specs.Grammar.{◌>>=◌, bill_row, check, cum_row, demand_row, firm_row, may_follow, pair_row}
-use Rattle.mrp_validation.specs.Grammar.{kind_place, policy_row}
+use Rattle.mrp_validation.specs.Grammar.{day_row, kind_place, policy_row}
 use Rattle.mrp_validation.specs.Grammar.{plant_row, receipt_row, reset_row}
-use Rattle.mrp_validation.specs.Grammar.{row_kind, run_terms, RunTerms, ship_row, usage_row}
+use Rattle.mrp_validation.specs.Grammar.{row_kind, run_terms, RunTerms, ship_row, usage_row, vendor_row}
 
 -- the kind of a row whose fields are text
 unfoldable pub kind_of_row : List (List ℕ) → Result Kind TableFaultKind
@@ -42,6 +42,8 @@ row_of_kind kind.Reset N row = reset_row N row
 row_of_kind kind.Firm N row = firm_row N row
 row_of_kind kind.Policy N row = policy_row N row
 row_of_kind kind.Usage N row = usage_row N row
+row_of_kind kind.Vendor N row = vendor_row N row
+row_of_kind kind.Day N row = day_row N row
 
 -- ---- the first row
 
@@ -58,6 +60,8 @@ is_run kind.Reset = false
 is_run kind.Firm = false
 is_run kind.Policy = false
 is_run kind.Usage = false
+is_run kind.Vendor = false
+is_run kind.Day = false
 
 -- what the first row spells
 unfoldable pub first_terms : List (List ℕ) → Result RunTerms TableFaultKind
@@ -95,7 +99,8 @@ row_after s row = do
   Ok (N, k)
 
 -- what the rows read so far say: no row stands twice, pairs come from where the table says, and each
--- pair row names one item and at most four sources; no count starts anew before the reset rows
+-- pair row names one item and at most four sources; no count starts anew before the reset rows, and no vendor is named
+-- before the vendor rows
 pub record IsReadSoFar (N : Table) (last : Kind) : Type 0 where
   pub read : IsRead N
   pub once : IsOnce N
@@ -103,6 +108,7 @@ pub record IsReadSoFar (N : Table) (last : Kind) : Type 0 where
   pub items : length N.items ≤ length N.pairs
   pub sources : length N.sources ≤ MOST_SOURCES_OF_PAIR * length N.pairs
   pub resets : kind_place last < kind_place kind.Reset → N.resets ≡ []
+  pub vendors : kind_place last < kind_place kind.Vendor → N.vendors ≡ []
 
 -- a row's fault with its number
 abbrev pub at_row : {A : Type 0} → ℕ → Result A TableFaultKind → Result A TableFault

@@ -1,11 +1,14 @@
 -- The tests of a row, one for each fault that it may have, whatever the others answer; of what isn't there a test says
 -- anything, since an earlier one tells that it isn't. The first test of the list that a row fails is the fault that it
 -- has.
-use Rattle.std.specs.Prelude.{◌≡◌, ℕ, ◌-◌, ◌==◌, ◌&&◌, not, nat_lt, Bool, true, false}
+use Rattle.std.specs.Prelude.{◌≡◌, ℕ, ◌+◌, ◌-◌, ◌==◌, ◌&&◌, ◌||◌, not, nat_le, nat_lt, Bool, true, false}
 use Rattle.std.specs.Prelude.{List, [], ◌∷◌, ◌++◌, length, find, Option, Some, None, is_some, option_map, unwrap_or}
 use Rattle.std.specs.Result.{result_err}
 use Rattle.std.specs.List.{list_all}
 use Rattle.std.specs.Str.{is_utf8}
+use Rattle.mrp_cal.specs.Begins.{begun_with, day_spelled, latest_begun}
+use Rattle.mrp_cal.specs.Calendar.{first_day, last_date, last_day}
+use Rattle.mrp_cal.specs.declared.fault.CalFault.TheVariants as cal
 use Rattle.mrp_lot.specs.declared.rule.TheConstants.{LONGEST_LEAD}
 use Rattle.mrp_qty.specs.declared.horizon.TheConstants.{LONGEST}
 use Rattle.mrp_qty.specs.declared.quantity.TheConstants.{MOST}
@@ -23,7 +26,8 @@ use Rattle.mrp_validation.specs.declared.kind.Kind.{Kind}
 use Rattle.mrp_validation.specs.declared.kind.Kind.TheVariants as kind
 use Rattle.mrp_validation.specs.Faults.{faults_of, faults_of_any}
 use Rattle.mrp_validation.specs.Grammar.{cum_between, field, has_bill, is_empty_from, is_made, kind_of, knows_sources}
-use Rattle.mrp_validation.specs.Grammar.{has_policy, has_usage, may_follow, reset_between, used}
+use Rattle.mrp_validation.specs.Grammar.{has_policy, has_usage, has_vendor, is_bought, is_empty, may_follow}
+use Rattle.mrp_validation.specs.Grammar.{reset_between, used}
 use Rattle.mrp_validation.specs.Reading.{first_terms, is_run, kind_of_row, row_after}
 
 -- ---- what the fields of a row say, as far as it is there
@@ -167,6 +171,33 @@ abbrev pub reset_passes : Table → List (List ℕ) → TableFaultKind → Bool
 reset_passes N row = lane_passes (has_number row 4 0 (horizon N - 1))
     (not (reset_between N (plant_in N row 1) (pair_in N row 2 3))) true N row
 
+-- the plant and the item of a vendor row stand behind the vendor's name
+abbrev pub vendor_passes : Table → List (List ℕ) → TableFaultKind → Bool
+vendor_passes N row fault.BadName = three_names row
+vendor_passes N row fault.BadNumber = has_number row 4 0 MOST && has_number row 5 0 MOST
+    && (is_empty (field row 6) || has_number row 6 0 (horizon N - 1))
+vendor_passes N row fault.Repeated = not (has_vendor N (pair_in N row 2 3))
+vendor_passes N row fault.UnknownPlant = is_some (plant_in N row 2)
+vendor_passes N row fault.UnknownPair = is_some (pair_in N row 2 3)
+vendor_passes N row fault.NotSourced = unwrap_or (option_map (is_bought N) (pair_in N row 2 3)) false
+vendor_passes N row fault.SelfSource = not (has_plant N (field row 1))
+vendor_passes N row e = true
+
+-- the period of a day row, above those of the day rows before it, and the day of its date
+abbrev pub period_begun : Table → List (List ℕ) → ℕ
+period_begun N row = unwrap_or (number_within (field row 1) (latest_begun N.calendar + 1) (horizon N - 1)) 0
+
+abbrev pub day_begun : List (List ℕ) → ℕ
+day_begun row = unwrap_or (day_spelled (field row 2)) 0
+
+abbrev pub day_passes : Table → List (List ℕ) → TableFaultKind → Bool
+day_passes N row fault.BadNumber = has_number row 1 (latest_begun N.calendar + 1) (horizon N - 1)
+day_passes N row (fault.CalendarFault cal.BadDate) =
+    is_some (day_spelled (field row 2)) && nat_lt (first_day N.calendar (period_begun N row - 1)) (day_begun row)
+day_passes N row (fault.CalendarFault cal.PastEnd) =
+    nat_le (last_day (begun_with N.calendar (period_begun N row) (day_begun row))) last_date
+day_passes N row e = true
+
 -- a row of that kind; a run row stands first, and no other is one
 abbrev pub passes_of : Option Kind → Table → List (List ℕ) → TableFaultKind → Bool
 passes_of None N row e = true
@@ -182,6 +213,8 @@ passes_of (Some kind.Reset) N row e = reset_passes N row e
 passes_of (Some kind.Firm) N row e = firm_passes N row e
 passes_of (Some kind.Policy) N row e = policy_passes N row e
 passes_of (Some kind.Usage) N row e = usage_passes N row e
+passes_of (Some kind.Vendor) N row e = vendor_passes N row e
+passes_of (Some kind.Day) N row e = day_passes N row e
 
 -- ---- the tests of every row
 

@@ -2,8 +2,11 @@
 -- field. Nothing here speaks of reading.
 use Rattle.std.specs.Prelude.{◌≡◌, ◌≤◌, ℕ, ◌+◌, max, List, [], ◌∷◌, ◌++◌, codes, map, Option, Some, decimal}
 use Rattle.std.specs.Prelude.{None}
+use Rattle.std.specs.Option.{option_map_or}
+use Rattle.mrp_cal.specs.declared.begun.Begun.{Begun}
 use Rattle.mrp_cal.specs.Calendar.{CalendarTerms}
 use Rattle.mrp_cal.specs.Days.{day_text}
+use Rattle.mrp_master_data.specs.Rows.{Vendor}
 use Rattle.mrp_master_data.specs.Said.{item_name, pair_item, pair_plant, plant_name, supply_said}
 use Rattle.mrp_master_data.specs.Spelling.{rule_text}
 use Rattle.mrp_master_data.specs.Supplies.{supply_text}
@@ -83,6 +86,15 @@ usage_fields N u =
     codes "usage" ∷ pair_plant N u.parent.0 ∷ pair_item N u.parent.0 ∷ pair_item N u.component.0 ∷ decimal u.period
     ∷ decimal u.usage.per ∷ decimal u.usage.base ∷ [] ∷ []
 
+-- the field of the reset is empty where there is none
+abbrev pub vendor_fields : Table → Vendor → List (List ℕ)
+vendor_fields N v =
+    codes "vendor" ∷ v.name ∷ pair_plant N v.pair.0 ∷ pair_item N v.pair.0 ∷ decimal v.figure ∷ decimal v.transit
+    ∷ option_map_or decimal v.reset [] ∷ [] ∷ []
+
+abbrev pub day_fields : Begun → List (List ℕ)
+day_fields b = codes "day" ∷ decimal b.period ∷ day_text b.day ∷ [] ∷ [] ∷ [] ∷ [] ∷ [] ∷ []
+
 -- ---- the rows of a table
 
 -- pairs, the first of which stands at that place
@@ -98,7 +110,8 @@ later_rows N =
     ++ (map (receipt_fields N) N.receipts ++ (map (ship_fields N) N.ships
     ++ (map (cum_fields N) N.cums ++ (map (reset_fields N) N.resets
     ++ (map (firm_fields N) N.firms ++ (map (policy_fields N) N.policies
-    ++ map (usage_fields N) N.usages)))))))))
+    ++ (map (usage_fields N) N.usages ++ (map (vendor_fields N) N.vendors
+    ++ map day_fields N.calendar.begun)))))))))))
 
 -- the whole table
 abbrev pub rows_of : Table → List (List (List ℕ))

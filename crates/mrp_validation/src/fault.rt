@@ -30,7 +30,7 @@ pub enum TableFaultKind {
     /// row.
     #[error("the kinds of rows are out of order")]
     KindOrder,
-    /// A plant, an item, a parent or a component is no name.
+    /// A plant, an item, a parent, a component or a vendor is no name.
     #[error("not a name")]
     BadName,
     /// A number is misspelt or out of its range; the days of a period only where misspelt.
@@ -58,10 +58,10 @@ pub enum TableFaultKind {
     /// The parent of a bill row isn't made.
     #[error("the parent is not made")]
     NotMade,
-    /// The pair that receives isn't taken from the plant that ships.
+    /// The pair that receives isn't taken from the plant that ships, or the pair of a vendor isn't bought.
     #[error("the pair is not taken from this plant")]
     NotSourced,
-    /// A pair is taken from its own plant.
+    /// A pair is taken from its own plant, or a vendor has a plant's name.
     #[error("a pair is taken from its own plant")]
     SelfSource,
     /// The row is one more of its kind than the limit.

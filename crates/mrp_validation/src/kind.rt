@@ -30,6 +30,10 @@ pub enum Kind {
     Policy,
     /// How much of a component goes into its parent from a period on.
     Usage,
+    /// Who delivers a bought pair by cumulative schedules.
+    Vendor,
+    /// The date on which a period begins.
+    Day,
 }
 
 /// How many of the eight fields a row of this kind uses.
@@ -49,6 +53,8 @@ pub fn used(kind: Kind) -> usize
         Kind::Firm => 6,
         Kind::Policy => 8,
         Kind::Usage => 7,
+        Kind::Vendor => 7,
+        Kind::Day => 3,
     }
 }
 

@@ -20,8 +20,9 @@ pub fn what_is_read_is_a_table()
 {}
 
 /// Rows that are read are the table written out: the run row, then each plant, pair, bill, demand, receipt, ship,
-/// cum, reset, firm, policy and usage row of the table in its order, with the names of what it names, its period, its
-/// quantity and its other values each in the field where it is written, and nothing in the fields that it doesn't use.
+/// cum, reset, firm, policy, usage, vendor and day row of the table in its order, with the names of what it names, its
+/// period, its quantity and its other values each in the field where it is written, and nothing in the fields that it
+/// doesn't use.
 pub fn rows_are_the_table_written_out()
     ensures { (rows : List (List (List ℕ))) (N : Table) → Reads rows (Ok N) → rows ≡ rows_of N }
 {}

@@ -15,7 +15,7 @@ add_policy-requires-clause-room c =
     let old = c.requires.draft.holds in
     let fresh = any_policy x.pair _ _ old.policy_keys ∙ c.in_ok-policy.ensures.fresh in
     let keys = c.in_ok-insert.ensures.keys ∙ ap (λ b. if b then self.policy_keys.keys else self.policy_keys.keys ++ x.pair ∷ []) fresh in
-    policies_room self.lists x _ _ old.rows old.policy_keys keys c.insert.ensures.unique c.in_ok-policy.ensures.row.pair
+    policies_room self.lists x.pair _ _ old.rows old.policy_keys keys c.insert.ensures.unique c.in_ok-policy.ensures.row.pair
 
 pub returns-clause-adds : goal.returns-clause-adds
 returns-clause-adds c = grind (arith, common_steps)

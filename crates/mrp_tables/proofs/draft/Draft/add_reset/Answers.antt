@@ -68,6 +68,7 @@ returns-clause-adds c =
         reset_keys = keys ∙ named ∙ ap (λ (M : Table). map reset_key_of M.resets) made;
         policy_keys = search rules;
         usage_keys = search rules;
+        vendor_keys = search rules;
         resets = subst (AreLanes self.lane_keys.keys) (sym keys) (lanes_push self.lane_keys.keys self.reset_keys.keys k old.resets here);
         fits = subst (λ (M : Table). FitsRows M self.lane_keys.keys self.arrivals.items) made fits;
       };

@@ -43,6 +43,7 @@ returns-clause-adds c =
         reset_keys = search rules;
         policy_keys = search rules;
         usage_keys = search rules;
+        vendor_keys = search rules;
         resets = old.resets;
         fits = subst (λ (m : Arrivals). FitsRows c.add_ship.new.self self.lane_keys.keys (set self.arrivals.items k m)) (sym c.ship.ensures)
             (subst (λ (M : Table). FitsRows M self.lane_keys.keys (set self.arrivals.items k v)) made fits);

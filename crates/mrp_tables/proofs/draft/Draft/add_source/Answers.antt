@@ -47,6 +47,7 @@ returns-clause-adds c =
       resets = (refl, ap (λ (T : Table). T.resets) table);
       policies = (refl, ap (λ (T : Table). T.policies) table);
       usages = (refl, ap (λ (T : Table). T.usages) table);
+      vendors = (refl, ap (λ (T : Table). T.vendors) table);
       lanes = λ h. subst (λ (ks : List LaneKey). AreLanes ks self.reset_keys.keys) (sym keys)
           (lanes_more self.lane_keys.keys self.reset_keys.keys (lane_of s) h);
       pairs = ap (λ (T : Table). length T.pairs) table;

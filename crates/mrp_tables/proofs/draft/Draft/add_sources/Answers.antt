@@ -73,6 +73,7 @@ loop-source-preserved c =
         resets = (a.resets.0 ∙ p.resets.0, a.resets.1 ∙ p.resets.1);
         policies = (a.policies.0 ∙ p.policies.0, a.policies.1 ∙ p.policies.1);
         usages = (a.usages.0 ∙ p.usages.0, a.usages.1 ∙ p.usages.1);
+        vendors = (a.vendors.0 ∙ p.vendors.0, a.vendors.1 ∙ p.vendors.1);
         lanes = λ h. a.lanes (p.lanes h);
         pairs = a.pairs ∙ p.pairs;
         sources = omega (arith, a.sources, p.sources);

@@ -1,10 +1,12 @@
-use Rattle.std.proofs.Common.{Ok, refl, sym, ◌∙◌, subst, rules}
+use Rattle.std.proofs.Common.{Ok, length, ap, refl, sym, ◌∙◌, subst, arith, rules}
 use Rattle.csv.specs.Records.{fields_of}
 use Rattle.mrp_master_data.specs.Table.{Table}
+use Rattle.mrp_master_data.specs.Turns.{row_count}
+use Rattle.mrp_validation.specs.Grammar.{run_terms}
 use Rattle.mrp_validation.specs.Reading.{Starts}
 use Rattle.mrp_tables.specs.Keys.{Knows}
 use Rattle.mrp_tables.proofs.Arrivals.{no_lanes}
-use Rattle.mrp_tables.proofs.Starting.{first-bad_kind, first-bad_order, first-calendar, other_kind, run_kind, unless_memory}
+use Rattle.mrp_tables.proofs.Starting.{first-bad_kind, first-bad_order, first-calendar, no_days, other_kind, run_kind, unless_memory}
 use Rattle.mrp_validation.proofs.KeepingSteps.{handed_on}
 use Rattle.mrp_tables.proofs.draft.Draft.first.Goals as goal
 
@@ -45,6 +47,7 @@ returns-clause-draft c = record {
     reset_keys = search rules;
     policy_keys = search rules;
     usage_keys = search rules;
+    vendor_keys = search rules;
     resets = no_lanes c.new-3.result.keys c.new-7.result.keys c.new-7.ensures.len;
     fits = record {
       lane_keys = search rules;
@@ -55,5 +58,10 @@ returns-clause-draft c = record {
       items = search rules;
     };
   };
-  count = search rules;
+  count =
+      omega (
+        arith,
+        ap row_count c.new.ensures.table,
+        ap length (no_days (run_terms (fields_of c.args.row.now)) _ c.in_ok-calendar.ensures.exact),
+      );
 }
