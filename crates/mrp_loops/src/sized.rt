@@ -102,9 +102,9 @@ impl<'a> SizedNet<'a> {
 /// The bound: a network whose figures stay at 10^15 pieces or below.
 ///
 /// The supply of a pair is what it has without any planned order: on hand, receipts, shipments to it,
-/// its firm planned orders and its opening figures. Its need is its demand, what its demanders need of
-/// it, its safety stock, its rule's quantities, LEAST and MULTIPLE of its policy, and its firm planned
-/// orders. All supplies are tested before any need.
+/// its firm planned orders, its opening figures, and FIGURE and TRANSIT of its vendor. Its need is its
+/// demand, what its demanders need of it, its safety stock, its rule's quantities, LEAST and MULTIPLE
+/// of its policy, and its firm planned orders. All supplies are tested before any need.
 ///
 /// # Errors
 ///

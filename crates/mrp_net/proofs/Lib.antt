@@ -27,3 +27,4 @@ pub mod Crossing
 pub mod UsageRows
 pub mod Needs
 pub mod Using
+pub mod Vendors

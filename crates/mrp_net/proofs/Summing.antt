@@ -19,13 +19,16 @@ use Rattle.mrp_master_data.specs.declared.rows.ReceiptRow.{ReceiptRow}
 use Rattle.mrp_master_data.specs.declared.rows.ShipRow.{ShipRow}
 use Rattle.mrp_master_data.specs.declared.rows.CumRow.{CumRow}
 use Rattle.mrp_master_data.specs.declared.rows.FirmRow.{FirmRow}
+use Rattle.mrp_master_data.specs.declared.rows.VendorRow.{VendorRow}
+use Rattle.mrp_master_data.specs.Rows.{Vendor, vendor_of}
 use Rattle.mrp_master_data.specs.Table.{Table, IsTable, IsPair, horizon, is_same_cum}
 use Rattle.mrp_grouping.specs.Added.{AddsTotals, AddsAmounts, sum_in, sum_of}
 use Rattle.mrp_grouping.proofs.Adding.{AddsAmounts-same, AddsTotals-same}
 use Rattle.mrp_net.specs.FirmOrders.{firm_total}
-use Rattle.mrp_net.specs.Sums.{pair_at, no_pair, row_of, demand, demand_total, received, shipped}
+use Rattle.mrp_net.specs.Sums.{pair_at, no_pair, row_of, demand, demand_total, received, shipped, vendor_total}
 use Rattle.mrp_net.specs.Lanes.{figure, shipped_from}
 use Rattle.mrp_net.specs.Built.{AreTotals, ArePeriods, capped_supply}
+use Rattle.mrp_net.proofs.Sharing.{sum_map}
 
 -- some of at most 10^6 amounts of at most 10^12 are at most 10^18
 some_within : {R : Type 0} (test : R → Bool) (amount : R → ℕ) (rows : List R) → All (λ r. amount r ≤ MOST_IN_ROW) rows → length rows ≤ MOST_OF_A_KIND
@@ -150,19 +153,47 @@ pub demand_totals_built : (N : Table) (totals : List ℕ) → IsTable N
     → AreTotalsOf (λ (d : DemandRow). d.pair.0) (λ d. d.quantity) (length N.pairs) N.demands totals → AreTotals N (demand_total N) totals
 demand_totals_built N totals is are = record { size = are.size; each = λ x h. omega (arith, are.each x h, demand_total_within N is x) }
 
-pub supplies_built : (N : Table) (before with_receipts with_ships with_cums after : List ℕ) → before ≡ map (λ p. p.on_hand) N.pairs → length with_receipts ≡ length before
-    → length with_ships ≡ length with_receipts → length with_cums ≡ length with_ships → length after ≡ length with_cums
+-- the pair of a vendor's row has a place
+pub vendor_within : (N : Table) (rows : List VendorRow) (n : ℕ) → IsTable N → map vendor_of rows ≡ N.vendors → n ≡ length N.pairs
+    → All (λ v. v.pair.0 < n) rows
+vendor_within N rows n is are room = λ k d h.
+    let at : get_or N.vendors k (vendor_of d) ≡ vendor_of (get_or rows k d) =
+    sym (ap (λ (z : List Vendor). get_or z k (vendor_of d)) are) ∙ get_or-map vendor_of rows k d (vendor_of d) h in
+    let there : k < length N.vendors = omega (arith, ap length are, length-map rows vendor_of, h) in
+    let row = is.read.vendors k (vendor_of d) there in
+    omega (arith, row.pair, ap (λ (v : Vendor). v.pair.0) at, room)
+
+-- what vendors' rows add up to is what the vendors do
+vendors_added : (N : Table) (rows : List VendorRow) (x : ℕ) → map vendor_of rows ≡ N.vendors
+    → sum_of (λ (v : VendorRow). v.pair.0) (λ v. v.figure + v.transit) x rows ≡ vendor_total N x
+vendors_added N rows x are =
+    let amount = λ (v : Vendor). cond (eqb v.pair.0 x) (v.figure + v.transit) 0 in
+    sym (sum_map amount vendor_of rows) ∙ ap (sum_by amount) are
+
+pub supplies_built : (N : Table) (before with_receipts with_ships with_cums with_firms after : List ℕ) (vendors : List VendorRow)
+    → before ≡ map (λ p. p.on_hand) N.pairs → map vendor_of vendors ≡ N.vendors → length with_receipts ≡ length before
+    → length with_ships ≡ length with_receipts → length with_cums ≡ length with_ships → length with_firms ≡ length with_cums → length after ≡ length with_firms
     → AddsTotals (λ (r : ReceiptRow). r.pair.0) (λ r. r.quantity) N.receipts before with_receipts
     → AddsTotals (λ (s : ShipRow). s.pair.0) (λ s. s.quantity) N.ships with_receipts with_ships
     → AddsTotals (λ (c : CumRow). c.pair.0) (λ c. c.figure) N.cums with_ships with_cums
-    → AddsTotals (λ (f : FirmRow). f.pair.0) (λ f. f.quantity) N.firms with_cums after → AreTotals N (capped_supply N) after
-supplies_built N before with_receipts with_ships with_cums after is same1 same2 same3 same4 adds1 adds2 adds3 adds4 =
+    → AddsTotals (λ (f : FirmRow). f.pair.0) (λ f. f.quantity) N.firms with_cums with_firms
+    → AddsTotals (λ (v : VendorRow). v.pair.0) (λ v. v.figure + v.transit) vendors with_firms after → AreTotals N (capped_supply N) after
+supplies_built N before with_receipts with_ships with_cums with_firms after vendors is are same1 same2 same3 same4 same5 adds1 adds2 adds3 adds4 adds5 =
     let room : length before ≡ length N.pairs = ap length is ∙ length-map N.pairs (λ p. p.on_hand) in
     record {
-      size = same4 ∙ same3 ∙ same2 ∙ same1 ∙ room;
+      size = same5 ∙ same4 ∙ same3 ∙ same2 ∙ same1 ∙ room;
       each = λ x h.
           let was : get_or before x 0 ≡ (pair_at N x).on_hand = ap (λ (z : List ℕ). get_or z x 0) is ∙ get_or-map (λ p. p.on_hand) N.pairs x no_pair 0 h in
-          omega (arith, adds1 x (omega arith), adds2 x (omega arith), adds3 x (omega arith), adds4 x (omega arith), was);
+          omega (
+            arith,
+            adds1 x (omega arith),
+            adds2 x (omega arith),
+            adds3 x (omega arith),
+            adds4 x (omega arith),
+            adds5 x (omega arith),
+            vendors_added N vendors x are,
+            was,
+          );
     }
 
 pub shipped_from_within : (N : Table) → IsTable N → (x p : ℕ) → shipped_from N x p ≤ 10 ^ 18

@@ -21,3 +21,4 @@ pub mod SupplyLaws
 pub mod Texts
 pub mod UsageLaws
 pub mod Usages
+pub mod VendorLaws

@@ -84,8 +84,12 @@ earliest_at N x = max (params_at N x).lead (policy_of N x).fence
 abbrev pub opening_total : Table → ℕ → ℕ
 opening_total N x = sum_by (λ c. if c.pair.0 == x then c.figure else 0) N.cums
 
+-- what the vendor of a pair has delivered and what is on its way from it: where its schedule's figures go on
+abbrev pub vendor_total : Table → ℕ → ℕ
+vendor_total N x = sum_by (λ v. if v.pair.0 == x then v.figure + v.transit else 0) N.vendors
+
 -- what is counted of a pair without any planned order: on hand, receipts, shipments and firm planned orders, and the
--- opening figures, on which its cumulative figures go on
+-- opening figures and those of its vendor, on which its cumulative figures go on
 abbrev pub supply : Table → ℕ → ℕ
 supply N x = (pair_at N x).on_hand + received_total N x + shipped_total N x + opening_total N x
-    + firm_total N x
+    + firm_total N x + vendor_total N x

@@ -1,4 +1,4 @@
-//! Laws of sources and shares and of the pairs of a table, of routes and lanes, and of edges.
+//! Laws of sources and shares and of the pairs of a table, of routes and lanes, of edges, and of vendors and days.
 //! Each is the contract of a function that does nothing.
 
 ghost use Rattle.mrp_net.specs.SupplyLaws.{PartsAreWhole, NeedsAreWhole, PartsAreWithin, OthersHaveNoSources};
@@ -18,6 +18,8 @@ ghost use Rattle.mrp_net.specs.UsageLaws.{LastRowsAreInForce, BillsAreInForceBef
 ghost use Rattle.mrp_net.specs.UsageLaws.{WholeNeedsAreProducts, NeedsWithoutUsages, SourcesHaveNoUsages};
 ghost use Rattle.mrp_net.specs.UsageLaws.{SourcesAskTheirShares, MostsAreTheLeast, MostsCoverNeeds};
 ghost use Rattle.mrp_net.specs.UsageLaws.{BillsAskByThePiece, EdgesAskByThePiece};
+ghost use Rattle.mrp_net.specs.VendorLaws.{VendorsChangeNoPlan, VendorsChangeNoEdge, VendorsChangeNoLane};
+ghost use Rattle.mrp_net.specs.VendorLaws.{VendorsAreSupplied, DaysChangeNoPlan};
 
 /// The parts of a release over the sources of a pair that is taken from plants add up to the release,
 /// and so does what it asks of its suppliers: nothing is lost or made up by rounding.
@@ -179,4 +181,23 @@ pub fn mosts_are_the_least()
 pub fn tables_without_usages()
     ensures bills { BillsAskByThePiece }
     ensures edges { EdgesAskByThePiece }
+{}
+
+/// Vendors change no plan, no edge and no lane: they say who delivers what is bought, and where its schedule's figures go
+/// on.
+pub fn vendors_change_no_plan()
+    ensures plans { VendorsChangeNoPlan }
+    ensures edges { VendorsChangeNoEdge }
+    ensures lanes { VendorsChangeNoLane }
+{}
+
+/// The figure and the pieces on their way of a vendor are no more than the supply of its pair, so they are within every
+/// bound on supplies.
+pub fn vendors_are_supplied()
+    ensures { VendorsAreSupplied }
+{}
+
+/// Days change no plan: with as many periods it is the same, whatever their dates.
+pub fn days_change_no_plan()
+    ensures { DaysChangeNoPlan }
 {}

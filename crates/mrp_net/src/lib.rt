@@ -28,7 +28,7 @@ pub use firm_rows::FirmRows;
 pub use lane::{Lane, LaneKind, LaneNo, Shipment};
 pub use mrp_master_data::{
     FirmRow, ItemNo, PairNo, PairRow, PlantNo, PolicyRow, ReceiptRow, ShipRow, SourceRow, Supply,
-    Usage, UsageRow,
+    Usage, UsageRow, VendorRow,
 };
 pub use network::Network;
 pub use shares::share_of;

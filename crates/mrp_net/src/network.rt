@@ -1,8 +1,9 @@
 //! The network of a table: its pairs, edges, sums and lanes by their numbers.
 
 ghost use Rattle.std.specs.Prelude.{◌≡◌, ◌<◌, ◌^◌, ◌-◌, ◌+◌, ◌*◌, ℕ, true, min};
-ghost use Rattle.std.specs.Prelude.{length, slice_get, Option, Some, None, IfSome, IfNone, IfOk, Contains, All};
+ghost use Rattle.std.specs.Prelude.{length, map, slice_get, Option, Some, None, IfSome, IfNone, IfOk, Contains, All};
 ghost use Rattle.mrp_master_data.specs.Table.{Table, IsTable, horizon, IsFirmRow, IsUsageRow, IsPair, is_taken_from, pair_no};
+ghost use Rattle.mrp_master_data.specs.Rows.{vendor_of};
 ghost use Rattle.std.specs.List.Sorted.{IsNonDecreasingBy};
 ghost use Rattle.mrp_net.specs.Edges.{demanders, edge_usages};
 ghost use Rattle.mrp_net.specs.Suppliers.{suppliers, IsEdge};
@@ -29,6 +30,7 @@ use crate::{Edge, build, lanes};
 use mrp_cal::Calendar;
 use mrp_master_data::{
     FirmRow, ItemNo, PairNo, PairRow, PlantNo, ReceiptRow, ShipRow, SourceRow, Tables, UsageRow,
+    VendorRow,
 };
 use mrp_netting::Policy;
 use mrp_qty::{Horizon, Memory};
@@ -315,6 +317,13 @@ impl Network {
         self.tables.rows().ships()
     }
 
+    /// Who delivers bought pairs by cumulative schedules, in table order.
+    pub fn vendors(&self) -> &[VendorRow]
+        ensures value { map vendor_of result.now ≡ self.now.vendors }
+    {
+        self.tables.rows().vendors()
+    }
+
     /// The firm planned orders of the pair, in table order.
     pub fn firm_orders(&self, x: PairNo) -> &[FirmRow]
         requires { IsPair self.now x.0 }
@@ -372,8 +381,8 @@ impl Network {
         self.pair(x).lead.max(self.policy(x).fence)
     }
 
-    /// On hand, receipts, shipments, opening figures and firm planned orders of the pair, or 2^64 - 1 where they are
-    /// more.
+    /// On hand, receipts, shipments, opening figures and firm planned orders of the pair, the figure of its vendor and what
+    /// is on its way from it, or 2^64 - 1 where they are more.
     pub fn supply(&self, x: PairNo) -> u64
         requires { IsPair self.now x.0 }
         ensures { result ≡ min (supply self.now x.0) (2 ^ 64 - 1) }

@@ -1,8 +1,10 @@
 //! Rows of a table by their pair and their period, by which they are put in order and added up.
 
+ghost use Rattle.std.specs.Prelude.{◌+◌};
+
 use mrp_grouping::{AmountOf, KeyOf};
 use mrp_master_data::{
-    CumRow, DemandRow, FirmRow, PolicyRow, ReceiptRow, ShipRow, SourceRow, UsageRow,
+    CumRow, DemandRow, FirmRow, PolicyRow, ReceiptRow, ShipRow, SourceRow, UsageRow, VendorRow,
 };
 
 /// The pair of a row as its key.
@@ -60,6 +62,14 @@ impl KeyOf<PolicyRow> for OfPair {
     ghost key_of = { λ _ p. p.pair.0 };
 
     fn key(&self, row: &PolicyRow) -> usize {
+        row.pair.0
+    }
+}
+
+impl KeyOf<VendorRow> for OfPair {
+    ghost key_of = { λ _ v. v.pair.0 };
+
+    fn key(&self, row: &VendorRow) -> usize {
         row.pair.0
     }
 }
@@ -183,5 +193,13 @@ impl AmountOf<FirmRow> for Pieces {
 
     fn amount(&self, row: &FirmRow) -> u64 {
         row.quantity.get()
+    }
+}
+
+impl AmountOf<VendorRow> for Pieces {
+    ghost amount_of = { λ _ v. v.figure + v.transit };
+
+    fn amount(&self, row: &VendorRow) -> u64 {
+        row.figure.get() + row.transit.get()
     }
 }
