@@ -39,8 +39,8 @@ uint32_t mrp_plan(const uint8_t *table, size_t table_size, uint8_t *buffer, size
 uint32_t mrp_orders(const uint8_t *table, size_t table_size, bool limited, uint64_t until, bool header,
                     uint8_t *buffer, size_t buffer_size, size_t *size);
 
-/* The delivery schedules, as mrp schedule: from the plant `from` alone and to the plant `to` alone, where their names
- * aren't empty. */
+/* The delivery schedules, as mrp schedule: from the plant or the vendor `from` alone and to the plant `to` alone, where
+ * their names aren't empty. */
 uint32_t mrp_schedule(const uint8_t *table, size_t table_size, const uint8_t *from, size_t from_size,
                       const uint8_t *to, size_t to_size, bool header,
                       uint8_t *buffer, size_t buffer_size, size_t *size);

@@ -1,9 +1,8 @@
 -- The plan of a network that can be planned is one, and so is each report of a text; one that has a report is not refused.
-use Rattle.std.proofs.Common.{◌≡◌, ℕ, true, false, List, ◌++◌, Option, Some, None, Ok, Err, refl, sym, ap, ap₂, ◌∙◌, subst, ⊎_elim, arith}
-use Rattle.std.proofs.lemmas.Option.{get_or_from_slice_get, slice_get_within}
+use Rattle.std.proofs.Common.{◌≡◌, ℕ, true, false, List, ◌++◌, Option, Some, None, Ok, Err, refl, sym, ap, ◌∙◌, subst, ⊎_elim, arith}
+use Rattle.std.proofs.lemmas.Bool.{true≢false}
 use Rattle.csv.specs.Reading.{strip_bom, records, default_config}
 use Rattle.mrp_netting.specs.PlanRows.{PlanRows}
-use Rattle.mrp_master_data.specs.declared.numbers.PlantNo.{PlantNo}
 use Rattle.mrp_master_data.specs.Table.{Table, IsTable, pair_no}
 use Rattle.mrp_net.specs.Sums.{pair_at}
 use Rattle.mrp_validation.specs.declared.fault.TableFault.{TableFault}
@@ -30,7 +29,7 @@ use Rattle.mrp_report.specs.Orders.{order_text}
 use Rattle.mrp_report.specs.Pegs.{pegs_text}
 use Rattle.mrp_advice.specs.AdviceRows.{advice_text}
 use Rattle.mrp_shortages.specs.ShortageRows.{shortage_text}
-use Rattle.mrp_schedules.specs.ScheduleRows.{schedule_text}
+use Rattle.mrp_commands.specs.Given.{name_of}
 use Rattle.mrp_commands.specs.declared.choice.Choice.{Choice}
 use Rattle.mrp_commands.specs.declared.choice.Choice.TheVariants.{Plan, Check, Peg, Cums, Orders, Schedule, Pegs, Advice, Shortages}
 use Rattle.mrp_api.specs.declared.fault.TextFault.{TextFault}
@@ -39,10 +38,10 @@ use Rattle.mrp_api.specs.Answer.{IsAnswer, question_of}
 use Rattle.mrp_api.specs.Fault.{status_of, table_status_of}
 use Rattle.mrp_api.specs.Laws.{BytesMakeOneTable, ReportsAreOne, ReportsExcludeRefusals}
 use Rattle.mrp_api.specs.Text.{IsPlanReport}
-use Rattle.mrp_api.specs.Refusals.{LacksPair, LacksPeriod, LacksPlant, IsNoPlant, RefusesTable}
+use Rattle.mrp_api.specs.Refusals.{LacksPair, LacksPeriod, LacksPlant, IsNoPlant, IsNoSupplier, RefusesTable}
 use Rattle.mrp_api.specs.Reports.{IsHeaded, IsCodeReport, IsCumReport, IsPegReport, IsPlanRows}
 use Rattle.mrp_api.proofs.TableFacts.{tables_are_read}
-use Rattle.mrp_api.specs.Reports.{IsChosenPlant, IsPegsReport, IsScheduleReport, name_of}
+use Rattle.mrp_api.specs.Reports.{IsKnownPlant, IsKnownSupplier, IsPegsReport}
 
 -- ---- the plan
 
@@ -94,23 +93,6 @@ one_headed : (heading : Heading) (names : List (List ℕ)) (P : List ℕ → Typ
     → IsHeaded heading names P a → IsHeaded heading names P b → a ≡ b
 one_headed heading names P a b one x y = x.2 ∙ ap (λ (rows : List ℕ). header_row heading names ++ rows) (one x.0 y.0 x.1 y.1) ∙ sym y.2
 
--- a name is that of one plant
-one_plant : (N : Table) (name : Option (List ℕ)) (f g : Option PlantNo) → IsTable N → IsChosenPlant N name f → IsChosenPlant N name g → f ≡ g
-one_plant N None None None table a b = refl
-one_plant N (Some name) (Some p) (Some q) table a b =
-    let place : ℕ → Option PlantNo = λ k. Some (record { 0 = k }) in
-    ap place (same_place N.plants p.0 q.0 name table.once.plants a b)
-one_plant N None (Some p) g table a b = absurd a
-one_plant N None None (Some q) table a b = absurd b
-one_plant N (Some name) None g table a b = absurd a
-one_plant N (Some name) (Some p) None table a b = absurd b
-
-one_schedule : (from to : Option (List ℕ)) (heading : Heading) (N : Table) (a b : List ℕ) → IsTable N → IsScheduleReport from to heading N a
-    → IsScheduleReport from to heading N b → a ≡ b
-one_schedule from to heading N a b table x y =
-    x.4.1 ∙ ap₂ (λ (f g : Option PlantNo). schedule_text heading f g N) (one_plant N from x.0 y.0 table x.2 y.2) (one_plant N to x.1 y.1 table x.3 y.3)
-    ∙ sym y.4.1
-
 one_answer : (choice : Choice) (N : Table) (a b : List ℕ) → IsTable N → IsAnswer choice N a → IsAnswer choice N b → a ≡ b
 one_answer (Plan workers capacity single) N a b table x y = one_of_plan N (λ plans. plan_text N plans ++ late_text N plans) a b x.0 x.1 y.1
 one_answer (Check heading) N a b table x y = one_headed heading _ (IsCodeReport N) a b (one_code_report N) x y
@@ -118,7 +100,7 @@ one_answer (Peg plant item period heading) N a b table x y =
     one_headed heading _ (IsPegReport plant.now item.now period N) a b (λ c d p q. one_peg_report plant.now item.now period N c d table p q) x y
 one_answer (Cums heading) N a b table x y = one_headed heading _ (IsCumReport N) a b (λ c d p q. p.1 ∙ sym q.1) x y
 one_answer (Orders until heading) N a b table x y = one_of_plan N (order_text heading until N) a b x.0 x.1 y.1
-one_answer (Schedule from to heading) N a b table x y = one_schedule (name_of from) (name_of to) heading N a b table x y
+one_answer (Schedule from to heading) N a b table x y = x.2.1 ∙ sym y.2.1
 one_answer (Pegs heading) N a b table x y = one_headed heading _ (IsPegsReport N) a b (λ c d p q. one_of_plan N (pegs_text N) c d p.0 p.1 q.1) x y
 one_answer (Advice until heading) N a b table x y = one_of_plan N (advice_text heading until N) a b x.0 x.1 y.1
 one_answer (Shortages heading) N a b table x y = one_of_plan N (shortage_text heading N) a b x.0 x.1 y.1
@@ -136,7 +118,7 @@ answer_sized (Check heading) N text is = is.1.0
 answer_sized (Peg plant item period heading) N text is = is.1.2.0
 answer_sized (Cums heading) N text is = is.1.0
 answer_sized (Orders until heading) N text is = is.0
-answer_sized (Schedule from to heading) N text is = is.4.0
+answer_sized (Schedule from to heading) N text is = is.2.0
 answer_sized (Pegs heading) N text is = is.1.0
 answer_sized (Advice until heading) N text is = is.0
 answer_sized (Shortages heading) N text is = is.0
@@ -166,12 +148,14 @@ period_known (Pegs heading) N text is unknown = unknown
 period_known (Advice until heading) N text is unknown = unknown
 period_known (Shortages heading) N text is unknown = unknown
 
--- one about plants is of plants that are there
-name_known : (N : Table) (name : Option (List ℕ)) (f : Option PlantNo) → IsChosenPlant N name f → IsNoPlant N name → ⊥
-name_known N None f is unknown = unknown
-name_known N (Some name) None is unknown = is
-name_known N (Some name) (Some p) is unknown =
-    unknown (p.0, slice_get_within N.plants p.0 name is, get_or_from_slice_get N.plants p.0 name name is)
+-- one about plants and vendors is of those that are there
+name_known : (N : Table) (name : Option (List ℕ)) → IsKnownPlant N name → IsNoPlant N name → ⊥
+name_known N None is unknown = unknown
+name_known N (Some name) is unknown = unknown is
+
+supplier_known : (N : Table) (name : Option (List ℕ)) → IsKnownSupplier N name → IsNoSupplier N name → ⊥
+supplier_known N None is unknown = unknown
+supplier_known N (Some name) is unknown = ⊎_elim unknown.0 (λ vendor. true≢false (sym vendor ∙ unknown.1)) is
 
 plant_known : (choice : Choice) (N : Table) (text : List ℕ) → IsAnswer choice N text → LacksPlant (question_of choice) N → ⊥
 plant_known (Plan workers capacity true) N text is unknown = unknown
@@ -180,7 +164,7 @@ plant_known (Check heading) N text is unknown = unknown
 plant_known (Peg plant item period heading) N text is unknown = unknown
 plant_known (Cums heading) N text is unknown = unknown
 plant_known (Orders until heading) N text is unknown = unknown
-plant_known (Schedule from to heading) N text is unknown = ⊎_elim (name_known N (name_of from) is.0 is.2) (name_known N (name_of to) is.1 is.3) unknown
+plant_known (Schedule from to heading) N text is unknown = ⊎_elim (supplier_known N (name_of from) is.0) (name_known N (name_of to) is.1) unknown
 plant_known (Pegs heading) N text is unknown = unknown
 plant_known (Advice until heading) N text is unknown = unknown
 plant_known (Shortages heading) N text is unknown = unknown

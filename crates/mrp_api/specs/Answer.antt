@@ -12,7 +12,8 @@ use Rattle.mrp_report.specs.Headings.{code_names, lane_names, peg_names, pegs_na
 use Rattle.mrp_api.specs.Text.{IsPlanReport}
 use Rattle.mrp_api.specs.Reports.{IsCodeReport, IsPegReport, IsCumReport, IsOrderReport, IsHeaded}
 use Rattle.mrp_api.specs.Refusals.{Question, AskWhole, AskByThreads, AskPair, AskPlants}
-use Rattle.mrp_api.specs.Reports.{IsScheduleReport, IsPegsReport, IsAdviceReport, IsShortagesReport, name_of}
+use Rattle.mrp_commands.specs.Given.{name_of}
+use Rattle.mrp_api.specs.Reports.{IsScheduleReport, IsPegsReport, IsAdviceReport, IsShortagesReport}
 
 -- what one thread can be asked for: every report but a plan by threads; a plan with mailboxes for 1 to MOST_CAPACITY
 -- records

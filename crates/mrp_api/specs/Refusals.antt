@@ -1,6 +1,6 @@
 -- What a refusal says of the bytes: the first fault of their rows, or what their table has or lacks.
 use Rattle.std.specs.Prelude.{◌≡◌, ℕ, ◌<◌, ◌≤◌, ◌⊎◌, List, [], ◌∷◌, Option, Some, None, option_map, slice_get, length}
-use Rattle.std.specs.Prelude.{Contains, Err, string_bytes}
+use Rattle.std.specs.Prelude.{Contains, Err, false, string_bytes}
 use Rattle.csv.specs.Reading.{strip_bom}
 use Rattle.mrp_master_data.specs.Table.{Table, horizon}
 use Rattle.mrp_validation.specs.Reading.{TellsRows}
@@ -14,6 +14,7 @@ use Rattle.mrp_loops.specs.BoundFaults.{IsSupplyTooLarge, IsNeedTooLarge}
 use Rattle.mrp_api.specs.declared.fault.PairName.{PairName}
 use Rattle.mrp_api.specs.declared.fault.TextFault.{TextFault}
 use Rattle.mrp_api.specs.declared.fault.TextFault.TheVariants as fault
+use Rattle.mrp_api.specs.Reports.{is_vendor}
 use Rattle.mrp_api.specs.Text.{OfTable}
 
 -- the names of the pair
@@ -40,8 +41,8 @@ IsSupplyNamed N name = (x : ℕ) × IsSupplyTooLarge N x × IsPairName N x name
 abbrev pub IsNeedNamed : Table → List ℕ → PairName → Type 0
 IsNeedNamed N codes name = (x : ℕ) × IsNeedTooLarge N codes x × IsPairName N x name
 
--- what is asked of a table: its plan, or a report of all of it; the plan by threads; a pair in a period; plants by
--- their names
+-- what is asked of a table: its plan, or a report of all of it; the plan by threads; a pair in a period; a supplier and a
+-- customer by their names
 pub data Question : Type 0 where
   AskWhole : Question
   AskByThreads : Question
@@ -63,9 +64,15 @@ abbrev pub IsNoPlant : Table → Option (List ℕ) → Type 0
 IsNoPlant N None = ⊥
 IsNoPlant N (Some name) = ¬ Contains N.plants name
 
--- plants are asked for, and one of the names that are given is no plant's
+-- a name is given, and neither a plant nor a vendor has it
+abbrev pub IsNoSupplier : Table → Option (List ℕ) → Type 0
+IsNoSupplier N None = ⊥
+IsNoSupplier N (Some name) = (¬ Contains N.plants name) × (is_vendor N name ≡ false)
+
+-- a supplier and a customer are asked for, and the one's name is given and no plant's and no vendor's, or the other's no
+-- plant's
 abbrev pub LacksPlant : Question → Table → Type 0
-LacksPlant (AskPlants from to) N = IsNoPlant N from ⊎ IsNoPlant N to
+LacksPlant (AskPlants from to) N = IsNoSupplier N from ⊎ IsNoPlant N to
 LacksPlant _ N = ⊥
 
 -- plants run in threads

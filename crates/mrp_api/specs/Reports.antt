@@ -1,8 +1,8 @@
 -- The other reports: which text each function writes of the table.
-use Rattle.std.specs.Prelude.{◌≡◌, ℕ, ◌<◌, ◌⊎◌, List, ◌++◌, Option, Some, None, option_map, slice_get, Result, Err}
-use Rattle.std.specs.Borrow.{Bor}
+use Rattle.std.specs.Prelude.{◌≡◌, ℕ, ◌<◌, ◌⊎◌, Bool, true, List, ◌++◌, Option, Some, None, Contains, Result, Err}
+use Rattle.std.specs.List.{list_any}
+use Rattle.std.specs.Str.{bytes_eq}
 use Rattle.std.specs.Io.KnownBytes.{Appends}
-use Rattle.mrp_master_data.specs.declared.numbers.PlantNo.{PlantNo}
 use Rattle.mrp_master_data.specs.Table.{Table, horizon}
 use Rattle.mrp_net.specs.Names.{IsNamed}
 use Rattle.mrp_net.specs.PlanLaws.{OfPlan}
@@ -50,26 +50,28 @@ IsCumReport N text = IsSized N × (text ≡ lane_text N (last_figures N))
 abbrev pub IsOrderReport : Option ℕ → Heading → Table → List ℕ → Type 0
 IsOrderReport until heading N text = IsSized N × OfPlan N (λ plans. text ≡ order_text heading until N plans)
 
--- the schedule rows of the network, of the lanes from one supplier and to one customer where these are chosen
-abbrev pub AreSchedules : Option PlantNo → Option PlantNo → Heading → Table → List ℕ → Type 0
+-- the schedule rows of the network, of one supplier and one customer where these are named
+abbrev pub AreSchedules : Option (List ℕ) → Option (List ℕ) → Heading → Table → List ℕ → Type 0
 AreSchedules from to heading N text = IsSized N × (text ≡ schedule_text heading from to N)
 
--- the name that is given, if one is
-abbrev pub name_of : Option (Bor (List ℕ)) → Option (List ℕ)
-name_of = option_map (λ name. name.now)
+-- a plant has the name, where one is given
+abbrev pub IsKnownPlant : Table → Option (List ℕ) → Type 0
+IsKnownPlant N None = Unit {0}
+IsKnownPlant N (Some name) = Contains N.plants name
 
--- the plant of this name, where one is given
-abbrev pub IsChosenPlant : Table → Option (List ℕ) → Option PlantNo → Type 0
-IsChosenPlant N None None = Unit {0}
-IsChosenPlant N (Some name) (Some plant) = slice_get N.plants plant.0 ≡ Some name
-IsChosenPlant N _ _ = ⊥
+-- a vendor has the name
+abbrev pub is_vendor : Table → List ℕ → Bool
+is_vendor N name = list_any (λ v. bytes_eq name v.name) N.vendors
 
--- so, where the plants are chosen by these names
+-- a plant or a vendor has the name, where one is given
+abbrev pub IsKnownSupplier : Table → Option (List ℕ) → Type 0
+IsKnownSupplier N None = Unit {0}
+IsKnownSupplier N (Some name) = Contains N.plants name ⊎ (is_vendor N name ≡ true)
+
+-- so, where supplier and customer are named: the supplier is a plant or a vendor, the customer a plant
 abbrev pub IsScheduleReport : Option (List ℕ) → Option (List ℕ) → Heading → Table → List ℕ → Type 0
 IsScheduleReport from to heading N text =
-    (supplier : Option PlantNo) × (customer : Option PlantNo) × IsChosenPlant N from supplier
-    × IsChosenPlant N to customer
-    × AreSchedules supplier customer heading N text
+    IsKnownSupplier N from × IsKnownPlant N to × AreSchedules from to heading N text
 
 -- the pegs rows of the plan of the network
 abbrev pub IsPegsReport : Table → List ℕ → Type 0

@@ -30,8 +30,8 @@ pub enum TextFault {
     /// These pairs are a loop: each takes from the next, and the last from the first.
     #[error("a loop")]
     Loop(Vec<PairName>),
-    /// On hand, receipts, shipments and opening figures of this pair are above 10^15: the first such
-    /// pair in the table.
+    /// On hand, receipts, shipments, firm orders, opening figures and its vendor's figures make more than 10^15 of this
+    /// pair: the first such pair in the table.
     #[error("the supply of a pair is too large")]
     SupplyTooLarge(PairName),
     /// Supply and need of this pair are above 10^15: the first such pair by its low-level code, then
@@ -59,7 +59,7 @@ pub enum TextFault {
     /// A growth was refused. Nothing is written, or of a plan all plan rows and no late order.
     #[error("out of memory")]
     Memory,
-    /// The table has no plant of a name that is given.
+    /// The table has no plant of a name that is given, and of a supplier's name no vendor.
     #[error("no such plant")]
     NoPlant,
 }

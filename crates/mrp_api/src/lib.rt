@@ -6,7 +6,7 @@
 //! [`plan_text`] writes the plan, each plant planned in a thread of its own (by construction; no clause says so),
 //! and [`drive_text`] the same plan on one thread; [`check_text`] writes the low-level codes, [`peg_text`] what a gross
 //! requirement consists of, and [`pegs_text`] so of the whole plan, [`cums_text`] the cumulative figures of the lanes
-//! between plants, [`orders_text`] the planned and firm orders, [`schedule_text`] the delivery schedules between plants,
+//! between plants, [`orders_text`] the planned and firm orders, [`schedule_text`] the delivery schedules of plants and vendors,
 //! [`advice_text`] which open orders to move, and [`shortages_text`] which requirements lack parts. [`report_text`] writes
 //! the report that a `Choice` of `mrp_commands` asks for on one thread, and [`answer`] that and a plan by threads. A
 //! [`Heading`] says whether the names of the columns stand above the rows; for codes, terms and figures a `Choice` has one.

@@ -15,7 +15,8 @@ ghost use Rattle.mrp_api.specs.Text.{Writes, OfTable, IsPlanReport};
 ghost use Rattle.mrp_api.specs.Reports.{WritesRows, IsPlanRows, IsCodeReport};
 ghost use Rattle.mrp_report.specs.Headings.{pegs_names};
 ghost use Rattle.mrp_api.specs.Reports.{IsPegReport, IsCumReport, IsOrderReport, IsHeaded};
-ghost use Rattle.mrp_api.specs.Reports.{IsAdviceReport, IsPegsReport, IsScheduleReport, IsShortagesReport, name_of};
+ghost use Rattle.mrp_commands.specs.Given.{name_of};
+ghost use Rattle.mrp_api.specs.Reports.{IsAdviceReport, IsPegsReport, IsScheduleReport, IsShortagesReport};
 ghost use Rattle.mrp_api.specs.Refusals.{Refuses, AskWhole, AskByThreads, AskPair, AskPlants};
 ghost use Rattle.mrp_api.specs.Gates.{GateExplains};
 ghost use Rattle.mrp_commands.specs.declared.choice.TheConstants.{MOST_CAPACITY};
@@ -205,18 +206,18 @@ pub fn orders_text<R: Read + Drop, W: Write>(
     report_text(alloc, reader, writer, Choice::Orders { until, heading })
 }
 
-/// Reads a table and writes the delivery schedules between its plants: for each item that a customer plant
-/// takes from a supplier plant what is in transit, then each delivery that is called for, with the cumulative
-/// figure in force, and where figures start anew the figure that is closed. Those from the plant named `from`
-/// alone, where it is given, and to the plant named `to`, with the names of the columns above them where
-/// `heading` says so.
+/// Reads a table and writes the delivery schedules of its plants and vendors: for each item that a customer plant
+/// takes from a supplier plant, and behind these for each pair that a vendor delivers, what is in transit, then each
+/// delivery that is called for, with the cumulative figure in force, and where figures start anew the figure that is
+/// closed. Those from the plant or the vendor named `from` alone, where it is given, and to the plant named `to`, with
+/// the names of the columns above them where `heading` says so.
 ///
 /// The network is planned as a whole, as for orders: what a lane carries follows from the one plan.
 ///
 /// # Errors
 ///
-/// As [`TextFault`] says: [`TextFault::NoPlant`] where the table has no plant of a name that is given. After
-/// [`TextFault::WriteFault`] a prefix of the text is written, and nothing after every other fault.
+/// As [`TextFault`] says: [`TextFault::NoPlant`] where the table has no plant of a name that is given, and for `from` no
+/// vendor either. After [`TextFault::WriteFault`] a prefix of the text is written, and nothing after every other fault.
 pub fn schedule_text<R: Read + Drop, W: Write>(
     alloc: Global,
     reader: R,

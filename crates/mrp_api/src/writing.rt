@@ -1,7 +1,7 @@
 //! What one thread writes of a network: the report that was chosen. A network with a loop or past the bound, and names
 //! and periods that it lacks, are refused before anything is written.
 
-ghost use Rattle.std.specs.Prelude.{◌≡◌, ◌≢◌, ◌≤◌, ◌<◌, IfErr, IfOk};
+ghost use Rattle.std.specs.Prelude.{◌≡◌, ◌≢◌, ◌≤◌, ◌<◌, IfErr, IfOk, true, false};
 ghost use Rattle.mrp_loops.specs.Sized.{IsSized};
 ghost use Rattle.mrp_master_data.specs.Table.{IsPair, horizon};
 ghost use Rattle.mrp_net.specs.PlanLaws.{Fits};
@@ -12,10 +12,10 @@ ghost use Rattle.mrp_api.specs.Text.{Writes, IsPlanReport};
 ghost use Rattle.mrp_api.specs.Reports.{WritesRows, IsPlanRows, IsCodeReport};
 ghost use Rattle.mrp_report.specs.Headings.{code_names, lane_names, peg_names, pegs_names};
 ghost use Rattle.mrp_api.specs.Reports.{IsPegReport, IsCumReport, IsPegs, IsOrderReport, IsHeaded};
-ghost use Rattle.mrp_api.specs.Reports.{AreSchedules, IsAdviceReport, IsChosenPlant};
+ghost use Rattle.mrp_api.specs.Reports.{AreSchedules, IsAdviceReport, IsKnownPlant, IsKnownSupplier, is_vendor};
 ghost use Rattle.mrp_api.specs.Reports.{IsPegsReport, IsScheduleReport, IsShortagesReport};
-ghost use Rattle.mrp_api.specs.Reports.{name_of};
-ghost use Rattle.mrp_api.specs.Refusals.{IsNoPlant, RefusesTable, AskPair, AskPlants};
+ghost use Rattle.mrp_commands.specs.Given.{name_of};
+ghost use Rattle.mrp_api.specs.Refusals.{IsNoPlant, IsNoSupplier, RefusesTable, AskPair, AskPlants};
 ghost use Rattle.mrp_commands.specs.declared.choice.TheConstants.{MOST_CAPACITY};
 
 use crate::fault::TextFault;
@@ -24,7 +24,8 @@ use crate::network::{levels_of, sized_of};
 use mrp_advice::advice_rows;
 use mrp_commands::{Choice, Heading, MOST_CAPACITY};
 use mrp_loops::{Levels, SizedNet};
-use mrp_net::{Network, PairNo, PlantNo};
+use mrp_master_data::is_same_text;
+use mrp_net::{Network, PairNo};
 use mrp_plan::{Plan, peg, plan_all};
 use mrp_report::{code_rows, lane_rows, late_rows, order_rows, peg_rows, pegs_rows, plan_rows};
 use mrp_schedules::schedule_rows;
@@ -229,7 +230,7 @@ fn report_orders<W: Write>(
     Ok(())
 }
 
-/// Writes the schedule rows of the lanes from one supplier and to one customer where these are named.
+/// Writes the schedule rows of one supplier, a plant or a vendor, and one customer where these are named.
 fn report_schedule<W: Write>(
     alloc: Global,
     net: &SizedNet<'_>,
@@ -245,37 +246,73 @@ fn report_schedule<W: Write>(
     ensures untouched { IfErr result (λ fault. fault ≢ TextFault.WriteFault → writer.new ≡ writer.old) }
 {
     let network = net.network();
-    let supplier = plant_named(network, from)?;
-    let customer = plant_named(network, to)?;
-    report_schedules(alloc, net, writer, supplier, customer, heading)
+    know_supplier(network, from)?;
+    know_plant(network, to)?;
+    report_schedules(alloc, net, writer, from, to, heading)
 }
 
-/// The plant of that name, and none where no name is given.
-fn plant_named(network: &Network, name: Option<&str>) -> Result<Option<PlantNo>, TextFault>
-    ensures plant { IfOk result (IsChosenPlant network.now (name_of name.entry)) }
+/// Looks for the plant of that name, where a name is given.
+fn know_plant(network: &Network, name: Option<&str>) -> Result<(), TextFault>
+    ensures known { IfOk result (λ _. IsKnownPlant network.now (name_of name.entry)) }
     ensures unknown { IfErr result (λ fault. (fault ≡ TextFault.NoPlant) × IsNoPlant network.now (name_of name.entry)) }
 {
     let Some(name) = name else {
-        return Ok(None);
+        return Ok(());
     };
     match network.find_plant(name) {
-        Some(plant) => Ok(Some(plant)),
+        Some(_) => Ok(()),
         None => Err(TextFault::NoPlant),
     }
 }
 
-/// Writes the schedule rows of the lanes from one supplier and to one customer where these are chosen.
+/// Looks for the plant or the vendor of that name, where a name is given.
+fn know_supplier(network: &Network, name: Option<&str>) -> Result<(), TextFault>
+    ensures known { IfOk result (λ _. IsKnownSupplier network.now (name_of name.entry)) }
+    ensures unknown { IfErr result (λ fault. (fault ≡ TextFault.NoPlant) × IsNoSupplier network.now (name_of name.entry)) }
+{
+    let Some(name) = name else {
+        return Ok(());
+    };
+    match network.find_plant(name) {
+        Some(_) => Ok(()),
+        None => know_vendor(network, name),
+    }
+}
+
+/// Looks for a vendor of that name.
+fn know_vendor(network: &Network, name: &str) -> Result<(), TextFault>
+    ensures known { IfOk result (λ _. is_vendor network.now name.now ≡ true) }
+    ensures unknown { IfErr result (λ fault. (fault ≡ TextFault.NoPlant) × (is_vendor network.now name.now ≡ false)) }
+{
+    if is_vendor(network, name) {
+        Ok(())
+    } else {
+        Err(TextFault::NoPlant)
+    }
+}
+
+/// Whether a vendor has that name.
+fn is_vendor(network: &Network, name: &str) -> bool
+    ensures { result ≡ is_vendor network.now name.now }
+{
+    network
+        .vendors()
+        .iter()
+        .any(|vendor| is_same_text(name, vendor.name.as_str()))
+}
+
+/// Writes the schedule rows of the supplier and the customer of these names, of all where none is given.
 fn report_schedules<W: Write>(
     alloc: Global,
     net: &SizedNet<'_>,
     writer: &mut W,
-    supplier: Option<PlantNo>,
-    customer: Option<PlantNo>,
+    supplier: Option<&str>,
+    customer: Option<&str>,
     heading: Heading,
 ) -> Result<(), TextFault>
     requires { IsSized net.now.network }
     ensures text { Writes (W.contents writer.old) (W.contents writer.new) result
-        (AreSchedules supplier customer heading net.now.network) }
+        (AreSchedules (name_of supplier.entry) (name_of customer.entry) heading net.now.network) }
     ensures fault { IfErr result IsLate }
     ensures untouched { IfErr result (λ fault. fault ≢ TextFault.WriteFault → writer.new ≡ writer.old) }
 {

@@ -82,16 +82,16 @@ pub extern "C" fn mrp_orders(
     answer(alloc, table, choice, buffer, size)
 }
 
-/// Writes the delivery schedules of a table: those of the supplier plant `from` alone and to the customer plant `to`
-/// alone, where these are given.
+/// Writes the delivery schedules of a table: those of the plant or the vendor `from` alone and to the customer plant
+/// `to` alone, where these are given.
 ///
-/// `from` and `to` are names in UTF-8, and an empty one is none: then plants aren't chosen by it. Where `header` is
+/// `from` and `to` are names in UTF-8, and an empty one is none: then schedules aren't chosen by it. Where `header` is
 /// true the names of the columns stand above the rows. The text is that of `mrp schedule`.
 ///
 /// # Errors
 ///
-/// Status 1 where the table is refused, or has no plant of a name that is given, and 3 where memory was refused; the
-/// text is the line of the fault. Status 2 where a name is no UTF-8, whatever the table; the text is
+/// Status 1 where the table is refused, or has no plant of a name that is given, and for `from` no vendor either, and 3
+/// where memory was refused; the text is the line of the fault. Status 2 where a name is no UTF-8, whatever the table; the text is
 /// `mrp: a name is not UTF-8`, a line.
 #[unsafe(no_mangle)]
 pub extern "C" fn mrp_schedule(

@@ -2,7 +2,7 @@
 
 ghost use Rattle.std.specs.Prelude.{◌≡◌};
 ghost use Rattle.mrp_c_api.specs.Options.{heading_of, limit_of, name_given};
-ghost use Rattle.mrp_api.specs.Reports.{name_of};
+ghost use Rattle.mrp_commands.specs.Given.{name_of};
 
 use mrp_commands::Heading;
 

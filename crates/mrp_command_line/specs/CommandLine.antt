@@ -94,7 +94,7 @@ cums_words = with_rule (new_app (codes "cums")) header
 abbrev pub orders_words : App
 orders_words = with_rule (with_rule (new_app (codes "orders")) until) header
 
--- `schedule [--from PLANT] [--to PLANT] [--header]`
+-- `schedule [--from SUPPLIER] [--to PLANT] [--header]`
 abbrev pub schedule_words : App
 schedule_words = with_rule (with_rule (with_rule (new_app (codes "schedule")) from) to) header
 

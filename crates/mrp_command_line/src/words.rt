@@ -51,7 +51,9 @@ cum,FROM,TO,ITEM,FIGURE,,,\n  \
 reset,FROM,TO,ITEM,PERIOD,,,\n  \
 firm,PLANT,ITEM,START,DUE,QUANTITY,,\n  \
 policy,PLANT,ITEM,FENCE,SOONER,COVER,LEAST,MULTIPLE\n  \
-usage,PLANT,PARENT,COMPONENT,PERIOD,PER,BASE,\n\n\
+usage,PLANT,PARENT,COMPONENT,PERIOD,PER,BASE,\n  \
+vendor,VENDOR,PLANT,ITEM,FIGURE,TRANSIT,RESET,\n  \
+day,PERIOD,DATE,,,,,\n\n\
 SUPPLY is make, buy, from:PLANT, or from: with two to four plants and their\n\
 shares in thousandths, as from:B:600:C:400. RULE is lot, fixed:Q, periods:K or\n\
 min:M:K. Periods count from 0.\n\n\
@@ -110,12 +112,13 @@ const ORDERS_EXAMPLE: &str = "Example: mrp orders --until 0 < bicycle.csv";
 
 const ORDERS_UNTIL: &str = "The last period of a release, 0 to 103; without it all orders";
 
-const SCHEDULE: &str = "Write the delivery schedules between plants";
+const SCHEDULE: &str = "Write the delivery schedules of plants and vendors";
 
 const SCHEDULE_LONG: &str =
     "Writes the delivery schedules, item by item: what is in transit (opening), then\n\
 each delivery that is called for (call), and where figures start anew (reset).\n\
---from keeps the schedules of one supplier plant, --to those of one customer\n\
+Those between plants come first, then those of vendors. --from keeps the\n\
+schedules of one supplier, a plant or a vendor, --to those of one customer\n\
 plant, and both together those between the two. CUMULATIVE is the figure in\n\
 force, at a reset the one that it closes.\n\n  \
 schedule,KIND,SUPPLIER,CUSTOMER,ITEM,PERIOD,DATE,QUANTITY,CUMULATIVE";
@@ -412,8 +415,8 @@ fn schedule_command<'a>(alloc: Global) -> Result<Command<'a>, AllocError>
 fn from_option<'a>(alloc: Global) -> Arg<'a>
     ensures { IsRuled rule.from result }
 {
-    let help = "The supplier plant; without it all";
-    free_text_option(alloc, "from", "PLANT", help)
+    let help = "The supplier, a plant or a vendor; without it all";
+    free_text_option(alloc, "from", "SUPPLIER", help)
 }
 
 /// `--to`.

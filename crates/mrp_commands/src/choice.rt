@@ -59,9 +59,9 @@ pub enum Choice<'a> {
         /// Whether the names of the columns stand above them.
         heading: Heading,
     },
-    /// Write the delivery schedules between plants.
+    /// Write the delivery schedules of plants and vendors.
     Schedule {
-        /// The name of the supplier plant whose schedules alone are written, if it is given.
+        /// The name of the supplier, a plant or a vendor, whose schedules alone are written, if it is given.
         from: Option<&'a str>,
         /// The name of the customer plant whose schedules alone are written, if it is given.
         to: Option<&'a str>,

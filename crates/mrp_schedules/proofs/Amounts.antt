@@ -16,7 +16,7 @@ use Rattle.mrp_schedules.specs.declared.line.ScheduleLine.TheVariants.{Call, Res
 use Rattle.mrp_schedules.specs.Calls.{amounts, call_lines}
 use Rattle.mrp_schedules.specs.Schedule.{line_of}
 
-total-cons : (line : Delivery) (lines : List Delivery) → total (line ∷ lines) ≡ line.quantity + total lines
+pub total-cons : (line : Delivery) (lines : List Delivery) → total (line ∷ lines) ≡ line.quantity + total lines
 total-cons line lines = sum_by-cons (λ (l : Delivery). l.quantity) line lines
 
 -- ---- the first period

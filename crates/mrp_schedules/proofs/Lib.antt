@@ -1,5 +1,7 @@
 pub mod Amounts
 pub mod Carried
+pub mod Delivering
+pub mod Follow
 pub mod Periods
 pub mod Planned
 pub mod Released

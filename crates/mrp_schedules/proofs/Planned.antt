@@ -29,7 +29,7 @@ use Rattle.mrp_protocol.proofs.Small.{load_is_small, shipped_total}
 use Rattle.mrp_schedules.specs.declared.line.ScheduleLine.{ScheduleLine}
 use Rattle.mrp_schedules.specs.declared.line.ScheduleLine.TheVariants.{Opening}
 use Rattle.mrp_schedules.specs.Calls.{calls_by, amounts}
-use Rattle.mrp_schedules.specs.Schedule.{in_transit, line_of, schedule_of}
+use Rattle.mrp_schedules.specs.Schedule.{in_transit, line_of, load_schedule}
 use Rattle.mrp_schedules.proofs.Amounts.{block_lines}
 use Rattle.mrp_schedules.proofs.Periods.{share_in}
 
@@ -55,7 +55,7 @@ found_before n x supplier (r ∷ rows) inside =
 pub reset_before : (N : Table) → IsTable N → (lane : Lane) (item : ItemNo) → IfSome (reset N lane item) (λ from. from < horizon N)
 reset_before N table lane item = found_before (horizon N) (pair_on N lane item) (supplier_of lane) N.resets (λ k d h. (table.read.resets k d h).period)
 
-within : (n : ℕ) (reset : Option ℕ) → IfSome reset (λ from. from < n) → IfSome reset (λ from. from ≤ n)
+pub within : (n : ℕ) (reset : Option ℕ) → IfSome reset (λ from. from < n) → IfSome reset (λ from. from ≤ n)
 within n None before = tt
 within n (Some from) before = omega arith
 
@@ -90,6 +90,20 @@ opening_within N sized lane item there = omega (arith, (load_is_small N sized la
 
 -- ---- its calls
 
+-- the opening and then the calls make the schedule of a load
+pub load_scheduled : (load : Load) (transit : ℕ) (calls : List Delivery) (first second last : List ScheduleLine) (figure : ℕ) (from : Option ℕ)
+    → figure ≡ load.opening → from ≡ load.reset → calls ≡ load.lines → second ≡ first ++ Opening transit load.opening ∷ []
+    → last ≡ second ++ filter_map (line_of from) (body load.item figure from calls) → last ≡ first ++ load_schedule transit load
+load_scheduled load transit calls first second last figure from opened at are begun after =
+    let line = Opening transit load.opening in
+    after
+    ∙ ap (λ (z : List ScheduleLine). z ++ filter_map (line_of from) (body load.item figure from calls)) begun
+    ∙ append_assoc first (line ∷ []) (filter_map (line_of from) (body load.item figure from calls))
+    ∙ ap (λ (z : Option ℕ). first ++ line ∷ filter_map (line_of z) (body load.item figure z calls)) at
+    ∙ ap (λ (z : ℕ). first ++ line ∷ filter_map (line_of load.reset) (body load.item z load.reset calls)) opened
+    ∙ ap (λ (z : List Delivery). first ++ line ∷ filter_map (line_of load.reset) (body load.item load.opening load.reset z)) are
+    ∙ ap (λ (z : List ScheduleLine). first ++ line ∷ z) (sym (block_lines load.reset load))
+
 module _ (N : Table) (sized : IsSized N) (lane : Lane) (item : ItemNo) (there : Contains (lane_items N lane) item) (schedule : lane.kind ≡ Schedule)
     (table : List PlanRows) (fits : Fits N table) where
   abbrev s : SourceRow
@@ -101,29 +115,13 @@ module _ (N : Table) (sized : IsSized N) (lane : Lane) (item : ItemNo) (there : 
   pub release_length : (row : List ℕ) → row ≡ (rows_at table s.pair.0).release → length row ≡ horizon N
   release_length row is = ap length is ∙ fitting_release N table s.pair.0 fits (source_row N sized.table lane item there).pair
 
-  pub calls_are : (row : List ℕ) → row ≡ (rows_at table s.pair.0).release → calls_by s row 0 (length row) ≡ (load_of N lane item).lines
+  pub calls_are : (row : List ℕ) → row ≡ (rows_at table s.pair.0).release → calls_by s.low s.high row 0 (length row) ≡ (load_of N lane item).lines
   calls_are row is =
       let whole : length row - 0 ≡ horizon N = omega (arith, release_length row is) in
       let planned : table ≡ plan_of N = (one_plan N sized.table sized.loop_free).only table fits in
-      ap (amounts (share_in s row) 0) whole
-      ∙ ap (λ (r : List ℕ). amounts (share_in s r) 0 (horizon N)) (is ∙ ap (λ (t : List PlanRows). (rows_at t s.pair.0).release) planned)
+      ap (amounts (share_in s.low s.high row) 0) whole
+      ∙ ap (λ (r : List ℕ). amounts (share_in s.low s.high r) 0 (horizon N)) (is ∙ ap (λ (t : List PlanRows). (rows_at t s.pair.0).release) planned)
       ∙ called_is
 
-  pub calls_within : (row : List ℕ) → row ≡ (rows_at table s.pair.0).release → opening N lane item + total (calls_by s row 0 (length row)) ≤ MOST
+  pub calls_within : (row : List ℕ) → row ≡ (rows_at table s.pair.0).release → opening N lane item + total (calls_by s.low s.high row 0 (length row)) ≤ MOST
   calls_within row is = omega (arith, (load_is_small N sized lane item there).figures, ap total (calls_are row is))
-
-  -- the opening and then the calls make the schedule
-  pub scheduled : (row : List ℕ) → row ≡ (rows_at table s.pair.0).release → (first second last : List ScheduleLine) (figure : ℕ) (from : Option ℕ)
-      → figure ≡ opening N lane item → from ≡ reset N lane item → second ≡ first ++ Opening (in_transit N lane item) (opening N lane item) ∷ []
-      → last ≡ second ++ filter_map (line_of from) (body item.0 figure from (calls_by s row 0 (length row))) → last ≡ first ++ schedule_of N lane item
-  scheduled row is first second last figure from opened at begun after =
-      let line = Opening (in_transit N lane item) (opening N lane item) in
-      let load : Load = load_of N lane item in
-      let calls = calls_by s row 0 (length row) in
-      after
-      ∙ ap (λ (z : List ScheduleLine). z ++ filter_map (line_of from) (body item.0 figure from calls)) begun
-      ∙ append_assoc first (line ∷ []) (filter_map (line_of from) (body item.0 figure from calls))
-      ∙ ap (λ (z : Option ℕ). first ++ line ∷ filter_map (line_of z) (body item.0 figure z calls)) at
-      ∙ ap (λ (z : ℕ). first ++ line ∷ filter_map (line_of load.reset) (body item.0 z load.reset calls)) opened
-      ∙ ap (λ (z : List Delivery). first ++ line ∷ filter_map (line_of load.reset) (body item.0 load.opening load.reset z)) (calls_are row is)
-      ∙ ap (λ (z : List ScheduleLine). first ++ line ∷ z) (sym (block_lines load.reset load))

@@ -12,14 +12,14 @@ use Rattle.mrp_master_data.specs.Table.{Table, IsTable, IsPair, IsSourceRow, hor
 use Rattle.mrp_net.specs.declared.edge.Edge.{Edge}
 use Rattle.mrp_net.specs.Edges.{part, source_edge}
 use Rattle.mrp_net.specs.LaneLaws.{HasBothLanes, schedule_lane}
-use Rattle.mrp_net.specs.Lanes.{item_of_source, opening, reset}
+use Rattle.mrp_net.specs.Lanes.{item_of_source}
 use Rattle.mrp_net.specs.Plan.{no_rows, pair_plan, plan_of, rounds, rows_at}
 use Rattle.mrp_net.specs.Plan.{release_at}
 use Rattle.mrp_net.specs.Sources.{source_on}
 use Rattle.mrp_record.specs.Entries.{Entry, LineOf, EndOf, ResetOf, Closing, Delivery}
 use Rattle.mrp_record.specs.Blocks.{entry_delivery}
 use Rattle.mrp_record.specs.Laws.{quantity_in}
-use Rattle.mrp_record.specs.Text.{block}
+use Rattle.mrp_record.specs.Text.{Load, block}
 use Rattle.mrp_record.proofs.Running.{block_delivers}
 use Rattle.mrp_protocol.specs.Loads.{by_period, called_in, load_of}
 use Rattle.mrp_net.proofs.Behind.{items_have_sources}
@@ -28,9 +28,11 @@ use Rattle.mrp_net.proofs.Sharing.{pairs_are_found, parts_are_whole}
 use Rattle.mrp_net.proofs.Twos.{sources_have_lanes}
 use Rattle.mrp_plan.proofs.Planning.{pair_plan-release}
 use Rattle.mrp_schedules.specs.declared.line.ScheduleLine.TheVariants.{Opening, Call, Reset}
-use Rattle.mrp_schedules.specs.Laws.{CallsAreReleased, called_for_in, line_pieces_in, schedule_by}
-use Rattle.mrp_schedules.specs.Schedule.{in_transit, line_of}
+use Rattle.mrp_schedules.specs.Laws.{CallsAreReleased, VendorCallsAreReleased, called_for_in, line_pieces_in, schedule_by}
+use Rattle.mrp_schedules.specs.Schedule.{in_transit, line_of, load_schedule}
+use Rattle.mrp_schedules.specs.Vendors.{vendor_load}
 use Rattle.mrp_schedules.proofs.Amounts.{earlier_has_none, has_amount}
+use Rattle.mrp_schedules.proofs.Delivering.{vendor_row}
 
 -- ---- the source of a pair and a plant
 
@@ -91,16 +93,20 @@ pieces_called (Some from) t (ResetOf i c ∷ es) =
     omega (arith, sum_by-cons (line_pieces_in t) (Reset from c) (filter_map (line_of (Some from)) es), pieces_called (Some from) t es)
 pieces_called from t (Closing ∷ es) = pieces_called from t es
 
+-- a schedule calls for the deliveries of its load
+load_calls : (transit t : ℕ) (load : Load) → called_for_in t (load_schedule transit load) ≡ quantity_in t load.lines
+load_calls transit t load =
+    let entries = filter_map (line_of load.reset) (block load) in
+    let first : called_for_in t (load_schedule transit load) ≡ called_for_in t entries =
+    omega (arith, sum_by-cons (line_pieces_in t) (Opening transit load.opening) entries) in
+    first ∙ pieces_called load.reset t (block load) ∙ ap (quantity_in t) (block_delivers load)
+
 schedule_calls : (N : Table) → IsTable N → (s : SourceRow) → In N.sources s → (t : ℕ)
     → called_for_in t (schedule_by N s) ≡ quantity_in t (by_period (called_in N s) (horizon N))
 schedule_calls N table s there t =
     let lane = schedule_lane N s in
     let item = item_of_source N s in
-    let from = reset N lane item in
-    let load = load_of N lane item in
-    let first : called_for_in t (schedule_by N s) ≡ called_for_in t (filter_map (line_of from) (block load)) =
-    omega (arith, sum_by-cons (line_pieces_in t) (Opening (in_transit N lane item) (opening N lane item)) (filter_map (line_of from) (block load))) in
-    first ∙ pieces_called from t (block load) ∙ ap (quantity_in t) (block_delivers load)
+    load_calls (in_transit N lane item) t (load_of N lane item)
     ∙ ap (λ (r : SourceRow). quantity_in t (by_period (called_in N r) (horizon N))) (source_of_schedule N table s there)
 
 -- ---- past the last period nothing is released
@@ -146,3 +152,16 @@ calls_are_released N table x pair from t =
     let own = filter_only (λ (r : SourceRow). r.pair.0 == x) N.sources s h in
     schedule_in N table s own.0 t ∙ ap (λ (y : ℕ). part (source_edge N s) (release_at (plan_of N) y t)) (eqb-true s.pair.0 x own.1))
     ∙ parts_are_whole N table x pair from (release_at (plan_of N) x t)
+
+-- ---- vendors
+
+pub vendor_calls_are_released : VendorCallsAreReleased
+vendor_calls_are_released N table v there t =
+    let amount : ℕ → ℕ = λ u. release_at (plan_of N) v.pair.0 u in
+    load_calls v.transit t (vendor_load N v)
+    ∙ elim (cases_lt t (horizon N)) as (λ _. quantity_in t (by_period amount (horizon N)) ≡ amount t) [
+      | inl inside ↦ has_amount amount t 0 (horizon N) (omega arith) (omega arith)
+      | inr past ↦
+          earlier_has_none amount t 0 (horizon N) (omega arith)
+          ∙ sym (nothing_released N v.pair.0 t (vendor_row N table v there).pair (omega arith))
+    ]

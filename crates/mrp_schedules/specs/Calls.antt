@@ -1,7 +1,6 @@
 -- The calls of some of the periods.
 use Rattle.std.specs.Prelude.{ℕ, ◌+◌, ◌-◌, List, [], ◌∷◌, map, filter, slice_index}
 use Rattle.std.specs.List.{range_with_len}
-use Rattle.mrp_master_data.specs.declared.rows.SourceRow.{SourceRow}
 use Rattle.mrp_record.specs.Entries.{Delivery}
 use Rattle.mrp_protocol.specs.Loads.{delivery_in, has_pieces}
 use Rattle.mrp_net.specs.Shares.{share_of}
@@ -12,9 +11,9 @@ use Rattle.mrp_schedules.specs.declared.line.ScheduleLine.TheVariants.{Call}
 abbrev pub amounts : (ℕ → ℕ) → ℕ → ℕ → List Delivery
 amounts amount from periods = filter has_pieces (map (delivery_in amount) (range_with_len from periods))
 
--- a source's share of a row of releases, in the periods from one up to another
-abbrev pub calls_by : SourceRow → List ℕ → ℕ → ℕ → List Delivery
-calls_by s release from to = amounts (λ t. share_of s.low s.high (slice_index release t)) from (to - from)
+-- a share of a row of releases, from one running share to another, in the periods from one up to another
+abbrev pub calls_by : ℕ → ℕ → List ℕ → ℕ → ℕ → List Delivery
+calls_by low high release from to = amounts (λ t. share_of low high (slice_index release t)) from (to - from)
 
 -- each as a line with the figure that it comes to
 abbrev pub call_lines : ℕ → List Delivery → List ScheduleLine

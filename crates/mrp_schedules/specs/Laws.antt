@@ -3,6 +3,7 @@ use Rattle.std.specs.Prelude.{◌≡◌, ℕ, ◌+◌, ◌==◌, if◌then◌els
 use Rattle.mrp_master_data.specs.declared.numbers.ItemNo.{ItemNo}
 use Rattle.mrp_master_data.specs.declared.rows.SourceRow.{SourceRow}
 use Rattle.mrp_master_data.specs.declared.rows.Supply.TheVariants.{From}
+use Rattle.mrp_master_data.specs.Rows.{Vendor}
 use Rattle.mrp_master_data.specs.Table.{Table, IsTable, IsPair, sources_of_pair}
 use Rattle.mrp_net.specs.declared.lane.Lane.{Lane}
 use Rattle.mrp_net.specs.LaneLaws.{schedule_lane}
@@ -18,6 +19,7 @@ use Rattle.mrp_protocol.specs.Loads.{loads}
 use Rattle.mrp_schedules.specs.declared.line.ScheduleLine.{ScheduleLine}
 use Rattle.mrp_schedules.specs.declared.line.ScheduleLine.TheVariants.{Opening, Call, Reset}
 use Rattle.mrp_schedules.specs.Schedule.{in_transit, line_of, schedule_of}
+use Rattle.mrp_schedules.specs.Vendors.{vendor_schedule}
 
 -- behind the opening stands what any whole text of the lane says of the item
 abbrev pub TextsCarrySchedules : Type 0
@@ -62,3 +64,15 @@ abbrev pub CallsAreReleased : Type 0
 CallsAreReleased =
     (N : Table) → IsTable N → (x : ℕ) → IsPair N x → (pair_at N x).supply ≡ From → (t : ℕ)
     → sum_by (λ s. called_for_in t (schedule_by N s)) (sources_of_pair N x) ≡ release_at (plan_of N) x t
+
+-- what a vendor is called for in a period is the planned order release of its pair
+abbrev pub VendorCallsAreReleased : Type 0
+VendorCallsAreReleased =
+    (N : Table) → IsTable N → (v : Vendor) → Contains N.vendors v → (t : ℕ)
+    → called_for_in t (vendor_schedule N v) ≡ release_at (plan_of N) v.pair.0 t
+
+-- behind what was received from the vendor stands what is in transit
+abbrev pub VendorSchedulesOpen : Type 0
+VendorSchedulesOpen =
+    (N : Table) (v : Vendor)
+    → (lines : List ScheduleLine) × (vendor_schedule N v ≡ Opening v.transit (v.figure + v.transit) ∷ lines)

@@ -1,6 +1,8 @@
 pub mod Calls
+pub mod Following
 pub mod ItemRows
 pub mod Laws
 pub mod ScheduleRows
 pub mod Schedule
 pub mod ScheduleSheets
+pub mod Vendors

@@ -1,12 +1,12 @@
--- The delivery schedule of an item of a schedule lane: what the lane's records say of it, without their numbers,
--- the item's end and the closing.
+-- Delivery schedules: what the records of a load say, without their numbers, the item's end and the closing. That of an
+-- item of a schedule lane is what the lane's records say of it.
 use Rattle.std.specs.Prelude.{ℕ, List, ◌∷◌, filter_map, sum_by, Option, Some, None, option_map}
 use Rattle.mrp_master_data.specs.declared.numbers.ItemNo.{ItemNo}
 use Rattle.mrp_master_data.specs.Table.{Table}
 use Rattle.mrp_net.specs.declared.lane.Lane.{Lane}
-use Rattle.mrp_net.specs.Lanes.{opening, shipments, reset}
+use Rattle.mrp_net.specs.Lanes.{shipments}
 use Rattle.mrp_record.specs.Entries.{Entry, LineOf, EndOf, ResetOf, Closing}
-use Rattle.mrp_record.specs.Text.{block}
+use Rattle.mrp_record.specs.Text.{Load, block}
 use Rattle.mrp_protocol.specs.Loads.{load_of}
 use Rattle.mrp_schedules.specs.declared.line.ScheduleLine.{ScheduleLine}
 use Rattle.mrp_schedules.specs.declared.line.ScheduleLine.TheVariants.{Opening, Call, Reset}
@@ -23,8 +23,11 @@ line_of reset Closing = None
 abbrev pub in_transit : Table → Lane → ItemNo → ℕ
 in_transit N lane item = sum_by (λ s. s.quantity) (shipments N lane item)
 
--- what is in transit and the figure with it, then the calls and the reset in the order of the item's records
+-- the schedule of a load: what is in transit and the figure with it, then the calls and the reset in the order of its
+-- records
+abbrev pub load_schedule : ℕ → Load → List ScheduleLine
+load_schedule transit load = Opening transit load.opening ∷ filter_map (line_of load.reset) (block load)
+
+-- that of an item of a lane
 abbrev pub schedule_of : Table → Lane → ItemNo → List ScheduleLine
-schedule_of N lane item =
-    Opening (in_transit N lane item) (opening N lane item)
-    ∷ filter_map (line_of (reset N lane item)) (block (load_of N lane item))
+schedule_of N lane item = load_schedule (in_transit N lane item) (load_of N lane item)

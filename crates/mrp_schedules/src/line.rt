@@ -2,15 +2,16 @@
 
 use mrp_qty::Qty;
 
-/// A line of the delivery schedule of an item between a customer plant and the plant that supplies it.
+/// A line of the delivery schedule of an item between a customer plant and the plant or vendor that supplies it.
 ///
-/// Figures are cumulative, in pieces: what the supplier has shipped and what is called for, all in all since
+/// Figures are cumulative, in pieces: what was received, what is in transit and what is called for, all in all since
 /// counting began or, after a reset, since that.
 #[derive(Clone, Copy, Debug, PartialEq, Eq)]
 pub enum ScheduleLine {
     /// Where the schedule begins, its first line.
     Opening {
-        /// How many pieces the shipments of the table have on their way to the customer, 0 to 10^15.
+        /// How many pieces are in transit to the customer, by the shipments of the table or by the vendor's row, 0 to
+        /// 10^15.
         transit: Qty,
         /// The figure that the calls are counted on from, these pieces included, 0 to 10^15.
         figure: Qty,

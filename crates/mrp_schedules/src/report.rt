@@ -1,4 +1,4 @@
-//! The schedule rows: the delivery schedules between plants, item by item and line by line.
+//! The schedule rows: the delivery schedules of plants and of vendors, item by item and line by line.
 
 ghost use Rattle.std.specs.Prelude.{◌≡◌, ◌<◌, ◌++◌, Err, OnOk, IfOk, IfErr, IfSome, All, Contains, length};
 ghost use Rattle.std.specs.List.{flat_map};
@@ -6,14 +6,17 @@ ghost use Rattle.mrp_net.specs.declared.lane.LaneKind.TheVariants.{Schedule};
 ghost use Rattle.mrp_net.specs.Lanes.{lane_at, lane_items, lanes};
 ghost use Rattle.mrp_net.specs.PlanLaws.{Fits};
 ghost use Rattle.mrp_net.specs.Routes.{IsLane};
+ghost use Rattle.mrp_master_data.specs.Rows.{vendor_of};
+ghost use Rattle.mrp_master_data.specs.Table.{IsTable};
 ghost use Rattle.mrp_csv_out.specs.Dates.{dates_of};
 ghost use Rattle.mrp_csv_out.specs.Writing.{IsBetweenRows, written};
 ghost use Rattle.mrp_csv_out.specs.Sent.{SendsReport};
-ghost use Rattle.mrp_schedules.specs.ScheduleRows.{is_asked_for, is_between, item_text, lane_schedule_text, lanes_text};
-ghost use Rattle.mrp_schedules.specs.ScheduleRows.{schedule_text};
-ghost use Rattle.mrp_schedules.specs.ItemRows.{AreOfItem, IsLineWithin, asked_text, item_row, kind_row};
+ghost use Rattle.mrp_schedules.specs.ScheduleRows.{is_asked_for, is_between, is_vendor_to, item_text, lane_schedule_text};
+ghost use Rattle.mrp_commands.specs.Given.{name_of};
+ghost use Rattle.mrp_schedules.specs.ScheduleRows.{lanes_text, schedule_text, vendor_text, vendors_text};
+ghost use Rattle.mrp_schedules.specs.ItemRows.{AreRowsOf, IsLineWithin, asked_text, asked_vendor_text, item_row, kind_row};
 
-use crate::{ScheduleLine, add_schedule};
+use crate::{ScheduleLine, add_schedule, add_vendor_schedule};
 use csv::Writer;
 use itoa::Buffer;
 use mrp_commands::Heading;
@@ -22,7 +25,8 @@ use mrp_csv_out::{
     text_of,
 };
 use mrp_loops::SizedNet;
-use mrp_net::{ItemNo, Lane, LaneKind, LaneNo, Network, PlantNo};
+use mrp_master_data::is_same_text;
+use mrp_net::{ItemNo, Lane, LaneKind, LaneNo, Network, PlantNo, VendorRow};
 use mrp_plan::Plan;
 use mrp_qty::Qty;
 use std::alloc::Global;
@@ -32,15 +36,15 @@ use std::io::Write;
 /// 16, the commas and the line feed.
 const LONGEST_ROW: usize = 129;
 
-/// What the schedule rows are of: a network and its plan, the text of each period's date, and the
-/// supplier and the customer that are asked for.
+/// What the schedule rows are of: a network and its plan, the text of each period's date, and the names of
+/// the supplier and the customer that are asked for.
 #[derive(Clone, Copy)]
 struct ScheduleReport<'a> {
     net: &'a SizedNet<'a>,
     plan: &'a Plan,
     dates: &'a [[u8; 10]],
-    from: Option<PlantNo>,
-    to: Option<PlantNo>,
+    from: Option<&'a str>,
+    to: Option<&'a str>,
 }
 
 /// What the rows of an item's schedule have in common: the names of the supplier, the customer and the
@@ -53,17 +57,18 @@ pub(crate) struct ItemRows<'a> {
     pub(crate) dates: &'a [[u8; 10]],
 }
 
-/// Writes the rows of the delivery schedules between a supplier plant and a customer plant, without
-/// `from` of all suppliers and without `to` of all customers: lanes by customer and then by supplier, in
-/// table order, and the items of a lane in table order of the customer's pairs.
+/// Writes the rows of the delivery schedules by which the plant named `to` calls on the plant or the vendor
+/// named `from`, without `from` on all and without `to` those of all plants: lanes by customer and then by
+/// supplier, in table order, and the items of a lane in table order of the customer's pairs; behind all
+/// lanes the vendors in the order of their rows.
 ///
 /// Each row is `schedule`, its kind, supplier, customer, item, a period and its first day, a quantity and
 /// a cumulative figure, both in pieces. An item begins with `opening`, which has no period: what the
-/// shipments of the table have on their way, and the figure that the calls are counted on from. Each
-/// delivery that is called for is a `call`, in rising period, with the figure in force after it. Before the
-/// first call that is counted from 0 again stands `reset`, without a quantity: the period from which
-/// counting begins anew, and the figure that it closes. Where no plants fit there are no rows. The names
-/// of the columns stand above them where `heading` says so.
+/// shipments of the table have on their way, or the vendor's row says is, and the figure that the calls are
+/// counted on from. Each delivery that is called for is a `call`, in rising period, with the figure in force
+/// after it. Before the first call that is counted from 0 again stands `reset`, without a quantity: the
+/// period from which counting begins anew, and the figure that it closes. Where no names fit there are no
+/// rows. The names of the columns stand above them where `heading` says so.
 ///
 /// # Errors
 ///
@@ -74,14 +79,14 @@ pub fn schedule_rows<W: Write>(
     alloc: Global,
     net: &SizedNet<'_>,
     plan: &Plan,
-    from: Option<PlantNo>,
-    to: Option<PlantNo>,
+    from: Option<&str>,
+    to: Option<&str>,
     heading: Heading,
     out: &mut W,
 ) -> Result<(), ReportFault>
     requires fits { Fits net.now.network plan.now }
     ensures text { SendsReport (W.contents out.old) (W.contents out.new) result
-        (schedule_text heading from to net.now.network) }
+        (schedule_text heading (name_of from.entry) (name_of to.entry) net.now.network) }
     ensures untouched { result ≡ Err ReportFault.Memory → out.new ≡ out.old }
 {
     let dates = date_texts(alloc, net.network().calendar())?;
@@ -105,7 +110,7 @@ fn schedule_text(
     requires fits { Fits report.now.net.now.network report.now.plan.now }
     requires dates { report.now.dates.now ≡ dates_of report.now.net.now.network.calendar }
     ensures text { IfOk result (λ text. text.items
-        ≡ schedule_text heading report.now.from report.now.to report.now.net.now.network) }
+        ≡ schedule_text heading (name_of report.now.from) (name_of report.now.to) report.now.net.now.network) }
     ensures fault { IfErr result (λ fault. fault ≡ ReportFault.Memory) }
 {
     // Room to begin with, which grows where there are more rows than lanes.
@@ -125,27 +130,28 @@ fn schedule_text(
             b"cumulative",
         ],
     )?;
-    put_lanes(&mut rows, alloc, report)?;
+    let mut lines = Vec::new(alloc);
+    put_lanes(&mut rows, &mut lines, report)?;
+    put_vendors(&mut rows, &mut lines, report)?;
     text_of(rows)
 }
 
-/// Adds the rows of all lanes whose schedules are asked for.
+/// Adds the rows of all lanes whose schedules are asked for. The list is room for the lines of an item.
 fn put_lanes(
     rows: &mut Writer<Vec<u8>>,
-    alloc: Global,
+    lines: &mut Vec<ScheduleLine>,
     report: &ScheduleReport<'_>,
 ) -> Result<(), ReportFault>
     requires between { IsBetweenRows rows.old }
     requires fits { Fits report.now.net.now.network report.now.plan.now }
     requires dates { report.now.dates.now ≡ dates_of report.now.net.now.network.calendar }
     ensures rows { OnOk result (written rows.new ≡ written rows.old
-        ++ lanes_text report.now.from report.now.to report.now.net.now.network) }
+        ++ lanes_text (name_of report.now.from) (name_of report.now.to) report.now.net.now.network) }
     ensures between { OnOk result (IsBetweenRows rows.new) }
     ensures fault { IfErr result (λ fault. fault ≡ ReportFault.Memory) }
 {
-    let mut lines = Vec::new(alloc);
     'lanes: for l in 0..report.net.network().lanes() {
-        put_lane(rows, &mut lines, report, LaneNo(l))?;
+        put_lane(rows, lines, report, LaneNo(l))?;
     }
     Ok(())
 }
@@ -162,36 +168,37 @@ fn put_lane(
     requires dates { report.now.dates.now ≡ dates_of report.now.net.now.network.calendar }
     requires lane { lane.0 < length (lanes report.now.net.now.network) }
     ensures rows { OnOk result (written rows.new ≡ written rows.old
-        ++ asked_text report.now.from report.now.to report.now.net.now.network
+        ++ asked_text (name_of report.now.from) (name_of report.now.to) report.now.net.now.network
         (lane_at report.now.net.now.network lane.0)) }
     ensures between { OnOk result (IsBetweenRows rows.new) }
     ensures fault { IfErr result (λ fault. fault ≡ ReportFault.Memory) }
 {
     let network = report.net.network();
-    if is_between(report.from, report.to, network.lane(lane)) {
+    if is_between(network, report.from, report.to, network.lane(lane)) {
         put_items(rows, lines, report, lane)
     } else {
         Ok(())
     }
 }
 
-/// Whether the schedules of a lane are asked for: it is a schedule lane to that supplier and from that
-/// customer.
-fn is_between(from: Option<PlantNo>, to: Option<PlantNo>, lane: Lane) -> bool
-    ensures { result ≡ is_between from to lane }
+/// Whether the schedules of a lane are asked for: it is a schedule lane to the supplier and from the customer
+/// of these names.
+fn is_between(network: &Network, from: Option<&str>, to: Option<&str>, lane: Lane) -> bool
+    requires lane { IsLane network.now lane }
+    ensures { result ≡ is_between (name_of from.entry) (name_of to.entry) network.now lane }
 {
     lane.kind == LaneKind::Schedule
-        && is_asked(from, lane.supplier())
-        && is_asked(to, lane.customer())
+        && is_asked(from, network.plant_name(lane.supplier()))
+        && is_asked(to, network.plant_name(lane.customer()))
 }
 
-/// Whether it is the plant that is asked for. Where none is asked for every plant is.
-fn is_asked(asked: Option<PlantNo>, plant: PlantNo) -> bool
-    ensures { result ≡ is_asked_for asked plant.0 }
+/// Whether it is the name that is asked for. Where none is asked for every name is.
+fn is_asked(asked: Option<&str>, name: &str) -> bool
+    ensures { result ≡ is_asked_for (name_of asked.entry) name.now }
 {
     match asked {
         None => true,
-        Some(asked) => asked.0 == plant.0,
+        Some(asked) => is_same_text(asked, name),
     }
 }
 
@@ -243,25 +250,116 @@ fn put_item(
         return Err(ReportFault::Memory);
     };
     let network = report.net.network();
-    let common = rows_of(network, network.lane(lane), item, report.dates);
+    let route = network.lane(lane);
+    let supplier = network.plant_name(route.supplier());
+    let common = rows_of(network, supplier, route.customer(), item, report.dates);
     put_lines(rows, &common, lines.as_slice())
 }
 
-/// What the rows of the schedule of an item of a lane have in common.
+/// Adds the rows of all vendors whose schedules are asked for. The list is room for one schedule.
+fn put_vendors(
+    rows: &mut Writer<Vec<u8>>,
+    schedule: &mut Vec<ScheduleLine>,
+    report: &ScheduleReport<'_>,
+) -> Result<(), ReportFault>
+    requires between { IsBetweenRows rows.old }
+    requires fits { Fits report.now.net.now.network report.now.plan.now }
+    requires dates { report.now.dates.now ≡ dates_of report.now.net.now.network.calendar }
+    ensures rows { OnOk result (written rows.new ≡ written rows.old
+        ++ vendors_text (name_of report.now.from) (name_of report.now.to) report.now.net.now.network) }
+    ensures between { OnOk result (IsBetweenRows rows.new) }
+    ensures fault { IfErr result (λ fault. fault ≡ ReportFault.Memory) }
+{
+    let vendors = report.net.network().vendors();
+    'vendors: for vendor in vendors {
+        put_vendor(rows, schedule, report, vendor)?;
+    }
+    Ok(())
+}
+
+/// Adds the rows of the schedule of a vendor, if it is asked for.
+fn put_vendor(
+    rows: &mut Writer<Vec<u8>>,
+    schedule: &mut Vec<ScheduleLine>,
+    report: &ScheduleReport<'_>,
+    vendor: &VendorRow,
+) -> Result<(), ReportFault>
+    requires between { IsBetweenRows rows.old }
+    requires fits { Fits report.now.net.now.network report.now.plan.now }
+    requires dates { report.now.dates.now ≡ dates_of report.now.net.now.network.calendar }
+    requires vendor { Contains report.now.net.now.network.vendors (vendor_of vendor.now) }
+    ensures rows { OnOk result (written rows.new ≡ written rows.old
+        ++ asked_vendor_text (name_of report.now.from) (name_of report.now.to) report.now.net.now.network
+        (vendor_of vendor.now)) }
+    ensures between { OnOk result (IsBetweenRows rows.new) }
+    ensures fault { IfErr result (λ fault. fault ≡ ReportFault.Memory) }
+{
+    let network = report.net.network();
+    if is_vendor_to(network, report.from, report.to, vendor) {
+        put_vendor_lines(rows, schedule, report, vendor)
+    } else {
+        Ok(())
+    }
+}
+
+/// Whether the schedule of a vendor is asked for: it has the supplier's name, and its plant the customer's.
+fn is_vendor_to(network: &Network, from: Option<&str>, to: Option<&str>, vendor: &VendorRow) -> bool
+    requires table { IsTable network.now }
+    requires vendor { Contains network.now.vendors (vendor_of vendor.now) }
+    ensures { result ≡ is_vendor_to (name_of from.entry) (name_of to.entry) network.now (vendor_of vendor.now) }
+{
+    let pair = network.pair(vendor.pair);
+    is_asked(from, vendor.name.as_str()) && is_asked(to, network.plant_name(pair.plant))
+}
+
+/// Adds the rows of the schedule of a vendor.
+fn put_vendor_lines(
+    rows: &mut Writer<Vec<u8>>,
+    schedule: &mut Vec<ScheduleLine>,
+    report: &ScheduleReport<'_>,
+    vendor: &VendorRow,
+) -> Result<(), ReportFault>
+    requires between { IsBetweenRows rows.old }
+    requires fits { Fits report.now.net.now.network report.now.plan.now }
+    requires dates { report.now.dates.now ≡ dates_of report.now.net.now.network.calendar }
+    requires vendor { Contains report.now.net.now.network.vendors (vendor_of vendor.now) }
+    ensures rows { OnOk result (written rows.new ≡ written rows.old
+        ++ vendor_text report.now.net.now.network (vendor_of vendor.now)) }
+    ensures between { OnOk result (IsBetweenRows rows.new) }
+    ensures fault { IfErr result (λ fault. fault ≡ ReportFault.Memory) }
+{
+    schedule.clear();
+    let Ok(()) = add_vendor_schedule(schedule, report.net, report.plan, vendor) else {
+        return Err(ReportFault::Memory);
+    };
+    let network = report.net.network();
+    let pair = network.pair(vendor.pair);
+    let common = rows_of(
+        network,
+        vendor.name.as_str(),
+        pair.plant,
+        pair.item,
+        report.dates,
+    );
+    put_lines(rows, &common, schedule.as_slice())
+}
+
+/// What the rows of a schedule have in common: the supplier of that name, the customer and the item.
 fn rows_of<'a>(
     network: &'a Network,
-    lane: Lane,
+    supplier: &'a str,
+    customer: PlantNo,
     item: ItemNo,
     dates: &'a [[u8; 10]],
 ) -> ItemRows<'a>
-    requires lane { IsLane network.now lane }
+    requires customer { customer.0 < length network.now.plants }
     requires item { item.0 < length network.now.items }
     requires dates { dates.now ≡ dates_of network.now.calendar }
-    ensures { AreOfItem network.now lane item result }
+    ensures { AreRowsOf network.now supplier.now customer.0 item.0 result }
 {
     ItemRows {
-        supplier: network.plant_name(lane.supplier()),
-        customer: network.plant_name(lane.customer()),
+        supplier,
+        customer: network.plant_name(customer),
         item: network.item_name(item),
         dates,
     }

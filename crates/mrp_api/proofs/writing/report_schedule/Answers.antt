@@ -1,22 +1,20 @@
 use Rattle.std.proofs.Common.{subst}
 use Rattle.mrp_master_data.specs.Table.{Table}
-use Rattle.mrp_api.specs.Reports.{AreSchedules, IsChosenPlant, IsScheduleReport, name_of}
+use Rattle.mrp_commands.specs.Given.{name_of}
+use Rattle.mrp_api.specs.Reports.{AreSchedules, IsKnownPlant, IsKnownSupplier, IsScheduleReport}
 use Rattle.mrp_api.proofs.TextFacts.{writes-of}
 use Rattle.mrp_api.proofs.writing.report_schedule.Goals as goal
 
--- the plants that were found have these names
+-- the names are those of a supplier and of a plant
 pub returns-clause-text : goal.returns-clause-text
 returns-clause-text g c =
     let N = c.args.net.now.network in
-    let f = c.in_ok-supplier.supplier in
-    let t = c.in_ok-customer.customer in
-    writes-of _ _ c.report_schedules.result (AreSchedules f t c.args.heading N)
-    (IsScheduleReport (name_of c.args.from) (name_of c.args.to) c.args.heading N)
+    let from = name_of c.args.from in
+    let to = name_of c.args.to in
+    writes-of _ _ c.report_schedules.result (AreSchedules from to c.args.heading N) (IsScheduleReport from to c.args.heading N)
     (λ text is. (
-      f,
-      t,
-      subst (λ (M : Table). IsChosenPlant M (name_of c.args.from) f) c.network-network.ensures.value c.in_ok-supplier.ensures.plant,
-      subst (λ (M : Table). IsChosenPlant M (name_of c.args.to) t) c.network-network.ensures.value c.in_ok-customer.ensures.plant,
+      subst (λ (M : Table). IsKnownSupplier M from) c.network-network.ensures.value c.in_ok-know_supplier.ensures.known,
+      subst (λ (M : Table). IsKnownPlant M to) c.network-network.ensures.value c.in_ok-know_plant.ensures.known,
       is,
     ))
     c.report_schedules.ensures.text

@@ -9,9 +9,9 @@ abbrev pub invariant-loop-period : goal.invariant-loop-period
 invariant-loop-period l = record {
   begun : l.from ≤ l.period;
   within : l.period ≤ l.to;
-  lines : l.fn.lines.items ++ call_lines l.figure (calls_by l.source l.release l.from l.to)
-      ≡ l.lines.items ++ call_lines l.reached (calls_by l.source l.release l.period l.to);
-  figure : l.reached + total (calls_by l.source l.release l.period l.to) ≡ l.figure + total (calls_by l.source l.release l.from l.to);
+  lines : l.fn.lines.items ++ call_lines l.figure (calls_by l.low l.high l.release l.from l.to)
+      ≡ l.lines.items ++ call_lines l.reached (calls_by l.low l.high l.release l.period l.to);
+  figure : l.reached + total (calls_by l.low l.high l.release l.period l.to) ≡ l.figure + total (calls_by l.low l.high l.release l.from l.to);
   room : length l.lines.items + (l.to - l.period) ≤ length l.fn.lines.items + (l.to - l.from);
   capacity : vec_capacity l.lines ≡ vec_capacity l.fn.lines;
 }

@@ -7,9 +7,10 @@ use Rattle.mrp_net.specs.Lanes.{lane_at}
 use Rattle.mrp_net.specs.Plan.{rows_at}
 use Rattle.mrp_net.specs.Sources.{source_on}
 use Rattle.mrp_record.specs.Text.{body, total}
+use Rattle.mrp_protocol.specs.Loads.{load_of}
 use Rattle.mrp_schedules.specs.declared.line.ScheduleLine.{ScheduleLine}
 use Rattle.mrp_schedules.specs.Calls.{calls_by}
-use Rattle.mrp_schedules.specs.Schedule.{line_of}
+use Rattle.mrp_schedules.specs.Schedule.{in_transit, line_of}
 use Rattle.mrp_schedules.proofs.Planned as planned
 use Rattle.mrp_schedules.proofs.schedule.add_lines.Goals as goal
 use Rattle.mrp_schedules.proofs.schedule.add_lines.Goals.{After-lane_source-source, After-release-release}
@@ -45,8 +46,8 @@ pub add_calls-requires-clause-reset : goal.add_calls-requires-clause-reset
 add_calls-requires-clause-reset c =
     let N = c.args.network.now in
     let within = planned.reset_within N c.requires.sized.table (lane_at N c.args.lane.0) c.args.item in
-    subst (λ (n : ℕ). IfSome c.reset.result (λ from. from ≤ n)) (sym (sized (goal.at.add_calls-requires-clause-reset c).After-release-release))
-    (subst (λ (r : Option ℕ). IfSome r (λ from. from ≤ horizon N)) (sym c.reset.ensures) within)
+    subst (λ (n : ℕ). IfSome c.reset-reset.result (λ from. from ≤ n)) (sym (sized (goal.at.add_calls-requires-clause-reset c).After-release-release))
+    (subst (λ (r : Option ℕ). IfSome r (λ from. from ≤ horizon N)) (sym c.reset-reset.ensures) within)
 
 pub add_calls-requires-clause-room : goal.add_calls-requires-clause-room
 add_calls-requires-clause-room c =
@@ -66,7 +67,7 @@ add_calls-requires-clause-small c =
     let release = c.release-release.result.now in
     let is = released (goal.at.add_calls-requires-clause-small c).After-release-release in
     let small = planned.calls_within N c.requires.sized lane c.args.item c.requires.item c.requires.schedule c.args.plan.now c.requires.fits release is in
-    omega (arith, c.opening-figure.ensures, small, ap (λ (s : SourceRow). total (calls_by s release 0 (length release))) c.lane_source-source.ensures)
+    omega (arith, c.opening-figure.ensures, small, ap (λ (s : SourceRow). total (calls_by s.low s.high release 0 (length release))) c.lane_source-source.ensures)
 
 pub returns-clause-lines : goal.returns-clause-lines
 returns-clause-lines c =
@@ -76,9 +77,12 @@ returns-clause-lines c =
     let release = c.release-release.result.now in
     let is = released (goal.at.returns-clause-lines c).After-release-release in
     let second = c.push_reserved.new.self.items in
-    planned.scheduled N c.requires.sized lane item c.requires.item c.requires.schedule c.args.plan.now c.requires.fits release is
-    c.args.lines.now.items second c.add_calls.new.lines.items c.opening-figure.result c.reset.result c.opening-figure.ensures c.reset.ensures
+    let s = source_on N lane item in
+    let calls = calls_by s.low s.high release 0 (length release) in
+    planned.load_scheduled (load_of N lane item) (in_transit N lane item) calls
+    c.args.lines.now.items second c.add_calls.new.lines.items c.opening-figure.result c.reset-reset.result c.opening-figure.ensures c.reset-reset.ensures
+    (planned.calls_are N c.requires.sized lane item c.requires.item c.requires.schedule c.args.plan.now c.requires.fits release is)
     (c.push_reserved.ensures.items ∙ ap (λ (line : ScheduleLine). c.args.lines.now.items ++ line ∷ []) c.opening_line.ensures)
     (c.add_calls.ensures.lines item.0
-    ∙ ap (λ (s : SourceRow). second ++ filter_map (line_of c.reset.result)
-    (body item.0 c.opening-figure.result c.reset.result (calls_by s release 0 (length release)))) c.lane_source-source.ensures)
+    ∙ ap (λ (s : SourceRow). second ++ filter_map (line_of c.reset-reset.result)
+    (body item.0 c.opening-figure.result c.reset-reset.result (calls_by s.low s.high release 0 (length release)))) c.lane_source-source.ensures)

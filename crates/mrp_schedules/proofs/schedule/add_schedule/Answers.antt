@@ -14,5 +14,5 @@ pub returns-clause-lines : goal.returns-clause-lines
 returns-clause-lines c =
     let N = c.args.net.now.network in
     c.add_lines.ensures.lines
-    ∙ ap (λ (N : Table). c.reserve.new.self.items ++ schedule_of N (lane_at N c.args.lane.0) c.args.item) c.network-network.ensures.value
-    ∙ ap (λ (z : List ScheduleLine). z ++ schedule_of N (lane_at N c.args.lane.0) c.args.item) c.reserve.ensures.items
+    ∙ ap (λ (N : Table). c.make_room.new.lines.items ++ schedule_of N (lane_at N c.args.lane.0) c.args.item) c.network-network.ensures.value
+    ∙ ap (λ (z : List ScheduleLine). z ++ schedule_of N (lane_at N c.args.lane.0) c.args.item) c.make_room.ensures.kept

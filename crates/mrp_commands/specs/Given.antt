@@ -1,0 +1,7 @@
+-- What is given with a command, or isn't.
+use Rattle.std.specs.Prelude.{ℕ, List, Option, option_map}
+use Rattle.std.specs.Borrow.{Bor}
+
+-- the name that is given, if one is
+abbrev pub name_of : Option (Bor (List ℕ)) → Option (List ℕ)
+name_of = option_map (λ name. name.now)
