@@ -2,5 +2,6 @@ mod WorkedFacts
 mod FirmOrderFacts
 mod PolicyFacts
 mod UsageFacts
+mod VendorFacts
 mod PumpsFacts
 pub mod ShortFacts

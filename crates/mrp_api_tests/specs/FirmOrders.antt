@@ -1,6 +1,6 @@
 -- Firm planned orders, worked by hand: one beside planned orders, which takes its components, and one that calls for
 -- pieces of another plant.
-use Rattle.std.specs.Prelude.{◌≡◌, [], ◌∷◌, ◌++◌, None, pos, codes}
+use Rattle.std.specs.Prelude.{◌≡◌, [], ◌∷◌, ◌++◌, None, codes}
 use Rattle.mrp_lot.specs.declared.rule.Rule.TheVariants.{LotForLot}
 use Rattle.mrp_master_data.specs.declared.rows.Supply.TheVariants.{Make, Buy, From}
 use Rattle.mrp_master_data.specs.Table.{Table}
@@ -15,7 +15,7 @@ use Rattle.mrp_schedules.specs.ScheduleRows.{schedule_text}
 
 abbrev pub firm_and_planned : Table
 firm_and_planned = record {
-  calendar = record { first = pos 20458; days = 7; periods = 5 };
+  calendar = record { first = 20458; days = 7; periods = 5; begun = [] };
   plants = codes "A" ∷ [];
   items = codes "P" ∷ codes "C" ∷ [];
   pairs =
@@ -51,6 +51,7 @@ firm_and_planned = record {
   firms = record { pair = record { 0 = 0 }; start = 0; due = 3; quantity = 20 } ∷ [];
   policies = [];
   usages = [];
+  vendors = [];
 }
 
 abbrev pub FirmAndPlannedIsWritten : Type 0
@@ -98,7 +99,7 @@ FirmAndPlannedIsOrdered =
 
 abbrev pub firm_call : Table
 firm_call = record {
-  calendar = record { first = pos 20458; days = 7; periods = 4 };
+  calendar = record { first = 20458; days = 7; periods = 4; begun = [] };
   plants = codes "W" ∷ codes "B" ∷ [];
   items = codes "X" ∷ [];
   pairs =
@@ -134,6 +135,7 @@ firm_call = record {
   firms = record { pair = record { 0 = 0 }; start = 0; due = 1; quantity = 30 } ∷ [];
   policies = [];
   usages = [];
+  vendors = [];
 }
 
 -- the firm order is a call in the period of its release, and the cumulative figure has it

@@ -5,3 +5,4 @@ pub mod Pumps
 pub mod PumpsReports
 pub mod ShortParts
 pub mod Usages
+pub mod Vendors

@@ -1,5 +1,5 @@
 -- Policies, worked by hand: a fence, an open order that is counted sooner than it comes, and a period of cover.
-use Rattle.std.specs.Prelude.{◌≡◌, [], ◌∷◌, ◌++◌, None, pos, codes}
+use Rattle.std.specs.Prelude.{◌≡◌, [], ◌∷◌, ◌++◌, None, codes}
 use Rattle.mrp_lot.specs.declared.rule.Rule.TheVariants.{LotForLot}
 use Rattle.mrp_master_data.specs.declared.rows.Supply.TheVariants.{Buy}
 use Rattle.mrp_master_data.specs.Table.{Table}
@@ -14,7 +14,7 @@ use Rattle.mrp_report.specs.Report.{late_text, plan_text}
 -- counted two periods sooner. Y is to have the requirements of a period ahead in stock
 abbrev pub by_policy : Table
 by_policy = record {
-  calendar = record { first = pos 20458; days = 7; periods = 5 };
+  calendar = record { first = 20458; days = 7; periods = 5; begun = [] };
   plants = codes "A" ∷ [];
   items = codes "P" ∷ codes "X" ∷ codes "Y" ∷ [];
   pairs =
@@ -81,6 +81,7 @@ by_policy = record {
       }
       ∷ [];
   usages = [];
+  vendors = [];
 }
 
 abbrev pub ByPolicyIsWritten : Type 0

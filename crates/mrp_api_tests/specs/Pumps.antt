@@ -1,7 +1,7 @@
 -- A firm that was worked by hand: pumps made in one plant, of castings and brass of another, and sold from a depot,
 -- with each lot rule, safety stocks, receipts, shipments, shares of two sources, figures that start anew, and late
 -- orders.
-use Rattle.std.specs.Prelude.{◌≡◌, [], ◌∷◌, ◌++◌, pos, codes}
+use Rattle.std.specs.Prelude.{◌≡◌, [], ◌∷◌, ◌++◌, codes}
 use Rattle.mrp_lot.specs.declared.rule.Rule.TheVariants.{Fixed, LotForLot, MinMultiple, Periods}
 use Rattle.mrp_master_data.specs.declared.rows.Supply.TheVariants.{Buy, From, Make}
 use Rattle.mrp_master_data.specs.Table.{Table}
@@ -11,7 +11,7 @@ use Rattle.mrp_report.specs.Report.{late_text, plan_text}
 
 abbrev pub pumps : Table
 pumps = record {
-  calendar = record { first = pos 20787; days = 7; periods = 8 };
+  calendar = record { first = 20787; days = 7; periods = 8; begun = [] };
   plants = codes "FOUNDRY" ∷ codes "WORKS" ∷ codes "DEPOT" ∷ [];
   items = codes "PUMP" ∷ codes "HOUSING" ∷ codes "IMPELLER" ∷ codes "MOTOR" ∷ codes "CASTING" ∷ codes "BRASS" ∷ [];
   pairs =
@@ -174,6 +174,7 @@ pumps = record {
   firms = [];
   policies = [];
   usages = [];
+  vendors = [];
 }
 
 -- its rows, field by field

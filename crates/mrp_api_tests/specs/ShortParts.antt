@@ -1,5 +1,5 @@
 -- Requirements that lack parts, worked by hand: a phantom and a pair inside its fence; and two demanders of one pair.
-use Rattle.std.specs.Prelude.{◌≡◌, [], ◌∷◌, ◌++◌, pos, codes}
+use Rattle.std.specs.Prelude.{◌≡◌, [], ◌∷◌, ◌++◌, codes}
 use Rattle.mrp_lot.specs.declared.rule.Rule.TheVariants.{LotForLot}
 use Rattle.mrp_master_data.specs.declared.rows.Supply.TheVariants.{Buy, From, Make}
 use Rattle.mrp_master_data.specs.Table.{Table}
@@ -12,7 +12,7 @@ use Rattle.mrp_shortages.specs.ShortageRows.{shortage_text}
 -- has no lead time either, but a fence before period 1
 abbrev pub phantom : Table
 phantom = record {
-  calendar = record { first = pos 20458; days = 7; periods = 3 };
+  calendar = record { first = 20458; days = 7; periods = 3; begun = [] };
   plants = codes "A" ∷ [];
   items = codes "P" ∷ codes "S" ∷ codes "T" ∷ codes "C" ∷ [];
   pairs =
@@ -76,6 +76,7 @@ phantom = record {
       }
       ∷ [];
   usages = [];
+  vendors = [];
 }
 
 abbrev pub PhantomIsWritten : Type 0
@@ -112,7 +113,7 @@ PhantomLacks =
 -- 10 of X are on their way to W
 abbrev pub two_demanders : Table
 two_demanders = record {
-  calendar = record { first = pos 20458; days = 7; periods = 3 };
+  calendar = record { first = 20458; days = 7; periods = 3; begun = [] };
   plants = codes "B" ∷ codes "W" ∷ [];
   items = codes "X" ∷ codes "Y" ∷ [];
   pairs =
@@ -167,6 +168,7 @@ two_demanders = record {
       }
       ∷ [];
   usages = [];
+  vendors = [];
 }
 
 abbrev pub TwoDemandersAreWritten : Type 0

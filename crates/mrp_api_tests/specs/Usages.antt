@@ -1,5 +1,5 @@
 -- Usages, worked by hand: scrap, a fraction, a component that replaces another, and one that isn't used for a while.
-use Rattle.std.specs.Prelude.{◌≡◌, [], ◌∷◌, ◌++◌, pos, codes}
+use Rattle.std.specs.Prelude.{◌≡◌, [], ◌∷◌, ◌++◌, codes}
 use Rattle.mrp_lot.specs.declared.rule.Rule.TheVariants.{Fixed, LotForLot}
 use Rattle.mrp_master_data.specs.declared.rows.Supply.TheVariants.{Buy, Make}
 use Rattle.mrp_master_data.specs.Table.{Table}
@@ -16,7 +16,7 @@ use Rattle.mrp_report.specs.Report.{late_text, plan_text}
 -- do eight of P and one does two of Q; no rivets go into what is released in period 1. Usages may stand in any order
 abbrev pub by_usage : Table
 by_usage = record {
-  calendar = record { first = pos 20458; days = 7; periods = 4 };
+  calendar = record { first = 20458; days = 7; periods = 4; begun = [] };
   plants = codes "A" ∷ [];
   items = codes "P" ∷ codes "OLD" ∷ codes "NEW" ∷ codes "CASTING" ∷ codes "PAINT" ∷ codes "RIVET" ∷ codes "Q" ∷ [];
   pairs =
@@ -115,6 +115,7 @@ by_usage = record {
       ∷ record { parent = record { 0 = 0 }; component = record { 0 = 5 }; period = 2; usage = record { per = 3; base = 1 } }
       ∷ record { parent = record { 0 = 0 }; component = record { 0 = 5 }; period = 1; usage = record { per = 0; base = 1 } }
       ∷ [];
+  vendors = [];
 }
 
 abbrev pub ByUsageIsWritten : Type 0
@@ -210,7 +211,7 @@ ByUsageIsPegged =
 
 abbrev pub scrapped_thrice : Table
 scrapped_thrice = record {
-  calendar = record { first = pos 20458; days = 7; periods = 1 };
+  calendar = record { first = 20458; days = 7; periods = 1; begun = [] };
   plants = codes "A" ∷ [];
   items = codes "P" ∷ codes "Q" ∷ codes "R" ∷ codes "S" ∷ [];
   pairs =
@@ -271,6 +272,7 @@ scrapped_thrice = record {
       ∷ record { parent = record { 0 = 1 }; component = record { 0 = 2 }; period = 0; usage = record { per = 103; base = 100 } }
       ∷ record { parent = record { 0 = 2 }; component = record { 0 = 3 }; period = 0; usage = record { per = 103; base = 100 } }
       ∷ [];
+  vendors = [];
 }
 
 abbrev pub ScrappedThriceIsWritten : Type 0

@@ -1,5 +1,5 @@
 -- Two tables that were worked by hand: the rows that say them, and the report of their plan.
-use Rattle.std.specs.Prelude.{◌≡◌, [], ◌∷◌, ◌++◌, pos, codes}
+use Rattle.std.specs.Prelude.{◌≡◌, [], ◌∷◌, ◌++◌, codes}
 use Rattle.mrp_lot.specs.declared.rule.Rule.TheVariants.{LotForLot}
 use Rattle.mrp_master_data.specs.declared.rows.Supply.TheVariants.{Make, Buy, From}
 use Rattle.mrp_master_data.specs.Table.{Table}
@@ -11,7 +11,7 @@ use Rattle.mrp_report.specs.Report.{late_text, plan_text}
 
 abbrev pub bicycle : Table
 bicycle = record {
-  calendar = record { first = pos 20458; days = 7; periods = 4 };
+  calendar = record { first = 20458; days = 7; periods = 4; begun = [] };
   plants = codes "P1" ∷ [];
   items = codes "BIKE" ∷ codes "WHEEL" ∷ [];
   pairs =
@@ -44,6 +44,7 @@ bicycle = record {
   firms = [];
   policies = [];
   usages = [];
+  vendors = [];
 }
 
 -- its rows, field by field
@@ -75,7 +76,7 @@ BicycleIsPlanned =
 
 abbrev pub firm_of_two : Table
 firm_of_two = record {
-  calendar = record { first = pos 20458; days = 7; periods = 4 };
+  calendar = record { first = 20458; days = 7; periods = 4; begun = [] };
   plants = codes "A" ∷ codes "B" ∷ [];
   items = codes "X" ∷ [];
   pairs =
@@ -108,6 +109,7 @@ firm_of_two = record {
   firms = [];
   policies = [];
   usages = [];
+  vendors = [];
 }
 
 abbrev pub FirmOfTwoIsWritten : Type 0

@@ -10,6 +10,7 @@ mod record_faults;
 mod records;
 mod reports;
 mod streams;
+mod vendors;
 
 use mrp_net::Network;
 use mrp_tables::read_tables_uncounted;

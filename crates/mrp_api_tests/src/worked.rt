@@ -11,6 +11,11 @@ ghost use Rattle.mrp_api_tests.specs.ShortParts.{PhantomIsWritten, PhantomLacks}
 ghost use Rattle.mrp_api_tests.specs.ShortParts.{TwoDemandersAreWritten, TwoDemandersLack};
 ghost use Rattle.mrp_api_tests.specs.Usages.{ByUsageIsPegged, ByUsageIsPlanned, ByUsageIsWritten};
 ghost use Rattle.mrp_api_tests.specs.Usages.{ScrappedThriceIsPlanned, ScrappedThriceIsWritten};
+ghost use Rattle.mrp_api_tests.specs.Vendors.{ByVendorIsPlanned, ByVendorIsScheduled, ByVendorIsWritten};
+ghost use Rattle.mrp_api_tests.specs.Vendors.{CustomerIsAskedFor, OverNewYearIsPlanned, OverNewYearIsWritten};
+ghost use Rattle.mrp_api_tests.specs.Vendors.{TwoVendorsAreScheduled, TwoVendorsAreWritten, VendorIsAskedFor};
+ghost use Rattle.mrp_api_tests.specs.Vendors.{WorkingDaysAreOrdered, WorkingDaysArePlanned};
+ghost use Rattle.mrp_api_tests.specs.Vendors.{WorkingDaysAreScheduled, WorkingDaysAreWritten};
 ghost use Rattle.mrp_api_tests.specs.Worked.{BicycleIsPlanned, BicycleIsWritten, FirmOfTwoIsPlanned, FirmOfTwoIsWritten};
 
 /// The rows that are written of the bicycle, field by field.
@@ -156,4 +161,71 @@ pub fn scrapped_thrice_is_written()
 /// Its plan report, to the byte: each level asks for 3% more, rounded up.
 pub fn scrapped_thrice_is_planned()
     ensures { ScrappedThriceIsPlanned }
+{}
+
+/// The rows that are written of a plant to which a vendor delivers, field by field.
+pub fn by_vendor_is_written()
+    ensures { ByVendorIsWritten }
+{}
+
+/// Its plan report, to the byte: a firm order, and a lot that waits for the fence and is a period late.
+pub fn by_vendor_is_planned()
+    ensures { ByVendorIsPlanned }
+{}
+
+/// Its vendor's schedule, to the byte: what is in transit, firm and planned orders as calls, and the figures of the calls
+/// that are counted from the reset on.
+pub fn by_vendor_is_scheduled()
+    ensures { ByVendorIsScheduled }
+{}
+
+/// The rows that are written of two plants, one of which takes an item from the other, and of a vendor of each, field by
+/// field.
+pub fn two_vendors_are_written()
+    ensures { TwoVendorsAreWritten }
+{}
+
+/// Their schedules, to the byte: those of lanes before those of vendors, and these in the order of their rows.
+pub fn two_vendors_are_scheduled()
+    ensures { TwoVendorsAreScheduled }
+{}
+
+/// The schedules of one vendor, to the byte.
+pub fn vendor_is_asked_for()
+    ensures { VendorIsAskedFor }
+{}
+
+/// What one plant is delivered, to the byte: the plant that it takes from, and then its vendor.
+pub fn customer_is_asked_for()
+    ensures { CustomerIsAskedFor }
+{}
+
+/// The rows that are written of weeks of which the second begins in the new year, field by field.
+pub fn over_new_year_is_written()
+    ensures { OverNewYearIsWritten }
+{}
+
+/// Their plan report, to the byte: the dates after the first day that is given follow from it.
+pub fn over_new_year_is_planned()
+    ensures { OverNewYearIsPlanned }
+{}
+
+/// The rows that are written of working days, each a period, field by field.
+pub fn working_days_are_written()
+    ensures { WorkingDaysAreWritten }
+{}
+
+/// Their plan report, to the byte: after each Friday comes a Monday, and a lead time is counted in working days.
+pub fn working_days_are_planned()
+    ensures { WorkingDaysArePlanned }
+{}
+
+/// Their orders, to the byte, with the dates on which they are released and due.
+pub fn working_days_are_ordered()
+    ensures { WorkingDaysAreOrdered }
+{}
+
+/// Their vendor's schedule, to the byte, with the date of its reset.
+pub fn working_days_are_scheduled()
+    ensures { WorkingDaysAreScheduled }
 {}

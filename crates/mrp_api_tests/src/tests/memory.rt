@@ -1,8 +1,8 @@
 //! Texts where memory is refused: what is written is the right text, or a prefix of it.
 
 use super::reports::{
-    EARLY, EARLY_ADVICE, LACKING, LACKING_SHORTAGES, TWO_PLANTS_CUMS, TWO_PLANTS_ORDERS,
-    TWO_PLANTS_PEGS, TWO_PLANTS_PLAN, TWO_PLANTS_SCHEDULE,
+    EARLY, EARLY_ADVICE, LACKING, LACKING_SHORTAGES, MOTORS, MOTORS_SCHEDULE, TWO_PLANTS_CUMS,
+    TWO_PLANTS_ORDERS, TWO_PLANTS_PEGS, TWO_PLANTS_PLAN, TWO_PLANTS_SCHEDULE,
 };
 use mrp_api::{
     TextFault, advice_text, cums_text, drive_text, orders_text, pegs_text, schedule_text,
@@ -70,6 +70,20 @@ fn schedules_or_is_refused(alloc: Global) -> Result<bool, Fail> {
     Ok(is_written_or_refused(&answer, schedules.as_slice(), TWO_PLANTS_SCHEDULE))
 }
 
+/// Whether a vendor's schedule is written, or memory was refused.
+fn vendors_or_is_refused(alloc: Global) -> Result<bool, Fail> {
+    let mut schedules = Vec::with_capacity(alloc, ROOM)?;
+    let answer = schedule_text(
+        alloc,
+        MOTORS.as_bytes(),
+        &mut schedules,
+        Some("V-MOTORS"),
+        Some("WORKS"),
+        Heading::Names,
+    );
+    Ok(is_written_or_refused(&answer, schedules.as_slice(), MOTORS_SCHEDULE))
+}
+
 /// Whether the pegs are written, or memory was refused.
 fn pegs_or_is_refused(alloc: Global) -> Result<bool, Fail> {
     let mut pegs = Vec::with_capacity(alloc, ROOM)?;
@@ -95,6 +109,13 @@ fn shortages_or_is_refused(alloc: Global) -> Result<bool, Fail> {
 #[test]
 fn schedules_where_memory_is_refused(rt: HostRuntime) -> Result<(), Fail> {
     assert!(rt; schedules_or_is_refused(rt.alloc())?);
+    Ok(())
+}
+
+/// With an allocation refused its assertion holds, or the room of the writer is refused.
+#[test]
+fn a_vendor_where_memory_is_refused(rt: HostRuntime) -> Result<(), Fail> {
+    assert!(rt; vendors_or_is_refused(rt.alloc())?);
     Ok(())
 }
 

@@ -57,3 +57,20 @@ demand,P1,TUBE,0,1,,,\nfirm,P1,PART,0,0,3,,\n";
 /// into the frames and one into the six parts, which take twelve.
 pub(super) const LACKING_SHORTAGES: &str = "row,plant,item,source,by_plant,by_item,quantity,short\n\
 shortage,P1,TUBE,bill,P1,PART,12,11\n";
+
+/// Motors that a vendor delivers in lots of 50: 2300 were received and 100 are on their way. No order is planned before
+/// period 3, 20 are firmly ordered, and the vendor's figures start anew in period 3.
+pub(super) const MOTORS: &str = "run,2026-01-05,7,6,,,,\nplant,WORKS,,,,,,\n\
+pair,WORKS,MOTOR,buy,fixed:50,1,30,20\ndemand,WORKS,MOTOR,1,80,,,\ndemand,WORKS,MOTOR,2,60,,,\n\
+demand,WORKS,MOTOR,3,90,,,\ndemand,WORKS,MOTOR,4,70,,,\nreceipt,WORKS,MOTOR,1,100,,,\n\
+firm,WORKS,MOTOR,1,2,20,,\npolicy,WORKS,MOTOR,3,0,0,0,0\n\
+vendor,V-MOTORS,WORKS,MOTOR,2300,100,3,\n";
+
+/// Their schedule, below the names of the columns.
+pub(super) const MOTORS_SCHEDULE: &str =
+    "row,kind,supplier,customer,item,period,date,quantity,cumulative\n\
+schedule,opening,V-MOTORS,WORKS,MOTOR,,,100,2400\n\
+schedule,call,V-MOTORS,WORKS,MOTOR,1,2026-01-12,20,2420\n\
+schedule,call,V-MOTORS,WORKS,MOTOR,2,2026-01-19,100,2520\n\
+schedule,reset,V-MOTORS,WORKS,MOTOR,3,2026-01-26,,2520\n\
+schedule,call,V-MOTORS,WORKS,MOTOR,3,2026-01-26,100,100\n";

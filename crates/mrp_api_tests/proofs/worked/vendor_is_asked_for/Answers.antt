@@ -1,0 +1,5 @@
+use Rattle.mrp_api_tests.proofs.VendorFacts as proved
+use Rattle.mrp_api_tests.proofs.worked.vendor_is_asked_for.Goals as goal
+
+pub returns : goal.returns
+returns c = proved.vendor_is_asked_for

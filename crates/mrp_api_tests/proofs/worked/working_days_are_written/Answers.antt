@@ -1,0 +1,5 @@
+use Rattle.mrp_api_tests.proofs.VendorFacts as proved
+use Rattle.mrp_api_tests.proofs.worked.working_days_are_written.Goals as goal
+
+pub returns : goal.returns
+returns c = proved.working_days_are_written
