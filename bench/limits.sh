@@ -130,6 +130,10 @@ try bills plan "20000 of 2080000" '$4 == 103 && $6 == (substr($3, 2) + 0 < 10000
 bills 0 | "$top/bench/usages.sh" 103 100 >"$table"
 try "200,000 usages" plan "20000 of 2080000" '$4 == 103 && $6 == (substr($3, 2) + 0 < 10000 ? 1 : 40) && $8 == $6'
 try "200,000 usages" "peg P I10000 103" "20 of 20" '$2 == "bill" && $6 == "103/100" && $7 == 2'
+bills 0 | "$top/bench/vendors.sh" days >"$table"
+try "10,000 vendors" schedule "10000 of 20000" '$6 == 103 && $7 == "2028-04-08" && $8 == 20 && $9 == 1027'
+try "10,000 vendors" "schedule --from V10000" "1 of 2" '$6 == 103 && $7 == "2028-04-08" && $8 == 20 && $9 == 1027'
+try "103 days" plan "20000 of 2080000" '$4 == 103 && $5 == "2028-04-08"'
 lanes >"$table"
 for words in "plan --single" "plan --capacity 1" "plan --workers 2 --capacity 65536"; do
     try lanes "$words" "19968 of 2076672" '$4 == 103 && $6 == (substr($2, 2) + 0 < 4 ? 60 : 4) && $8 == $6'

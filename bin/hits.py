@@ -39,7 +39,7 @@ def firm_of(table, plan, names):
     """Returns the Firm of the table at a path, and of the lines of its plan."""
     policies, delays = reports.Policies(table), {}
     if names.comes:
-        delays = reports.coming_late(names, mrp.calendar_of(next(policies.rows(mrp.Run))))
+        delays = reports.coming_late(names, policies.calendar)
     orders = Orders(report("orders", table), delays.get("firm", {}))
     with mrp.open_table(table) as lines:
         firm = Firm(lines, orders, policies, delays.get("receipt", {}))
@@ -107,7 +107,7 @@ class Takes:
     """
 
     # What stands behind the pairs and the bills of a table.
-    BEHIND = tuple(f"{it.__name__.lower()}," for it in (mrp.Demand, mrp.Receipt, mrp.Ship, mrp.Cum, mrp.Reset, mrp.Firm, mrp.Policy, mrp.Usage))
+    BEHIND = tuple(f"{it.__name__.lower()}," for it in mrp.KINDS[mrp.KINDS.index(mrp.Demand) :])
 
     def __init__(self, lines, usages):
         """Takes the lines of the table, and its usage rows by plant, parent and component."""
@@ -127,7 +127,7 @@ class Takes:
                 self.takes[pair][plant, row.item] = Taken(1, low, low + share)
                 low += share
         else:
-            self.calendar, self.periods = mrp.calendar_of(row), row.periods
+            self.periods = row.periods
 
     @functools.cached_property
     def order(self):
@@ -144,7 +144,7 @@ class Firm(Takes):
     def __init__(self, lines, orders, policies, delays):
         """Takes the lines of the table, its Orders, its policies, and the receipts of each pair that come later than they are due."""
         super().__init__(lines, policies.usages)
-        self.orders, self.policies, self.delays, self.ends = orders, policies, delays, {}
+        self.orders, self.policies, self.delays, self.ends, self.calendar = orders, policies, delays, {}, policies.calendar
         self.settle()
         lists = ({pair: array("q", [0]) * min(end, self.periods) for pair, end in self.ends.items() if end} for _ in "123")
         self.gross, self.incoming, self.demand = lists

@@ -66,7 +66,7 @@ class Report:
 
     def until(self, when):
         """Returns the period that a word says, or one past all where none is asked for."""
-        return 10**16 if when is None else reports.period_of(when, self.of_table(mrp.Run)[0])
+        return 10**16 if when is None else reports.period_of(when, reports.Table(self.table))
 
     def rows(self):
         """Yields the rows of the report."""

@@ -95,19 +95,11 @@ class Comes(NamedTuple):
     firm: list
 
 
-class Policies:
-    """How a table says that pairs are planned beyond their own rows and bills. Without a table it says nothing."""
-
-    NONE = mrp.Policy("", "", 0, 0, 0, 0, 0)
-    LISTS = {mrp.Receipt: "receipts", mrp.Ship: "ships", mrp.Firm: "firm"}
+class Table:
+    """The table at a path, of which rows are read when they are asked for. Without a path it has none."""
 
     def __init__(self, path=None):
-        self.path, self.of, self.periods = path, {}, 0
-        for row in self.rows(mrp.Run, mrp.Policy) if self.may_have(b"policy,") else ():
-            if isinstance(row, mrp.Run):
-                self.periods = row.periods
-            else:
-                self.of[row.pair] = row
+        self.path = path
 
     def may_have(self, word):
         """Tells whether the table may have rows with a word, so that one without isn't read for them."""
@@ -127,6 +119,32 @@ class Policies:
                 yield from mrp.table_rows(lines, *kinds)
         except (IndexError, TypeError, ValueError, csv.Error) as fault:
             raise Refused(f"{self.path} is no table of mrp") from fault
+
+    @functools.cached_property
+    def run(self):
+        """The run row."""
+        return next(self.rows(mrp.Run))
+
+    @functools.cached_property
+    def calendar(self):
+        """The days of the periods, by the run row and the day rows."""
+        return mrp.calendar_of(self.run, [*(self.rows(mrp.Day) if self.may_have(b"day,") else ())])
+
+
+class Policies(Table):
+    """How a table says that pairs are planned beyond their own rows and bills. Without a table it says nothing."""
+
+    NONE = mrp.Policy("", "", 0, 0, 0, 0, 0)
+    LISTS = {mrp.Receipt: "receipts", mrp.Ship: "ships", mrp.Firm: "firm"}
+
+    def __init__(self, path=None):
+        super().__init__(path)
+        self.of, self.periods = {}, 0
+        for row in self.rows(mrp.Run, mrp.Policy) if self.may_have(b"policy,") else ():
+            if isinstance(row, mrp.Run):
+                self.periods = row.periods
+            else:
+                self.of[row.pair] = row
 
     @functools.cached_property
     def usages(self):
@@ -480,14 +498,13 @@ def moment(text):
         raise argparse.ArgumentTypeError(said) from None
 
 
-def period_of(when, run):
-    """Returns the period that a word says, of a day the one that holds it. A day outside the plan of a run row is refused."""
+def period_of(when, table):
+    """Returns the period that a word says, of a day the one that holds it. A day outside the plan of a Table is refused."""
     if isinstance(when, int):
         return when
-    calendar = mrp.calendar_of(run)
-    period = calendar.period(when)
+    period, run = table.calendar.period(when), table.run
     if not 0 <= period < run.periods:
-        last = calendar.first_day(run.periods) - timedelta(days=1)
+        last = table.calendar.first_day(run.periods) - timedelta(days=1)
         raise Refused(f"{when} is not in the plan, which goes from {run.first} to {last}")
     return period
 

@@ -23,6 +23,7 @@ import re
 import shutil
 import subprocess
 from bisect import bisect_right
+from collections import Counter
 from datetime import date, datetime, timedelta
 from typing import NamedTuple
 
@@ -244,9 +245,35 @@ class Usage(NamedTuple):
     base: NUMBER
 
 
+class Vendor(NamedTuple):
+    """Who delivers a bought pair by cumulative schedules: the figure that is booked from the vendor, the pieces that are under way, and
+    the period in which figures start anew, or None."""
+
+    vendor: NAME
+    plant: NAME
+    item: NAME
+    figure: NUMBER
+    transit: NUMBER
+    reset: PERIOD.or_empty() = None
+
+    @property
+    def pair(self):
+        """The pair that is delivered."""
+        return self.plant, self.item
+
+
+class Day(NamedTuple):
+    """The first day of a period. Those behind it follow by the days of the run row."""
+
+    # (so a date can't stand in its place)
+    period: NUMBER
+    date: DATE
+
+
 # The kinds of rows, by the names of their lists in a table.
 LISTS = {"runs": Run, "plants": Plant, "pairs": Pair, "bills": Bill, "demands": Demand}
 LISTS |= {"receipts": Receipt, "ships": Ship, "cums": Cum, "resets": Reset, "firms": Firm, "policies": Policy, "usages": Usage}
+LISTS |= {"vendors": Vendor, "days": Day}
 KINDS = tuple(LISTS.values())
 
 
@@ -470,12 +497,13 @@ class Calendar:
 
     @classmethod
     def of_report(cls, dates):
-        """Returns the calendar of a pair's plan rows. The last period is taken to be as long as the one before it."""
-        return cls(enumerate(dates), max(1, (dates[-1] - dates[-2]).days) if len(dates) > 1 else 1)
+        """Returns the calendar of a pair's plan rows. The last period is taken to be as long as most are, of two lengths as the later one."""
+        lengths = Counter((it - before).days for before, it in zip(dates[-2::-1], dates[:0:-1]))
+        return cls(enumerate(dates), max(1, lengths.most_common(1)[0][0]) if lengths else 1)
 
     def first_day(self, period):
-        """Returns the first day of a period, which may lie behind the plan."""
-        known = bisect_right(self.periods, period) - 1
+        """Returns the first day of a period, which may lie behind the plan or before it."""
+        known = max(0, bisect_right(self.periods, period) - 1)
         return self.starts[known] + timedelta(days=self.days * (period - self.periods[known]))
 
     def period(self, value):
@@ -532,7 +560,8 @@ class Table:
         """Returns the rows of a kind by name."""
         form = TABLE_FORMS[kind.__name__.lower()]
         rows = (self.fields(it) for it in self.rows if it[0] == form.word)
-        return [form.row(["" if it is None else str(it) for it in fields]) for fields in rows]
+        # (as they are written, what isn't given is empty)
+        return [form.row([*("" if it is None else str(it) for it in fields), *[""] * FIELDS]) for fields in rows]
 
     @property
     def run(self):
@@ -559,12 +588,12 @@ class Table:
     @functools.cached_property
     def calendar(self):
         """The days of the periods."""
-        return calendar_of(self.run)
+        return calendar_of(self.run, self.days)
 
 
-def calendar_of(run):
-    """Returns the calendar that a run row says."""
-    return Calendar([(0, run.first)], run.days)
+def calendar_of(run, days):
+    """Returns the calendar that a run row says, and the day rows of its table."""
+    return Calendar([(0, run.first), *days], run.days)
 
 
 def open_table(path):
@@ -809,7 +838,7 @@ def orders(table, until=None):
 
 
 def schedule(table, supplier=None, customer=None):
-    """Returns the delivery schedules, row by row: those from one plant and to one, where these are named."""
+    """Returns the delivery schedules, row by row: those from one plant or vendor and to one plant, where these are named."""
     return report(library() or program(), "schedule", table, supplier=supplier, customer=customer)
 
 

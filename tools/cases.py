@@ -1,4 +1,5 @@
 """The cases of cases/, and tables that are made for a case: what the program answers to each, byte for byte."""
+import datetime
 import glob
 import itertools
 import os
@@ -91,14 +92,15 @@ def each_name_is_tested(program):
     around += ("ship,{},A,Y,0,1,,", "ship,B,{},Y,0,1,,", "ship,B,A,{},0,1,,", "cum,{},A,Y,1,,,", "cum,B,{},Y,1,,,", "cum,B,A,{},1,,,")
     around += ("reset,{},A,Y,1,,,", "reset,B,{},Y,1,,,", "reset,B,A,{},1,,,", "firm,{},X,0,0,1,,", "firm,A,{},0,0,1,,")
     around += ("policy,{},X,0,0,0,0,0", "policy,A,{},0,0,0,0,0", "usage,{},X,Y,0,1,1,", "usage,A,{},Y,0,1,1,", "usage,A,X,{},0,1,1,")
+    around += ("vendor,{},B,Y,0,0,,", "vendor,V,{},Y,0,0,,", "vendor,V,B,{},0,0,,")
     for name in ("", "A/B", "A:B", "A B", "X!", "?", "@A", "A[", "A`B", "{A", '"A,B"', "Ü", "NAME-OF-21-CHARACTERS"):
         refused(program, f"run,2026-01-05,7,4,,,,\nplant,{name},,,,,,\n", "row 2: BadName", ("check",))
         for row in around:
             refused(program, f"{HEAD}{row.replace('{}', name)}\n", "row 7: BadName", ("check",))
     plants, items = ("Plant-of-20.letters1", "Plant-of-20.letters2"), ("ITEM_OF_MORE_LETTERS", "ITEM_OF_20_LETTERS.Z")
     table = HEAD + "bill,A,X,Y,1,,,\ndemand,A,X,0,1,,,\nreceipt,A,X,0,1,,,\nship,B,A,Y,0,1,,\ncum,B,A,Y,1,,,\nreset,B,A,Y,1,,,\nfirm,A,X,0,1,1,,\n"
-    table += "policy,A,X,1,0,0,0,0\nusage,A,X,Y,1,1,4,\n"
-    for short, long in zip("ABXY", (*plants, *reversed(items))):
+    table += "policy,A,X,1,0,0,0,0\nusage,A,X,Y,1,1,4,\nvendor,V,B,Y,0,0,,\n"
+    for short, long in zip("ABXYV", (*plants, *reversed(items), "VENDOR-OF-20.LETTERS")):
         table = re.sub(rf"(?<=[,:]){short}(?=,)", long, table)
     expect(program, "check", table, "accepted\n")
 
@@ -123,6 +125,8 @@ def rows_that_are_no_text(program):
     refused(program, HEAD.encode() + b"firm,A,X,0,\xff,0,,\n", "row 7: NotUtf8")
     refused(program, HEAD.encode() + b"policy,A,X,0,0,0,0,\xff\n", "row 7: NotUtf8")
     refused(program, HEAD.encode() + b"usage,A,X,Y,0,1,\xff,\n", "row 7: NotUtf8")
+    refused(program, HEAD.encode() + b"vendor,V\xff,B,Y,0,0,,\n", "row 7: NotUtf8")
+    refused(program, HEAD.encode() + b"day,1,2026-01-12\xff,,,,,\n", "row 7: NotUtf8")
 
 
 def tables_of_other_programs(program):
@@ -139,6 +143,7 @@ def tables_of_other_programs(program):
 def tables_cut_within_a_row(program):
     """A firm of two plants, cut behind each of its characters that neither ends a row nor stands before the end of one."""
     rows = "demand,A,X,2,30,,,\nship,B,A,X,2,8,,\ncum,B,A,X,100,,,\nreset,B,A,X,2,,,\nfirm,A,X,0,1,12,,\npolicy,A,X,1,2,0,30,5\nusage,A,Z,X,2,103,100,\n"
+    rows += "vendor,V,B,X,100,50,2,\nday,1,2026-01-19,,,,,\n"
     firm = "run,2026-01-05,7,4,,,,\nplant,A,,,,,,\nplant,B,,,,,,\npair,A,X,from:B,lot,1,0,0\npair,B,X,buy,lot,0,0,0\n"
     firm += f"pair,A,Z,make,lot,0,0,0\nbill,A,Z,X,1,,,\n{rows}"
     for count in range(1, len(firm)):
@@ -247,6 +252,36 @@ def each_of_20000_pairs_has_a_policy(program):
     refused(program, f"{table}policy,A,F0,0,0,0,0,0\n", "row 40003: Repeated", ("check",))
 
 
+def each_of_20000_pairs_has_a_vendor(program):
+    """Of 20,000 vendors each delivers one, and one all of them; the schedule of one, and of the plant."""
+    pairs, name = numbered(20_000, "pair,A,F", ",buy,lot,0,0,1"), "VENDOR-OF-20.LETTERS"
+    opened, called = "schedule,opening,V{0},A,F{0},,,2,9\n", "schedule,call,V{0},A,F{0},0,2026-01-05,1,10\n"
+    rows = [(opened + called).format(it) for it in range(20_000)]
+    each = ONE_PLANT + pairs + "".join(f"vendor,V{it},A,F{it},7,2,,\n" for it in range(20_000))
+    for words in ("schedule", "schedule --to A"):
+        expect(program, words, each, "".join(rows))
+    expect(program, "schedule --from V19999", each, rows[-1])
+    refused(program, f"{each}vendor,W,A,F0,0,0,,\n", "row 40003: Repeated", ("check",))
+    one = re.sub("vendor,V[0-9]+,", f"vendor,{name},", each)
+    expect(program, f"schedule --from {name} --to A", one, re.sub(",V[0-9]+,", f",{name},", "".join(rows)))
+
+
+def each_of_104_periods_begins_on_a_day(program):
+    """Each a day sooner than it would; and the last day on which the last period may begin."""
+    table = "run,2026-01-05,31,104,,,,\nplant,A,,,,,,\npair,A,X,buy,lot,0,0,0\n"
+    first = datetime.date(2026, 1, 5)
+    days = [first + datetime.timedelta(30 * it) for it in range(104)]
+    rows = "".join(f"day,{it},{day},,,,,\n" for it, day in enumerate(days) if it)
+    expect(program, "plan", table + rows, "".join(f"plan,A,X,{it},{day},0,0,0,0,0\n" for it, day in enumerate(days)))
+    refused(program, table + rows + "day,104,2199-12-01,,,,,\n", "row 107: BadNumber", ("check",))
+    last = "".join(rows.splitlines(keepends=True)[:-1])
+    for day, fault in ("2199-12-01", None), ("2199-12-02", "PastEnd"), ("9999-12-31", "PastEnd"):
+        if fault:
+            refused(program, f"{table}{last}day,103,{day},,,,,\n", f"row 106: CalendarFault {fault}", ("check", "plan"))
+        else:
+            expect(program, "check", f"{table}{last}day,103,{day},,,,,\n", "code,A,X,0\n")
+
+
 def plants_take_from_each_other(program):
     """64 plants of which each takes an item from each other, for a safety stock of 1, and a chain of 64."""
     table = "run,2026-01-05,7,1,,,,\n" + numbered(64, "plant,P", ",,,,,,")
@@ -328,6 +363,8 @@ MADE = (
     a_part_goes_into_all_others,
     each_of_20000_pairs_has_a_late_order,
     each_of_20000_pairs_has_a_policy,
+    each_of_20000_pairs_has_a_vendor,
+    each_of_104_periods_begins_on_a_day,
     plants_take_from_each_other,
     long_names_make_long_reports,
     pegs_are_those_of_each_pair_and_period,

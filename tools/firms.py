@@ -1,4 +1,6 @@
 """Firms made from a source of chance, and damage to their tables: for tools/torture."""
+import datetime
+
 import crates  # noqa: F401  (which lets the modules of bin/ be found)
 import mrp
 from pair_cases import TERMS
@@ -12,6 +14,7 @@ QUANTITIES = (1, 2, 5, 7, 30, 99, 1000, 10**6)
 FIELDS = ("", "0", "1", "31", "32", "104", "105", "02", "+1", "1.5", "1000000000000", "1000000000001", "9999999999999999")
 FIELDS += ("A", "B", "X" * 21, "a b", "make", "buy", "lot", "fixed:0", "fixed:7", "periods:105", "min:3:2", "min:1")
 FIELDS += ("from:A", "from:A:500:B:500", "from:B:600:A:300", "2026-02-30", "2199-12-31", '"A"', '"', "103", "policy", "usage", "1000000", "1000001")
+FIELDS += ("vendor", "day", "V-1", "1000000000000000", "1000000000000001", "2026-01-12", "2199-12-01", "9999-12-31", "1969-12-31")
 BYTES = b',,,"\r\n\n019ABXx:-._ \x00\x7f\xc3\xff'
 
 
@@ -29,6 +32,7 @@ def table(chance, plants=12, pairs=30):
     rows += [*firm.firm_rows([(it.receiver, it.item) for it in rows if isinstance(it, mrp.Reset)])]
     rows += [*firm.policy_rows([it for it in rows if isinstance(it, mrp.Pair)], [it.pair for it in rows if isinstance(it, mrp.Receipt)])]
     rows += [*firm.usage_rows([it for it in rows if isinstance(it, mrp.Bill)])]
+    rows += [*firm.vendor_rows(names), *firm.day_rows(run)]
     return bytes(mrp.Table(rows))
 
 
@@ -150,6 +154,33 @@ class Draft:
         anything = {self.chance.randrange(self.periods): (self.chance.choice((0, 1, 2, 7, 100)), self.chance.choice((1, 1, 2, 3, 100))) for _ in "1234"}
         return self.chance.choice((*ways, {0: scrap, some: fraction}, anything))
 
+    def vendor_rows(self, plants):
+        """Yields vendors of pairs that are bought, but in some firms none: one of several pairs, and one with a name of items too."""
+        often = self.chance.choice((0, 0.5, 1))
+        vendors = ["V-1", "V_2", "9", *(it for it in NAMES if it not in plants)]
+        bought = [it for it in self.kept if not self.sources[it] and it not in self.made]
+        for pair in self.chance.sample(bought, len(bought)):
+            if self.chance.random() < often:
+                figures = self.chance.choice((0, 8, 100, 999 * self.quantities[0])), self.chance.choice((0, 0, 8, 100))
+                reset = self.chance.choice((None, None, 0, self.periods - 1, self.chance.randrange(self.periods)))
+                yield mrp.Vendor(self.chance.choice(vendors[: self.chance.choice((1, 3, len(vendors)))]), *pair, *figures, reset)
+
+    def day_rows(self, run):
+        """Yields day rows, but in many firms none: of periods that end sooner or later than others, of some or of each; closed weeks; and
+        a day for each period, but no weekends."""
+        first, days = datetime.date.fromisoformat(run.first), run.days
+        often, most = self.chance.choice((0, 0, 0.05, 0.3, 1)), self.chance.choice((1, days, 3 * days, 60))
+        is_weekday = often == 1 and self.chance.random() < 0.5
+        for period in range(1, self.periods):
+            day = first + datetime.timedelta(days)
+            if is_weekday:
+                day = first + datetime.timedelta(3 if first.weekday() == 4 else 1)
+                yield mrp.Day(period, day)
+            elif self.chance.random() < often:
+                day = first + datetime.timedelta(self.chance.choice((1, days, self.chance.randint(1, most), days + 14)))
+                yield mrp.Day(period, day)
+            first = day
+
 
 def damaged(chance, text):
     """Returns a table with one or two damages."""
@@ -212,4 +243,42 @@ def more_usage(chance, text):
     return b"".join(rows)
 
 
+def more_vendors(chance, text):
+    """Adds a vendor of a pair, or of one that has one, once or twice, or with any word in a field, at the end, before day rows or anywhere."""
+    rows = text.splitlines(keepends=True)
+    found = [it.rstrip(b"\r\n").split(b",") for it in rows]
+    pairs = [it[1:3] for it in found if it[0] == b"pair" and len(it) > 2] or [[b"A", b"X"]]
+    pairs += [it[1:3] for it in found if it[0] == b"pair" and it[3:4] == [b"buy"]] + [it[2:4] for it in found if it[0] == b"vendor" and len(it) > 3]
+    names = [b"V-1", *(it[1] for it in found if it[0] in (b"plant", b"vendor") and len(it) > 1)]
+    row = [b"vendor", chance.choice(names), *chance.choice(pairs), chance.choice((b"0", b"500")), b"7", chance.choice((b"", b"0", b"2")), b""]
+    return put_rows(chance, rows, row, b"day,")
+
+
+def more_days(chance, text):
+    """Adds a day row, once or twice, or with any word in a field, at the end or anywhere; of any period, and on any day or near another's."""
+    rows = text.splitlines(keepends=True)
+    found = [it.rstrip(b"\r\n").split(b",") for it in rows]
+    texts = [it[2] for it in found if it[0] == b"day" and len(it) > 2] + [it[1] for it in found if it[0] == b"run" and len(it) > 1]
+    days = [b"2026-03-02", b"2100-01-01", b"2199-12-31", b"2199-10-01", *texts]
+    for it in texts:
+        try:
+            start = datetime.date.fromisoformat(it.decode())
+            days += [str(start + datetime.timedelta(chance.choice((-1, 1, 7, 8, 400, 1500)))).encode() for _ in "12"]
+        except (ValueError, OverflowError):
+            days.append(it)
+    row = [b"day", str(chance.choice((0, 1, 1, 2, 3, 5, 11, 12, 103))).encode(), chance.choice(days), b"", b"", b"", b"", b""]
+    return put_rows(chance, rows, row, b"")
+
+
+def put_rows(chance, rows, row, behind):
+    """Returns the table of rows with one more, once or twice, at times with any word in a field: at the end, before the kind behind, or anywhere."""
+    if chance.random() < 0.4:
+        row[chance.randrange(len(row))] = chance.choice(FIELDS).encode()
+    before = next((place for place, it in enumerate(rows) if behind and it.startswith(behind)), len(rows))
+    place = chance.choice((len(rows), before, before, before, chance.randrange(len(rows) + 1)))
+    rows[place:place] = [b",".join(row) + b"\n"] * chance.choice((1, 1, 2))
+    return b"".join(rows)
+
+
 DAMAGES = (cut, changed_byte, changed_byte, changed_rows, swapped_rows, changed_field, changed_field, changed_field, other_ends, more_usage)
+DAMAGES += (more_vendors, more_days)

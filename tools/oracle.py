@@ -32,6 +32,8 @@ COLUMNS = {
     "firm": ("name", "name", "period", "period", "quantity"),
     "policy": ("name", "name", "period", "ahead", "ahead", "stock", "stock"),
     "usage": ("name", "name", "name", "period", "any per", "per"),
+    "vendor": ("name", "name", "name", "figure", "figure", "any period"),
+    "day": ("later period", "date"),
 }
 KINDS = list(COLUMNS)
 RANGES = {
@@ -45,6 +47,8 @@ RANGES = {
     "quantity": (1, 10**12),
     "figure": (0, 10**15),
 }
+# The last day that a plan may have.
+LAST_DAY = date(2199, 12, 31)
 MOST = {"plant": 64, "pair": 20_000, "bill": 200_000, "usage": 200_000, **dict.fromkeys(("demand", "receipt", "ship", "cum", "firm"), 10**6)}
 # The names of the columns, as --header writes them above a report.
 HEADERS = {
@@ -120,6 +124,15 @@ class Edge(NamedTuple):
     def most(self):
         """Returns the greatest number of pieces that one parent may ask for."""
         return max(it.pieces(1) for it in self.usages)
+
+
+class Vendor(NamedTuple):
+    """Who delivers a pair: the cumulative figure that is booked, the pieces that are under way, and the period of a reset, or None."""
+
+    name: str
+    figure: int
+    transit: int
+    reset: int
 
 
 # What a plant asks of another.
@@ -207,18 +220,28 @@ def sources_of(text):
     return [(plant, sum(shares[:it]), sum(shares[: it + 1])) for it, plant in enumerate(plants)]
 
 
+def day_of(text):
+    """Returns the day from 1970 on that a text spells, or nothing."""
+    try:
+        found = date.fromisoformat(text) if re.fullmatch("[0-9]{4}-[0-9]{2}-[0-9]{2}", text) else None
+    except ValueError:
+        return None
+    return found if found and found.year >= 1970 else None
+
+
+def is_past_end(start, days, periods):
+    """Says whether so many periods from a day on end after the last day."""
+    return days * periods - 1 > (LAST_DAY - start).days
+
+
 def calendar_fault(first, days, periods):
     """Returns the fault of a calendar, or nothing."""
-    try:
-        start = date.fromisoformat(first) if re.fullmatch("[0-9]{4}-[0-9]{2}-[0-9]{2}", first) else None
-    except ValueError:
-        start = None
-    if not start or start.year < 1970:
+    start = day_of(first)
+    if not start:
         return "BadDate"
     if not 1 <= days <= 31:
         return "DaysOutOfRange"
-    left = (date(2199, 12, 31) - start).days
-    return "PastEnd" if days * periods - 1 > left else None
+    return "PastEnd" if is_past_end(start, days, periods) else None
 
 
 class Firm:
@@ -228,7 +251,7 @@ class Firm:
         self.periods, self.kind, self.counts, self.said = 0, None, {}, set()
         self.plants, self.pairs, self.bills, self.cums, self.ships, self.resets = [], {}, {}, {}, [], {}
         self.demand, self.incoming, self.receipts, self.open_orders, self.firm_orders, self.policies = {}, {}, {}, {}, {}, {}
-        self.usages = {}
+        self.usages, self.vendors, self.begun = {}, {}, {}
         count = 0
         for count, fields in enumerate(rows(table), 1):
             fault = self.spelling_fault(fields) or self.fault([it.decode() for it in fields])
@@ -265,7 +288,10 @@ class Firm:
         values = list(zip(columns, texts[1:]))
         if not all(NAME.fullmatch(it) for column, it in values if column == "name"):
             return "BadName"
-        ranges = {**RANGES, "period": (0, self.periods - 1)}
+        ranges = {**RANGES, "period": (0, self.periods - 1), "any period": (0, self.periods - 1)}
+        ranges["later period"] = max(self.begun, default=0) + 1, self.periods - 1
+        # (a vendor may have no reset)
+        values = [it for it in values if it != ("any period", "")]
         if any(number(it, *ranges[column]) is None for column, it in values if column in ranges):
             return "BadNumber"
         if texts[0] == "firm" and int(texts[4]) < int(texts[3]):
@@ -280,8 +306,14 @@ class Firm:
         if kind == "run":
             found = calendar_fault(plant, int(item), int(texts[3]))
             return found and f"CalendarFault {found}"
+        if kind == "day":
+            found = self.day_fault(int(plant), day_of(item))
+            return found and f"CalendarFault {found}"
         if self.key(texts) in self.said:
             return "Repeated"
+        # (a vendor's name stands before those of its pair, and is that of no plant)
+        vendor = plant if kind == "vendor" else None
+        plant, item = texts[2:4] if vendor else (plant, item)
         moves = kind in ("ship", "cum", "reset")
         sources = [it for it, _, _ in sources_of(texts[3])] if kind == "pair" else []
         named = [] if kind == "plant" else [plant, item] if moves else [plant, *sources]
@@ -293,9 +325,9 @@ class Firm:
             return "UnknownPair"
         if kind == "bill" and self.pairs[pair].supply != "make" or kind == "usage" and tuple(texts[1:4]) not in self.bills:
             return "NotMade"
-        if moves and plant not in [it for it, _, _ in self.pairs[pair].sources]:
+        if moves and plant not in [it for it, _, _ in self.pairs[pair].sources] or vendor and self.pairs[pair].supply != "buy":
             return "NotSourced"
-        if plant in sources:
+        if plant in sources or vendor in self.plants:
             return "SelfSource"
         if self.counts.get(kind, 0) == MOST.get(kind):
             return "TooMany"
@@ -303,9 +335,17 @@ class Firm:
         arrivals = [it[1] for it in self.ships if it[0] == tuple(texts[1:4])] if kind == "reset" else []
         return None if arrivals == sorted(arrivals) else "ResetOrder"
 
+    def day_fault(self, period, start):
+        """Returns the fault of a period that begins on a day, or on none."""
+        if not start or start <= self.day(period - 1):
+            return "BadDate"
+        return "PastEnd" if is_past_end(start, self.days, self.periods - period) else None
+
     @staticmethod
     def key(texts):
         """Returns what no second row says again, or nothing where rows may."""
+        if texts[0] == "vendor":
+            return "vendor", *texts[2:4]
         sizes = {"plant": 2, "pair": 3, "bill": 4, "cum": 4, "reset": 4, "policy": 3, "usage": 5}
         return tuple(texts[: sizes[texts[0]]]) if texts[0] in sizes else None
 
@@ -349,6 +389,10 @@ class Firm:
             self.policies[first, second] = Policy(int(third), *map(int, more[:4]))
         elif kind == "usage":
             self.usages.setdefault((first, second, third), []).append(Usage(*map(int, more[:3])))
+        elif kind == "vendor":
+            self.vendors[second, third] = Vendor(first, int(more[0]), int(more[1]), int(more[2]) if more[2] else None)
+        elif kind == "day":
+            self.begun[int(first)] = date.fromisoformat(second)
 
     def policy(self, pair):
         """Returns the policy of a pair."""
@@ -393,7 +437,8 @@ class Firm:
         supply, need = {}, {}
         for pair, row in self.pairs.items():
             opening = sum(self.cums.get((plant, *pair), 0) for plant, _, _ in row.sources)
-            supply[pair] = row.on_hand + sum(self.incoming[pair]) + opening
+            delivered = self.vendors[pair].figure + self.vendors[pair].transit if pair in self.vendors else 0
+            supply[pair] = row.on_hand + sum(self.incoming[pair]) + opening + delivered
             if supply[pair] > LIMIT:
                 raise Refused("mrp: SupplyTooLarge " + "/".join(pair))
         for pair in sorted(self.pairs, key=self.codes.get):
@@ -468,8 +513,9 @@ class Firm:
         return found
 
     def day(self, period):
-        """Returns the first day of a period."""
-        return self.first + timedelta(days=self.days * period)
+        """Returns the first day of a period: that of its day row, or so many days after the last period before it that has one."""
+        since = max((it for it in self.begun if it <= period), default=0)
+        return self.begun.get(since, self.first) + timedelta(days=self.days * (period - since))
 
     def plan_report(self):
         """Yields the fields of the plan rows and late rows."""
@@ -564,23 +610,27 @@ class Firm:
                         yield "lane", kind, customer, supplier, item, shipped, called, called, 0
 
     def schedule_report(self, supplier=None, customer=None):
-        """Yields the fields of the schedule rows, of all plants or of a supplier, a customer or both."""
-        if not {supplier, customer} <= {None, *self.plants}:
+        """Yields the fields of the schedule rows, of all plants and vendors or of a supplier, a customer or both: vendors stand behind plants."""
+        suppliers = {None, *self.plants, *(it.name for it in self.vendors.values())}
+        if supplier not in suppliers or customer not in {None, *self.plants}:
             raise Refused("mrp: no plant")
         for lane_supplier, lane_customer, items in self.lanes():
             if supplier in (None, lane_supplier) and customer in (None, lane_customer):
                 for item, edge in items.items():
                     lane = (lane_supplier, lane_customer, item)
-                    yield from (("schedule", kind, *lane, *it) for kind, *it in self.schedule_of(lane, edge))
+                    yield from (("schedule", kind, *lane, *it) for kind, *it in self.schedule_of(*self.figures(lane, edge), self.resets.get(lane)))
+        for (plant, item), it in self.vendors.items():
+            if supplier in (None, it.name) and customer in (None, plant):
+                rows = self.schedule_of(it.figure, it.transit, self.plans[plant, item].release, it.reset)
+                yield from (("schedule", kind, it.name, plant, item, *row) for kind, *row in rows)
 
-    def schedule_of(self, lane, edge):
-        """Returns the schedule of a lane's item: each row's kind, period, day, quantity and cumulative figure."""
-        opening, transit, calls = self.figures(lane, edge)
+    def schedule_of(self, opening, transit, calls, reset):
+        """Returns a schedule: each row's kind, period, day, quantity and cumulative figure."""
         opening += transit
-        anew = self.resets.get(lane, self.periods)
+        anew = self.periods if reset is None else reset
         closed = opening + sum(calls[:anew])
         # (by period; where figures start anew, this stands before the call of its period)
-        found = [(anew, 0, "reset", "", closed)] if lane in self.resets else []
+        found = [] if reset is None else [(anew, 0, "reset", "", closed)]
         for t, quantity in enumerate(calls):
             if quantity:
                 found.append((t, 1, "call", quantity, opening + sum(calls[: t + 1]) - closed * (t >= anew)))

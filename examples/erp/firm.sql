@@ -13,6 +13,11 @@ CREATE TABLE policies (plant TEXT, item TEXT, fence INTEGER, sooner INTEGER, cov
 -- (scrap, fractions and changes: from a day on so many pieces go into so many parents in the place of what the bill says, into one where base is
 -- NULL, and none where per is 0; there is none this morning)
 CREATE TABLE usages (plant TEXT, parent TEXT, component TEXT, valid_from TEXT, per INTEGER, base INTEGER, PRIMARY KEY (plant, parent, component, valid_from));
+-- (who delivers a bought item by cumulative schedules: the figure that is booked, the pieces under way, which are among the open orders, and the
+-- day on which the figure starts again, or NULL; there is none this morning)
+CREATE TABLE vendors (vendor TEXT, plant TEXT, item TEXT, received INTEGER, in_transit INTEGER, starts_again TEXT, PRIMARY KEY (plant, item));
+-- (the first days of periods, where not all begin so many days after each other: up to the last that doesn't; there is none this morning)
+CREATE TABLE days (date TEXT PRIMARY KEY);
 CREATE TABLE shipments (supplier TEXT, customer TEXT, item TEXT, shipped TEXT, arrives TEXT, received TEXT, quantity INTEGER);
 
 INSERT INTO calendar VALUES ('2026-01-05', 7, 6);

@@ -110,7 +110,7 @@ FROM lane_rows AS despatch
 JOIN lane_rows AS schedule ON schedule.sender = despatch.receiver AND schedule.receiver = despatch.sender AND schedule.item = despatch.item
 WHERE despatch.kind = 'despatch' AND schedule.kind = 'schedule';
 
--- what each supplier is to ship and when, with the cumulative figure in force; a reset closes a figure and has no quantity
+-- what each supplier, a plant or a vendor, is to ship and when, with the cumulative figure in force; a reset closes a figure and has no quantity
 DROP VIEW IF EXISTS delivery_schedule;
 CREATE VIEW delivery_schedule AS
 SELECT supplier, customer, item, kind, nullif(date, '') AS leaves, nullif(quantity, '') AS quantity, cumulative

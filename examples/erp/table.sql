@@ -4,39 +4,78 @@
 -- Lead times, fence, sooner and cover are in periods. What goes into parents from a day on counts from the first period that begins on it or later, and of
 -- two that count from one period the later. A date is 2026-12-16: where it is none the period is empty, and where stock is of no item the row is a
 -- receipt of now. mrp refuses both, and a firm order that is due in a period before its start.
+-- Periods begin on the days of the table days, as far as these go, and then so many days after each other.
+
+-- the periods that begin on days of the table, and all periods with the one that would follow them
+CREATE TEMP TABLE begun AS
+SELECT period, begins
+FROM (
+    SELECT row_number() OVER (ORDER BY date) AS period, substr(date, 1, 10) AS begins, periods
+    FROM days, calendar
+    WHERE date(date, '+0 days') = substr(date, 1, 10) AND substr(date, 1, 10) > first_day
+)
+WHERE period < periods;
+CREATE TEMP TABLE starts AS
+WITH RECURSIVE starts (period, begins) AS (
+    SELECT 0, first_day FROM calendar
+    UNION ALL
+    SELECT period + 1, coalesce((SELECT begins FROM begun WHERE begun.period = starts.period + 1), date(begins, '+' || calendar.days || ' days'))
+    FROM starts, calendar
+    WHERE period < periods
+)
+SELECT period, begins FROM starts;
+CREATE INDEX temp.starts_begin ON starts (begins);
+
 CREATE TEMP VIEW wanted AS
 SELECT 'demand' AS kind, plant, item,
-    CASE WHEN date(due, '+0 days') = substr(due, 1, 10) THEN max(0, CAST((julianday(due) - julianday(first_day)) / days AS INTEGER)) END AS period,
+    CASE WHEN date(due, '+0 days') = substr(due, 1, 10)
+        THEN coalesce((SELECT period FROM starts WHERE begins <= due ORDER BY begins DESC LIMIT 1), 0) END AS period,
     quantity, forecasts.rowid AS row
-FROM forecasts, calendar
+FROM forecasts
 UNION ALL
 SELECT 'receipt', plant, item,
-    CASE WHEN date(due, '+0 days') = substr(due, 1, 10) THEN max(0, CAST((julianday(due) - julianday(first_day)) / days AS INTEGER)) END,
+    CASE WHEN date(due, '+0 days') = substr(due, 1, 10)
+        THEN coalesce((SELECT period FROM starts WHERE begins <= due ORDER BY begins DESC LIMIT 1), 0) END,
     quantity, open_orders.rowid
-FROM open_orders, calendar;
+FROM open_orders;
 
 CREATE TEMP VIEW under_way AS
 SELECT supplier, customer, item,
-    CASE WHEN date(arrives, '+0 days') = substr(arrives, 1, 10) THEN max(0, CAST((julianday(arrives) - julianday(first_day)) / days AS INTEGER)) END AS period,
+    CASE WHEN date(arrives, '+0 days') = substr(arrives, 1, 10)
+        THEN coalesce((SELECT period FROM starts WHERE begins <= arrives ORDER BY begins DESC LIMIT 1), 0) END AS period,
     quantity, shipments.rowid AS row
-FROM shipments, calendar
+FROM shipments
 WHERE received IS NULL;
 
 CREATE TEMP VIEW firm AS
 SELECT plant, item,
-    CASE WHEN date(start, '+0 days') = substr(start, 1, 10) THEN max(0, CAST((julianday(start) - julianday(first_day)) / days AS INTEGER)) END AS start,
-    CASE WHEN date(due, '+0 days') = substr(due, 1, 10) THEN max(0, CAST((julianday(due) - julianday(first_day)) / days AS INTEGER)) END AS due,
+    CASE WHEN date(start, '+0 days') = substr(start, 1, 10)
+        THEN coalesce((SELECT period FROM starts WHERE begins <= start ORDER BY begins DESC LIMIT 1), 0) END AS start,
+    CASE WHEN date(due, '+0 days') = substr(due, 1, 10)
+        THEN coalesce((SELECT period FROM starts WHERE begins <= due ORDER BY begins DESC LIMIT 1), 0) END AS due,
     quantity, firm_orders.rowid AS row
-FROM firm_orders, calendar;
+FROM firm_orders;
 
 -- (of each period the row with the latest day)
 CREATE TEMP VIEW usage AS
 SELECT plant, parent, component,
     CASE WHEN date(valid_from, '+0 days') = substr(valid_from, 1, 10)
-        THEN max(0, (CAST(julianday(valid_from) - julianday(first_day) AS INTEGER) + days - 1) / days) END AS period,
+        THEN coalesce((SELECT period FROM starts WHERE begins >= substr(valid_from, 1, 10) ORDER BY begins LIMIT 1), periods) END AS period,
     per, coalesce(base, 1) AS base, max(valid_from), usages.rowid AS row
 FROM usages, calendar
 GROUP BY plant, parent, component, period;
+
+-- (a figure that has started again before the first day is what the row says, and one that does so behind the last period doesn't yet; what is no
+-- date stays, and mrp refuses it)
+CREATE TEMP VIEW delivered AS
+SELECT vendor, plant, item, coalesce(received, 0) AS received, coalesce(in_transit, 0) AS in_transit,
+    CASE
+        WHEN starts_again IS NULL THEN ''
+        WHEN date(starts_again, '+0 days') IS NOT substr(starts_again, 1, 10) THEN starts_again
+        WHEN starts_again < first_day OR starts_again >= (SELECT max(begins) FROM starts) THEN ''
+        ELSE (SELECT period FROM starts WHERE begins <= starts_again ORDER BY begins DESC LIMIT 1)
+    END AS reset, vendors.rowid AS row
+FROM vendors, calendar;
 
 -- what the rows of shipments don't have: received, or to arrive after the last period
 CREATE TEMP VIEW shipped_before AS
@@ -85,5 +124,11 @@ FROM (
     SELECT 11, row, 'usage', plant, parent, component, coalesce(period, ''), per, base, ''
     FROM usage, calendar
     WHERE coalesce(period, 0) < periods
+    UNION ALL
+    SELECT 12, row, 'vendor', vendor, plant, item, received, in_transit, reset, '' FROM delivered
+    UNION ALL
+    SELECT 13, period, 'day', period, begins, '', '', '', '', '' FROM begun
+    UNION ALL
+    SELECT 13, 0, 'day', '', date, '', '', '', '', '' FROM days WHERE date IS NULL OR date(date, '+0 days') IS NOT substr(date, 1, 10)
 )
 ORDER BY place, row;

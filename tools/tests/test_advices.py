@@ -51,22 +51,26 @@ def test_what_is_booked_and_what_is_on_its_way(tmp_path):
 
 
 def test_sheets_take_what_it_writes(room):
-    """Beside the other sheets; the vendor's figures aren't read yet, and that is told."""
+    """Beside the other sheets. What is on its way from the vendor is what its figures have in transit."""
     room.run("cp -r examples/advices week && rm week/advices.csv week/booked.csv && bin/advices --out week examples/advices")
     said = room.run("bin/sheets --today 2026-11-30 --names names.csv --out table.csv week 2>&1").splitlines()
-    assert said[0] == "not read, for no sheet has this name: vendors.csv"
-    rows = [it for it in room.run("cat table.csv").splitlines() if it.startswith(("receipt", "ship", "cum"))]
+    assert said[1] == "vendors.csv row 2: 2027-01-01 isn't the first day of a period; figures start again on 2026-12-28"
+    assert len(said) == 2
+    rows = [it for it in room.run("cat table.csv").splitlines() if it.startswith(("receipt", "ship", "cum", "vendor"))]
     assert rows == [
         "receipt,FOUNDRY,IRON,1,300,,,",
         "receipt,WORKS,MOTOR,0,40,,,",
         "ship,FOUNDRY,WORKS,CASTING,0,25,,",
         "cum,FOUNDRY,WORKS,CASTING,1070,,,",
+        "vendor,Lumen,WORKS,MOTOR,480,40,4,",
     ]
     notes = [it["note"] for it in csv.DictReader(room.run("cat names.csv").splitlines()) if it["row"] in ("receipt", "ship")]
     assert notes == ["Order P-12", "Advice 88140, Vendor Lumen", "from FOUNDRY, Advice F-84"]
     # (the works' call for castings goes on from what is on its way)
     room.needs_program()
-    assert "schedule,opening,FOUNDRY,WORKS,CASTING,,,25,1095" in room.run("$MRP schedule < table.csv")
+    schedules = room.run("$MRP schedule < table.csv")
+    assert "schedule,opening,FOUNDRY,WORKS,CASTING,,,25,1095" in schedules
+    assert "schedule,opening,Lumen,WORKS,MOTOR,,,40,520" in schedules
 
 
 F_81, F_84 = EXAMPLE["advices.csv"].splitlines(keepends=True)[1:3]
@@ -193,9 +197,9 @@ def test_slips_are_told_at_once(tmp_path):
         1,
         [
             f"cums.csv row 3, Item: {CASTINGS} stands in row 2 already",
+            "vendors.csv row 3, Item: Lumen WORKS MOTOR stands in row 2 already",
             "advices.csv row 2, Quantity: 'x' is no whole number; write one as 1200",
             "booked.csv: it is missing",
-            "vendors.csv row 3, Item: Lumen WORKS MOTOR stands in row 2 already",
             "bin/advices: 4 slips; nothing is written",
         ],
     )
@@ -232,7 +236,7 @@ def test_headings_and_numbers_of_an_erp(tmp_path):
 
 def test_no_heading_is_of_two_columns():
     headed = module_of("headed.py", "bin")
-    for name, columns in headed.ADVICE_SHEETS.items():
+    for name, columns in (*headed.ADVICE_SHEETS.items(), ("firm.csv", headed.SHEETS["firm.csv"]), ("closed.csv", headed.SHEETS["closed.csv"])):
         every = [it for column in columns.items() for it in headed.keys(*column)]
         assert len(every) == len({*every}), name
 

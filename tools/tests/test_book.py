@@ -137,6 +137,22 @@ def test_firm_orders_of_what_is_bought_and_receipts_of_what_is_made(desk):
     refused(desk, "--receipts", [f"orders.csv row 2, supply: {why}"])
 
 
+def test_what_a_vendor_with_a_schedule_delivers_is_a_firm_order(desk):
+    """So its schedule keeps the call, and its figures go on as before."""
+    desk.write("firm/vendors.csv", "Vendor,Plant,Item,Figure received,In transit\nLumen GmbH,WORKS,MOTOR,460,0\n")
+
+    def schedule():
+        return [it for it in report(desk, "schedule") if "Lumen" in it]
+
+    before = schedule()
+    assert before == ["schedule,opening,Lumen_GmbH,WORKS,MOTOR,,,0,460", "schedule,call,Lumen_GmbH,WORKS,MOTOR,0,2026-11-30,20,480"]
+    rows(desk, MOTORS)
+    refused(desk, "--receipts", ["orders.csv row 2, supply: as a receipt it would leave the schedule of Lumen GmbH: book it without --receipts"])
+    desk.run("bin/book orders.csv firm")
+    assert read(desk, "firm_orders.csv").splitlines()[-1] == "FA-21,WORKS,MOTOR,2026-11-30,2026-12-07,20,2026-12-14"
+    assert (read(desk, "receipts.csv"), schedule()) == (NO_RECEIPTS, before)
+
+
 BAD = {
     PUMPS.replace("2026-12-14", "2026-12-21"): "due_date: 2026-12-21 is behind the period of 2026-12-14, in which it is needed: the "
     "plan would order again for the time in between; keep that date",
@@ -260,7 +276,7 @@ def test_both_sheets_or_none(tmp_path, monkeypatch):
     assert (tmp_path / "receipts.csv").read_text() == NO_RECEIPTS
 
 
-KINDS = "run", "plant", "pair", "bill", "demand", "receipt", "ship", "cum", "reset", "firm", "policy", "usage"
+KINDS = "run", "plant", "pair", "bill", "demand", "receipt", "ship", "cum", "reset", "firm", "policy", "usage", "vendor", "day"
 
 
 def planned(rows):

@@ -73,7 +73,7 @@ def test_compare_pairs_as_no_other_way_does_better(room):
     """By all ways in which a few orders can be paired; and all of 104 periods at once."""
     tool, chance = module_of("compare", "bin"), random.Random(1)
     plans = tool.Comparison.__new__(tool.Comparison)
-    plans.reach, plans.first, plans.last = 2, 2, 8
+    plans.reach, plans.at, plans.first, plans.last = 2, int, 2, 8
     for _ in range(300):
         old, new = (
             [
@@ -245,3 +245,24 @@ def test_compare_takes_receipts_where_they_are_counted(room):
     room.write("new.csv", plan_rows("2026-01-05", 7, dict.fromkeys("PQR", none), incoming=comes))
     said = room.run("bin/compare old.csv new.csv")
     assert said.startswith("A R\n  2026-01-12  went    7, 2 periods late before\n1 change in 1 pair;")
+
+
+def test_compare_counts_periods_where_weekends_have_none(room):
+    """By hand. The 1st of January is a Thursday. What moves from each of two Fridays to Monday moves by a period, and so within one of them."""
+    days = "day,2,2026-01-05,,,,,\nday,7,2026-01-12,,,,,\n"
+    table = "run,2026-01-01,1,10,,,,\nplant,A,,,,,,\npair,A,X,buy,lot,0,0,0\ndemand,A,X,{},5,,,\ndemand,A,X,{},6,,,\n" + days
+    for name, periods in (("old", (1, 6)), ("new", (2, 7))):
+        room.write(f"{name}.csv", oracle.Oracle(table.format(*periods).encode()).answer("plan").out.decode())
+    wanted = "A X\n  2026-01-05  moved   2 orders, the last to 2026-01-12, each 1 period later\n1 change in 1 pair; late orders: none before, none now.\n"
+    assert room.run("bin/compare --within 1 old.csv new.csv") == wanted
+    assert wanted.replace("05  moved", "02  moved").replace("01-12", "01-09").replace("later", "earlier") == room.run("bin/compare --within 1 new.csv old.csv")
+
+
+def test_compare_knows_the_end_behind_a_closed_week(room):
+    """The last period is a week, though the one before it has two: so both plans end on the same day, and nothing is left out."""
+    table = "run,2026-12-07,7,4,,,,\nplant,A,,,,,,\npair,A,X,buy,lot,0,0,0\ndemand,A,X,3,{},,,\nday,3,2027-01-04,,,,,\n"
+    for name, quantity in (("old", 5), ("new", 6)):
+        room.write(f"{name}.csv", oracle.Oracle(table.format(quantity).encode()).answer("plan").out.decode())
+    tool = module_of("compare", "bin")
+    assert str(tool.date.fromordinal(tool.Plan(f"{room.folder}/old.csv").end())) == "2027-01-11"
+    assert "  2027-01-04  grew    from 5 to 6\n" in room.run("bin/compare old.csv new.csv")

@@ -117,6 +117,113 @@ def test_usages_end_the_table_of_postgresql(room):
         assert rows == policies + usages
 
 
+# Vendors: one whose figure has started again, and two of which one does so within a period and one behind the last; then such as mrp refuses, of
+# what is made, of no item, without a name, and with a day that is none.
+VENDORS = """INSERT INTO vendors VALUES ('ALU', 'SOUTH', 'TUBE', 500, 12, '2026-01-01'), ('RIMS', 'NORTH', 'RIM', 80, NULL, '2026-01-20')"""
+VENDOR_ROWS = "vendor,ALU,SOUTH,TUBE,500,12,,\nvendor,RIMS,NORTH,RIM,80,0,2,\n"
+WRONG_VENDORS = """INSERT INTO vendors VALUES ('ALU', 'NORTH', 'WHEEL', 1, 0, '2026-02-16'), ('V', 'EAST', 'NUT', 2, 0, NULL),
+    (NULL, 'SOUTH', 'FRAME', NULL, 3, '16.2.2026')"""
+WRONG_VENDOR_ROWS = "vendor,ALU,NORTH,WHEEL,1,0,,\nvendor,V,EAST,NUT,2,0,,\nvendor,,SOUTH,FRAME,0,3,16.2.2026,\n"
+
+
+def test_vendors_end_the_table(room):
+    """They stand behind the usages, as they were entered, with the periods of their days."""
+    wants("sqlite3")
+    table = "sqlite3 -bail -list -separator , firm.db < examples/erp/table.sql"
+    added = "tail -n +$(($(wc -l < examples/three_plants.csv) + 1))"
+    room.run(f'sqlite3 firm.db < examples/erp/firm.sql; sqlite3 firm.db "{VENDORS}; {USAGES}"; {table} > table.csv')
+    assert room.run(f"{added} table.csv") == USAGE_ROWS + VENDOR_ROWS
+    assert oracle.Oracle(room.run("cat table.csv").encode()).refused is None
+    assert room.run(f'sqlite3 firm.db "{WRONG_VENDORS}"; {table} | {added}') == USAGE_ROWS + VENDOR_ROWS + WRONG_VENDOR_ROWS
+    for day, reset in (("2026-01-04", ""), ("2026-01-05", 0), ("2026-01-11", 0), ("2026-02-15 23:59", 5), ("2026-02-16", "")):
+        one = f"DELETE FROM vendors; INSERT INTO vendors VALUES ('RIMS', 'NORTH', 'RIM', 80, 0, '{day}')"
+        assert room.run(f'sqlite3 firm.db "{one}"; {table} | grep ^vendor') == f"vendor,RIMS,NORTH,RIM,80,0,{reset},\n"
+
+
+def test_vendors_end_the_table_of_postgresql(room):
+    """By their names."""
+    with postgresql(room):
+        room.run(f'createdb firm && psql -qd firm -f examples/erp/firm.sql && psql -qd firm -c "{VENDORS}; {USAGES}; {WRONG_VENDORS}"')
+        rows = room.run("psql -qd firm -f examples/erp/table.postgresql.sql | grep -vxFf examples/three_plants.csv").splitlines(keepends=True)
+        usages, vendors = (sorted(it.splitlines(keepends=True)) for it in (USAGE_ROWS, VENDOR_ROWS + WRONG_VENDOR_ROWS))
+        assert rows[: len(usages)] == usages
+        assert sorted(rows[len(usages) :]) == vendors
+
+
+# The weeks from the 12th on are closed, and the second period begins on Monday the 26th; the third is a day shorter than a week, and ends on
+# Saturday. The first row is of a period before the plan.
+DAYS = "INSERT INTO days VALUES ('2026-02-01'), ('2025-12-29'), ('2026-01-26'), ('2026-01-05')"
+DAY_ROWS = "day,1,2026-01-26,,,,,\nday,2,2026-02-01,,,,,\n"
+# By hand: periods begin on January 5 and 26, and on February 1, 8, 15 and 22; the plan ends on the 28th.
+DATED = {
+    "2026-01-04": 0,
+    "2026-01-11": 0,
+    "2026-01-12": 0,
+    "2026-01-25": 0,
+    "2026-01-26": 1,
+    "2026-01-31": 1,
+    "2026-02-01": 2,
+    "2026-02-07": 2,
+    "2026-02-08": 3,
+    "2026-02-22": 5,
+    "2026-02-28": 5,
+    "2026-03-01": None,
+}
+# The rows of three_plants.csv whose periods are others then, by hand: the dates of firm.sql.
+MOVED = """\
+demand,EAST,BIKE,0,9,,,
+demand,EAST,BIKE,1,7,,,
+demand,EAST,BIKE,3,12,,,
+demand,EAST,WHEEL,2,25,,,
+demand,NORTH,BIKE,1,10,,,
+demand,SOUTH,WHEEL,1,6,,,
+receipt,NORTH,RIM,0,20,,,
+ship,SOUTH,NORTH,FRAME,0,5,,
+ship,NORTH,EAST,BIKE,0,4,,
+"""
+
+
+def test_days_end_the_table(room):
+    """They are the last rows, and all dates count by them."""
+    wants("sqlite3")
+    table = "sqlite3 -bail -list -separator , firm.db < examples/erp/table.sql"
+    room.run(f'sqlite3 firm.db < examples/erp/firm.sql; sqlite3 firm.db "{DAYS}; {VENDORS}; {USAGES}"; {table} > table.csv')
+    assert room.run("tail -n 4 table.csv") == VENDOR_ROWS.replace(",2,", ",0,") + DAY_ROWS
+    assert room.run("grep -E '^(demand|receipt|ship),' table.csv") == MOVED
+    # (what begins on January 12 and 13 counts from the 26th on, and what begins on February 9 and 10 from the 15th on)
+    usages = USAGE_ROWS.replace("WHEEL,2,", "WHEEL,1,").replace("TUBE,5,", "TUBE,4,") + "usage,NORTH,WHEEL,RIM,4,2,1,\n"
+    assert room.run("grep ^usage table.csv") == usages
+    assert oracle.Oracle(room.run("cat table.csv").encode()).refused is None
+    for day, period in DATED.items():
+        one = f"DELETE FROM forecasts; INSERT INTO forecasts VALUES ('EAST', 'BIKE', '{day}', 1)"
+        wanted = "" if period is None else f"demand,EAST,BIKE,{period},1,,,\n"
+        assert room.run(f'sqlite3 firm.db "{one}"; {table} | grep ^demand || true') == wanted, day
+    wrong = "DELETE FROM days; INSERT INTO days VALUES ('12.1.2026'), (NULL), ('2026-01-26')"
+    assert room.run(f'sqlite3 firm.db "{wrong}"; {table} | grep ^day') == "day,,12.1.2026,,,,,\nday,,,,,,,\nday,1,2026-01-26,,,,,\n"
+
+
+def test_days_end_the_table_of_postgresql(room):
+    """In their order, of more than ten too."""
+    with postgresql(room):
+        room.run(f'createdb firm && psql -qd firm -f examples/erp/firm.sql && psql -qd firm -c "{DAYS}; {USAGES}"')
+        table = "psql -qd firm -f examples/erp/table.postgresql.sql"
+        room.run(f"{table} > table.csv")
+        assert room.run("tail -n 2 table.csv") == DAY_ROWS
+        assert room.run("grep -E '^(demand|receipt|ship),' table.csv | sort") == "".join(sorted(MOVED.splitlines(keepends=True)))
+        usages = USAGE_ROWS.replace("WHEEL,2,", "WHEEL,1,").replace("TUBE,5,", "TUBE,4,") + "usage,NORTH,WHEEL,RIM,4,2,1,\n"
+        assert room.run("grep ^usage table.csv | sort") == "".join(sorted(usages.splitlines(keepends=True)))
+        days = "', '".join(DATED)
+        values = "SELECT 'EAST', 'BIKE', day, row_number() OVER () FROM unnest(ARRAY['{}']) AS day"
+        room.run(f'psql -qd firm -c "DELETE FROM forecasts; INSERT INTO forecasts {values.format(days)}"; {table} > table.csv')
+        wanted = [f"demand,EAST,BIKE,{period},{row},,,\n" for row, period in enumerate(DATED.values(), 1) if period is not None]
+        assert room.run("grep ^demand table.csv | sort") == "".join(sorted(wanted))
+        many = "INSERT INTO days SELECT '2026-01-05'::date + it FROM generate_series(1, 11) AS it"
+        room.run(f"""psql -qd firm -c "UPDATE calendar SET periods = 13; DELETE FROM days; {many}"; {table} > table.csv""")
+        assert room.run("grep ^day table.csv") == "".join(f"day,{it},2026-01-{5 + it:02},,,,,\n" for it in range(1, 12))
+        wrong = "DELETE FROM days; INSERT INTO days VALUES ('12.1.2026'), ('2026-01-26')"
+        assert room.run(f'psql -qd firm -c "{wrong}"; {table} | grep ^day | sort') == "day,,12.1.2026,,,,,\nday,1,2026-01-26,,,,,\n"
+
+
 # A firm order that comes a period too soon, in the reports of a table of five periods: 5 of P are on hand, and 30 and 10
 # are wanted in periods 3 and 4. P takes two periods and two pieces of C, which is bought in one. By hand: the plan is that
 # of an order of 20 that comes in 2, of which 5 are missing in 3 and 10 in 4; C is asked for by releases 20, 5 and 10.

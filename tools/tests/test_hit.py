@@ -246,6 +246,13 @@ def test_hits_take_the_usage_of_the_period(room):
     assert room.run("MRP=words/files bin/hit < table.csv") == f"{hit}hit,A,Q,2,2026-01-19,40,1,A,C\n"
 
 
+def test_hits_have_the_dates_of_day_rows(room):
+    """The hits of the table before, of which period 1 begins four weeks after period 0."""
+    reports_from_files(room, FRACTION + "vendor,V,A,C,0,0,,\nday,1,2026-02-02,,,,,\n", "orders", "plan")
+    hit = "hit,A,C,0,2026-01-05,1,2,A,C\nhit,A,P,1,2026-02-02,10,2,A,C\nhit,A,C,1,2026-02-02,1,1,A,C\n"
+    assert room.run("MRP=words/files bin/hit < table.csv") == hit
+
+
 def late_ones(firm, chance):
     """Returns open orders of a firm that come late, by kind and pair, as `reports.coming_late` gives them."""
     found = {"receipt": {}, "firm": {}}

@@ -1,5 +1,6 @@
 """The second planner, tools/oracle.py: the plan of one pair, the plans and reports of a firm, and the command."""
 import csv
+import datetime
 import fractions
 import itertools
 import math
@@ -387,6 +388,70 @@ def test_receipts_that_count_sooner():
     assert cancelled > 50
 
 
+def test_schedules_of_vendors():
+    """They stand behind the lanes', a vendor's rows for each of its rows in the table: what was delivered and is under way, and then the
+    releases of the pair, of which those before a reset sum to the figure that it ends.
+    """
+    resets, several = set(), 0
+    for table, judge in some_firms():
+        found, lanes = rows_of(judge, "schedule"), rows_of(judge, "cums")
+        at = next((at for at, it in enumerate(found) if it.kind == "opening" and it.supplier in {it.vendor for it in table.vendors}), len(found))
+        assert sum(it.kind == "opening" for it in found[:at]) * 2 == len(lanes)
+        assert [it[1:4] for it in found[at:] if it.kind == "opening"] == [it[:3] for it in table.vendors]
+        for it in table.vendors:
+            own = [row for row in found[at:] if row[1:4] == it[:3]]
+            release, last = judge.firm.plans[it.pair].release, table.run.periods if it.reset is None else it.reset
+            assert (own[0].period, own[0].quantity, own[0].cumulative) == (None, it.transit, it.figure + it.transit)
+            calls = [(row.period, row.quantity) for row in own if row.kind == "call"]
+            assert calls == [(t, pieces) for t, pieces in enumerate(release) if pieces]
+            sums = [own[0].cumulative + sum(release[: t + 1]) if t < last else sum(release[last : t + 1]) for t, _ in calls]
+            assert sums == [row.cumulative for row in own if row.kind == "call"]
+            closed = [(row.period, row.quantity, row.cumulative) for row in own if row.kind == "reset"]
+            assert closed == ([] if it.reset is None else [(it.reset, None, own[0].cumulative + sum(release[:last]))])
+            # (it stands before the call of its period)
+            assert [row.period for row in own[1:]] == sorted(row.period for row in own[1:])
+            assert all(row.kind == "reset" or before.period != row.period or before.kind == "reset" for before, row in itertools.pairwise(own[1:]))
+            resets |= {(it.reset is None, it.reset in dict(calls), sum(release[:last]) > 0)}
+            one = rows_of(judge, "schedule", it.vendor, it.plant)
+            assert one == [row for row in found[at:] if (row.supplier, row.customer) == (it.vendor, it.plant)]
+            several += len({row.item for row in one}) > 1
+        for it in {it.vendor for it in table.vendors}:
+            assert rows_of(judge, "schedule", it, None) == [row for row in found if row.supplier == it]
+            assert judge.answer("schedule", None, it) == oracle.refusal("mrp: no plant")
+        for it in table.plants:
+            assert rows_of(judge, "schedule", None, it.plant) == [row for row in found if row.customer == it.plant]
+    assert len(resets) == 6
+    assert several > 5
+
+
+def test_plans_are_without_vendors_and_days():
+    """The rows of both kinds change no plan, but for its dates: those of day rows, and of other periods so many days later each."""
+    lengths = set()
+    for table, judge in some_firms():
+        plain = oracle.Oracle(bytes(mrp.Table(it for it in table.rows if it[0] not in ("vendor", "day"))))
+        plans = (rows_of(it, "plan") for it in (judge, plain))
+        assert [it._replace(date=None) if isinstance(it, mrp.Plan) else it for it in next(plans)] == [
+            it._replace(date=None) if isinstance(it, mrp.Plan) else it for it in next(plans)
+        ]
+        dates = [it.date for it in rows_of(judge, "plan")[: table.run.periods]]
+        given = {0: table.run.first, **{it.period: it.date for it in table.days}}
+        for period, it in enumerate(dates):
+            assert it == (given[period] if period in given else dates[period - 1] + datetime.timedelta(table.run.days))
+            lengths |= {(period in given, (it - dates[period - 1]).days - table.run.days) for _ in given if period and len(given) > 1}
+        for command in ("orders", "advice", "schedule"):
+            for row in rows_of(judge, command):
+                said = {name: getattr(row, name) for name in row._fields if "date" in name}
+                assert all(day == (None if period is None else dates[period]) for (name, day) in said.items() for period in [of_date(row, name)])
+    assert {False, True} == {is_given for is_given, _ in lengths}
+    assert min(more for _, more in lengths) < 0 < max(more for _, more in lengths)
+    assert {more for is_given, more in lengths if not is_given} == {0}
+
+
+def of_date(row, name):
+    """Returns the period of a date of a report's row."""
+    return getattr(row, {"date": "period"}.get(name, name.removesuffix("_date")))
+
+
 def there(table, plan, row):
     """Returns what the rows of a table have of a pair in period 0, and where it is made without lead time and fence its orders."""
     pair, phantom = (row.plant, row.item), row.supply == "make" and row.lead == policy_of(table, (row.plant, row.item)).fence == 0
@@ -483,7 +548,7 @@ def worked(name):
         return [*cases.blocks(file.read())]
 
 
-WORKED_BY_HAND = [*worked("shortages"), *worked("usages")]
+WORKED_BY_HAND = [*worked("shortages"), *worked("usages"), *worked("vendors"), *worked("days"), *worked("schedules"), *worked("rows")]
 
 
 @pytest.mark.parametrize("title, table, asks", WORKED_BY_HAND, ids=[it[0] for it in WORKED_BY_HAND])
@@ -492,10 +557,13 @@ def test_worked_cases(title, table, asks):
     text, row = "\n".join([*asks, ""]), table.count("\n") + 1
     for words, answer in re.findall(r"^\$ mrp (.*)\n((?:[^$!].*\n)*)", text, re.MULTILINE):
         command, *given = words.split()
-        asked = [it for it in given if not it.startswith("--")]
+        # (an option's word stands behind it, or behind its =)
+        options = {"--from": None, "--to": None, **dict(re.findall(r"(--from|--to|--until)[ =](\S+)", words))}
+        asked = [] if command in ("schedule", "orders", "advice") else [it for it in given if not it.startswith("--")]
+        asked += [options["--from"], options["--to"]] if command == "schedule" else [options["--until"]] if "--until" in options else []
         got = oracle.Oracle(table.encode()).answer(command, *asked, header="--header" in given)
         assert (f"{got.status} {got.err.decode()}" if got.status else got.out.decode()) == answer, (title, words)
-    for fault, more in re.findall(r"^! (\w+)  (.*)\n", text, re.MULTILINE):
+    for fault, more in re.findall(r"^! (\w+(?: \w+)?)  (.*)\n", text, re.MULTILINE):
         assert oracle.Oracle(f"{table}{more}\n".encode()).refused == f"mrp: row {row}: {fault}", (title, more)
 
 
@@ -584,21 +652,84 @@ FAULTS_OF_USAGES = {
     "usage,A,X,Y,4,0,1,": None,
     "usage,A,X,Y,0,1000000,1000000,": None,
 }
+DELIVERED = HEAD + "plant,B,,,,,,\npair,A,X,buy,lot,1,0,0\npair,A,Y,make,lot,1,0,0\npair,A,Z,from:B,lot,1,0,0\npair,B,Z,buy,lot,1,0,0\n"
+DELIVERED += "vendor,V,B,Z,0,0,,\n"
+FAULTS_OF_VENDORS = {
+    "vendor,V,A,X,0,0": "FieldCount",
+    "vendor,V,A,X,0,0,,0": "FieldCount",
+    "vendors,V,A,X,0,0,,": "UnknownKind",
+    "usage,A,X,Y,0,1,1,": "KindOrder",
+    "vendor,V W,C,X,0,0,5,": "BadName",
+    "vendor,,A,X,0,0,,": "BadName",
+    "vendor,V,A!,X,0,0,5,": "BadName",
+    "vendor,V,A,X Y,0,0,,": "BadName",
+    "vendor,V,C,X,,0,,": "BadNumber",
+    "vendor,V,B,Z,1000000000000001,0,,": "BadNumber",
+    "vendor,V,A,X,0,1000000000000001,,": "BadNumber",
+    "vendor,V,A,X,0,,,": "BadNumber",
+    "vendor,V,A,X,0,0,5,": "BadNumber",
+    "vendor,V,A,X,0,0,00,": "BadNumber",
+    "vendor,A,B,Z,0,0,,": "Repeated",
+    "vendor,V,B,Z,0,0,,": "Repeated",
+    "vendor,A,C,X,0,0,,": "UnknownPlant",
+    "vendor,V,V,X,0,0,,": "UnknownPlant",
+    "vendor,A,A,W,0,0,,": "UnknownPair",
+    "vendor,A,B,X,0,0,,": "UnknownPair",
+    "vendor,A,A,Y,0,0,,": "NotSourced",
+    "vendor,B,A,Z,0,0,,": "NotSourced",
+    "vendor,B,A,X,0,0,,": "SelfSource",
+    "vendor,A,A,X,0,0,,": "SelfSource",
+    "vendor,X,A,X,500,500,4,": None,
+    "vendor,V,A,X,0,0,0,": None,
+    "vendor,V,A,X,1000000000000000,0,,": None,
+}
+# (periods 0 and 1 begin on January 5 and 19, 2 to 4 on the 26th and a week later each)
+BEGUN = HEAD + "pair,A,X,buy,lot,1,0,0\nvendor,V,A,X,0,0,,\nday,1,2026-01-19,,,,,\n"
+FAULTS_OF_DAYS = {
+    "day,2,2026-02-02": "FieldCount",
+    "day,2,2026-02-02,,,,,0": "FieldCount",
+    "days,2,2026-02-02,,,,,": "UnknownKind",
+    "vendor,V,A,X,0,0,,": "KindOrder",
+    "day,0,2026-02-32,,,,,": "BadNumber",
+    "day,1,2026-01-26,,,,,": "BadNumber",
+    "day,5,2026-03-02,,,,,": "BadNumber",
+    "day,02,2026-02-02,,,,,": "BadNumber",
+    "day,,2026-02-02,,,,,": "BadNumber",
+    "day,2,,,,,,": "CalendarFault BadDate",
+    "day,2,2026-02-30,,,,,": "CalendarFault BadDate",
+    "day,2,2026-2-2,,,,,": "CalendarFault BadDate",
+    "day,2,2026-01-19,,,,,": "CalendarFault BadDate",
+    "day,2,2026-01-12,,,,,": "CalendarFault BadDate",
+    "day,4,2026-02-02,,,,,": "CalendarFault BadDate",
+    "day,4,1969-12-31,,,,,": "CalendarFault BadDate",
+    "day,4,2199-12-26,,,,,": "CalendarFault PastEnd",
+    "day,3,2199-12-19,,,,,": "CalendarFault PastEnd",
+    "day,2,9999-12-31,,,,,": "CalendarFault PastEnd",
+    "day,2,2026-01-20,,,,,": None,
+    "day,4,2026-02-03,,,,,": None,
+    "day,4,2199-12-25,,,,,": None,
+    "day,3,2199-12-18,,,,,": None,
+}
+# The rows before those that are tried, what they are refused for, and the codes of the table with those that are not.
+FAULTY = (
+    (TWO, FAULTS, "code,A,X,0\ncode,A,Y,0\n"),
+    (THREE, FAULTS_OF_USAGES, "code,A,X,1\ncode,A,Y,2\ncode,A,Z,0\n"),
+    (DELIVERED, FAULTS_OF_VENDORS, "code,A,X,0\ncode,A,Y,0\ncode,A,Z,0\ncode,B,Z,1\n"),
+    (BEGUN, FAULTS_OF_DAYS, "code,A,X,0\n"),
+)
+ROWS = [(table, row, fault, codes) for table, faults, codes in FAULTY for row, fault in faults.items()]
 
 
-@pytest.mark.parametrize("row", [*FAULTS, *FAULTS_OF_USAGES])
-def test_faults_of_rows(row):
+@pytest.mark.parametrize("table, row, fault, codes", ROWS, ids=[it[1] for it in ROWS])
+def test_faults_of_rows(table, row, fault, codes):
     """The first in the order of tests; the greatest figures have none."""
-    table, fault = (TWO, FAULTS[row]) if row in FAULTS else (THREE, FAULTS_OF_USAGES[row])
     said = oracle.Oracle(f"{table}{row}\n".encode()).refused
     assert said == (fault and f"mrp: row {table.count(chr(10)) + 1}: {fault}")
 
 
-@pytest.mark.parametrize("row", [*FAULTS, *FAULTS_OF_USAGES])
-def test_faults_of_rows_by_the_program(program, row):
+@pytest.mark.parametrize("table, row, fault, codes", ROWS, ids=[it[1] for it in ROWS])
+def test_faults_of_rows_by_the_program(program, table, row, fault, codes):
     """By each command."""
-    table, fault = (TWO, FAULTS[row]) if row in FAULTS else (THREE, FAULTS_OF_USAGES[row])
-    codes = "code,A,X,0\ncode,A,Y,0\n" if row in FAULTS else "code,A,X,1\ncode,A,Y,2\ncode,A,Z,0\n"
     if fault:
         cases.refused(program, f"{table}{row}\n", f"row {table.count(chr(10)) + 1}: {fault}")
     else:
@@ -630,6 +761,17 @@ def test_bound_of_usages():
     for (per, quantity, usage), wanted in refused.items():
         judge = oracle.Oracle(f"{table.format(per, quantity)}usage,A,P,C,{usage},\n".encode())
         assert judge.refused == ("mrp: NeedTooLarge A/C" if wanted else None), (per, quantity, usage)
+
+
+def test_bound_of_vendors():
+    """What is booked and what is under way count in what a pair has: 10^15, and a piece more."""
+    table = HEAD + "pair,A,X,buy,lot,1,1,0\nvendor,V,A,X,{},{},,\n"
+    for figure, transit, wanted in ((10**15 - 1, 0, None), (4 * 10**14, 6 * 10**14 - 1, None), (10**15, 0, "Supply"), (0, 10**15, "Supply")):
+        judge = oracle.Oracle(table.format(figure, transit).encode())
+        assert judge.refused == (wanted and f"mrp: {wanted}TooLarge A/X"), (figure, transit)
+    wanted = table.replace("vendor", "demand,A,X,0,2,,,\nvendor")
+    assert oracle.Oracle(wanted.format(10**15 - 3, 0).encode()).refused is None
+    assert oracle.Oracle(wanted.format(10**15 - 3, 1).encode()).refused == "mrp: NeedTooLarge A/X"
 
 
 def test_most_usages():

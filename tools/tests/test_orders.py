@@ -143,6 +143,49 @@ def test_schedules_of_a_plant(room):
         assert room.run(f"{asked} {words} < table.csv", status=1) == f"bin/schedule: the table has no plant {said}\n"
 
 
+# A motor that a vendor delivers, and one of another plant; the week of December 28 is closed.
+DELIVERED = """\
+run,2026-12-21,7,3,,,,
+plant,WORKS,,,,,,
+plant,DEPOT,,,,,,
+pair,WORKS,MOTOR,buy,lot,0,0,0
+pair,DEPOT,MOTOR,from:WORKS,lot,0,0,0
+demand,DEPOT,MOTOR,0,5,,,
+demand,DEPOT,MOTOR,1,7,,,
+vendor,LUMEN,WORKS,MOTOR,40,2,,
+day,1,2027-01-04,,,,,
+"""
+# By hand: the 5 and the 7 that the depot calls for are called for from the vendor too.
+DELIVERIES = """\
+schedule,opening,WORKS,DEPOT,MOTOR,,,0,0
+schedule,call,WORKS,DEPOT,MOTOR,0,2026-12-21,5,5
+schedule,call,WORKS,DEPOT,MOTOR,1,2027-01-04,7,12
+schedule,opening,LUMEN,WORKS,MOTOR,,,2,42
+schedule,call,LUMEN,WORKS,MOTOR,0,2026-12-21,5,47
+schedule,call,LUMEN,WORKS,MOTOR,1,2027-01-04,7,54
+"""
+
+
+def test_schedules_of_a_vendor(room):
+    """It is a supplier and no customer, and a day within the closed week is one of the period before it."""
+    reports_from_files(room, DELIVERED, "schedule")
+    heads = "row,kind,supplier,customer,item,period,date,quantity,cumulative"
+    assert room.run("cat schedule.csv") == DELIVERIES
+    room.write("schedule.csv", f"{heads}\n{DELIVERIES}")
+    lines = [f"{heads},description,vendor_item,notes\n", *(f"{it},,,\n" for it in DELIVERIES.splitlines())]
+    ask = "MRP=words/files bin/schedule {} < table.csv"
+    assert room.run(ask.format("")) == "".join(lines)
+    for words, places in (("--from LUMEN", (4, 5, 6)), ("--from LUMEN --to WORKS", (4, 5, 6)), ("--from WORKS", (1, 2, 3)), ("--from LUMEN --to DEPOT", ())):
+        assert room.run(ask.format(words)) == lines[0] + "".join(lines[it] for it in places), words
+    for day, places in (("2027-01-03", (1, 2, 4, 5)), ("2027-01-04", (1, 2, 3, 4, 5, 6))):
+        assert room.run(ask.format(f"--until {day}")) == lines[0] + "".join(lines[it] for it in places), day
+    assert room.run(ask.format("--until 2027-01-18"), status=1) == "bin/schedule: 2027-01-18 is not in the plan, which goes from 2026-12-21 to 2027-01-17\n"
+    assert room.run(ask.format("--to LUMEN"), status=1) == "bin/schedule: the table has no plant LUMEN\n"
+    assert room.run(ask.format("--from LUMENS"), status=1) == "bin/schedule: the table has no plant or vendor LUMENS (LUMEN?)\n"
+    assert room.run(ask.format("--sums vendor")).splitlines()[-1].startswith("total,WORKS,,,,2,12,2026-12-21")
+    assert "sum,LUMEN,MOTOR,,,2,12,2026-12-21" in room.run(ask.format("--sums vendor"))
+
+
 def test_sums_by_vendor_and_by_customer(room):
     """Of what isn't made; of the stored reports of pumps, in which an item has two sources."""
     firm(room)

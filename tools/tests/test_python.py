@@ -36,6 +36,7 @@ def test_python_writes_tables(room):
     # (how many periods a policy says is none of them)
     rows += [mrp.Policy(*one, 2, 1, 0, 30, 12), mrp.Policy("B", "X", first, 0, 0, 0, 0)]
     rows += [mrp.Usage("A", "X", "Y", datetime.date(2026, 1, 26), 103, 100), mrp.Usage("A", "X", "Y", 1, first, 1)]
+    rows += [mrp.Vendor("V", "B", "X", 500, 12, datetime.date(2026, 1, 20)), mrp.Vendor("V", *one, 0, 0), mrp.Day(3, datetime.date(2026, 1, 26))]
     assert bytes(mrp.Table(rows)).decode() == WRITTEN
     assert (
         bytes(
@@ -73,6 +74,9 @@ policy,A,X,2,1,0,30,12
 policy,B,X,2026-01-05,0,0,0,0
 usage,A,X,Y,3,103,100,
 usage,A,X,Y,1,2026-01-05,1,
+vendor,V,B,X,500,12,2,
+vendor,V,A,X,0,0,,
+day,3,2026-01-26,,,,,
 """
 RUN_AS_TEXT = """\
 run,2026-01-05,7,4,,,,

@@ -100,6 +100,9 @@ firm,A,Y,0,0,5,,
 policy,A,Y,3,1,2,40,8
 usage,A,X,Y,0,103,100,
 usage,A,X,Y,2,0,1,
+vendor,V-1,A,Y,500,20,2,
+vendor,V-1,A,X,0,0,,
+day,1,2027-01-04,,,,,
 """
 
 
@@ -134,6 +137,10 @@ def test_table_is_read_by_names(tmp_path, text):
     assert table.usages == [("A", "X", "Y", 0, 103, 100), ("A", "X", "Y", 2, 0, 1)]
     usage = table.usages[0]
     assert (usage.parent, usage.component, usage.period, usage.per, usage.base) == ("X", "Y", 0, 103, 100)
+    assert table.vendors == [("V-1", "A", "Y", 500, 20, 2), ("V-1", "A", "X", 0, 0, None)]
+    vendor = table.vendors[0]
+    assert (vendor.vendor, vendor.pair, vendor.figure, vendor.transit, vendor.reset) == ("V-1", ("A", "Y"), 500, 20, 2)
+    assert [(it.period, str(it.date)) for it in table.days] == [(1, "2027-01-04")]
     assert bytes(table).decode() == ROWS
 
 
@@ -146,7 +153,7 @@ def test_some_kinds_are_read_alone(text):
 
 def test_rows_of_no_kind_are_refused():
     lines = [*ROWS.splitlines(keepends=True), "demands,A,X,2,30,,,\n"]
-    with pytest.raises(mrp.Refused, match="row 18: no kind of row is 'demands'"):
+    with pytest.raises(mrp.Refused, match="row 21: no kind of row is 'demands'"):
         mrp.Table.read(lines)
     with pytest.raises(mrp.Refused, match="no kind of row is 'demands'"):
         list(mrp.table_rows(lines, mrp.Run))
@@ -167,6 +174,22 @@ def test_dates_in_a_table_are_periods():
     assert bytes(table).decode() == written
 
 
+def test_dates_in_a_table_count_by_day_rows():
+    """Of which a date is none of a period; and a vendor's reset may be a date, or not be there."""
+    day = datetime.date(2027, 1, 10)
+    rows = [mrp.Run("2026-12-21", "7", 4), mrp.Demand("A", "X", day, 5), mrp.Demand("A", "X", datetime.date(2027, 1, 3), 6)]
+    rows += [mrp.Vendor("V", "A", "X", 1, 2), mrp.Vendor("V", "A", "Y", 1, 2, datetime.date(2027, 1, 18)), ("vendor", "V", "A", "Z", 3, 4)]
+    rows += [mrp.Day(1, datetime.date(2027, 1, 4)), ("day", 2, "2027-01-09"), mrp.Day(datetime.date(2027, 1, 4), datetime.datetime(2027, 1, 20, 8))]
+    table = mrp.Table(rows[:-1])
+    assert table.demands == [("A", "X", 2, 5), ("A", "X", 0, 6)]
+    assert [it.reset for it in table.vendors] == [None, 3, None]
+    assert [str(table.calendar.first_day(it)) for it in range(5)] == ["2026-12-21", "2027-01-04", "2027-01-09", "2027-01-16", "2027-01-23"]
+    written = "run,2026-12-21,7,4,,,,\ndemand,A,X,2,5,,,\ndemand,A,X,0,6,,,\nvendor,V,A,X,1,2,,\nvendor,V,A,Y,1,2,3,\nvendor,V,A,Z,3,4,,\n"
+    written += "day,1,2027-01-04,,,,,\nday,2,2027-01-09,,,,,\n"
+    assert bytes(table).decode() == written
+    assert bytes(mrp.Table(rows[-1:])).decode() == "day,2027-01-04,2027-01-20,,,,,\n"
+
+
 # Dates.
 
 
@@ -175,7 +198,7 @@ def days(*texts):
 
 
 def test_calendar_of_a_run_row():
-    calendar = mrp.calendar_of(mrp.Run(datetime.date(2026, 12, 21), 7, 4))
+    calendar = mrp.calendar_of(mrp.Run(datetime.date(2026, 12, 21), 7, 4), [])
     wanted = days("2026-12-21", "2026-12-28", "2027-01-04", "2027-01-11", "2027-01-18")
     assert [calendar.first_day(it) for it in range(5)] == wanted
     asked = "2026-12-20", "2026-12-21", "2026-12-27", "2026-12-28", "2027-01-17", "2027-01-18"
@@ -191,8 +214,28 @@ def test_calendar_in_which_a_period_begins_later():
     assert [calendar.period(it) for it in asked] == [0, 0, 0, 1, 1, 2, -1]
 
 
+def test_calendar_of_a_table_with_days():
+    """A closed week, a period that is a day shorter, and what is before the first period; and periods of a day without weekends."""
+    first, begun = datetime.date(2026, 12, 21), days("2027-01-04", "2027-01-10")
+    calendar = mrp.calendar_of(mrp.Run(first, 7, 5), [mrp.Day(1, begun[0]), mrp.Day(2, begun[1])])
+    wanted = days("2026-12-14", "2026-12-21", "2027-01-04", "2027-01-10", "2027-01-17", "2027-01-24")
+    assert [calendar.first_day(it) for it in range(-1, 5)] == wanted
+    asked = "2026-12-20", "2026-12-21", "2027-01-03", "2027-01-04", "2027-01-09", "2027-01-10", "2027-01-16", "2027-01-17", "2027-01-24"
+    assert [calendar.period(it) for it in asked] == [-1, 0, 0, 1, 1, 2, 2, 3, 4]
+    fridays = mrp.calendar_of(mrp.Run(datetime.date(2026, 1, 1), 1, 9), [mrp.Day(2, datetime.date(2026, 1, 5)), mrp.Day(7, datetime.date(2026, 1, 12))])
+    assert [fridays.period(f"2026-01-{it:02}") for it in range(1, 14)] == [0, 1, 1, 1, 2, 3, 4, 5, 6, 6, 6, 7, 8]
+
+
+def test_calendar_of_a_report_with_a_closed_week():
+    """Its last period is as long as most, and not as the closed one before it."""
+    calendar = mrp.Calendar.of_report(days("2026-12-07", "2026-12-14", "2026-12-21", "2027-01-04"))
+    assert (calendar.days, calendar.first_day(4)) == (7, datetime.date(2027, 1, 11))
+    calendar = mrp.Calendar.of_report(days("2026-01-01", "2026-01-02", "2026-01-05", "2026-01-06", "2026-01-07", "2026-01-08", "2026-01-09", "2026-01-12"))
+    assert (calendar.days, calendar.first_day(8)) == (1, datetime.date(2026, 1, 13))
+
+
 def test_calendar_of_a_report():
-    """Behind it periods are as long as the last that is known; of one period nobody knows, and it is a day."""
+    """Behind it periods are as long as most, of two as the last; of one period nobody knows, and it is a day."""
     calendar = mrp.Calendar.of_report(days("2026-12-21", "2027-01-04", "2027-01-11"))
     wanted = days("2026-12-21", "2027-01-04", "2027-01-11", "2027-01-18", "2027-01-25")
     assert [calendar.first_day(it) for it in range(5)] == wanted
@@ -275,7 +318,7 @@ def test_nothing_is_needed_to_read(tmp_path):
     )
     how = {"cwd": tmp_path, "env": {"PATH": ""}, "capture_output": True, "text": True, "check": True}
     done = subprocess.run([sys.executable, "ask.py"], **how)
-    assert done.stdout == "31 3 2026-12-28 False\n"
+    assert done.stdout == "31 3 2027-01-04 False\n"
 
 
 def test_tools_read_by_the_installed_module(tmp_path):

@@ -208,6 +208,8 @@ def with_firm_orders(chance, table):
 def in_order_of_sheets(table):
     """Returns a table with its policies behind all other rows, in the order of its pairs, without those that say nothing; and then its
     usages in the order of its bills, with fractions that have few decimals, none that says what is said already, and bills of the most pieces.
+
+    Vendors and first days, which have tests of their own, are left out.
     """
     rows = [it.split(",") for it in table.decode().splitlines()]
     pairs = [it[1:3] for it in rows if it[0] == "pair"]
@@ -219,7 +221,7 @@ def in_order_of_sheets(table):
             bills.append([*it[:4], str(most), *it[5:]])
             begun = {period: each for period, each in steps.items() if period or each != most}
             usages += (["usage", *it[1:4], str(period), *map(str, each.as_integer_ratio()), ""] for period, each in begun.items())
-    front, others = (it for it in rows if it[0] in ("run", "plant", "pair")), ("run", "plant", "pair", "bill", "policy", "usage")
+    front, others = (it for it in rows if it[0] in ("run", "plant", "pair")), ("run", "plant", "pair", "bill", "policy", "usage", "vendor", "day")
     behind = (it for it in rows if it[0] not in others)
     rows = [*front, *bills, *behind, *sorted(policies, key=lambda it: pairs.index(it[1:3])), *usages]
     return "".join(",".join(it) + "\n" for it in rows).encode()

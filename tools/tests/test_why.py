@@ -165,6 +165,19 @@ def test_why_takes_a_day_for_its_period(room):
         assert room.run(f"{why} -- EAST BIKE {word} < table.csv", status=2).startswith("bin/why: argument PERIOD: ")
 
 
+def test_why_takes_a_day_by_day_rows(room):
+    """By hand. With a closed week before period 5 that is in period 4, and the plan ends a week later."""
+    reports_from_files(room, three_plants() + "day,5,2026-02-16,,,,,\n", "orders", "pegs")
+    why = "MRP=words/files bin/why EAST BIKE"
+    wanted = room.run(f"{why} 4 < table.csv")
+    assert wanted.startswith("EAST BIKE: 12 released in period 4, due in period 5 (2026-02-16)\n")
+    for day in ("2026-02-02", "2026-02-09", "2026-02-15"):
+        assert room.run(f"{why} {day} < table.csv") == wanted
+    assert "is released in period 5, which holds 2026-02-22;" in room.run(f"{why} 2026-02-22 < table.csv", status=1)
+    said = "bin/why: 2026-02-23 is not in the plan, which goes from 2026-01-05 to 2026-02-22\n"
+    assert room.run(f"{why} 2026-02-23 < table.csv", status=1) == said
+
+
 def test_why_names_the_nearest(room):
     """Plants that keep the item, else items of the plant, else pairs; by the names of the sheets where given."""
     reports_from_files(room, three_plants(), "orders", "pegs")
