@@ -96,14 +96,14 @@ def overlaps(uses):
         before = max(before, it, key=lambda it: it.end)
 
 
-def steps(uses, first, days, periods):
+def steps(uses, calendar):
     """Returns the pieces for one parent by the period from which on they hold, 0 where no row does, and the rows that hold in none; without a
     row that does, no pieces.
     """
-    found, outside = {}, []
+    found, outside, periods = {}, [], calendar.count
     for it in sorted(uses, key=lambda it: it[:2]):
         # (a day within a period counts from the next one on)
-        begin, end = (min(max(-(-(day - first.toordinal()) // days), 0), periods) for day in it[:2])
+        begin, end = map(calendar.from_day, it[:2])
         if begin < end:
             found[begin], found[end] = it.each, 0
         else:

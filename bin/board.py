@@ -3,6 +3,7 @@ import html
 from datetime import timedelta
 
 import lacks
+import named
 import reports
 import mrp
 
@@ -82,7 +83,9 @@ class Board:
                 self.delays.setdefault(pair, []).extend(rows)
         kinds = mrp.Late, mrp.Order, mrp.Hit
         self.late, self.released, self.hit = (grouped(outline.rows[it], "plant", "item") for it in kinds)
-        self.messages = outline.messages
+        self.messages, self.items = outline.messages, named.Items(outline.names)
+        # (a pair that is bought has the schedule of its vendor)
+        self.suppliers = {(customer, item): supplier for supplier, customer, item in outline.calls}
         self.hits = grouped(outline.rows[mrp.Hit], "by_plant", "by_item")
 
     # What parts are made of.
@@ -169,10 +172,19 @@ class Board:
         ends = ["", "", "", " hit", f" to release{of_these}", " to be moved"]
         return ", ".join(reports.counted(*it) + end for it, end in zip(counts, ends) if it[0] or not end)
 
+    def vendor(self, order):
+        """Returns who delivers an order that is bought: whose schedule has it, or else whom items.csv names; or nothing."""
+        pair = order.plant, order.item
+        if order.supply != "buy":
+            return ""
+        return self.names.plant(self.suppliers[pair]) if pair in self.suppliers else self.items.noted(pair)[0]
+
     def releases(self):
-        """Returns the orders to release now, a list for each plant, the late ones first."""
-        lists = []
-        for (plant,), orders in grouped(self.outline.rows[mrp.Order], "plant").items():
+        """Returns the orders to release now, the late ones first: a list for each plant, and behind them one for each vendor."""
+        lists, vendors = [], {}
+        for it in self.outline.rows[mrp.Order]:
+            vendors.setdefault(self.vendor(it), []).append(it)
+        for (plant,), orders in grouped(vendors.pop("", []), "plant").items():
             orders.sort(key=lambda it: -it.late)
             rows = [self.release(plant, it) for it in grouped(orders, "item").values()]
             heads = ["Item", "Quantity", "Late", "Due", "Supply"]
@@ -181,6 +193,11 @@ class Board:
                 heads.insert(4, "Lacks")
                 rows = [[*row[:4], it, *row[4:]] for row, it in zip(rows, lacking)]
             lists.append(f'<div><h3>{self.plant(plant)}</h3>{sortable(heads, rows, " stack")}</div>')
+        for vendor in sorted(vendors, key=str.casefold):
+            bought = grouped(sorted(vendors[vendor], key=lambda it: -it.late), "plant", "item")
+            rows = [[*self.release(plant, it)[:4], self.plant(plant)] for (plant, _), it in bought.items()]
+            heads = ["Item", "Quantity", "Late", "Due", "Plant"]
+            lists.append(f'<div><h3>To buy from {html.escape(vendor)}</h3>{sortable(heads, rows, " stack")}</div>')
         when = {"week": "this week", "day": "today"}.get(self.unit, "now")
         return self.section("release", f"To release {when}", f'<div class="lists">{"".join(lists)}</div>' if lists else "", "Nothing.")
 

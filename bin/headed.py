@@ -36,6 +36,8 @@ LANE = {
 CUSTOMER = "customername soldto shipto client kunde kunden kundenname abnehmer cliente"
 FIGURE = "cum cumulativequantity cumquantity fortschrittszahl cumul acumulado"
 CUM = "eingangsfortschrittszahl fortschrittszahlempfangen empfangenefortschrittszahl"
+RECEIVED = f"cumulativereceived received figure empfangen {CUM} recu cumulrecu recibido acumuladorecibido"
+RESTART = "startagain restart restarts reset nullstellung neustart beginntneu remiseazero recommence reinicio puestaacero"
 # The days on which an order starts and on which it is done.
 START = "startdate starts orderstart orderstartdate basicstart basicstartdate release releasedate begin begindate beginn startdatum starttermin"
 START += " eckstarttermin freigabe freigabetermin debut datededebut lancement datedelancement inicio fechainicio fechadeinicio"
@@ -44,21 +46,24 @@ FINISH += " faellig echeance datedecheance fin datedefin fechafin fechadefin fec
 WANTED = {"Plant": PLANT, "Item": ITEM, "Due": NEEDED, "Quantity": f"orderquantity openquantity bedarfsmenge bestellmenge offenemenge {PIECES}"}
 # When an open order really comes, where that isn't when it is due.
 COMES = "comeson kommt kommtam vient vientle llega llegael"
-# How lead times are headed in front of their unit, and the days of each unit.
+# How lead times are headed in front of their unit, and the days of each unit, or what stands for days on which somebody works.
 LEAD = "lead leadtime transit transittime vorlauf vorlaufzeit wiederbeschaffungszeit lieferzeit planlieferzeit durchlaufzeit"
 LEAD += " delai delaidelivraison delaidapprovisionnement plazo plazodeentrega tiempodeentrega"
 UNITS = {"period periods periode perioden periodes periodo periodos": 0, "week weeks woche wochen semaine semaines semana semanas": 7}
 UNITS |= {"day days tag tage tagen jour jours dia dias": 1}
+WORKING = -1
+UNITS |= {"workingday workingdays workday workdays businessday businessdays at arbeitstag arbeitstage arbeitstagen": WORKING}
+UNITS |= {"jourouvre joursouvres diahabil diashabiles dialaborable diaslaborables": WORKING}
 
 
 def units(fronts):
-    """Returns how a column is headed in front of its unit and with it, each with the days of the unit, or 0 for periods."""
+    """Returns how a column is headed in front of its unit and with it, each with the days of the unit, 0 for periods, or WORKING."""
     words = ((unit, days) for texts, days in UNITS.items() for unit in texts.split())
     return {front + link + unit: days for (unit, days), front, link in itertools.product(words, fronts.split(), ("", "in", "en"))}
 
 
-# The columns with a time, and how they are headed with each unit: the days of that unit, or 0 for periods. What a policy says
-# of periods is headed so too.
+# The columns with a time, and how they are headed with each unit: the days of that unit, 0 for periods, or WORKING. What a policy
+# says of periods is headed so too.
 FENCE = "fence timefence planningfence planningtimefence fixierungshorizont planungszaun horizonferme horizonfige horizontefijo"
 FROZEN = "frozenreleases releasesfrozen frozenzone frozenhorizon freigabenfixiert fixierteauftragsstarts lancementsgeles lanzamientoscongelados"
 SOONER = "sooner countsooner receiptssooner receiptscountsooner reschedulinghorizon umterminierungshorizont horizondereordonnancement"
@@ -77,7 +82,7 @@ UNTIL += " valablejusquau valableau finvalidite findevalidite datefinvalidite va
 NAMING = {"Plant", "Item", "Parent", "Component", "From", "To", "Customer", "Vendor", "Advice"}
 # The columns that a sheet may lack. Their cells may be empty.
 OPTIONAL = {"Starts again", "Comes", "Since", "In transit", "Backward consumption", "Forward consumption", "Fence", "Frozen releases", "Sooner", "Cover", "Least", "Multiple"}
-OPTIONAL |= {"Scrap %", "Valid from", "Valid to"}
+OPTIONAL |= {"Scrap %", "Valid from", "Valid to", "Closed on", "Until"}
 # What stands for yes and for no in a cell, as `plain` has it.
 YES, NO = {*"x yes y ja j oui o si s true wahr vrai verdadero 1".split()}, {*"no n nein non false falsch faux falso 0 -".split(), ""}
 # How the periods are headed in which orders consume forecasts, in front of a word for periods, and without it.
@@ -86,6 +91,12 @@ BACKWARD += " consommationarriere consommationenarriere consumohaciaatras"
 FORWARD = "consumeforward forwardconsumption forwardsconsumption consumptionforward consumptionforwards vorwaertsverrechnung verrechnungvorwaerts"
 FORWARD += " consommationavant consommationenavant consumohaciaadelante"
 PERIODS = [it for it in UNITS if not UNITS[it]][0].split()
+# How the days of the week are headed on which nobody works.
+WEEKEND = "closedweekdays weekend weekends weeklyclosing daysoff nonworkingdays freian frei geschlossen geschlossenan wochenende arbeitsfrei arbeitsfreietage"
+WEEKEND += " ferme fermele weekend joursfermes cerrado cerradoel findesemana diascerrados"
+# What was on its way then, and the day since which a figure counts, where it started again.
+TRANSIT = "transit onitsway unterwegs entransit entransito"
+SINCE = "countssince since seit zaehltseit compteedepuis cuentadesde"
 # The columns of each sheet, and what else they are headed.
 SHEETS = {
     "firm.csv": {
@@ -94,6 +105,12 @@ SHEETS = {
         "Periods": "numberofperiods noofperiods perioden anzahlperioden periodes nombredeperiodes periodos numerodeperiodos",
         "Backward consumption": " ".join(it + unit for it in BACKWARD.split() for unit in PERIODS),
         "Forward consumption": " ".join(it + unit for it in FORWARD.split() for unit in PERIODS),
+        "Closed on": WEEKEND,
+    },
+    "closed.csv": {
+        "Date": "day from firstday closed closedfrom holiday datum tag erstertag von vom ab geschlossenvon geschlossenab feiertag jour de du premierjour "
+        "ferie fecha dia desde primerdia festivo",
+        "Until": "to till lastday closeduntil closedto through bis letztertag geschlossenbis au jusquau dernierjour hasta ultimodia",
     },
     "plants.csv": {"Plant": PLANT},
     "items.csv": {
@@ -129,7 +146,7 @@ SHEETS = {
         "Item": ITEM,
         "Date": NEEDED,
         "Cumulative": f"cumulativecalled calledcumulative cumcalled abruffortschrittszahl cumulappele {FIGURE}",
-        "Starts again": "startagain restart restarts reset nullstellung neustart beginntneu remiseazero recommence reinicio puestaacero",
+        "Starts again": RESTART,
     },
     "shipped.csv": {
         "Customer": CUSTOMER,
@@ -141,8 +158,17 @@ SHEETS = {
     "receipts.csv": {**WANTED, "Due": f"arrives {EXPECTED}", "Comes": COMES},
     "firm_orders.csv": {"Plant": PLANT, "Item": ITEM, "Start": START, "Due": FINISH, "Quantity": WANTED["Quantity"], "Comes": COMES},
     "shipments.csv": {**LANE, "Arrives": f"due {EXPECTED}", "Quantity": PIECES},
-    "cums.csv": {**LANE, "Cum received": f"cumulativereceived received figure empfangen {CUM} recu cumulrecu recibido acumuladorecibido"},
+    "cums.csv": {**LANE, "Cum received": RECEIVED},
     "resets.csv": {**LANE, "Date": "day resetdate datum tag jour fecha dia"},
+    "vendors.csv": {
+        "Vendor": "vendorname supplier suppliername lieferant kreditor fournisseur proveedor",
+        "Plant": PLANT,
+        "Item": ITEM,
+        "Figure received": f"{RECEIVED} cumreceived",
+        "In transit": TRANSIT,
+        "Starts again": RESTART,
+        "Since": SINCE,
+    },
 }
 # How the number of a despatch advice is headed, and the days on which it left and on which it was booked.
 ADVICE = "advice asn despatchadvice dispatchadvice deliverynote shippingnotice lieferschein lieferavis avis avisdexpedition bondelivraison"
@@ -152,9 +178,6 @@ DESPATCHED += " versendet warenausgang abgang expedie expedition dateexpedition 
 BOOKED = "booked bookedon bookingdate posted postingdate received receiveddate goodsreceipt goodsreceiptdate date day buchung buchungsdatum gebucht"
 BOOKED += " wareneingang eingangsdatum datum datecomptable reception datedereception fecha fechaentrada fechadeentrada fechadecontabilizacion"
 SUPPLIER = {**LANE, "From": f"vendor {LANE['From']}"}
-# What was on its way then, and the day since which a figure counts, where it started again.
-TRANSIT = "transit onitsway unterwegs entransit entransito"
-SINCE = "countssince since seit zaehltseit compteedepuis cuentadesde"
 # The sheets of bin/advices: what suppliers say that they shipped, what goods-in has booked, and the figures that are carried on.
 ADVICE_SHEETS = {
     "advices.csv": {
@@ -172,15 +195,7 @@ ADVICE_SHEETS = {
         "Date": BOOKED,
     },
     "cums.csv": {**SHEETS["cums.csv"], "In transit": TRANSIT, "Since": SINCE},
-    "vendors.csv": {
-        "Vendor": "vendorname supplier suppliername lieferant kreditor fournisseur proveedor",
-        "Plant": PLANT,
-        "Item": ITEM,
-        "Figure received": SHEETS["cums.csv"]["Cum received"] + " cumreceived",
-        "In transit": TRANSIT,
-        "Starts again": SHEETS["calls.csv"]["Starts again"],
-        "Since": SINCE,
-    },
+    "vendors.csv": SHEETS["vendors.csv"],
 }
 DESCRIBED = "description itemdescription partdescription materialdescription itemname partname name text bezeichnung beschreibung benennung".split()
 DESCRIBED += "artikelbezeichnung materialkurztext designation libelle descripcion denominacion".split()
@@ -441,6 +456,10 @@ class Sheet:
 
     def heading(self, column):
         return self.heads[self.places[column]]
+
+    def place(self, column, others):
+        """Returns the place of a column that isn't among those of the sheet, or nothing where there is none."""
+        return next((place for place, it in enumerate(self.heads) if key(it) in keys(column, others)), None)
 
     def open(self, found):
         """Finds the columns, with the separator by which most are found."""
