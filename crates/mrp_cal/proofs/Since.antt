@@ -1,5 +1,5 @@
 -- The days on which periods begin, where first days are given in rising order.
-use Rattle.std.proofs.Common.{◌≡◌, ℕ, zero, suc, ◌+◌, ◌-◌, ◌*◌, ◌<◌, ◌≤◌, nat_lt, List, [], ◌∷◌, ◌++◌, length, drop, get_or, drop-cons, ⊎_elim, refl, ap, ◌∙◌, arith}
+use Rattle.std.proofs.Common.{◌≡◌, ◌≢◌, ℕ, zero, suc, ◌+◌, ◌-◌, ◌*◌, ◌<◌, ◌≤◌, nat_lt, List, [], ◌∷◌, ◌++◌, length, drop, get_or, drop-cons, ⊎_elim, refl, sym, ap, ◌∙◌, arith}
 use Rattle.std.proofs.lemmas.Bool.{cases_lt, cond-true, cond-false, lt-ltb, le-ltb}
 use Rattle.std.proofs.Math.Nat.{mul-le-mul_right}
 use Rattle.mrp_cal.specs.declared.begun.Begun.{Begun}
@@ -151,3 +151,68 @@ since-next days since day bs i t d lt from =
 
 pub since-end : (days since day : ℕ) (bs : List Begun) (i t : ℕ) → length bs ≤ i → day_since days since day (drop i bs) t ≡ day + (t - since) * days
 since-end days since day bs i t past = ap (λ xs. day_since days since day xs t) (drop_all i bs past)
+
+-- the period that the days are counted from begins on their first day
+at_once : (day days since : ℕ) → day + (since - since) * days ≡ day
+at_once day days since =
+    let none : since - since ≡ 0 = omega arith in
+    ap (λ n. day + n * days) none ∙ omega arith
+
+pub day_since-start : (days periods since day : ℕ) (bs : List Begun) → AreBegun days periods since day bs → day_since days since day bs since ≡ day
+day_since-start days periods since day [] h = at_once day days since
+day_since-start days periods since day (b ∷ later) h = day_since-before days since day b later since h.1 ∙ at_once day days since
+
+-- first days are given of later periods alone
+given-later : (days periods since day : ℕ) (bs : List Begun) (k : ℕ) (d : Begun) → k < length bs → AreBegun days periods since day bs
+    → since < (get_or bs k d).period
+given-later days periods since day [] k d lt h = absurd (omega (arith, lt))
+given-later days periods since day (b ∷ later) zero d lt h = h.1
+given-later days periods since day (b ∷ later) (suc k) d lt h = omega (arith, h.1, given-later days periods b.period b.day later k d (omega (arith, lt)) h.4)
+
+-- each period whose first day is given begins on it
+pub day_since-given : (days periods since day : ℕ) (bs : List Begun) (k : ℕ) (d : Begun) → k < length bs → AreBegun days periods since day bs
+    → day_since days since day bs (get_or bs k d).period ≡ (get_or bs k d).day
+day_since-given days periods since day [] k d lt h = absurd (omega (arith, lt))
+day_since-given days periods since day (b ∷ later) zero d lt h =
+    day_since-from days since day b later b.period (omega arith) ∙ day_since-start days periods b.period b.day later h.4
+day_since-given days periods since day (b ∷ later) (suc k) d lt h =
+    let less : k < length later = omega (arith, lt) in
+    let after = given-later days periods b.period b.day later k d less h.4 in
+    day_since-from days since day b later (get_or later k d).period (omega (arith, after)) ∙ day_since-given days periods b.period b.day later k d less h.4
+
+not_next : (p t : ℕ) → p ≤ t + 1 → p ≢ t + 1 → p ≤ t
+not_next p t by other = ⊎_elim (λ (less : p < t + 1). omega (arith, less)) (λ (more : t + 1 ≤ p). absurd (other (omega (arith, by, more)))) (cases_lt p (t + 1))
+
+-- and each other one so many days after the one before it
+pub day_since-follows : (days periods since day : ℕ) (bs : List Begun) (t : ℕ) → AreBegun days periods since day bs → since ≤ t
+    → ((k : ℕ) (d : Begun) → k < length bs → (get_or bs k d).period ≢ t + 1)
+    → day_since days since day bs (t + 1) ≡ day_since days since day bs t + days
+day_since-follows days periods since day [] t h from others =
+    let one : t + 1 - since ≡ (t - since) + 1 = omega (arith, from) in
+    ap (λ n. day + n * days) one ∙ omega arith
+day_since-follows days periods since day (b ∷ later) t h from others =
+    ⊎_elim
+    (λ (before : t + 1 < b.period).
+    let one : t + 1 - since ≡ (t - since) + 1 = omega (arith, from) in
+    let less : t < b.period = omega (arith, before) in
+    day_since-before days since day b later (t + 1) before ∙ ap (λ n. day + n * days) one
+    ∙ omega (arith, day_since-before days since day b later t less))
+    (λ (after : b.period ≤ t + 1).
+    let past : b.period ≤ t = not_next b.period t after (others 0 b (omega arith)) in
+    day_since-from days since day b later (t + 1) after
+    ∙ day_since-follows days periods b.period b.day later t h.4 past (λ k d lt. others (suc k) d (omega (arith, lt)))
+    ∙ ap (λ n. n + days) (sym (day_since-from days since day b later t past)))
+    (cases_lt (t + 1) b.period)
+
+-- one more period whose first day is given leaves those before it as they were
+pub day_since-earlier : (days since day : ℕ) (bs : List Begun) (b : Begun) (t : ℕ) → t < b.period
+    → day_since days since day (bs ++ b ∷ []) t ≡ day_since days since day bs t
+day_since-earlier days since day [] b t lt = day_since-before days since day b [] t lt
+day_since-earlier days since day (e ∷ later) b t lt =
+    ⊎_elim
+    (λ (before : t < e.period).
+    day_since-before days since day e (later ++ b ∷ []) t before ∙ sym (day_since-before days since day e later t before))
+    (λ (after : e.period ≤ t).
+    day_since-from days since day e (later ++ b ∷ []) t after ∙ day_since-earlier days e.period e.day later b t lt
+    ∙ sym (day_since-from days since day e later t after))
+    (cases_lt t e.period)

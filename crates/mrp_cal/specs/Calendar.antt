@@ -30,7 +30,7 @@ last_day c = first_day c c.periods - 1
 unfoldable pub last_date : ℕ
 last_date = 84005
 
--- a period has 1 to 31 days
+-- the days of a period where none is given: 1 to 31
 abbrev pub IsPeriodLength : ℕ → Type 0
 IsPeriodLength days = (1 ≤ days) × (days ≤ 31)
 

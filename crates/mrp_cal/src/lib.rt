@@ -17,6 +17,7 @@ pub use begun::Begun;
 pub use calendar::Calendar;
 pub use fault::CalFault;
 pub use laws::{
-    a_day_has_one_text, a_text_spells_one_day, dates_rise, days_follow, limits_are_numbers,
+    a_day_has_one_text, a_text_spells_one_day, dates_rise, days_follow, earlier_periods_stay,
+    given_days_are_spelled, given_days_begin_periods, limits_are_numbers,
     the_text_of_a_day_spells_it,
 };

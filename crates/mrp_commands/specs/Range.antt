@@ -1,7 +1,7 @@
 -- What a choice may ask.
 use Rattle.std.specs.Prelude.{◌≤◌, IfSome}
 use Rattle.mrp_commands.specs.declared.choice.Choice.{Choice}
-use Rattle.mrp_commands.specs.declared.choice.Choice.TheVariants.{Plan, Check, Peg, Cums}
+use Rattle.mrp_commands.specs.declared.choice.Choice.TheVariants.{Plan, Check, Reach, Peg, Cums}
 use Rattle.mrp_commands.specs.declared.choice.Choice.TheVariants.{Orders, Schedule, Pegs, Advice, Shortages}
 use Rattle.mrp_commands.specs.declared.choice.TheConstants.{MOST_WORKERS, MOST_CAPACITY, LAST_PERIOD}
 
@@ -10,10 +10,11 @@ abbrev pub IsInRange : Choice → Type 0
 IsInRange (Plan workers capacity single) = (1 ≤ workers) × (workers ≤ MOST_WORKERS) × (1 ≤ capacity)
     × (capacity ≤ MOST_CAPACITY)
 IsInRange (Check heading) = Unit {0}
+IsInRange (Reach heading) = Unit {0}
 IsInRange (Peg plant item period heading) = period ≤ LAST_PERIOD
 IsInRange (Cums heading) = Unit {0}
 IsInRange (Orders until heading) = IfSome until (λ period. period ≤ LAST_PERIOD)
 IsInRange (Schedule from to heading) = Unit {0}
 IsInRange (Pegs heading) = Unit {0}
-IsInRange (Advice until heading) = IfSome until (λ period. period ≤ LAST_PERIOD)
+IsInRange (Advice until reach heading) = IfSome until (λ period. period ≤ LAST_PERIOD)
 IsInRange (Shortages heading) = Unit {0}

@@ -35,6 +35,11 @@ pub enum Choice<'a> {
         /// Whether the names of the columns stand above them.
         heading: Heading,
     },
+    /// Write until which period each pair's requirements and releases are whole, whatever is wanted behind the horizon.
+    Reach {
+        /// Whether the names of the columns stand above the rows.
+        heading: Heading,
+    },
     /// Write what a gross requirement consists of.
     Peg {
         /// The name of the plant.
@@ -78,6 +83,8 @@ pub enum Choice<'a> {
         /// The last period in which an open order comes, 0 to [`LAST_PERIOD`]: later ones are left out. Without
         /// it none is.
         until: Option<u64>,
+        /// Messages that the horizon makes are told as beyond it.
+        reach: bool,
         /// Whether the names of the columns stand above them.
         heading: Heading,
     },

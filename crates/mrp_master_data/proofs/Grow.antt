@@ -11,7 +11,7 @@ use Rattle.mrp_master_data.specs.Rows.{Vendor}
 use Rattle.mrp_master_data.specs.Table.{Table, IsName, IsRead, horizon, IsPairRow, IsSourceRow}
 use Rattle.mrp_master_data.specs.Table.{IsBillRow, IsDemandRow, IsReceiptRow, IsShipRow, IsCumRow, IsResetRow, IsFirmRow, IsPolicyRow, IsUsageRow, IsVendorRow}
 use Rattle.mrp_master_data.specs.Growing.{add_item, with_plant, with_item, with_pair, with_source, with_bill, with_demand, with_receipt, with_ship, with_cum}
-use Rattle.mrp_master_data.specs.Growing.{with_calendar, with_firm, with_policy, with_reset, with_usage, with_vendor}
+use Rattle.mrp_master_data.specs.Growing.{with_calendar, with_end, with_firm, with_policy, with_reset, with_usage, with_vendor}
 use Rattle.mrp_master_data.proofs.Naming.{item_added}
 use Rattle.mrp_master_data.specs.declared.rows.PairRow.{PairRow}
 use Rattle.mrp_master_data.specs.declared.rows.SourceRow.{SourceRow}
@@ -328,3 +328,10 @@ pub read-pushed_item : {E : Type 0} (N : Table) (x : List ℕ) (items : List (Li
 read-pushed_item N x items (Ok _) read named room fresh more same = subst IsRead (sym (item_added N x items fresh more)) (read-with_item N x read named room)
 read-pushed_item N x items (Err _) read named room fresh more same =
     subst (λ (is : List (List ℕ)). let M : Table = record N { items = is } in IsRead M) (sym same) read
+
+-- with its `end` row
+pub read-with_end : (N : Table) → IsRead N → IsRead (with_end N)
+read-with_end N read =
+    let g = same_names N (with_end N) refl refl refl refl in
+    read_grows N (with_end N) read g same_rows same_rows same_rows same_rows same_rows same_rows same_rows same_rows same_rows same_rows
+    same_rows same_rows same_rows same_rows

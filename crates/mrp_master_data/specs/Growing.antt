@@ -1,5 +1,5 @@
 -- The table with one row more.
-use Rattle.std.specs.Prelude.{ℕ, ◌∷◌, ◌++◌, [], List, length, if◌then◌else◌, Bool, not, nat_lt}
+use Rattle.std.specs.Prelude.{ℕ, ◌∷◌, ◌++◌, [], List, length, if◌then◌else◌, Bool, true, false, not, nat_lt}
 use Rattle.std.specs.List.{list_any}
 use Rattle.std.specs.Str.{bytes_eq}
 use Rattle.mrp_cal.specs.Calendar.{CalendarTerms}
@@ -21,24 +21,26 @@ use Rattle.mrp_master_data.specs.declared.rows.UsageRow.{UsageRow}
 abbrev pub table_of : CalendarTerms → List (List ℕ) → List (List ℕ) → List PairRow → List SourceRow → List BillRow
     → List DemandRow
     → List ReceiptRow → List ShipRow → List CumRow → List ResetRow → List FirmRow → List PolicyRow → List UsageRow
-    → List Vendor → Table
-table_of calendar plants items pairs sources bills demands receipts ships cums resets firms policies usages vendors = record {
-  calendar = calendar;
-  plants = plants;
-  items = items;
-  pairs = pairs;
-  sources = sources;
-  bills = bills;
-  demands = demands;
-  receipts = receipts;
-  ships = ships;
-  cums = cums;
-  resets = resets;
-  firms = firms;
-  policies = policies;
-  usages = usages;
-  vendors = vendors;
-}
+    → List Vendor → Bool → Table
+table_of calendar plants items pairs sources bills demands receipts ships cums resets firms policies usages vendors ended
+    = record {
+      calendar = calendar;
+      plants = plants;
+      items = items;
+      pairs = pairs;
+      sources = sources;
+      bills = bills;
+      demands = demands;
+      receipts = receipts;
+      ships = ships;
+      cums = cums;
+      resets = resets;
+      firms = firms;
+      policies = policies;
+      usages = usages;
+      vendors = vendors;
+      ended = ended;
+    }
 
 -- whether the pair behind a source has no row
 abbrev pub lacks_pair : Table → SourceRow → Bool
@@ -91,10 +93,14 @@ with_usage N u = record N { usages = N.usages ++ u ∷ [] }
 abbrev pub with_vendor : Table → Vendor → Table
 with_vendor N v = record N { vendors = N.vendors ++ v ∷ [] }
 
+-- the table with its `end` row
+abbrev pub with_end : Table → Table
+with_end N = record N { ended = true }
+
 -- the table with another calendar
 abbrev pub with_calendar : Table → CalendarTerms → Table
 with_calendar N c = record N { calendar = c }
 
 -- the table of a calendar without any row
 abbrev pub empty_table : CalendarTerms → Table
-empty_table c = table_of c [] [] [] [] [] [] [] [] [] [] [] [] [] []
+empty_table c = table_of c [] [] [] [] [] [] [] [] [] [] [] [] [] [] false

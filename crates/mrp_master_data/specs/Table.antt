@@ -47,6 +47,8 @@ pub record Table : Type 0 where
   pub policies : List PolicyRow
   pub usages : List UsageRow
   pub vendors : List Vendor
+  -- whether an `end` row ends the table
+  pub ended : Bool
 
 -- the number of periods
 abbrev pub horizon : Table → ℕ

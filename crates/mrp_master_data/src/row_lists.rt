@@ -37,6 +37,7 @@ pub struct RowLists {
     policies: Vec<PolicyRow>,
     pub(crate) usages: Vec<UsageRow>,
     vendors: Vec<VendorRow>,
+    ended: bool,
 }
 
 impl Model for RowLists {
@@ -53,13 +54,13 @@ impl Model for RowLists {
     ghost view = { λ r. table_of r.calendar (map string_bytes r.plants.items)
         (map string_bytes r.items.items) r.pairs.items r.sources.items
         r.bills.items r.demands.items r.receipts.items r.ships.items r.cums.items r.resets.items
-        r.firms.items r.policies.items r.usages.items (map vendor_of r.vendors.items) };
+        r.firms.items r.policies.items r.usages.items (map vendor_of r.vendors.items) r.ended };
 
     // the rows are in range, and each pair is found
     ghost invariant = { λ r. IsRead (table_of r.calendar (map string_bytes r.plants.items)
         (map string_bytes r.items.items) r.pairs.items r.sources.items
         r.bills.items r.demands.items r.receipts.items r.ships.items r.cums.items r.resets.items
-        r.firms.items r.policies.items r.usages.items (map vendor_of r.vendors.items))
+        r.firms.items r.policies.items r.usages.items (map vendor_of r.vendors.items) r.ended)
         × FindsPairs (get is_same_place r.pair_places) r.pairs.items };
 }
 
@@ -75,7 +76,7 @@ impl RowLists {
     ghost use Rattle.mrp_master_data.specs.Growing.{lacks_pair, with_plant, with_item};
     ghost use Rattle.mrp_master_data.specs.Growing.{with_pair, with_source, with_bill};
     ghost use Rattle.mrp_master_data.specs.Growing.{with_demand, with_receipt, with_ship, with_cum, with_reset};
-    ghost use Rattle.mrp_master_data.specs.Growing.{with_calendar, with_firm, with_policy, with_usage, with_vendor};
+    ghost use Rattle.mrp_master_data.specs.Growing.{with_calendar, with_end, with_firm, with_policy, with_usage, with_vendor};
     ghost use Rattle.mrp_cal.specs.Begins.{begins, latest_begun};
     ghost use Rattle.mrp_master_data.specs.Rows.{vendor_of};
     ghost use Rattle.mrp_master_data.specs.Table.{item_at, IsName, IsRead, IsPairRow, IsSourceRow, IsBillRow};
@@ -105,6 +106,7 @@ impl RowLists {
             policies: Vec::new(alloc),
             usages: Vec::new(alloc),
             vendors: Vec::new(alloc),
+            ended: false,
         }
     }
 
@@ -347,6 +349,21 @@ impl RowLists {
         ensures unchanged { OnErr result (self.new ≡ self.old) }
     {
         self.calendar.begin(period, date)
+    }
+
+    /// Says that the table ends here.
+    pub fn end(&mut self)
+        ensures rows { IsRead self.new }
+        ensures table { self.new ≡ with_end self.old }
+    {
+        self.ended = true;
+    }
+
+    /// Whether it was said that the table ends here.
+    pub fn is_ended(&self) -> bool
+        ensures value { result ≡ self.now.ended }
+    {
+        self.ended
     }
 
     /// The pair of a plant and an item.

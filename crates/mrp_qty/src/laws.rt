@@ -29,8 +29,8 @@ pub fn limits_are_numbers()
 {}
 
 /// The most turns of reading: the run, each other kind of row up to its limit (first days of all periods but the first
-/// one), and the end.
+/// one), the `end` row, and the end.
 pub fn turns_are_rows()
     ensures { MAX_TURNS ≡ 1 + MOST_PLANTS + 3 * MOST_PAIRS + MOST_BILLS + MOST_USAGES + 5 * MOST_OF_A_KIND + MOST_SOURCES
-        + (LONGEST - 1) + 1 }
+        + (LONGEST - 1) + 1 + 1 }
 {}

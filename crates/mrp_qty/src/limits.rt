@@ -31,8 +31,8 @@ pub const MOST_PER: u64 = 1_000_000;
 /// All shares of one pair together, in thousandths.
 pub const MOST_SHARE: u64 = 1000;
 
-/// The most turns of reading a table: the rows of each kind up to their limit, and the end.
-pub const MAX_TURNS: u64 = 5_540_169;
+/// The most turns of reading a table: the rows of each kind up to their limit, its `end` row, and the end.
+pub const MAX_TURNS: u64 = 5_540_170;
 
 /// The most records of one text.
 pub const MOST_RECORDS: u64 = 4_000_000;

@@ -2,7 +2,9 @@ pub mod Taken
 pub mod Adding
 pub mod AmountFacts
 pub mod Arrivals
+pub mod Asked
 pub mod DayFacts
+pub mod EndFacts
 pub mod Finding
 pub mod Found
 pub mod Keys

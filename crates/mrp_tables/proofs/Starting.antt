@@ -1,5 +1,7 @@
 -- What the first row of a table makes, and each row after it.
-use Rattle.std.proofs.Common.{◌≡◌, ℕ, Bool, true, false, not, List, [], ◌∷◌, Result, Ok, Err, refl, sym, ap, ◌∙◌, subst}
+use Rattle.std.proofs.Common.{◌≡◌, ℕ, ◌<◌, ◌&&◌, ltb, leb, Bool, true, false, not, List, [], ◌∷◌, Result, Ok, Err, refl, sym, ap, ◌∙◌, subst, arith}
+use Rattle.std.proofs.lemmas.Bool.{and_parts}
+use Rattle.std.proofs.lemmas.Bool.Decides.{nat_tests}
 use Rattle.std.specs.List.{list_all}
 use Rattle.std.specs.Str.{is_utf8}
 use Rattle.std.proofs.lemmas.Str.{is_utf8-from_IsUtf8}
@@ -14,7 +16,7 @@ use Rattle.mrp_cal.specs.Calendar.{CalendarTerms}
 use Rattle.mrp_cal.specs.declared.begun.Begun.{Begun}
 use Rattle.mrp_cal.specs.declared.fault.CalFault.{CalFault}
 use Rattle.mrp_master_data.specs.Table.{Table}
-use Rattle.mrp_validation.specs.Grammar.{◌>>=◌, may_follow, row_kind, run_terms, RunTerms, TellsFault}
+use Rattle.mrp_validation.specs.Grammar.{◌>>=◌, kind_place, may_follow, row_kind, run_terms, RunTerms, TellsFault}
 use Rattle.mrp_validation.specs.Reading.{first_terms, IsCalendarOf, is_run, kind_of_row, row_after, row_of_kind, started, Starts, StartsWith, UnlessMemory}
 
 -- fields that are text pass the test for it
@@ -96,6 +98,7 @@ same_run kind.Policy = refl
 same_run kind.Usage = refl
 same_run kind.Vendor = refl
 same_run kind.Day = refl
+same_run kind.End = refl
 
 pub other_kind : (k : Kind) → true ≡ not (sameb kind_type k kind.Run) → is_run k ≡ false
 other_kind k h = by (is_run k) (h ∙ ap not (same_run k))
@@ -112,6 +115,12 @@ run_kind k h = by (is_run k) (h ∙ ap not (same_run k))
     by false h = absurd (cc)
 
 -- ---- the rows after the first
+
+-- no row follows the end
+pub follows_open : (next last : Kind) → may_follow next last ≡ true → kind_place last < kind_place kind.End
+follows_open next last follows =
+    let parts = and_parts (ltb 0 (kind_place next) && leb (kind_place last) (kind_place next)) (ltb (kind_place last) (kind_place kind.End)) follows in
+    grind (arith, nat_tests)
 
 tells_fault : {A B : Type 0} (e : TableFaultKind) (part : Result A TableFaultKind) (read : Result B TableFaultKind) → TellsFault part e
     → (part ≡ Err e → read ≡ Err e) → TellsFault read e

@@ -79,13 +79,13 @@ pub(crate) struct Draft {
 }
 
 impl Draft {
-    ghost use Rattle.std.specs.Prelude.{◌≡◌, ◌+◌, ◌<◌, OnOk, IfOk};
+    ghost use Rattle.std.specs.Prelude.{◌≡◌, ◌+◌, ◌<◌, false, OnOk, IfOk};
     ghost use Rattle.csv.specs.Records.{AllText, fields_of};
     ghost use Rattle.mrp_qty.specs.declared.limits.TheConstants.{MAX_TURNS};
     ghost use Rattle.mrp_validation.specs.Grammar.{TellsMade};
     ghost use Rattle.mrp_tables.specs.Lists.{IsDraft, AddsRow};
     ghost use Rattle.mrp_validation.specs.Reading.{row_of_kind};
-    ghost use Rattle.mrp_tables.specs.Drafts.{TellsAdded, TellsFirst};
+    ghost use Rattle.mrp_tables.specs.Drafts.{IsDraftKept, TellsAdded, TellsFirst};
 
     /// What a first row makes.
     pub(crate) fn first(alloc: Global, row: &StringRecord) -> Result<Draft, TableFaultKind>
@@ -117,6 +117,7 @@ impl Draft {
     /// Adds one more row.
     pub(crate) fn add(&mut self, alloc: Global, row: &StringRecord) -> Result<(), TableFaultKind>
         requires draft { IsDraft self.old }
+        requires kept { IsDraftKept self.old }
         requires room { self.old.rows < MAX_TURNS }
         requires text { AllText (fields_of row.now) }
         ensures exact { TellsAdded self.old self.new result (fields_of row.now) }
@@ -142,6 +143,7 @@ impl Draft {
         row: &StringRecord,
     ) -> Result<(), TableFaultKind>
         requires draft { IsDraft self.old }
+        requires endless { self.old.lists.ended ≡ false }
         ensures exact { TellsMade result (row_of_kind kind self.old.lists (fields_of row.now)) self.new.lists }
         ensures adds { OnOk result (AddsRow self.old self.new) }
     {
@@ -160,6 +162,7 @@ impl Draft {
             Kind::Usage => self.add_usage(row),
             Kind::Vendor => self.add_vendor(alloc, row),
             Kind::Day => self.add_day(row),
+            Kind::End => self.add_end(row),
         }
     }
 }

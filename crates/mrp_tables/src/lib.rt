@@ -2,7 +2,7 @@
 //!
 //! A table is comma-separated text of eight fields a row: the run, plants, pairs, bills, demands,
 //! receipts, shipments between plants, cumulative figures, where those start anew, firm planned orders, policies of pairs,
-//! usages of components, vendors, and the dates of periods. What is accepted are the
+//! usages of components, vendors, the dates of periods, and the end. What is accepted are the
 //! [`Tables`](mrp_master_data::Tables) of its rows, by the grammar of `mrp_validation`: what each row says, which rows
 //! make which table, and which fault a text has first.
 //!
@@ -13,6 +13,7 @@
 mod amounts;
 mod days;
 mod draft;
+mod ends;
 mod firms;
 mod lanes;
 mod name_key;
@@ -26,7 +27,8 @@ mod steps;
 mod usages;
 mod vendors;
 
+pub use mrp_commands::Reading;
 pub use mrp_qty::MAX_TURNS;
 pub use mrp_validation::{TableFault, TableFaultKind};
-pub use reading::{read_tables, read_tables_uncounted};
+pub use reading::{read_tables, read_tables_as, read_tables_uncounted};
 pub use steps::Steps;

@@ -1,13 +1,13 @@
 //! A table read from a text of csv rows.
 
 ghost use Rattle.std.specs.Prelude.{◌≡◌, ◌+◌, ◌≤◌, ◌<◌, max, true, false, [], length, Ok, Err, MatchResult, IfOk};
-ghost use Rattle.std.specs.Prelude.{IfErr, OnOk, option_map};
+ghost use Rattle.std.specs.Prelude.{◌&&◌, not, IfErr, OnOk, option_map};
 ghost use Rattle.csv.specs.Reading.{has_failed, strip_bom};
 ghost use Rattle.csv.specs.Records.{AllText, fields_of};
 ghost use Rattle.mrp_tables.specs.Lists.{IsDraft};
-ghost use Rattle.mrp_validation.specs.Reading.{TellsRows, waiting};
+ghost use Rattle.mrp_validation.specs.Reading.{go_on, TellsRows, TellsRowsAs, uncut, waiting};
 ghost use Rattle.mrp_validation.specs.Written.{OfRecords};
-ghost use Rattle.mrp_tables.specs.Steps.{StepsTo, UnlessMissing};
+ghost use Rattle.mrp_tables.specs.Steps.{HasWaited, StepsTo, UnlessMissing};
 ghost use Rattle.mrp_master_data.specs.Turns.{row_count};
 ghost use Rattle.mrp_validation.specs.Left.{fault_of, GivesAll, MayCome, OfLeft, TellsNext, TellsRest, TellsTaken};
 ghost use Rattle.mrp_validation.specs.Left.{rows_left};
@@ -16,6 +16,7 @@ ghost use Rattle.mrp_tables.specs.Drafts.{IsDraftKept, TellsFirstAt, draft_state
 use crate::Steps;
 use crate::draft::Draft;
 use csv::{ErrorKind, Reader, ReaderBuilder, StringRecord};
+use mrp_commands::Reading;
 use mrp_master_data::Tables;
 use mrp_qty::MAX_TURNS;
 use mrp_validation::{TableFault, TableFaultKind};
@@ -46,47 +47,80 @@ pub fn read_tables<R: Read + Drop, L: Ledger>(
     ensures least { IfErr result (λ fault. steps.old + max 1 fault.row ≤ steps.new) }
     ensures turns { steps.new ≤ steps.old + MAX_TURNS }
 {
+    read_tables_as(alloc, Reading { whole: false }, reader, steps)
+}
+
+/// Reads a table as [`read_tables`] does, and as it is asked for: where it has to be whole, one that does not end with
+/// an `end` row is refused.
+///
+/// # Errors
+///
+/// Those of [`read_tables`], and last [`Cut`](TableFaultKind::Cut), which names the row behind the last.
+pub fn read_tables_as<R: Read + Drop, L: Ledger>(
+    alloc: Global,
+    reading: Reading,
+    reader: R,
+    steps: &mut Steps<L>,
+) -> Result<Tables, TableFault>
+    ensures table { OfRecords (option_map strip_bom (R.remaining reader)) (TellsRowsAs reading result) }
+    ensures whole { IfOk result (λ tables. reading.whole ≡ true → tables.ended ≡ true) }
+    ensures counted { IfOk result (λ tables. steps.new ≡ steps.old + row_count tables + 1) }
+    ensures named { IfErr result (λ fault. UnlessMissing fault.kind (steps.new ≡ steps.old + max 1 fault.row)) }
+    ensures ends { IfErr result (λ fault. OfRecords (option_map strip_bom (R.remaining reader))
+        (StepsTo steps.old steps.new fault.row)) }
+    ensures least { IfErr result (λ fault. steps.old + max 1 fault.row ≤ steps.new) }
+    ensures turns { steps.new ≤ steps.old + MAX_TURNS }
+{
     let mut rows = ReaderBuilder::new()
         .has_headers(false)
         .flexible(true)
         .from_reader(alloc, reader);
-    read_rows(alloc, &mut rows, steps)
+    read_rows(alloc, reading, &mut rows, steps)
 }
 
-/// Reads a table as [`read_tables`] does, and tells no count of its steps.
+/// Reads a table as [`read_tables_as`] does, and tells no count of its steps.
 ///
 /// # Errors
 ///
-/// Those of [`read_tables`].
-pub fn read_tables_uncounted<R: Read + Drop>(alloc: Global, reader: R) -> Result<Tables, TableFault>
-    ensures table { OfRecords (option_map strip_bom (R.remaining reader)) (TellsRows result) }
+/// Those of [`read_tables_as`].
+pub fn read_tables_uncounted<R: Read + Drop>(
+    alloc: Global,
+    reading: Reading,
+    reader: R,
+) -> Result<Tables, TableFault>
+    ensures table { OfRecords (option_map strip_bom (R.remaining reader)) (TellsRowsAs reading result) }
+    ensures whole { IfOk result (λ tables. reading.whole ≡ true → tables.ended ≡ true) }
 {
-    read_with_blank::<R, Brand>(alloc, reader, Blank::new(1))
+    read_with_blank::<R, Brand>(alloc, reading, reader, Blank::new(1))
 }
 
 /// Reads a table and counts in the ledger of `blank`.
 fn read_with_blank<R: Read + Drop, L: Ledger>(
     alloc: Global,
+    reading: Reading,
     reader: R,
     blank: Blank,
 ) -> Result<Tables, TableFault>
     requires name { blank.name ≡ L.name }
     requires parts { blank.parts ≡ L.parts }
     requires some { 0 < blank.parts }
-    ensures table { OfRecords (option_map strip_bom (R.remaining reader)) (TellsRows result) }
+    ensures table { OfRecords (option_map strip_bom (R.remaining reader)) (TellsRowsAs reading result) }
+    ensures whole { IfOk result (λ tables. reading.whole ≡ true → tables.ended ≡ true) }
 {
     let mut steps: Steps<L> = Steps::new(blank);
-    read_tables(alloc, reader, &mut steps)
+    read_tables_as(alloc, reading, reader, &mut steps)
 }
 
 /// Reads all rows.
 fn read_rows<R: Read, L: Ledger>(
     alloc: Global,
+    reading: Reading,
     rows: &mut Reader<R>,
     steps: &mut Steps<L>,
 ) -> Result<Tables, TableFault>
     requires gives { GivesAll rows.old }
-    ensures table { OfLeft (rows_left R.remaining rows.old) (TellsRows result) }
+    ensures table { OfLeft (rows_left R.remaining rows.old) (TellsRowsAs reading result) }
+    ensures whole { IfOk result (λ tables. reading.whole ≡ true → tables.ended ≡ true) }
     ensures failed { IfErr result (λ fault. fault.kind ≡ TableFaultKind.ReadFault → has_failed rows.new ≡ true) }
     ensures counted { IfOk result (λ tables. steps.new ≡ steps.old + row_count tables + 1) }
     ensures named { IfErr result (λ fault. UnlessMissing fault.kind (steps.new ≡ steps.old + max 1 fault.row)) }
@@ -105,7 +139,7 @@ fn read_rows<R: Read, L: Ledger>(
     }
     let mut draft = first_draft(alloc, &row)?;
     match read_rest(alloc, rows, &mut row, &mut draft, steps) {
-        Ok(()) => accept(draft),
+        Ok(()) => accept(reading, draft),
         Err(fault) => {
             mem::drop(draft);
             Err(fault)
@@ -113,14 +147,15 @@ fn read_rows<R: Read, L: Ledger>(
     }
 }
 
-/// The table of all rows read, where each pair that a pair is taken from has a row.
-fn accept(draft: Draft) -> Result<Tables, TableFault>
+/// The table of all rows read, where each pair that a pair is taken from has a row, and where it ends with an `end` row
+/// if it has to be whole.
+fn accept(reading: Reading, draft: Draft) -> Result<Tables, TableFault>
     requires draft { IsDraft draft }
     requires kept { IsDraftKept draft }
-    ensures exact { MatchResult result (λ tables. waiting draft.lists ≡ Ok tables) (λ e. waiting draft.lists ≡ Err e) }
+    ensures exact { result ≡ go_on (waiting draft.lists) (uncut reading) }
     ensures same { IfOk result (λ tables. tables ≡ draft.lists) }
-    ensures above { IfErr result (λ fault. fault.row ≤ row_count draft.lists) }
-    ensures missing { IfErr result (λ fault. fault.kind ≡ TableFaultKind.UnknownPair) }
+    ensures above { IfErr result (λ fault. fault.row ≤ row_count draft.lists + 1) }
+    ensures waited { IfErr result (λ fault. HasWaited draft.lists fault) }
 {
     if let Some(place) = draft.lists.first_lacking() {
         // The run and the plants stand before the pairs.
@@ -132,7 +167,22 @@ fn accept(draft: Draft) -> Result<Tables, TableFault>
             kind: TableFaultKind::UnknownPair,
         });
     }
+    if is_cut(reading, &draft) {
+        let row = draft.rows + 1;
+        mem::drop(draft);
+        return Err(TableFault {
+            row,
+            kind: TableFaultKind::Cut,
+        });
+    }
     Ok(Tables::of(draft.lists))
+}
+
+/// Whether a table that has to be whole has no `end` row.
+fn is_cut(reading: Reading, draft: &Draft) -> bool
+    ensures exact { result ≡ (reading.whole && not draft.now.lists.ended) }
+{
+    reading.whole && !draft.lists.is_ended()
 }
 
 /// What the first row makes.

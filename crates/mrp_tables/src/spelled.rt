@@ -61,6 +61,8 @@ fn kind_of(word: &str) -> Option<Kind>
         Some(Kind::Plant)
     } else if is_same_text(word, "run") {
         Some(Kind::Run)
+    } else if is_same_text(word, "end") {
+        Some(Kind::End)
     } else {
         None
     }

@@ -1,5 +1,5 @@
 -- Day rows that are written of a table are read as its own, one after the other.
-use Rattle.std.proofs.Common.{◌≡◌, ◌≤◌, ◌<◌, ◌^◌, ℕ, ◌+◌, ◌-◌, true, List, [], ◌∷◌, ◌++◌, codes, map, Some, Ok, refl, sym, subst, append-nil, arith}
+use Rattle.std.proofs.Common.{◌≡◌, ◌≤◌, ◌<◌, ◌^◌, ℕ, ◌+◌, ◌-◌, true, List, [], ◌∷◌, ◌++◌, codes, map, Some, Ok, false, refl, sym, arith}
 use Rattle.std.specs.List.{list_all}
 use Rattle.std.specs.Prelude.{decimal}
 use Rattle.std.specs.Str.{is_utf8}
@@ -19,8 +19,9 @@ use Rattle.mrp_validation.specs.declared.kind.Kind.{Kind}
 use Rattle.mrp_validation.specs.declared.kind.Kind.TheVariants as kind
 use Rattle.mrp_validation.specs.Grammar.{day_in_row, day_row, kind_place}
 use Rattle.mrp_validation.specs.Reading.{row_after, row_of_kind}
-use Rattle.mrp_validation.specs.Written.{day_fields}
-use Rattle.mrp_validation.proofs.BackRows.{Ends, ends_here, kind_read, may_stand, one_by_one, Row, row_read, undated}
+use Rattle.mrp_validation.specs.Written.{day_fields, last_row}
+use Rattle.mrp_validation.proofs.BackEnd.{end_ends}
+use Rattle.mrp_validation.proofs.BackRows.{Ends, kind_read, may_stand, one_by_one, row_read, undated}
 use Rattle.mrp_validation.proofs.BackTexts.{date_is_text, number_is_text, word_is_text}
 
 three_texts : (w a b : List ℕ) → is_utf8 w ≡ true → is_utf8 a ≡ true → is_utf8 b ≡ true → list_all is_utf8 (w ∷ a ∷ b ∷ [] ∷ [] ∷ [] ∷ [] ∷ [] ∷ []) ≡ true
@@ -38,9 +39,9 @@ day_is_text day by =
     date_is_text _ _ _ (spells_day day (omega (arith, last))).1.shape
 
 module _ (N : Table) (table : IsTable N) where
-  -- the table in which these periods have a first day of their own
+  -- the table in which these periods have a first day of their own, without its end row
   abbrev pub with_days : List Begun → Table
-  with_days begun = record N { calendar = with_begun N.calendar begun }
+  with_days begun = record N { calendar = with_begun N.calendar begun; ended = false }
 
   day_step : (before : List Begun) (b : Begun) (after : List Begun) (last : Kind) → before ++ b ∷ after ≡ N.calendar.begun
       → kind_place last ≤ kind_place kind.Day
@@ -52,12 +53,11 @@ module _ (N : Table) (table : IsTable N) where
       row_read (with_days before) (with_days (before ++ b ∷ [])) last kind.Day (day_fields b)
       (kind_read (day_fields b) kind.Day (three_texts (codes "day") (decimal b.period) (day_text b.day) (word_is_text (codes "day") refl)
       (number_is_text b.period early) (day_is_text b.day is.by)) refl refl refl)
-      (may_stand kind.Day last (omega arith) low)
+      (may_stand kind.Day last (omega arith) low (omega (arith, low)))
       (day_read (with_days before) (decimal b.period) (day_text b.day) b.period (with_begun N.calendar (before ++ b ∷ []))
       (number_written (latest_begun (with_begun N.calendar before) + 1) (horizon N - 1) b.period (omega (arith, is.later)) (omega (arith, is.within)) early)
       is.begins)
 
-  pub days_end : (last : Kind) → kind_place last ≤ kind_place kind.Day → Ends (undated N table, last) (map day_fields N.calendar.begun) N
+  pub days_end : (last : Kind) → kind_place last ≤ kind_place kind.Day → Ends (undated N table, last) (map day_fields N.calendar.begun ++ last_row N) N
   days_end last low =
-      subst (λ (rows : List Row). Ends (undated N table, last) rows N) (append-nil (map day_fields N.calendar.begun))
-      (one_by_one kind.Day with_days day_fields N.calendar.begun [] N day_step (λ l h. ends_here N l) [] N.calendar.begun last refl low)
+      one_by_one kind.Day with_days day_fields N.calendar.begun (last_row N) N day_step (end_ends N table) [] N.calendar.begun last refl low

@@ -214,6 +214,7 @@ module _ (N : Table) (table : IsTable N) where
     policies = [];
     usages = [];
     vendors = [];
+    ended = false;
   }
 
   same_parts : {i j : List (List ℕ)} {a b : List PairRow} {c d : List SourceRow} → i ≡ j → a ≡ b → c ≡ d → of_parts i a c ≡ of_parts j b d
@@ -452,7 +453,7 @@ module _ (N : Table) (table : IsTable N) where
         (word_is_text (codes "pair") refl) (name_is_text _ na) (name_is_text _ nb) (supply_is_text from is_whole) (rule_is_text p.rule is_row.rule)
         (number_is_text p.lead lead) (number_is_text p.on_hand on_hand)
         (number_is_text p.safety safety)) refl refl refl)
-        (may_stand kind.Pair last (omega arith) low)
+        (may_stand kind.Pair last (omega arith) low (omega (arith, low)))
         (pair_read old (plant_name N p.plant.0) (item_name N p.item.0) (supply_text from) (rule_text p.rule) (decimal p.lead) (decimal p.on_hand)
         (decimal p.safety) p.plant.0 p.lead p.on_hand p.safety p.rule from na nb
         (number_written 0 LONGEST_LEAD p.lead (omega arith) is_row.lead lead) (number_written 0 MOST_IN_ROW p.on_hand (omega arith) is_row.on_hand on_hand)

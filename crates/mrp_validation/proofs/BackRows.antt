@@ -1,5 +1,5 @@
 -- Bill, demand, receipt, ship, cum, reset, firm, policy and usage rows that are written of a table are read as its own, one after the other.
-use Rattle.std.proofs.Common.{◌≡◌, ◌≤◌, ◌<◌, ◌^◌, ℕ, ◌+◌, ◌-◌, ◌==◌, Bool, true, false, leb, ltb, List, [], ◌∷◌, ◌++◌, codes, length, map, Option, Some, None}
+use Rattle.std.proofs.Common.{◌≡◌, ◌≤◌, ◌<◌, ◌^◌, ℕ, ◌+◌, ◌-◌, ◌==◌, ◌&&◌, Bool, true, false, leb, ltb, List, [], ◌∷◌, ◌++◌, codes, length, map, Option, Some, None}
 use Rattle.std.proofs.Common.{option_map, slice_get, unwrap_or, Ok, refl, ap, sym, ◌∙◌, subst, append_assoc, append-nil, arith}
 use Rattle.std.specs.List.{list_all}
 use Rattle.std.specs.Str.{is_utf8}
@@ -62,8 +62,11 @@ pub kind_read : (row : Row) (k : Kind) → list_all is_utf8 row ≡ true → (le
 unfolding kind_of_row row_kind
 kind_read row k text eight named free = rw (text, eight, named, free) refl
 
-pub may_stand : (k last : Kind) → 1 ≤ kind_place k → kind_place last ≤ kind_place k → may_follow k last ≡ true
-may_stand k last some low = and_from (ltb 0 (kind_place k)) (leb (kind_place last) (kind_place k)) (grind (arith, nat_tests)) (grind (arith, nat_tests))
+pub may_stand : (k last : Kind) → 1 ≤ kind_place k → kind_place last ≤ kind_place k → kind_place last < kind_place kind.End → may_follow k last ≡ true
+may_stand k last some low unended =
+    and_from (ltb 0 (kind_place k) && leb (kind_place last) (kind_place k)) (ltb (kind_place last) (kind_place kind.End))
+    (and_from (ltb 0 (kind_place k)) (leb (kind_place last) (kind_place k)) (grind (arith, nat_tests)) (grind (arith, nat_tests)))
+    (grind (arith, nat_tests))
 
 -- rows that end, read after others, in that table
 abbrev pub Ends : Table × Kind → List Row → Table → Type 0
@@ -238,9 +241,9 @@ module _ (N : Table) (table : IsTable N) where
   pub item_of_pair_is_name : (x : ℕ) → IsPair N x → is_name (pair_item N x) ≡ true
   item_of_pair_is_name x is = All-get_or IsName N.items _ [] (stands N table x is).item table.read.items
 
-  -- the table without the first days that are given
+  -- the table without the first days that are given, and without its end row
   abbrev pub undated : Table
-  undated = record N { calendar = record N.calendar { begun = [] } }
+  undated = record N { calendar = record N.calendar { begun = [] }; ended = false }
 
   -- the table whose rows of a kind are these, and that has no rows of the kinds after it
   abbrev pub with_usages : List UsageRow → Table
@@ -289,7 +292,7 @@ module _ (N : Table) (table : IsTable N) where
       row_read (with_bills before) (with_bills (before ++ b ∷ [])) last kind.Bill (bill_fields N b)
       (kind_read (bill_fields N b) kind.Bill (five_texts (codes "bill") (pair_plant N x) (pair_item N x) (pair_item N y) (decimal b.per)
       (word_is_text (codes "bill") refl) (name_is_text _ na) (name_is_text _ nb) (name_is_text _ nc) (number_is_text b.per few)) refl refl refl)
-      (may_stand kind.Bill last (omega arith) low)
+      (may_stand kind.Bill last (omega arith) low (omega (arith, low)))
       (bill_read (with_bills before) (pair_plant N x) (pair_item N x) (pair_item N y) (decimal b.per) (plant_at N x) x y b.per na nb nc
       (number_written 1 MOST_PER b.per is.some is.few few)
       (plant_of_pair N table x is.parent) (pair_by_names N table x is.parent)
@@ -308,13 +311,13 @@ module _ (N : Table) (table : IsTable N) where
   amount_step : {A : Type 0} (k last : Kind) (word : List ℕ) (demands : List DemandRow) (receipts : List ReceiptRow) (x period quantity : ℕ)
       (room_for_one : Bool) (made : PairNo → ℕ → ℕ → A) (more : A → Table)
       → is_utf8 word ≡ true → kind_of word ≡ Some k → is_empty_from (amount_fields word x period quantity) (used k) ≡ true → 1 ≤ kind_place k
-      → kind_place last ≤ kind_place k
+      → kind_place last ≤ kind_place k → kind_place last < kind_place kind.End
       → row_of_kind k (with_amounts demands receipts) (amount_fields word x period quantity)
       ≡ (amount_row (with_amounts demands receipts) (amount_fields word x period quantity) room_for_one made >>= λ y. Ok (more y))
       → IsAmountOf N x period quantity → room_for_one ≡ true
       → row_after (with_amounts demands receipts, last) (amount_fields word x period quantity) ≡ Ok (more (made (record { 0 = x }) period quantity), k)
   unfolding field_at
-  amount_step k last word demands receipts x period quantity room_for_one made more text named free some low kind_is is room =
+  amount_step k last word demands receipts x period quantity room_for_one made more text named free some low unended kind_is is room =
       let K = with_amounts demands receipts in
       let na = plant_of_pair_is_name x is.pair in
       let nb = item_of_pair_is_name x is.pair in
@@ -323,7 +326,7 @@ module _ (N : Table) (table : IsTable N) where
       row_read K (more (made (record { 0 = x }) period quantity)) last k (amount_fields word x period quantity)
       (kind_read (amount_fields word x period quantity) k (five_texts word (pair_plant N x) (pair_item N x) (decimal period) (decimal quantity)
       text (name_is_text _ na) (name_is_text _ nb) (number_is_text period early) (number_is_text quantity few)) refl named free)
-      (may_stand k last some low)
+      (may_stand k last some low unended)
       (kind_is ∙ ap (λ r. r >>= λ y. Ok (more y)) (amount_read K word (pair_plant N x) (pair_item N x) (decimal period) (decimal quantity)
       (plant_at N x) x period quantity room_for_one made na nb
       (period_written period (horizon N) is.falls table.read.limits.periods) (number_written 1 MOST_IN_ROW quantity is.some is.few few)
@@ -336,7 +339,7 @@ module _ (N : Table) (table : IsTable N) where
   demand_step before d after last e low =
       let is = at_place (IsDemandRow N) before d after N.demands e table.read.demands in
       amount_step kind.Demand last (codes "demand") before [] d.pair.0 d.period d.quantity _ demand_made (with_demand (with_demands before))
-      (word_is_text (codes "demand") refl) refl refl (omega arith) low refl
+      (word_is_text (codes "demand") refl) refl refl (omega arith) low (omega (arith, low)) refl
       (record { pair = is.pair; falls = is.period; some = is.some; few = is.quantity })
       (has_room before d after N.demands MOST_OF_A_KIND e table.read.limits.demands)
 
@@ -347,7 +350,7 @@ module _ (N : Table) (table : IsTable N) where
   receipt_step before r after last e low =
       let is = at_place (IsReceiptRow N) before r after N.receipts e table.read.receipts in
       amount_step kind.Receipt last (codes "receipt") N.demands before r.pair.0 r.period r.quantity _ receipt_made (with_receipt (with_receipts before))
-      (word_is_text (codes "receipt") refl) refl refl (omega arith) low refl
+      (word_is_text (codes "receipt") refl) refl refl (omega arith) low (omega (arith, low)) refl
       (record { pair = is.pair; falls = is.period; some = is.some; few = is.quantity })
       (has_room before r after N.receipts MOST_OF_A_KIND e table.read.limits.receipts)
 
@@ -381,7 +384,7 @@ module _ (N : Table) (table : IsTable N) where
       (kind_read (ship_fields N s) kind.Ship (six_texts (codes "ship") _ _ _ (decimal s.period) (decimal s.quantity)
       (word_is_text (codes "ship") refl) (name_is_text _ lane.from_is) (name_is_text _ lane.to_is) (name_is_text _ lane.item_is) (number_is_text s.period early)
       (number_is_text s.quantity few)) refl refl refl)
-      (may_stand kind.Ship last (omega arith) low)
+      (may_stand kind.Ship last (omega arith) low (omega (arith, low)))
       (ship_read (with_ships before) _ _ _ (decimal s.period) (decimal s.quantity) s.from.0 (plant_at N s.pair.0) s.pair.0 s.period s.quantity lane
       (period_written s.period (horizon N) is.period table.read.limits.periods) (number_written 1 MOST_IN_ROW s.quantity is.some is.quantity few)
       (has_room before s after N.ships MOST_OF_A_KIND e table.read.limits.ships))
@@ -392,16 +395,16 @@ module _ (N : Table) (table : IsTable N) where
 
   number_step : (k last : Kind) (word : List ℕ) (cums : List CumRow) (resets : List ResetRow) (M : Table) (f x n : ℕ) → is_utf8 word ≡ true
       → kind_of word ≡ Some k → is_empty_from (number_fields word f x n) (used k) ≡ true
-      → 1 ≤ kind_place k → kind_place last ≤ kind_place k → NamesLane (with_lanes N.ships cums resets) (plant_name N f) (pair_plant N x) (pair_item N x) f
-      (plant_at N x) x → n < 10 ^ 16
+      → 1 ≤ kind_place k → kind_place last ≤ kind_place k → kind_place last < kind_place kind.End
+      → NamesLane (with_lanes N.ships cums resets) (plant_name N f) (pair_plant N x) (pair_item N x) f (plant_at N x) x → n < 10 ^ 16
       → row_of_kind k (with_lanes N.ships cums resets) (number_fields word f x n) ≡ Ok M
       → row_after (with_lanes N.ships cums resets, last) (number_fields word f x n) ≡ Ok (M, k)
   unfolding field_at
-  number_step k last word cums resets M f x n text named free some low lane few is =
+  number_step k last word cums resets M f x n text named free some low unended lane few is =
       row_read (with_lanes N.ships cums resets) M last k (number_fields word f x n)
       (kind_read (number_fields word f x n) k (five_texts word _ _ _ (decimal n) text (name_is_text _ lane.from_is) (name_is_text _ lane.to_is)
       (name_is_text _ lane.item_is) (number_is_text n few)) refl named free)
-      (may_stand k last some low) is
+      (may_stand k last some low unended) is
 
   cum_step : (before : List CumRow) (c : CumRow) (after : List CumRow) (last : Kind) → before ++ c ∷ after ≡ N.cums → kind_place last ≤ kind_place kind.Cum
       → row_after (with_cums before, last) (cum_fields N c) ≡ Ok (with_cums (before ++ c ∷ []), kind.Cum)
@@ -412,7 +415,7 @@ module _ (N : Table) (table : IsTable N) where
       (at_place (λ c. is_taken_from N c.pair.0 c.from.0 ≡ true) before c after N.cums e table.sourced.cums) in
       let few : c.figure < 10 ^ 16 = omega (arith, is.figure) in
       number_step kind.Cum last (codes "cum") before [] (with_cums (before ++ c ∷ [])) c.from.0 c.pair.0 c.figure (word_is_text (codes "cum") refl) refl refl
-      (omega arith) low lane few
+      (omega arith) low (omega (arith, low)) lane few
       (cum_read (with_cums before) _ _ _ (decimal c.figure) c.from.0 (plant_at N c.pair.0) c.pair.0 c.figure lane
       (number_written 0 MOST c.figure (omega arith) is.figure few)
       (none_before is_same_cum before c after N.cums e table.once.cums) (has_room before c after N.cums MOST_OF_A_KIND e table.read.limits.cums))
@@ -427,7 +430,7 @@ module _ (N : Table) (table : IsTable N) where
       (at_place (λ r. is_taken_from N r.pair.0 r.from.0 ≡ true) before r after N.resets e table.sourced.resets) in
       let early : r.period < 10 ^ 16 = omega (arith, is.period, table.read.limits.periods) in
       number_step kind.Reset last (codes "reset") N.cums before (with_resets (before ++ r ∷ [])) r.from.0 r.pair.0 r.period
-      (word_is_text (codes "reset") refl) refl refl (omega arith) low lane early
+      (word_is_text (codes "reset") refl) refl refl (omega arith) low (omega (arith, low)) lane early
       (reset_read (with_resets before) _ _ _ (decimal r.period) r.from.0 (plant_at N r.pair.0) r.pair.0 r.period lane
       (period_written r.period (horizon N) is.period table.read.limits.periods)
       (none_before is_same_reset before r after N.resets e table.once.resets)
@@ -450,7 +453,7 @@ module _ (N : Table) (table : IsTable N) where
       (kind_read (firm_fields N o) kind.Firm (six_texts (codes "firm") (pair_plant N x) (pair_item N x) (decimal o.start) (decimal o.due) (decimal o.quantity)
       (word_is_text (codes "firm") refl) (name_is_text _ na) (name_is_text _ nb) (number_is_text o.start early) (number_is_text o.due late)
       (number_is_text o.quantity few)) refl refl refl)
-      (may_stand kind.Firm last (omega arith) low)
+      (may_stand kind.Firm last (omega arith) low (omega (arith, low)))
       (firm_read (with_firms before) (pair_plant N x) (pair_item N x) (decimal o.start) (decimal o.due) (decimal o.quantity) (plant_at N x) x o.start o.due
       o.quantity na nb (period_written o.start (horizon N) (omega (arith, is.start, is.due)) periods)
       (number_written o.start (horizon N - 1) o.due is.start (omega (arith, is.due)) late)
@@ -478,7 +481,7 @@ module _ (N : Table) (table : IsTable N) where
       (word_is_text (codes "policy") refl) (name_is_text _ na) (name_is_text _ nb) (number_is_text p.policy.fence fence)
       (number_is_text p.policy.sooner sooner) (number_is_text p.policy.cover cover) (number_is_text p.policy.least least)
       (number_is_text p.policy.multiple multiple)) refl refl refl)
-      (may_stand kind.Policy last (omega arith) low)
+      (may_stand kind.Policy last (omega arith) low (omega (arith, low)))
       (policy_read (with_policies before) (pair_plant N x) (pair_item N x) (decimal p.policy.fence) (decimal p.policy.sooner) (decimal p.policy.cover)
       (decimal p.policy.least) (decimal p.policy.multiple) (plant_at N x) p na nb (record {
         fence_is = period_written p.policy.fence (horizon N) is.fence periods;
@@ -519,7 +522,7 @@ module _ (N : Table) (table : IsTable N) where
       (kind_read (usage_fields N u) kind.Usage (seven_texts (codes "usage") _ _ _ (decimal u.period) (decimal u.usage.per) (decimal u.usage.base)
       (word_is_text (codes "usage") refl) (name_is_text _ names.plant_is) (name_is_text _ names.parent_is) (name_is_text _ names.component_is)
       (number_is_text u.period early) (number_is_text u.usage.per per) (number_is_text u.usage.base base)) refl refl refl)
-      (may_stand kind.Usage last (omega arith) low)
+      (may_stand kind.Usage last (omega arith) low (omega (arith, low)))
       (usage_read (with_usages before) _ _ _ (decimal u.period) (decimal u.usage.per) (decimal u.usage.base) (plant_at N u.parent.0) u names
       (period_written u.period (horizon N) is.period periods) (number_written 0 MOST_PER u.usage.per (omega arith) is.per per)
       (number_written 1 MOST_PER u.usage.base is.some is.base base)

@@ -26,7 +26,7 @@ use Rattle.mrp_validation.specs.declared.kind.Kind.{Kind}
 use Rattle.mrp_validation.specs.declared.kind.Kind.TheVariants as kind
 use Rattle.mrp_validation.specs.Grammar.{kind_place, plant_in_row, plant_row, run_terms, RunTerms}
 use Rattle.mrp_validation.specs.Reading.{first_terms, go_on, kind_of_row, Reads, row_after, row_of_kind, StartsWith, waiting}
-use Rattle.mrp_validation.specs.Written.{AreNumbered, day_fields, later_rows, pair_rows, plant_fields, rows_of, run_fields, vendor_fields}
+use Rattle.mrp_validation.specs.Written.{AreNumbered, day_fields, last_row, later_rows, pair_rows, plant_fields, rows_of, run_fields, vendor_fields}
 use Rattle.mrp_validation.proofs.Accept.{what_is_read}
 use Rattle.mrp_validation.proofs.BackDay.{days_end}
 use Rattle.mrp_validation.proofs.BackNames.{at_place, none_before}
@@ -98,7 +98,7 @@ module _ (N : Table) (table : IsTable N) where
       let named = at_place IsName before name after N.plants e table.read.plants in
       row_read (with_plants before) (with_plants (before ++ name ∷ [])) last kind.Plant (plant_fields name)
       (kind_read (plant_fields name) kind.Plant (two_texts (codes "plant") name (word_is_text (codes "plant") refl) (name_is_text name named)) refl refl refl)
-      (may_stand kind.Plant last (omega arith) low)
+      (may_stand kind.Plant last (omega arith) low (omega (arith, low)))
       (plant_read (with_plants before) name named
       (any_agree (bytes_eq name) (λ y. bytes_eq y name) (λ y. bytes_flip name y) before ∙ none_before bytes_eq before name after N.plants e table.once.plants)
       (has_room before name after N.plants MOST_PLANTS e table.read.limits.plants))
@@ -108,10 +108,10 @@ module _ (N : Table) (table : IsTable N) where
   module _ (numbered : AreNumbered 0 N.pairs (length N.items)) where
     -- the rows from the vendors on
     abbrev from_vendors : List Row
-    from_vendors = map (vendor_fields N) N.vendors ++ map day_fields N.calendar.begun
+    from_vendors = map (vendor_fields N) N.vendors ++ (map day_fields N.calendar.begun ++ last_row N)
 
     after_usages : (last : Kind) → kind_place last ≤ kind_place kind.Usage → Ends (with_usages N table N.usages, last) from_vendors N
-    after_usages last low = vendors_end N table (map day_fields N.calendar.begun) (λ l h. days_end N table l (omega (arith, h))) last (omega (arith, low))
+    after_usages last low = vendors_end N table (map day_fields N.calendar.begun ++ last_row N) (λ l h. days_end N table l (omega (arith, h))) last (omega (arith, low))
 
     abbrev later : List Row
     later = from_bills N table from_vendors after_usages

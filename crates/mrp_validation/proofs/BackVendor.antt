@@ -115,7 +115,7 @@ module _ (N : Table) (table : IsTable N) where
       (kind_read (vendor_fields N v) kind.Vendor (seven_texts (codes "vendor") v.name _ _ (decimal v.figure) (decimal v.transit) (if_any v.reset)
       (word_is_text (codes "vendor") refl) (name_is_text _ names.vendor_is) (name_is_text _ names.plant_is) (name_is_text _ names.item_is)
       (number_is_text v.figure figure) (number_is_text v.transit transit) (if_any_is_text v.reset (horizon N) is.reset periods)) refl refl refl)
-      (may_stand kind.Vendor last (omega arith) low)
+      (may_stand kind.Vendor last (omega arith) low (omega (arith, low)))
       (vendor_read (with_vendors before) _ _ (decimal v.figure) (decimal v.transit) (if_any v.reset) (plant_at N v.pair.0) v names
       (number_written 0 MOST v.figure (omega arith) is.figure figure) (number_written 0 MOST v.transit (omega arith) is.transit transit)
       (if_any_written v.reset (horizon N) is.reset periods) (none_before is_same_vendor before v after N.vendors e table.once.vendors))

@@ -28,12 +28,13 @@ use Rattle.mrp_validation.specs.Grammar.{demand_made, demand_of, field, has_bill
 use Rattle.mrp_validation.specs.Grammar.{knows_sources, lane_terms, LaneTerms, may_follow, name_field, pair_fits, pair_terms, PairTerms, plant_in_row}
 use Rattle.mrp_validation.specs.Grammar.{receipt_made, receipt_of, reset_between, reset_in_row, row_kind, run_terms, RunTerms, ship_of, ship_terms}
 use Rattle.mrp_validation.specs.Grammar.{firm_of, firm_terms, FirmTerms, has_policy, policy_made, policy_of, policy_terms, PolicyTerms, used}
-use Rattle.mrp_validation.specs.Grammar.{day_in_row, usage_fits, usage_terms, vendor_fits, vendor_terms}
+use Rattle.mrp_validation.specs.Grammar.{day_in_row, end_in_row, usage_fits, usage_terms, vendor_fits, vendor_terms}
 use Rattle.mrp_validation.specs.Reading.{first_terms, is_run, kind_of_row, row_after, row_of_kind}
 use Rattle.mrp_validation.specs.Tests.{amount_passes, bill_passes, cum_passes, first_failed, fits_kind, has_number, HasFirstFault, is_in_order, is_lane, pair_in}
 use Rattle.mrp_validation.specs.Tests.{firm_passes, first_due, pair_passes, passes, passes_of, plant_in, plant_passes, policy_passes}
 use Rattle.mrp_validation.specs.Tests.{reset_passes, row_passes, run_passes, ship_passes, sources_in, stands_well, three_names, two_names}
 use Rattle.mrp_validation.proofs.FirstDay.{day-first}
+use Rattle.mrp_validation.proofs.FirstEnd.{end-first}
 use Rattle.mrp_validation.proofs.FirstSteps.{checked, find_none, find_some, kept, kept-in, last, more, name_same}
 use Rattle.mrp_validation.proofs.FirstUsage.{usage-first}
 use Rattle.mrp_validation.proofs.FirstVendor.{vendor-first}
@@ -589,7 +590,7 @@ kind_refusal row = by (list_all is_utf8 row) (length row == 8) (kind_of (field r
     by true true None = refl
     by true true (Some k) = free k (is_empty_from row (used k))
 
-kind_named : (row : List (List ℕ)) (k : Kind) → kind_of_row row ≡ Ok k → kind_of (field row 0) ≡ Some k
+pub kind_named : (row : List (List ℕ)) (k : Kind) → kind_of_row row ≡ Ok k → kind_of (field row 0) ≡ Some k
 unfolding kind_of_row row_kind
 kind_named row k e =
     let a = after_check (list_all is_utf8 row) _ _ k e in
@@ -623,6 +624,7 @@ of-kind kind.Policy last N row u follows = kept (policy_of N row) _ ∙ policy-f
 of-kind kind.Usage last N row u follows = kept (usage_terms row (horizon N) >>= usage_fits N) _ ∙ usage-first N row
 of-kind kind.Vendor last N row u follows = kept (vendor_terms row (horizon N) >>= vendor_fits N) _ ∙ vendor-first N row
 of-kind kind.Day last N row u follows = kept (day_in_row N row) _ ∙ day-first N row
+of-kind kind.End last N row u follows = kept (end_in_row N row) _ ∙ end-first N row
 
 of-named : (k : Kind) (o : Option Kind) (last : Kind) (N : Table) (row : List (List ℕ)) (u : Unit {0}) → o ≡ Some k
     → check (may_follow k last) fault.KindOrder ≡ Ok u

@@ -1,5 +1,5 @@
 -- What each row kept keeps.
-use Rattle.std.proofs.Common.{◌≡◌, ◌≤◌, ℕ, ltb, leb, true, List, Result, Ok, refl, subst, arith}
+use Rattle.std.proofs.Common.{◌≡◌, ◌≤◌, ◌<◌, ◌&&◌, ℕ, ltb, leb, true, List, Result, Ok, refl, subst, arith}
 use Rattle.std.proofs.lemmas.Bool.{and_parts}
 use Rattle.std.proofs.lemmas.Bool.Decides.{nat_tests}
 use Rattle.std.proofs.lemmas.List.Elements.{All-nil}
@@ -19,15 +19,16 @@ use Rattle.mrp_validation.specs.declared.fault.TableFaultKind.{TableFaultKind}
 use Rattle.mrp_validation.specs.declared.kind.Kind.{Kind}
 use Rattle.mrp_validation.specs.declared.kind.Kind.TheVariants as kind
 use Rattle.mrp_validation.specs.Grammar.{◌>>=◌, bill_of, cum_of, demand_of, may_follow, kind_place, plant_in_row, receipt_of, reset_in_row, ship_of}
-use Rattle.mrp_validation.specs.Grammar.{day_in_row, firm_of, policy_of, usage_of, vendor_in_row}
+use Rattle.mrp_validation.specs.Grammar.{day_in_row, end_in_row, firm_of, policy_of, usage_of, vendor_in_row}
 use Rattle.mrp_master_data.specs.Growing.{with_plant, with_bill, with_demand, with_receipt, with_ship, with_cum, with_reset, with_firm, with_policy, with_usage}
-use Rattle.mrp_master_data.specs.Growing.{with_calendar, with_vendor}
+use Rattle.mrp_master_data.specs.Growing.{with_calendar, with_end, with_vendor}
 use Rattle.mrp_validation.specs.Reading.{IsReadSoFar, kind_of_row, row_after, row_of_kind}
 use Rattle.mrp_master_data.specs.Table.{Table, IsBillRow, IsCumRow, IsDemandRow, IsFirmRow, IsName, IsPairRow, IsPolicyRow}
 use Rattle.mrp_master_data.specs.Table.{IsReceiptRow, IsResetRow, IsShipRow, IsSourceRow, IsUsageRow, IsVendorRow, is_same_pair}
 use Rattle.mrp_master_data.specs.Table.{is_same_source, is_same_bill, is_same_cum, is_same_policy, is_same_reset, is_same_usage, is_same_vendor}
 use Rattle.mrp_master_data.specs.Growing.{empty_table}
 use Rattle.mrp_validation.proofs.KeepingBill.{bill_keeps}
+use Rattle.mrp_master_data.proofs.Grow.{read-with_end}
 use Rattle.mrp_master_data.proofs.SpelledLists.{IsDistinct-nil}
 use Rattle.mrp_validation.proofs.KeepingPair.{pair_keeps}
 use Rattle.mrp_validation.proofs.KeepingRead.{bill_read, cum_read, demand_read, firm_read, plant_read, policy_read, receipt_read, reset_read, ship_read}
@@ -36,11 +37,21 @@ use Rattle.mrp_validation.proofs.KeepingRows.{plant_keeps, demand_keeps, receipt
 use Rattle.mrp_validation.proofs.KeepingSteps.{after, after_check, same_Ok}
 use Rattle.mrp_validation.proofs.KeepingUsage.{usage_keeps}
 use Rattle.mrp_validation.proofs.KeepingDay.{day_once, day_read, day_sourced}
+use Rattle.mrp_validation.proofs.KeepingEnd.{end_once, end_sourced}
 use Rattle.mrp_validation.proofs.KeepingVendor.{vendor_keeps, vendor_read}
 
 -- a kind stands with the kinds before it
 pub follows : (k last : Kind) → may_follow k last ≡ true → kind_place last ≤ kind_place k
-follows k last e = let parts = and_parts (ltb 0 (kind_place k)) (leb (kind_place last) (kind_place k)) e in grind (arith, nat_tests)
+follows k last e =
+    let all = and_parts (ltb 0 (kind_place k) && leb (kind_place last) (kind_place k)) (ltb (kind_place last) (kind_place kind.End)) e in
+    let parts = and_parts (ltb 0 (kind_place k)) (leb (kind_place last) (kind_place k)) all.0 in
+    grind (arith, nat_tests)
+
+-- and not behind the end
+pub follows_no_end : (k last : Kind) → may_follow k last ≡ true → kind_place last < kind_place kind.End
+follows_no_end k last e =
+    let all = and_parts (ltb 0 (kind_place k) && leb (kind_place last) (kind_place k)) (ltb (kind_place last) (kind_place kind.End)) e in
+    grind (arith, nat_tests)
 
 module _ (N : Table) (last : Kind) (row : List (List ℕ)) (so_far : IsReadSoFar N last) where
   plant_more : (x : List ℕ) → kind_place last ≤ 1 → plant_in_row N row ≡ Ok x → IsReadSoFar (with_plant N x) kind.Plant
@@ -55,6 +66,7 @@ module _ (N : Table) (last : Kind) (row : List (List ℕ)) (so_far : IsReadSoFar
         resets =
             λ lt. so_far.resets (omega (arith, before));
         vendors = λ lt. so_far.vendors (omega (arith, before));
+        ended = λ lt. so_far.ended (omega (arith, before));
       }
 
   bill_more : (x : BillRow) → kind_place last ≤ 3 → bill_of N row ≡ Ok x → IsReadSoFar (with_bill N x) kind.Bill
@@ -69,6 +81,7 @@ module _ (N : Table) (last : Kind) (row : List (List ℕ)) (so_far : IsReadSoFar
         resets =
             λ lt. so_far.resets (omega (arith, before));
         vendors = λ lt. so_far.vendors (omega (arith, before));
+        ended = λ lt. so_far.ended (omega (arith, before));
       }
 
   demand_more : (x : DemandRow) → kind_place last ≤ 4 → demand_of N row ≡ Ok x → IsReadSoFar (with_demand N x) kind.Demand
@@ -83,6 +96,7 @@ module _ (N : Table) (last : Kind) (row : List (List ℕ)) (so_far : IsReadSoFar
         resets =
             λ lt. so_far.resets (omega (arith, before));
         vendors = λ lt. so_far.vendors (omega (arith, before));
+        ended = λ lt. so_far.ended (omega (arith, before));
       }
 
   receipt_more : (x : ReceiptRow) → kind_place last ≤ 5 → receipt_of N row ≡ Ok x → IsReadSoFar (with_receipt N x) kind.Receipt
@@ -97,6 +111,7 @@ module _ (N : Table) (last : Kind) (row : List (List ℕ)) (so_far : IsReadSoFar
         resets =
             λ lt. so_far.resets (omega (arith, before));
         vendors = λ lt. so_far.vendors (omega (arith, before));
+        ended = λ lt. so_far.ended (omega (arith, before));
       }
 
   ship_more : (x : ShipRow) → kind_place last ≤ 6 → ship_of N row ≡ Ok x → IsReadSoFar (with_ship N x) kind.Ship
@@ -111,6 +126,7 @@ module _ (N : Table) (last : Kind) (row : List (List ℕ)) (so_far : IsReadSoFar
         resets =
             λ lt. so_far.resets (omega (arith, before));
         vendors = λ lt. so_far.vendors (omega (arith, before));
+        ended = λ lt. so_far.ended (omega (arith, before));
       }
 
   cum_more : (x : CumRow) → kind_place last ≤ 7 → cum_of N row ≡ Ok x → IsReadSoFar (with_cum N x) kind.Cum
@@ -125,6 +141,7 @@ module _ (N : Table) (last : Kind) (row : List (List ℕ)) (so_far : IsReadSoFar
         resets =
             λ lt. so_far.resets (omega (arith, before));
         vendors = λ lt. so_far.vendors (omega (arith, before));
+        ended = λ lt. so_far.ended (omega (arith, before));
       }
 
   reset_more : (x : ResetRow) → kind_place last ≤ 8 → reset_in_row N row ≡ Ok x → IsReadSoFar (with_reset N x) kind.Reset
@@ -139,6 +156,7 @@ module _ (N : Table) (last : Kind) (row : List (List ℕ)) (so_far : IsReadSoFar
         resets =
             λ lt. absurd (omega arith);
         vendors = λ lt. so_far.vendors (omega (arith, before));
+        ended = λ lt. so_far.ended (omega (arith, before));
       }
 
   firm_more : (x : FirmRow) → kind_place last ≤ 9 → firm_of N row ≡ Ok x → IsReadSoFar (with_firm N x) kind.Firm
@@ -153,6 +171,7 @@ module _ (N : Table) (last : Kind) (row : List (List ℕ)) (so_far : IsReadSoFar
         resets =
             λ lt. absurd (omega arith);
         vendors = λ lt. so_far.vendors (omega (arith, before));
+        ended = λ lt. so_far.ended (omega (arith, before));
       }
 
   policy_more : (x : PolicyRow) → kind_place last ≤ 10 → policy_of N row ≡ Ok x → IsReadSoFar (with_policy N x) kind.Policy
@@ -167,6 +186,7 @@ module _ (N : Table) (last : Kind) (row : List (List ℕ)) (so_far : IsReadSoFar
         resets =
             λ lt. absurd (omega arith);
         vendors = λ lt. so_far.vendors (omega (arith, before));
+        ended = λ lt. so_far.ended (omega (arith, before));
       }
 
   usage_more : (x : UsageRow) → kind_place last ≤ 11 → usage_of N row ≡ Ok x → IsReadSoFar (with_usage N x) kind.Usage
@@ -181,10 +201,11 @@ module _ (N : Table) (last : Kind) (row : List (List ℕ)) (so_far : IsReadSoFar
         resets =
             λ lt. absurd (omega arith);
         vendors = λ lt. so_far.vendors (omega (arith, before));
+        ended = λ lt. so_far.ended (omega (arith, before));
       }
 
-  vendor_more : (v : Vendor) → vendor_in_row N row ≡ Ok v → IsReadSoFar (with_vendor N v) kind.Vendor
-  vendor_more v is =
+  vendor_more : (v : Vendor) → kind_place last ≤ 12 → vendor_in_row N row ≡ Ok v → IsReadSoFar (with_vendor N v) kind.Vendor
+  vendor_more v before is =
       let kept = vendor_keeps N row v so_far.once so_far.sourced is in
       record {
         read = vendor_read N row v so_far.read kept.0 is;
@@ -194,10 +215,11 @@ module _ (N : Table) (last : Kind) (row : List (List ℕ)) (so_far : IsReadSoFar
         sources = so_far.sources;
         resets = λ lt. absurd (omega arith);
         vendors = λ lt. absurd (omega arith);
+        ended = λ lt. so_far.ended (omega (arith, before));
       }
 
-  day_more : (c : CalendarTerms) → day_in_row N row ≡ Ok c → IsReadSoFar (with_calendar N c) kind.Day
-  day_more c is = record {
+  day_more : (c : CalendarTerms) → kind_place last ≤ 13 → day_in_row N row ≡ Ok c → IsReadSoFar (with_calendar N c) kind.Day
+  day_more c before is = record {
     read = day_read N row c so_far.read is;
     once = day_once N c so_far.once;
     sourced = day_sourced N c so_far.sourced;
@@ -205,6 +227,19 @@ module _ (N : Table) (last : Kind) (row : List (List ℕ)) (so_far : IsReadSoFar
     sources = so_far.sources;
     resets = λ lt. absurd (omega arith);
     vendors = λ lt. absurd (omega arith);
+    ended = λ lt. so_far.ended (omega (arith, before));
+  }
+
+  end_more : IsReadSoFar (with_end N) kind.End
+  end_more = record {
+    read = read-with_end N so_far.read;
+    once = end_once N so_far.once;
+    sourced = end_sourced N so_far.sourced;
+    items = so_far.items;
+    sources = so_far.sources;
+    resets = λ lt. absurd (omega arith);
+    vendors = λ lt. absurd (omega arith);
+    ended = λ lt. absurd (omega arith);
   }
 
 -- what was read of a row makes the table with it
@@ -233,8 +268,9 @@ row_keeps kind.Firm last N M row so_far before is = made_keeps kind.Firm (firm_o
 row_keeps kind.Policy last N M row so_far before is = made_keeps kind.Policy (policy_of N row) (with_policy N) M (λ x. policy_more N last row so_far x before) is
 row_keeps kind.Usage last N M row so_far before is = made_keeps kind.Usage (usage_of N row) (with_usage N) M (λ x. usage_more N last row so_far x before) is
 row_keeps kind.Vendor last N M row so_far before is = made_keeps kind.Vendor (vendor_in_row N row) (with_vendor N) M
-    (λ v. vendor_more N last row so_far v) is
-row_keeps kind.Day last N M row so_far before is = made_keeps kind.Day (day_in_row N row) (with_calendar N) M (λ c. day_more N last row so_far c) is
+    (λ v. vendor_more N last row so_far v before) is
+row_keeps kind.Day last N M row so_far before is = made_keeps kind.Day (day_in_row N row) (with_calendar N) M (λ c. day_more N last row so_far c before) is
+row_keeps kind.End last N M row so_far before is = made_keeps kind.End (end_in_row N row) (λ rows. with_end N) M (λ rows ok. end_more N last row so_far) is
 
 -- a table and the kind of its last row
 abbrev Kept : Table × Kind → Type 0
@@ -318,4 +354,5 @@ empty_keeps c calendar = record {
   sources = omega arith;
   resets = λ lt. refl;
   vendors = λ lt. refl;
+  ended = λ lt. refl;
 }

@@ -408,5 +408,6 @@ pair_keeps N M last row so_far before is =
       sources = omega (arith, more_sources N b.0 a.0 read once sourced fit says, more_pairs N b.0 a.0 read once sourced fit says, so_far.sources);
       resets = λ lt. so_far.resets (omega (arith, before));
       vendors = λ lt. so_far.vendors (omega (arith, before));
+      ended = λ lt. so_far.ended (omega (arith, before));
     } in
     subst (λ (m : Table). IsReadSoFar m kind.Pair) same kept

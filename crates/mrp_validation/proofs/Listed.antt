@@ -15,6 +15,7 @@ use Rattle.mrp_master_data.specs.declared.numbers.PairNo.{PairNo}
 use Rattle.mrp_qty.specs.declared.limits.TheConstants.{MOST_BILLS, MOST_IN_ROW, MOST_OF_A_KIND, MOST_PAIRS, MOST_PER, MOST_PLANTS, MOST_USAGES}
 use Rattle.mrp_master_data.specs.Names.{has_plant, pair_named, plant_no}
 use Rattle.mrp_master_data.specs.Table.{arrivals, horizon, is_joined, is_taken_from, rises_from, Table}
+use Rattle.mrp_master_data.specs.Turns.{row_count}
 use Rattle.mrp_master_data.specs.Spelling.{is_name}
 use Rattle.mrp_master_data.specs.Parsing.{spelled_number, number_within, rule_of}
 use Rattle.mrp_master_data.specs.SupplyParsing.{named_sources, names_plant, supply_of}
@@ -27,7 +28,7 @@ use Rattle.mrp_validation.specs.Grammar.{◌>>=◌, amount_row, amount_terms, bi
 use Rattle.mrp_validation.specs.Grammar.{field, firm_of, firm_terms, has_policy, is_empty_from, kind_of, known_lane, known_pair}
 use Rattle.mrp_validation.specs.Grammar.{has_bill, has_cum, has_reset, is_made, knows_sources, lane_terms, LaneTerms, may_follow, name_field}
 use Rattle.mrp_validation.specs.Grammar.{pair_fits, pair_terms, PairTerms, plant_in_row, policy_of, policy_terms, ranged, receipt_made, receipt_of, reset_in_row}
-use Rattle.mrp_validation.specs.Grammar.{row_kind, run_terms, RunTerms, ship_of, ship_terms, TellsFault, used}
+use Rattle.mrp_validation.specs.Grammar.{end_in_row, row_kind, run_terms, RunTerms, ship_of, ship_terms, TellsFault, used}
 use Rattle.mrp_validation.specs.Grammar.{has_usage, has_vendor, is_bought, is_empty, ranged_if_any, usage_fits, usage_terms, UsageTerms, vendor_fits, vendor_terms, VendorTerms}
 use Rattle.mrp_validation.specs.Reading.{first_terms, is_run, kind_of_row, row_after, row_of_kind, started, Starts, StartsWith, UnlessMemory}
 use Rattle.mrp_validation.proofs.ListedDay.{day_listed}
@@ -217,6 +218,10 @@ module _ (P : TableFaultKind → Type 0) where
       (λ a. steps P _ _ (tested P (not (has_reset N a.0)) _ r) (λ fresh. steps P _ _ (known-lane N a.0 u p s)
       (λ lane. steps P _ _ (tested P (rises_from 0 (arrivals N lane.0.0 lane.1.0)) _ o) (λ in_order. tt))))
 
+  end-of : (N : Table) (row : List (List ℕ)) → P fault.BadNumber → IfErr (end_in_row N row) P
+  unfolding end_in_row
+  end-of N row n = number (field row 1) (row_count N) (row_count N) n
+
   -- ---- the kind of a row
 
   row-kind : (row : List (List ℕ)) → P fault.FieldCount → P fault.UnknownKind → IfErr (row_kind row) P
@@ -282,6 +287,9 @@ of-kind kind.Vendor N row =
 of-kind kind.Day N row =
     let P = Contains (faults_of (Ok kind.Day)) in
     steps P _ _ (day_listed P (5, omega arith, refl) (6, omega arith, refl) N row (4, omega arith, refl)) (λ c. tt)
+of-kind kind.End N row =
+    let P = Contains (faults_of (Ok kind.End)) in
+    steps P _ _ (end-of P N row (4, omega arith, refl)) (λ rows. tt)
 
 -- the first four faults are in every list
 order : (k : Kind) → Contains (faults_of (Ok k)) fault.KindOrder
@@ -299,6 +307,7 @@ order kind.Policy = (3, omega arith, refl)
 order kind.Usage = (3, omega arith, refl)
 order kind.Vendor = (3, omega arith, refl)
 order kind.Day = (3, omega arith, refl)
+order kind.End = (3, omega arith, refl)
 
 no-kind : (row : List (List ℕ)) → IfErr (kind_of_row row) (Contains faults_of_any)
 no-kind row = kind-of-row (Contains faults_of_any) row (0, omega arith, refl) (1, omega arith, refl) (2, omega arith, refl)
@@ -313,7 +322,7 @@ after (Ok k) s row h =
     (λ u. steps P (row_of_kind k s.0 row) _ (of-kind k s.0 row) (λ N. tt))
 after (Err e) s row h = h
 
-later-listed : (s : Table × Kind) (row : List (List ℕ)) → IfErr (row_after s row) (IsListedFault row)
+pub later-listed : (s : Table × Kind) (row : List (List ℕ)) → IfErr (row_after s row) (IsListedFault row)
 unfolding row_after
 later-listed s row = after (kind_of_row row) s row (no-kind row)
 
@@ -356,13 +365,14 @@ by-kind kind.Policy row e starts = of-order kind.Policy e starts
 by-kind kind.Usage row e starts = of-order kind.Usage e starts
 by-kind kind.Vendor row e starts = of-order kind.Vendor e starts
 by-kind kind.Day row e starts = of-order kind.Day e starts
+by-kind kind.End row e starts = of-order kind.End e starts
 
 of-first : (r : Result Kind TableFaultKind) (row : List (List ℕ)) (e : TableFaultKind) → IfErr r (Contains faults_of_any)
     → StartsWith (r >>= λ k. check (is_run k) fault.KindOrder >>= λ u. run_terms row) (Err e) → Contains (faults_of r) e
 of-first (Ok k) row e h starts = by-kind k row e starts
 of-first (Err f) row e h starts = let is : f ≡ e = cc in subst (Contains faults_of_any) is h
 
-first-listed : (row : List (List ℕ)) (e : TableFaultKind) → Starts row (Err e) → IsListedFault row e
+pub first-listed : (row : List (List ℕ)) (e : TableFaultKind) → Starts row (Err e) → IsListedFault row e
 unfolding first_terms
 first-listed row e starts = of-first (kind_of_row row) row e (no-kind row) starts
 
@@ -458,11 +468,13 @@ rise kind.Vendor = (
   ),
 )
 rise kind.Day = (omega arith, (omega arith, (omega arith, (omega arith, (omega arith, (omega arith, tt))))))
+rise kind.End = (omega arith, (omega arith, (omega arith, (omega arith, tt))))
 
--- ---- no list has a failed read
+-- ---- no list has a failed read, nor that the table was cut off
 
 abbrev is_of_row : TableFaultKind → Bool
 is_of_row fault.ReadFault = false
+is_of_row fault.Cut = false
 is_of_row e = true
 
 all_of_row : (r : Result Kind TableFaultKind) → list_all is_of_row (faults_of r) ≡ true
@@ -480,13 +492,17 @@ all_of_row (Ok kind.Policy) = refl
 all_of_row (Ok kind.Usage) = refl
 all_of_row (Ok kind.Vendor) = refl
 all_of_row (Ok kind.Day) = refl
+all_of_row (Ok kind.End) = refl
 all_of_row (Err e) = refl
 
-unlisted : (row : List (List ℕ)) → IsListedFault row fault.ReadFault → ⊥
-unlisted row h =
+unlisted : (row : List (List ℕ)) (e : TableFaultKind) → is_of_row e ≡ false → IsListedFault row e → ⊥
+unlisted row e none h =
     let es = faults_of (kind_of_row row) in
-    let own = AllPass-from_list_all is_of_row es (all_of_row (kind_of_row row)) h.0 fault.ReadFault h.1 in
-    false≢true (ap is_of_row (sym h.2) ∙ own)
+    let own = AllPass-from_list_all is_of_row es (all_of_row (kind_of_row row)) h.0 e h.1 in
+    false≢true (sym none ∙ ap is_of_row (sym h.2) ∙ own)
+
+pub not_cut : (row : List (List ℕ)) (e : TableFaultKind) → IsListedFault row e → e ≡ fault.Cut → ⊥
+not_cut row e h is = unlisted row fault.Cut refl (subst (IsListedFault row) is h)
 
 -- a later row is never refused for a failed read, nor is the first
 pub later_no_read_fault : (s : Table × Kind) (row : List (List ℕ)) (k : TableFaultKind) → TellsFault (row_after s row) k → k ≡ fault.ReadFault → ⊥
@@ -494,8 +510,8 @@ later_no_read_fault s row k tells is = by (row_after s row) (later-listed s row)
   where
     by : (r : Result (Table × Kind) TableFaultKind) → IfErr r (IsListedFault row) → r ≡ Err fault.ReadFault → ⊥
     by (Ok t) h e = cc
-    by (Err f) h e = let same : f ≡ fault.ReadFault = cc in unlisted row (subst (IsListedFault row) same h)
+    by (Err f) h e = let same : f ≡ fault.ReadFault = cc in unlisted row fault.ReadFault refl (subst (IsListedFault row) same h)
 
 pub first_no_read_fault : (row : List (List ℕ)) (k : TableFaultKind) → UnlessMemory k (Starts row (Err k)) → k ≡ fault.ReadFault → ⊥
-first_no_read_fault row k starts is = unlisted row (first-listed row fault.ReadFault
+first_no_read_fault row k starts is = unlisted row fault.ReadFault refl (first-listed row fault.ReadFault
     (subst (λ (x : TableFaultKind). UnlessMemory x (Starts row (Err x))) is starts))

@@ -41,6 +41,7 @@ word_of kind.Policy = codes "policy"
 word_of kind.Usage = codes "usage"
 word_of kind.Vendor = codes "vendor"
 word_of kind.Day = codes "day"
+word_of kind.End = codes "end"
 
 chosen : (w : List ℕ) (named : Kind) (rest : Option Kind) (k : Kind) → (if bytes_eq w (word_of named) then Some named else rest) ≡ Some k
     → (rest ≡ Some k → w ≡ word_of k) → w ≡ word_of k
@@ -58,7 +59,7 @@ word_is w k is =
     (λ e2. chosen w kind.Ship _ k e2 (λ e3. chosen w kind.Bill _ k e3 (λ e4. chosen w kind.Pair _ k e4
     (λ e5. chosen w kind.Firm _ k e5 (λ e6. chosen w kind.Policy _ k e6 (λ e7. chosen w kind.Usage _ k e7 (λ e8. chosen w kind.Cum _ k e8
     (λ e9. chosen w kind.Reset _ k e9 (λ e10. chosen w kind.Vendor _ k e10 (λ e11. chosen w kind.Day _ k e11 (λ e12. chosen w kind.Plant _ k e12
-    (λ e13. chosen w kind.Run None k e13 (λ e14. absurd (cc)))))))))))))))
+    (λ e13. chosen w kind.Run _ k e13 (λ e14. chosen w kind.End None k e14 (λ e15. absurd (cc))))))))))))))))
 
 -- ---- a row has eight fields
 

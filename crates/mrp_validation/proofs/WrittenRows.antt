@@ -325,6 +325,7 @@ run_kind kind.Policy e = absurd (cc)
 run_kind kind.Usage e = absurd (cc)
 run_kind kind.Vendor e = absurd (cc)
 run_kind kind.Day e = absurd (cc)
+run_kind kind.End e = absurd (cc)
 
 pub run_said : (row : List (List ℕ)) (t : RunTerms) (c : CalendarTerms) → first_terms row ≡ Ok t → IsCalendarFrom t.first t.days t.periods c → IsCalendar c
     → row ≡ run_fields c

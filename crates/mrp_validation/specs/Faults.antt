@@ -10,7 +10,8 @@ use Rattle.mrp_validation.specs.declared.kind.Kind.TheVariants as kind
 use Rattle.mrp_validation.specs.Reading.{kind_of_row, row_after, Starts}
 
 -- the number of a fault: its place in the order of the tests. A failed read comes before all of a row, and after its
--- tests that there is no row, that memory is wanting, and last that shipments don't stand in the order of their arrival
+-- tests that there is no row, that memory is wanting, that shipments don't stand in the order of their arrival, and last
+-- that the table was cut off
 abbrev pub fault_number : TableFaultKind → ℕ
 fault_number fault.ReadFault = 0
 fault_number fault.NotUtf8 = 1
@@ -34,6 +35,7 @@ fault_number fault.TooMany = 18
 fault_number fault.Empty = 19
 fault_number fault.Memory = 20
 fault_number fault.ResetOrder = 21
+fault_number fault.Cut = 22
 
 -- the tests of every row
 abbrev pub faults_of_any : List TableFaultKind
@@ -74,6 +76,7 @@ faults_of_kind kind.Vendor =
     fault.BadName ∷ fault.BadNumber ∷ fault.Repeated ∷ fault.UnknownPlant ∷ fault.UnknownPair ∷ fault.NotSourced
     ∷ fault.SelfSource ∷ []
 faults_of_kind kind.Day = fault.BadNumber ∷ fault.CalendarFault cal.BadDate ∷ fault.CalendarFault cal.PastEnd ∷ []
+faults_of_kind kind.End = fault.BadNumber ∷ []
 
 -- the faults that a row may have, where it has a kind and where it has none
 abbrev pub faults_of : Result Kind TableFaultKind → List TableFaultKind

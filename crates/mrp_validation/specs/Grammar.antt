@@ -44,8 +44,9 @@ use Rattle.mrp_master_data.specs.declared.rows.SourceRow.{SourceRow}
 use Rattle.mrp_master_data.specs.Table.{arrivals, is_joined, is_taken_from, rises_from}
 use Rattle.mrp_master_data.specs.Growing.{add_item, with_plant, with_bill, with_demand}
 use Rattle.mrp_master_data.specs.Growing.{with_receipt, with_ship, with_cum}
-use Rattle.mrp_master_data.specs.Growing.{with_calendar, with_firm, with_policy, with_reset, with_usage, with_vendor}
+use Rattle.mrp_master_data.specs.Growing.{with_calendar, with_end, with_firm, with_policy, with_reset, with_usage, with_vendor}
 use Rattle.mrp_master_data.specs.Spelling.{is_name}
+use Rattle.mrp_master_data.specs.Turns.{row_count}
 use Rattle.mrp_master_data.specs.Parsing.{spelled_number, number_within, rule_of}
 
 -- the answer of a test, or the first fault, whatever the faults are
@@ -106,6 +107,7 @@ kind_of word =
     else if bytes_eq word (codes "day") then Some kind.Day
     else if bytes_eq word (codes "plant") then Some kind.Plant
     else if bytes_eq word (codes "run") then Some kind.Run
+    else if bytes_eq word (codes "end") then Some kind.End
     else None
 
 -- how many of the eight fields a kind uses
@@ -124,6 +126,7 @@ used kind.Policy = 8
 used kind.Usage = 7
 used kind.Vendor = 7
 used kind.Day = 3
+used kind.End = 2
 
 -- the place of a kind in the order of the kinds
 abbrev pub kind_place : Kind → ℕ
@@ -141,10 +144,12 @@ kind_place kind.Policy = 10
 kind_place kind.Usage = 11
 kind_place kind.Vendor = 12
 kind_place kind.Day = 13
+kind_place kind.End = 14
 
--- the run stands first and once, and rows of one kind stand together
+-- the run stands first and once, rows of one kind stand together, and nothing follows the end
 abbrev pub may_follow : Kind → Kind → Bool
 may_follow next last = nat_lt 0 (kind_place next) && nat_le (kind_place last) (kind_place next)
+    && nat_lt (kind_place last) (kind_place kind.End)
 
 -- a field is used, or empty
 abbrev pub is_free : List (List ℕ) → ℕ → ℕ → Bool
@@ -649,6 +654,10 @@ day_in_row N row = do
   period ← ranged (field row 1) (latest_begun N.calendar + 1) (horizon N - 1)
   begun_or_fault (begins N.calendar period (field row 2))
 
+-- an end row says how many rows stand above it
+unfoldable pub end_in_row : Table → List (List ℕ) → Result ℕ TableFaultKind
+end_in_row N row = ranged (field row 1) (row_count N) (row_count N)
+
 abbrev pub bill_row : Table → List (List ℕ) → Result Table TableFaultKind
 bill_row N row = bill_of N row >>= λ x. Ok (with_bill N x)
 
@@ -681,3 +690,6 @@ vendor_row N row = vendor_in_row N row >>= λ x. Ok (with_vendor N x)
 
 abbrev pub day_row : Table → List (List ℕ) → Result Table TableFaultKind
 day_row N row = day_in_row N row >>= λ c. Ok (with_calendar N c)
+
+abbrev pub end_row : Table → List (List ℕ) → Result Table TableFaultKind
+end_row N row = end_in_row N row >>= λ rows. Ok (with_end N)

@@ -1,5 +1,5 @@
 -- The grammar of a whole table: its rows one after the other, and the test that waits for the last.
-use Rattle.std.specs.Prelude.{◌≡◌, ℕ, ◌+◌, ◌*◌, ◌≤◌, ◌<◌, Bool, true, false, if◌then◌else◌, List, [], ◌∷◌, ◌++◌, length}
+use Rattle.std.specs.Prelude.{◌≡◌, ℕ, ◌+◌, ◌*◌, ◌≤◌, ◌<◌, ◌&&◌, not, Bool, true, false, if◌then◌else◌, List, [], ◌∷◌, ◌++◌, length}
 use Rattle.std.specs.Prelude.{Option, Some, None, Result}
 use Rattle.std.specs.Prelude.{Ok, Err}
 use Rattle.std.specs.List.{list_all}
@@ -17,8 +17,10 @@ use Rattle.mrp_master_data.specs.Table.{IsOnce, IsRead, IsSourced, Table}
 use Rattle.mrp_master_data.specs.Growing.{empty_table}
 use Rattle.mrp_qty.specs.declared.limits.TheConstants.{MOST_SOURCES_OF_PAIR}
 use Rattle.mrp_master_data.specs.Growing.{lacks_pair}
+use Rattle.mrp_master_data.specs.Turns.{row_count}
+use Rattle.mrp_commands.specs.declared.reading.Reading.{Reading}
 use Rattle.mrp_validation.specs.Grammar.{◌>>=◌, bill_row, check, cum_row, demand_row, firm_row, may_follow, pair_row}
-use Rattle.mrp_validation.specs.Grammar.{day_row, kind_place, policy_row}
+use Rattle.mrp_validation.specs.Grammar.{day_row, end_row, kind_place, policy_row}
 use Rattle.mrp_validation.specs.Grammar.{plant_row, receipt_row, reset_row}
 use Rattle.mrp_validation.specs.Grammar.{row_kind, run_terms, RunTerms, ship_row, usage_row, vendor_row}
 
@@ -44,6 +46,7 @@ row_of_kind kind.Policy N row = policy_row N row
 row_of_kind kind.Usage N row = usage_row N row
 row_of_kind kind.Vendor N row = vendor_row N row
 row_of_kind kind.Day N row = day_row N row
+row_of_kind kind.End N row = end_row N row
 
 -- ---- the first row
 
@@ -62,6 +65,7 @@ is_run kind.Policy = false
 is_run kind.Usage = false
 is_run kind.Vendor = false
 is_run kind.Day = false
+is_run kind.End = false
 
 -- what the first row spells
 unfoldable pub first_terms : List (List ℕ) → Result RunTerms TableFaultKind
@@ -99,8 +103,8 @@ row_after s row = do
   Ok (N, k)
 
 -- what the rows read so far say: no row stands twice, pairs come from where the table says, and each
--- pair row names one item and at most four sources; no count starts anew before the reset rows, and no vendor is named
--- before the vendor rows
+-- pair row names one item and at most four sources; no count starts anew before the reset rows, no vendor is named
+-- before the vendor rows, and the end comes last
 pub record IsReadSoFar (N : Table) (last : Kind) : Type 0 where
   pub read : IsRead N
   pub once : IsOnce N
@@ -109,6 +113,7 @@ pub record IsReadSoFar (N : Table) (last : Kind) : Type 0 where
   pub sources : length N.sources ≤ MOST_SOURCES_OF_PAIR * length N.pairs
   pub resets : kind_place last < kind_place kind.Reset → N.resets ≡ []
   pub vendors : kind_place last < kind_place kind.Vendor → N.vendors ≡ []
+  pub ended : kind_place last < kind_place kind.End → N.ended ≡ false
 
 -- a row's fault with its number
 abbrev pub at_row : {A : Type 0} → ℕ → Result A TableFaultKind → Result A TableFault
@@ -155,6 +160,15 @@ abbrev pub Reads : List (List (List ℕ)) → Result Table TableFault → Type 0
 Reads [] read = read ≡ Err (record { row = 0; kind = fault.Empty })
 Reads (row ∷ rows) read = (start : Result Table TableFaultKind) × Starts row start × (read ≡ read_from start rows)
 
+-- a table that has to be whole ends with an `end` row, or it was cut off behind its last row
+abbrev pub uncut : Reading → Table → Result Table TableFault
+uncut reading N =
+    if reading.whole && not N.ended then Err (record { row = row_count N + 1; kind = fault.Cut }) else Ok N
+
+-- so it is of the rows, where they are read as is asked
+abbrev pub ReadsAs : Reading → List (List (List ℕ)) → Result Table TableFault → Type 0
+ReadsAs reading rows read = (plain : Result Table TableFault) × Reads rows plain × (read ≡ go_on plain (uncut reading))
+
 -- rows from the first one on that hold no fault; what waits for the last row is not tested
 abbrev pub HoldNoFault : List (List (List ℕ)) → Type 0
 HoldNoFault [] = Unit {0}
@@ -185,3 +199,8 @@ UnlessMemory e says = says
 abbrev pub TellsRows : Result Table TableFault → List (List (List ℕ)) → Type 0
 TellsRows (Ok N) rows = Reads rows (Ok N)
 TellsRows (Err e) rows = OfRows e.kind (IsSoundAbove e.row rows) (Reads rows (Err e))
+
+-- so it is of rows that are read as is asked
+abbrev pub TellsRowsAs : Reading → Result Table TableFault → List (List (List ℕ)) → Type 0
+TellsRowsAs reading (Ok N) rows = ReadsAs reading rows (Ok N)
+TellsRowsAs reading (Err e) rows = OfRows e.kind (IsSoundAbove e.row rows) (ReadsAs reading rows (Err e))

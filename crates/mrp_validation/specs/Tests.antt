@@ -19,6 +19,7 @@ use Rattle.mrp_master_data.specs.Table.{arrivals, horizon, is_joined, is_taken_f
 use Rattle.mrp_master_data.specs.Spelling.{is_name}
 use Rattle.mrp_master_data.specs.Parsing.{spelled_number, number_within, rule_of}
 use Rattle.mrp_master_data.specs.Supplies.{SourceTerms}
+use Rattle.mrp_master_data.specs.Turns.{row_count}
 use Rattle.mrp_master_data.specs.SupplyParsing.{named_sources, names_plant, supply_of}
 use Rattle.mrp_validation.specs.declared.fault.TableFaultKind.{TableFaultKind}
 use Rattle.mrp_validation.specs.declared.fault.TableFaultKind.TheVariants as fault
@@ -198,6 +199,11 @@ day_passes N row (fault.CalendarFault cal.PastEnd) =
     nat_le (last_day (begun_with N.calendar (period_begun N row) (day_begun row))) last_date
 day_passes N row e = true
 
+-- an end row says how many rows stand above it
+abbrev pub end_passes : Table → List (List ℕ) → TableFaultKind → Bool
+end_passes N row fault.BadNumber = has_number row 1 (row_count N) (row_count N)
+end_passes N row e = true
+
 -- a row of that kind; a run row stands first, and no other is one
 abbrev pub passes_of : Option Kind → Table → List (List ℕ) → TableFaultKind → Bool
 passes_of None N row e = true
@@ -215,6 +221,7 @@ passes_of (Some kind.Policy) N row e = policy_passes N row e
 passes_of (Some kind.Usage) N row e = usage_passes N row e
 passes_of (Some kind.Vendor) N row e = vendor_passes N row e
 passes_of (Some kind.Day) N row e = day_passes N row e
+passes_of (Some kind.End) N row e = end_passes N row e
 
 -- ---- the tests of every row
 

@@ -1,7 +1,7 @@
 -- A table written out: the rows that say it, kind by kind, each kind in the order of its list, field by
 -- field. Nothing here speaks of reading.
 use Rattle.std.specs.Prelude.{◌≡◌, ◌≤◌, ℕ, ◌+◌, max, List, [], ◌∷◌, ◌++◌, codes, map, Option, Some, decimal}
-use Rattle.std.specs.Prelude.{None}
+use Rattle.std.specs.Prelude.{None, if◌then◌else◌}
 use Rattle.std.specs.Option.{option_map_or}
 use Rattle.mrp_cal.specs.declared.begun.Begun.{Begun}
 use Rattle.mrp_cal.specs.Calendar.{CalendarTerms}
@@ -11,6 +11,7 @@ use Rattle.mrp_master_data.specs.Said.{item_name, pair_item, pair_plant, plant_n
 use Rattle.mrp_master_data.specs.Spelling.{rule_text}
 use Rattle.mrp_master_data.specs.Supplies.{supply_text}
 use Rattle.mrp_master_data.specs.Table.{Table}
+use Rattle.mrp_master_data.specs.Turns.{rows_above_end}
 use Rattle.mrp_master_data.specs.declared.rows.BillRow.{BillRow}
 use Rattle.mrp_master_data.specs.declared.rows.CumRow.{CumRow}
 use Rattle.mrp_master_data.specs.declared.rows.DemandRow.{DemandRow}
@@ -95,12 +96,19 @@ vendor_fields N v =
 abbrev pub day_fields : Begun → List (List ℕ)
 day_fields b = codes "day" ∷ decimal b.period ∷ day_text b.day ∷ [] ∷ [] ∷ [] ∷ [] ∷ [] ∷ []
 
+abbrev pub end_fields : ℕ → List (List ℕ)
+end_fields rows = codes "end" ∷ decimal rows ∷ [] ∷ [] ∷ [] ∷ [] ∷ [] ∷ [] ∷ []
+
 -- ---- the rows of a table
 
 -- pairs, the first of which stands at that place
 abbrev pub pair_rows : Table → ℕ → List PairRow → List (List (List ℕ))
 pair_rows N x [] = []
 pair_rows N x (p ∷ ps) = pair_fields N x p ∷ pair_rows N (x + 1) ps
+
+-- the end row, where there is one
+abbrev pub last_row : Table → List (List (List ℕ))
+last_row N = if N.ended then end_fields (rows_above_end N) ∷ [] else []
 
 -- the rows after the run
 abbrev pub later_rows : Table → List (List (List ℕ))
@@ -111,7 +119,7 @@ later_rows N =
     ++ (map (cum_fields N) N.cums ++ (map (reset_fields N) N.resets
     ++ (map (firm_fields N) N.firms ++ (map (policy_fields N) N.policies
     ++ (map (usage_fields N) N.usages ++ (map (vendor_fields N) N.vendors
-    ++ map day_fields N.calendar.begun)))))))))))
+    ++ (map day_fields N.calendar.begun ++ last_row N))))))))))))
 
 -- the whole table
 abbrev pub rows_of : Table → List (List (List ℕ))

@@ -11,7 +11,8 @@ use thiserror::Error;
 /// Why a table is refused: the first fault of the first row that has one.
 ///
 /// A row is tested in the order of the kinds from [`NotUtf8`](TableFaultKind::NotUtf8) to
-/// [`TooMany`](TableFaultKind::TooMany), then for [`ResetOrder`](TableFaultKind::ResetOrder).
+/// [`TooMany`](TableFaultKind::TooMany), then for [`ResetOrder`](TableFaultKind::ResetOrder). That there is no row,
+/// that a pair is missing which a source takes from, and last that the table was cut off, is told behind the last row.
 #[derive(Clone, Copy, Debug, PartialEq, Eq, Error)]
 pub enum TableFaultKind {
     /// The reader failed while this row was read.
@@ -27,7 +28,7 @@ pub enum TableFaultKind {
     #[error("no kind of row")]
     UnknownKind,
     /// The first row isn't the run, or another row is, or a kind stands before the kind of the last
-    /// row.
+    /// row, or a row stands behind the end.
     #[error("the kinds of rows are out of order")]
     KindOrder,
     /// A plant, an item, a parent, a component or a vendor is no name.
@@ -42,11 +43,11 @@ pub enum TableFaultKind {
     /// The supply is misspelt, or its shares don't fit.
     #[error("not a supply")]
     BadSupply,
-    /// The run's first day, days and periods make no calendar.
+    /// The run's first day, days and periods make no calendar, or a period can't begin on the date of its day row.
     #[error("no calendar: {0}")]
     CalendarFault(CalFault),
-    /// A second row of the same plant, of the same pair, of the same parent and component, or of the
-    /// same two plants and item (a cumulative figure or where it starts anew).
+    /// A second row of the same plant, of the same pair (a pair, its policy or its vendor), of the same parent and
+    /// component (a usage: from the same period), or of the same two plants and item (a cumulative figure, or its reset).
     #[error("a second row of the same")]
     Repeated,
     /// A plant that the row names has no row.
@@ -55,14 +56,14 @@ pub enum TableFaultKind {
     /// A pair that the row names has no row.
     #[error("an unknown pair")]
     UnknownPair,
-    /// The parent of a bill row isn't made.
+    /// The parent of a bill row isn't made, or no bill row joins the parent and the component of a usage row.
     #[error("the parent is not made")]
     NotMade,
     /// The pair that receives isn't taken from the plant that ships, or the pair of a vendor isn't bought.
-    #[error("the pair is not taken from this plant")]
+    #[error("the pair does not come from there")]
     NotSourced,
     /// A pair is taken from its own plant, or a vendor has a plant's name.
-    #[error("a pair is taken from its own plant")]
+    #[error("a pair is taken from its own plant, or a vendor is a plant")]
     SelfSource,
     /// The row is one more of its kind than the limit.
     #[error("too many rows of this kind")]
@@ -76,6 +77,9 @@ pub enum TableFaultKind {
     /// The shipments whose figures start anew don't stand in the order of their arrival.
     #[error("the shipments are out of order")]
     ResetOrder,
+    /// There is no `end` row, where one was asked for: the table was cut off. The row is the one behind the last.
+    #[error("the table was cut off")]
+    Cut,
 }
 
 impl From<AllocError> for TableFaultKind {

@@ -34,6 +34,8 @@ pub enum Kind {
     Vendor,
     /// The date on which a period begins.
     Day,
+    /// The end of the table.
+    End,
 }
 
 /// How many of the eight fields a row of this kind uses.
@@ -55,13 +57,14 @@ pub fn used(kind: Kind) -> usize
         Kind::Usage => 7,
         Kind::Vendor => 7,
         Kind::Day => 3,
+        Kind::End => 2,
     }
 }
 
-/// Whether a row of the kind may follow a row of the kind `last`: the run stands first and once, and
-/// rows of one kind stand together.
+/// Whether a row of the kind may follow a row of the kind `last`: the run stands first and once, rows of one kind
+/// stand together, and nothing follows the end.
 pub fn may_follow(kind: Kind, last: Kind) -> bool
     ensures { result ≡ may_follow kind last }
 {
-    0 < kind as u8 && last as u8 <= kind as u8
+    0 < kind as u8 && last as u8 <= kind as u8 && (last as u8) < Kind::End as u8
 }

@@ -1,11 +1,14 @@
 //! Laws of the grammar of tables, each the contract of a function that does nothing.
-ghost use Rattle.std.specs.Prelude.{◌≡◌, ◌↔◌, ◌+◌, ◌*◌, ℕ, length, List, Ok, Result};
+ghost use Rattle.std.specs.Prelude.{◌≡◌, ◌↔◌, ◌++◌, ◌+◌, ◌*◌, ℕ, length, List, Ok, Result, true};
 ghost use Rattle.csv.specs.Reading.{AreRecords, default_config, records};
 ghost use Rattle.csv.specs.declared.parser.State.TheVariants.{StartRecord};
 ghost use Rattle.mrp_cal.specs.Calendar.{CalendarTerms};
 ghost use Rattle.mrp_cal.specs.declared.fault.CalFault.{CalFault};
+ghost use Rattle.mrp_commands.specs.declared.reading.Reading.{Reading};
 ghost use Rattle.mrp_validation.specs.declared.fault.TableFault.{TableFault};
 ghost use Rattle.mrp_validation.specs.declared.kind.Kind.{Kind};
+ghost use Rattle.mrp_validation.specs.Asked.{CutTablesAreRefused, OtherFaultsStay, ReadsAreOneAs};
+ghost use Rattle.mrp_validation.specs.Asked.{TablesEndWithTheirEnd, UsualReadingAsksNothing, WholeTablesEnd};
 ghost use Rattle.mrp_validation.specs.Faults.{faults_of, HasListedFaults, Rise};
 ghost use Rattle.mrp_validation.specs.Grammar.{RunTerms};
 ghost use Rattle.mrp_validation.specs.Missing.{TellsMissing};
@@ -20,7 +23,7 @@ pub fn what_is_read_is_a_table()
 {}
 
 /// Rows that are read are the table written out: the run row, then each plant, pair, bill, demand, receipt, ship,
-/// cum, reset, firm, policy, usage, vendor and day row of the table in its order, with the names of what it names, its
+/// cum, reset, firm, policy, usage, vendor, day and end row of the table in its order, with the names of what it names, its
 /// period, its quantity and its other values each in the field where it is written, and nothing in the fields that it
 /// doesn't use.
 pub fn rows_are_the_table_written_out()
@@ -55,6 +58,13 @@ pub fn records_are_all_records()
     ensures { (text : List ℕ) → AreRecords default_config StartRecord text (records default_config text) }
 {}
 
+/// A table that ends with its `end` row is no other table cut off: where more text follows and is read too, it is the
+/// same table.
+pub fn a_table_with_its_end_is_whole()
+    ensures { (text more : List ℕ) (N M : Table) → Reads (records default_config text) (Ok N)
+        → Reads (records default_config (text ++ more)) (Ok M) → N.ended ≡ true → N ≡ M }
+{}
+
 /// A run row has one calendar at most, or one fault of its calendar.
 pub fn a_run_has_one_calendar()
     ensures { (t : RunTerms) (a b : Result CalendarTerms CalFault) → IsCalendarOf t a → IsCalendarOf t b → a ≡ b }
@@ -85,4 +95,36 @@ pub fn rows_have_their_first_fault()
 /// row, at the row of the pair of the first such source.
 pub fn missing_pairs_are_told()
     ensures { (N : Table) → TellsMissing N }
+{}
+
+/// A table has an end where an `end` row is its last, and that row says how many stand above it.
+pub fn tables_end_with_their_end()
+    ensures { (rows : List (List (List ℕ))) (N : Table) → TablesEndWithTheirEnd rows N }
+{}
+
+/// Rows are read as is asked one way at most.
+pub fn reads_as_asked_are_one()
+    ensures { (reading : Reading) (rows : List (List (List ℕ))) (a b : Result Table TableFault)
+        → ReadsAreOneAs reading rows a b }
+{}
+
+/// Where a table need not be whole it is read as ever.
+pub fn usual_reading_asks_nothing()
+    ensures { (reading : Reading) (rows : List (List (List ℕ))) (read : Result Table TableFault)
+        → UsualReadingAsksNothing reading rows read }
+{}
+
+/// A table that has to be whole is read where it is one and ends with its `end` row.
+pub fn whole_tables_end()
+    ensures { (reading : Reading) (rows : List (List (List ℕ))) (N : Table) → WholeTablesEnd reading rows N }
+{}
+
+/// Rows are refused as cut off, at the row behind the last, where the table has to be whole and has no `end` row.
+pub fn cut_tables_are_refused()
+    ensures { (reading : Reading) (rows : List (List (List ℕ))) (e : TableFault) → CutTablesAreRefused reading rows e }
+{}
+
+/// Rows that have another fault are refused for it, whether the table has to be whole or not.
+pub fn other_faults_stay()
+    ensures { (reading : Reading) (rows : List (List (List ℕ))) (e : TableFault) → OtherFaultsStay reading rows e }
 {}

@@ -118,6 +118,9 @@ returns-then-not-branch-clause-ended g c = λ none. refl
 pub add-requires-clause-draft : goal.add-requires-clause-draft
 add-requires-clause-draft g c = c.requires.draft
 
+pub add-requires-clause-kept : goal.add-requires-clause-kept
+add-requires-clause-kept g c = c.requires.kept
+
 pub add-requires-clause-room : goal.add-requires-clause-room
 add-requires-clause-room g c = c.requires.room
 

@@ -16,7 +16,7 @@ steps_more : (old steps number new : ℕ) → steps + 2 ≡ old + number → new
 steps_more old steps number new turns tick = omega arith
 
 -- there are fewer rows than turns
-no_more : (d : Draft) (number : ℕ) → IsDraft d → d.rows + 1 ≡ number → 5540170 ≤ number → ⊥
+no_more : (d : Draft) (number : ℕ) → IsDraft d → d.rows + 1 ≡ number → 5540171 ≤ number → ⊥
 no_more d number is rows far = omega (arith, draft_rows-le d is)
 
 pub returns-in_err-read_next-clause-exact : goal.returns-in_err-read_next-clause-exact

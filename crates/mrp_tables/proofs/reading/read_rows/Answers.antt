@@ -8,31 +8,49 @@ use Rattle.mrp_validation.specs.declared.fault.TableFault.{TableFault}
 use Rattle.mrp_master_data.specs.Turns.{row_count}
 use Rattle.mrp_qty.specs.declared.limits.TheConstants.{MAX_TURNS}
 use Rattle.mrp_validation.proofs.Listed.{first_no_read_fault}
+use Rattle.mrp_tables.proofs.Asked.{left_as, whole_as, whole_ends}
 use Rattle.mrp_validation.proofs.Loop.{none_there, some_there}
-use Rattle.mrp_tables.proofs.StepCount.{first_step, later_step, of_each, of_missing, steps_all, steps_named, when_missing}
-use Rattle.mrp_validation.proofs.Whole.{bad_first, first_fault, no_first, rest_fault, whole, whole_own}
+use Rattle.mrp_tables.proofs.StepCount.{first_step, later_step, of_each, of_missing, steps_all, steps_named, waited_own, when_waited}
+use Rattle.mrp_validation.proofs.Whole.{bad_first, first_fault, no_first, rest_fault}
 use Rattle.mrp_validation.proofs.KeepingSteps.{handed_on}
 use Rattle.mrp_tables.proofs.reading.read_rows.Goals as goal
 
 pub returns-in_err-next_row-clause-table : goal.returns-in_err-next_row-clause-table
 returns-in_err-next_row-clause-table g c = rw (handed_on c.from_residual.result _ c.from_residual.ensures.1)
-    (bad_first (rows_left g.R.Read.remaining c.args.rows.now) _ c.in_err-next_row.ensures.number c.in_err-next_row.ensures.exact)
+    (left_as c.args.reading (rows_left g.R.Read.remaining c.args.rows.now) _
+    (bad_first (rows_left g.R.Read.remaining c.args.rows.now) _ c.in_err-next_row.ensures.number c.in_err-next_row.ensures.exact))
 
 pub returns-in_err-draft-clause-table : goal.returns-in_err-draft-clause-table
 returns-in_err-draft-clause-table g c =
     let takes = some_there c.in_ok-next_row.field-0 (rows_left g.R.Read.remaining c.args.rows.now) (rows_left g.R.Read.remaining c.next_row.new.rows) 1
     (fields_of c.next_row.new.row) c.if-not-branch.false c.in_ok-next_row.ensures.exact in
     rw (handed_on c.from_residual-in_err-draft.result _ c.from_residual-in_err-draft.ensures.1)
+    (left_as c.args.reading (rows_left g.R.Read.remaining c.args.rows.now) _
     (first_fault (rows_left g.R.Read.remaining c.args.rows.now) (rows_left g.R.Read.remaining c.next_row.new.rows)
-    (fields_of c.next_row.new.row) _ takes c.in_err-draft.ensures.exact)
+    (fields_of c.next_row.new.row) _ takes c.in_err-draft.ensures.exact))
 
 pub returns-in-Ok-clause-table : goal.returns-in-Ok-clause-table
 returns-in-Ok-clause-table g c =
     let takes = some_there c.in_ok-next_row.field-0 (rows_left g.R.Read.remaining c.args.rows.now) (rows_left g.R.Read.remaining c.next_row.new.rows) 1
     (fields_of c.next_row.new.row) c.if-not-branch.false c.in_ok-next_row.ensures.exact in
-    whole (rows_left g.R.Read.remaining c.args.rows.now) (rows_left g.R.Read.remaining c.next_row.new.rows)
+    whole_as c.args.reading (rows_left g.R.Read.remaining c.args.rows.now) (rows_left g.R.Read.remaining c.next_row.new.rows)
     (fields_of c.next_row.new.row) c.in_ok-draft.draft.lists c.in_ok-draft.draft.last c.read_rest.new.draft.lists _
     takes c.in_ok-draft.ensures.exact c.in-Ok.ensures.exact c.accept.ensures.exact
+
+pub returns-in-Ok-clause-whole : goal.returns-in-Ok-clause-whole
+returns-in-Ok-clause-whole g c = whole_ends c.args.reading c.read_rest.new.draft.lists c.accept.result c.accept.ensures.exact
+
+pub returns-in_err-next_row-clause-whole : goal.returns-in_err-next_row-clause-whole
+returns-in_err-next_row-clause-whole g c = rw (handed_on c.from_residual.result _ c.from_residual.ensures.1) tt
+
+pub returns-in_err-draft-clause-whole : goal.returns-in_err-draft-clause-whole
+returns-in_err-draft-clause-whole g c = rw (handed_on c.from_residual-in_err-draft.result _ c.from_residual-in_err-draft.ensures.1) tt
+
+pub returns-then-not-branch-clause-whole : goal.returns-then-not-branch-clause-whole
+returns-then-not-branch-clause-whole g c = tt
+
+pub returns-clause-whole : goal.returns-clause-whole
+returns-clause-whole g c = tt
 
 -- a turn for the first row, and so many more
 counted : {E : Type 0} (r : Result Table E) (N : Table) (new mid old rows : ℕ) → IfOk r (λ t. t ≡ N) → mid ≡ old + 1 → new ≡ mid + rows → rows ≡ row_count N
@@ -57,7 +75,7 @@ returns-in_err-draft-clause-failed g c =
     (λ failed. absurd (first_no_read_fault (fields_of c.next_row.new.row) _ c.in_err-draft.ensures.exact.0 failed))
 
 pub returns-in-Ok-clause-failed : goal.returns-in-Ok-clause-failed
-returns-in-Ok-clause-failed g c = whole_own c.read_rest.new.draft.lists c.accept.result _ c.accept.ensures.exact
+returns-in-Ok-clause-failed g c = waited_own c.read_rest.new.draft.lists c.accept.result _ c.accept.ensures.waited
 
 -- ---- the turns at a fault
 
@@ -72,8 +90,8 @@ pub returns-in_err-draft-clause-least : goal.returns-in_err-draft-clause-least
 returns-in_err-draft-clause-least g c = rw (handed_on c.from_residual-in_err-draft.result _ c.from_residual-in_err-draft.ensures.1)
     (least_named _ _ _ c.in_err-draft.ensures.exact.1 c.tick.ensures)
 
--- the table is all read, so the row that waits is one of those that were counted
-waited : (r : Result Table TableFault) (N : Table) (new mid old rows : ℕ) → IfErr r (λ e. e.row ≤ row_count N) → mid ≡ old + 1 → new ≡ mid + rows
+-- the table is all read, so the row that is named then is one of those that were counted, or the one behind them
+waited : (r : Result Table TableFault) (N : Table) (new mid old rows : ℕ) → IfErr r (λ e. e.row ≤ row_count N + 1) → mid ≡ old + 1 → new ≡ mid + rows
     → rows ≡ row_count N → IfErr r (λ e. old + max 1 e.row ≤ new)
 waited (Ok t) N new mid old rows above first more is = tt
 waited (Err e) N new mid old rows above first more is = omega (arith, above, first, more, is)
@@ -94,7 +112,9 @@ returns-in_err-draft-clause-named g c = rw (handed_on c.from_residual-in_err-dra
     (of_missing _ _ (first_step _ _ _ c.in_err-draft.ensures.exact.1 c.tick.ensures))
 
 pub returns-in-Ok-clause-named : goal.returns-in-Ok-clause-named
-returns-in-Ok-clause-named g c = when_missing c.accept.result _ c.accept.ensures.missing
+returns-in-Ok-clause-named g c =
+    let rest = c.in-Ok.ensures in
+    when_waited c.read_rest.new.draft.lists c.accept.result _ _ _ _ c.accept.ensures.waited c.tick.ensures rest.counted rest.draft.count
 
 pub returns-in_err-next_row-clause-ends : goal.returns-in_err-next_row-clause-ends
 returns-in_err-next_row-clause-ends g c = rw (handed_on c.from_residual.result _ c.from_residual.ensures.1)
@@ -123,9 +143,10 @@ pub returns-clause-table : goal.returns-clause-table
 returns-clause-table g c =
     let takes = some_there c.in_ok-next_row.field-0 (rows_left g.R.Read.remaining c.args.rows.now) (rows_left g.R.Read.remaining c.next_row.new.rows) 1
     (fields_of c.next_row.new.row) c.if-not-branch.false c.in_ok-next_row.ensures.exact in
-    rest_fault (rows_left g.R.Read.remaining c.args.rows.now) (rows_left g.R.Read.remaining c.next_row.new.rows)
+    left_as c.args.reading (rows_left g.R.Read.remaining c.args.rows.now) _
+    (rest_fault (rows_left g.R.Read.remaining c.args.rows.now) (rows_left g.R.Read.remaining c.next_row.new.rows)
     (fields_of c.next_row.new.row) c.in_ok-draft.draft.lists c.in_ok-draft.draft.last c.in-Err.fault takes c.in_ok-draft.ensures.exact
-    c.in-Err.ensures.exact
+    c.in-Err.ensures.exact)
 
 pub returns-clause-named : goal.returns-clause-named
 returns-clause-named g c = of_missing _ _ (later_step _ _ _ _ c.in-Err.ensures.later c.tick.ensures c.in-Err.ensures.least)
@@ -171,8 +192,9 @@ returns-clause-least g c = least_rest _ _ _ _ c.in-Err.ensures.later c.tick.ensu
 
 pub returns-then-not-branch-clause-table : goal.returns-then-not-branch-clause-table
 returns-then-not-branch-clause-table g c =
-    no_first (rows_left g.R.Read.remaining c.args.rows.now) (none_there c.in_ok-next_row.field-0 (rows_left g.R.Read.remaining c.args.rows.now)
-    (rows_left g.R.Read.remaining c.next_row.new.rows) 1 (fields_of c.next_row.new.row) c.if-not-branch.true c.in_ok-next_row.ensures.exact)
+    left_as c.args.reading (rows_left g.R.Read.remaining c.args.rows.now) (record { row = 0; kind = fault.Empty })
+    (no_first (rows_left g.R.Read.remaining c.args.rows.now) (none_there c.in_ok-next_row.field-0 (rows_left g.R.Read.remaining c.args.rows.now)
+    (rows_left g.R.Read.remaining c.next_row.new.rows) 1 (fields_of c.next_row.new.row) c.if-not-branch.true c.in_ok-next_row.ensures.exact))
 
 pub returns-then-not-branch-clause-failed : goal.returns-then-not-branch-clause-failed
 returns-then-not-branch-clause-failed g c = λ failed. absurd (empty_read failed)

@@ -1,6 +1,6 @@
 use Rattle.std.proofs.Common.{sym, ◌∙◌}
 use Rattle.csv.specs.Records.{fields_of}
-use Rattle.mrp_tables.proofs.Starting.{after-bad_kind, after-bad_order, after-fault, after-made, told}
+use Rattle.mrp_tables.proofs.Starting.{after-bad_kind, after-bad_order, after-fault, after-made, follows_open, told}
 use Rattle.mrp_validation.proofs.KeepingSteps.{handed_on}
 use Rattle.mrp_tables.proofs.draft.Draft.add.Goals as goal
 
@@ -30,3 +30,7 @@ returns-clause-exact c =
     let self = c.args.self.now in
     after-made self.lists self.last (fields_of c.args.row.now) c.requires.text c.in_ok-kind.kind _ (sym c.row_kind.ensures ∙ c.in_ok-kind.was)
     (sym c.may_follow.ensures ∙ c.if-not-may_follow.false) c.in_ok-add_row.ensures.exact
+
+pub add_row-requires-clause-endless : goal.add_row-requires-clause-endless
+add_row-requires-clause-endless c =
+    c.requires.kept.ended (follows_open c.in_ok-kind.kind c.args.self.now.last (sym c.may_follow.ensures ∙ c.if-not-may_follow.false))

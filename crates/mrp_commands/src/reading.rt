@@ -1,0 +1,8 @@
+//! How a table is to be read.
+
+/// How a table is to be read.
+#[derive(Clone, Copy, Debug, PartialEq, Eq)]
+pub struct Reading {
+    /// It has to end with an `end` row: one without it was cut off, and is refused.
+    pub whole: bool,
+}
