@@ -1,0 +1,5 @@
+pub mod Lengthening
+pub mod Reach
+pub mod ReachLaws
+pub mod ReachRows
+pub mod ReachSheets
