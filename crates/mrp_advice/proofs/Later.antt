@@ -13,35 +13,36 @@ use Rattle.mrp_master_data.specs.Table.{Table, horizon}
 use Rattle.mrp_net.specs.Plan.{pair_data}
 use Rattle.mrp_advice.specs.declared.advice.Advice.{Advice}
 use Rattle.mrp_advice.specs.declared.orders.OpenOrder.{OpenOrder}
-use Rattle.mrp_advice.specs.Advice.{action_for, advice_for, messages, messages_of}
+use Rattle.mrp_advice.specs.Advice.{messages, messages_of}
 use Rattle.mrp_advice.specs.AdviceLaws.{AllAreAdvised, HorizonDropsNone, NoneComesLater, OthersAreKept}
 use Rattle.mrp_advice.specs.AdviceLines.{IsOpenOrder}
+use Rattle.mrp_advice.specs.Beyond.{advice_within, needs_whole}
 use Rattle.mrp_advice.specs.Needed.{needed}
 use Rattle.mrp_advice.specs.OpenOrders.{comes_by, no_order, open_order_at, open_orders}
 use Rattle.mrp_advice.proofs.Coming.{open_in_table}
-use Rattle.mrp_advice.proofs.LineFacts.{said}
+use Rattle.mrp_advice.proofs.BeyondFacts.{said_within}
 
 -- all messages of a pair
-abbrev pair_messages : Table → List PlanRows → ℕ → List Advice
-pair_messages N table x = messages (pair_data N table x) (open_orders N x)
+abbrev pair_messages : Option (List ℕ) → Table → List PlanRows → ℕ → List Advice
+pair_messages wholes N table x = messages (needs_whole wholes N x) (pair_data N table x) (open_orders N x)
 
 pub all_are_advised : AllAreAdvised
-all_are_advised N table x = filter_whole (λ (a : Advice). comes_by None a.order) (pair_messages N table x) (λ k d h. refl)
+all_are_advised wholes N table x = filter_whole (λ (a : Advice). comes_by None a.order) (pair_messages wholes N table x) (λ k d h. refl)
 
 pub none_comes_later : NoneComesLater
-none_comes_later until N table x =
+none_comes_later wholes until N table x =
     let by : Advice → Bool = λ a. comes_by (Some until) a.order in
-    λ k d h. leb-true _ until (filter_passes by (pair_messages N table x) k d h)
+    λ k d h. leb-true _ until (filter_passes by (pair_messages wholes N table x) k d h)
 
 later : (period until : ℕ) → ltb until period ≡ not (leb period until)
 later period until = grind (arith, nat_tests)
 
 pub others_are_kept : OthersAreKept
-others_are_kept until N table x =
+others_are_kept wholes until N table x =
     let by : Advice → Bool = λ a. comes_by (Some until) a.order in
     let after : Advice → Bool = λ a. ltb until a.order.period in
-    let all = pair_messages N table x in
-    subst (λ (z : List Advice). IsPermutation z (filter by all ++ filter after z)) (sym (all_are_advised N table x))
+    let all = pair_messages wholes N table x in
+    subst (λ (z : List Advice). IsPermutation z (filter by all ++ filter after z)) (sym (all_are_advised wholes N table x))
     (IsPermutation-filter_both by after (λ a. later a.order.period until) all)
 
 -- ---- a last period at the end of the horizon
@@ -57,19 +58,17 @@ all_found P f a (suc n) each =
     all_more P (f a) (filter_map f (range_with_len (a + 1) n)) (each a (omega arith)) (all_found P f (a + 1) n (λ i h. each i (omega arith)))
 
 -- the messages of open orders in the horizon are for periods of it
-messages_within : (N : Table) (needs : ℕ → Option ℕ) (orders : List OpenOrder) → All (IsOpenOrder N) orders
-    → All (λ a. a.order.period < horizon N) (messages_of needs orders)
-messages_within N needs orders are =
-    all_found (λ a. a.order.period < horizon N) (λ i. advice_for (open_order_at orders i) (needs i)) 0 (length orders)
-    (λ i h. said (λ a. a.order.period < horizon N) (λ action. record {
-      action = action;
-      order = open_order_at orders i;
-      needed = needs i;
-    }) (action_for (open_order_at orders i).period (needs i)) (λ action. (are i no_order (omega arith)).due))
+messages_within : (N : Table) (whole : Option ℕ) (needs : ℕ → Option ℕ) (orders : List OpenOrder) → All (IsOpenOrder N) orders
+    → All (λ a. a.order.period < horizon N) (messages_of whole needs orders)
+messages_within N whole needs orders are =
+    all_found (λ a. a.order.period < horizon N) (λ i. advice_within whole (open_order_at orders i) (needs i)) 0 (length orders)
+    (λ i h.
+    let due = (are i no_order (omega arith)).due in
+    said_within (λ a. a.order.period < horizon N) whole (open_order_at orders i) (needs i) (λ action. due) due)
 
 pub horizon_drops_none : HorizonDropsNone
-horizon_drops_none until N is end table x =
-    let within = messages_within N (needed (pair_data N table x) (open_orders N x)) (open_orders N x) (open_in_table N is x) in
-    filter_whole (λ (a : Advice). comes_by (Some until) a.order) (pair_messages N table x)
+horizon_drops_none wholes until N is end table x =
+    let within = messages_within N (needs_whole wholes N x) (needed (pair_data N table x) (open_orders N x)) (open_orders N x) (open_in_table N is x) in
+    filter_whole (λ (a : Advice). comes_by (Some until) a.order) (pair_messages wholes N table x)
     (λ k d h. let period = within k d h in le-leb _ until (omega (arith, period, end)))
-    ∙ sym (all_are_advised N table x)
+    ∙ sym (all_are_advised wholes N table x)

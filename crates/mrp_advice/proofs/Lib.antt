@@ -11,7 +11,10 @@ pub mod Planned
 pub mod Messages
 pub mod PlainFacts
 pub mod LackFacts
-pub mod ReachFacts
+pub mod RunOutFacts
+pub mod BeyondFacts
 pub mod LineFacts
 pub mod Later
 pub mod SheetFacts
+pub mod Alike
+pub mod Staying

@@ -13,6 +13,7 @@ use Rattle.mrp_net.proofs.Sooner.{received_sooner-none}
 use Rattle.mrp_plan.proofs.Pegs.{fitting_gross}
 use Rattle.mrp_advice.specs.declared.orders.OpenOrder.{OpenOrder}
 use Rattle.mrp_advice.specs.Advice.{messages_by}
+use Rattle.mrp_advice.specs.Beyond.{needs_whole}
 use Rattle.mrp_advice.specs.AdviceLaws.{PlainPairsAreAdvised}
 use Rattle.mrp_advice.specs.Needed.{asked_by, has_before, may_come_sooner, needed, pieces_of}
 use Rattle.mrp_advice.specs.OpenOrders.{is_receipt, open_order_at, open_orders}
@@ -65,8 +66,8 @@ module _ (N : Table) (table : List PlanRows) (x : ℕ) (none : (policy_of N x).s
       ∙ ap (nat_lt (had_before (pair_at N x) orders i)) (asked_same t no_cover))
 
 pub plain_pairs_are_advised : PlainPairsAreAdvised
-plain_pairs_are_advised N table fits x pair none no_cover until =
+plain_pairs_are_advised N table fits x pair none no_cover wholes until =
     let orders = open_orders N x in
-    messages_same until (needed (pair_data N table x) orders) (plain_needed (pair_at N x) (row_of N (gross N table x)) orders) orders
+    messages_same (needs_whole wholes N x) until (needed (pair_data N table x) orders) (plain_needed (pair_at N x) (row_of N (gross N table x)) orders) orders
     (λ i. needed_same N table x none orders i no_cover)
-    ∙ ap (λ (row : List ℕ). messages_by until (plain_needed (pair_at N x) row orders) orders) (sym (fitting_gross N table x fits pair))
+    ∙ ap (λ (row : List ℕ). messages_by (needs_whole wholes N x) until (plain_needed (pair_at N x) row orders) orders) (sym (fitting_gross N table x fits pair))

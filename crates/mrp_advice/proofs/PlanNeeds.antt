@@ -11,9 +11,9 @@ use Rattle.mrp_master_data.specs.Table.{Table, IsTable}
 use Rattle.mrp_net.specs.Plan.{pair_data}
 use Rattle.mrp_net.specs.Policies.{policy_of}
 use Rattle.mrp_advice.specs.declared.advice.Action.{Action}
-use Rattle.mrp_advice.specs.declared.advice.Action.TheVariants.{Cancel, Defer, Expedite}
+use Rattle.mrp_advice.specs.declared.advice.Action.TheVariants.{Beyond, Cancel, Defer, Expedite}
 use Rattle.mrp_advice.specs.declared.orders.OpenOrder.{OpenOrder}
-use Rattle.mrp_advice.specs.Advice.{action_for}
+use Rattle.mrp_advice.specs.Actions.{action_for}
 use Rattle.mrp_advice.specs.AdviceLaws.{ExpeditedIsCountedSooner, NeededIsCountedSooner, OthersAreNeeded, ReceiptsAreNeeded}
 use Rattle.mrp_advice.specs.Needed.{asked_by, has_before, is_needed_by, may_come_sooner, needed, pieces_of}
 use Rattle.mrp_advice.specs.OpenOrders.{is_receipt, no_order, open_order_at, open_orders}
@@ -128,6 +128,7 @@ is_expedite None = false
 is_expedite (Some Expedite) = true
 is_expedite (Some Defer) = false
 is_expedite (Some Cancel) = false
+is_expedite (Some Beyond) = false
 
 -- what is expedited is needed by the period before it comes
 early_needed : (due_in : ℕ) (o : Option ℕ) → action_for due_in o ≡ Some Expedite → (0 < due_in) × (is_needed_by (due_in - 1) o ≡ true)

@@ -15,7 +15,7 @@ use Rattle.mrp_csv_out.proofs.FieldFacts.{ArePlain, headed_read, more, none, num
 use Rattle.mrp_csv_out.proofs.PlainFacts.{dates_plain, item_plain, plant_plain}
 use Rattle.mrp_csv_out.proofs.ReadBack.{IsRow, all_each, all_map, row_each, rows_each}
 use Rattle.mrp_advice.specs.declared.advice.Action.{Action}
-use Rattle.mrp_advice.specs.declared.advice.Action.TheVariants.{Expedite, Defer, Cancel}
+use Rattle.mrp_advice.specs.declared.advice.Action.TheVariants.{Expedite, Defer, Cancel, Beyond}
 use Rattle.mrp_advice.specs.declared.advice.Advice.{Advice}
 use Rattle.mrp_advice.specs.declared.orders.OrderKind.{OrderKind}
 use Rattle.mrp_advice.specs.declared.orders.OrderKind.TheVariants.{Firm, Receipt, Ship}
@@ -30,6 +30,7 @@ action_plain : (action : Action) → IsPlain (action_word action)
 action_plain Expedite = refl
 action_plain Defer = refl
 action_plain Cancel = refl
+action_plain Beyond = refl
 
 kind_plain : (kind : OrderKind) → IsPlain (order_kind_word kind)
 kind_plain Receipt = refl
@@ -66,24 +67,25 @@ advice_names_are_row = record {
   front = λ rest. refl;
 }
 
-messages_are_sheet : (until : Option ℕ) (N : Table) (table : List PlanRows)
-    → messages_text until N table ≡ flat_map row (flat_map (pair_advice_sheet until N table) (pairs_of N))
+messages_are_sheet : (wholes : Option (List ℕ)) (until : Option ℕ) (N : Table) (table : List PlanRows)
+    → messages_text wholes until N table ≡ flat_map row (flat_map (pair_advice_sheet wholes until N table) (pairs_of N))
 unfolding messages_text pair_advice_text advice_row
-messages_are_sheet until N table =
-    rows_each (pair_advice_text until N table) (pair_advice_sheet until N table)
-    (λ x. row_each (advice_fields N (plant_of N x) (item_of N x) (dates_of N.calendar)) (pair_advice until N table x)) (pairs_of N)
+messages_are_sheet wholes until N table =
+    rows_each (pair_advice_text wholes until N table) (pair_advice_sheet wholes until N table)
+    (λ x. row_each (advice_fields N (plant_of N x) (item_of N x) (dates_of N.calendar)) (pair_advice wholes until N table x)) (pairs_of N)
 
-rows_are : (until : Option ℕ) (N : Table) → IsTable N → (table : List PlanRows) → All IsRow (flat_map (pair_advice_sheet until N table) (pairs_of N))
-rows_are until N is table =
-    all_each (pair_advice_sheet until N table)
+rows_are : (wholes : Option (List ℕ)) (until : Option ℕ) (N : Table) → IsTable N → (table : List PlanRows)
+    → All IsRow (flat_map (pair_advice_sheet wholes until N table) (pairs_of N))
+rows_are wholes until N is table =
+    all_each (pair_advice_sheet wholes until N table)
     (λ x. all_map (advice_fields N (plant_of N x) (item_of N x) (dates_of N.calendar))
     (λ advice. advice_is_row N is (plant_of N x) (item_of N x) (dates_of N.calendar) advice (plant_plain N is (pair_at N x).plant.0)
     (item_plain N is (pair_at N x).item.0) (dates_plain N.calendar))
-    (pair_advice until N table x))
+    (pair_advice wholes until N table x))
     (pairs_of N)
 
 pub advice_is_read : AdviceIsReadBack
 unfolding advice_text
-advice_is_read N is heading until table =
-    headed_read heading advice_names advice_names_are_row (messages_text until N table) (flat_map (pair_advice_sheet until N table) (pairs_of N))
-    (messages_are_sheet until N table) (rows_are until N is table)
+advice_is_read N is heading wholes until table =
+    headed_read heading advice_names advice_names_are_row (messages_text wholes until N table)
+    (flat_map (pair_advice_sheet wholes until N table) (pairs_of N)) (messages_are_sheet wholes until N table) (rows_are wholes until N is table)

@@ -21,7 +21,7 @@ use Rattle.mrp_net.proofs.Sooner.{received_sooner-few}
 use Rattle.mrp_advice.specs.declared.advice.Action.{Action}
 use Rattle.mrp_advice.specs.declared.advice.Action.TheVariants.{Defer, Expedite}
 use Rattle.mrp_advice.specs.declared.orders.OpenOrder.{OpenOrder}
-use Rattle.mrp_advice.specs.Advice.{action_for}
+use Rattle.mrp_advice.specs.Actions.{action_for}
 use Rattle.mrp_advice.specs.AdviceLaws.{CountedSoonerIsExpedited, NeedsRise, TimelyOrdersSuffice, timely}
 use Rattle.mrp_advice.specs.Needed.{asked_by, has_before, is_needed_by, may_come_sooner, needed, pieces_of, there_beside}
 use Rattle.mrp_advice.specs.OpenOrders.{open_order_at, open_orders}

@@ -18,7 +18,9 @@ use Rattle.mrp_loops.specs.Sized.{IsSized}
 use Rattle.mrp_csv_out.specs.Sheets.{IsReadAs}
 use Rattle.mrp_advice.specs.declared.advice.Action.TheVariants.{Expedite}
 use Rattle.mrp_advice.specs.declared.orders.OpenOrder.{OpenOrder}
-use Rattle.mrp_advice.specs.Advice.{action_for, messages, messages_by, pair_advice}
+use Rattle.mrp_advice.specs.Actions.{action_for}
+use Rattle.mrp_advice.specs.Advice.{messages, messages_by, pair_advice}
+use Rattle.mrp_advice.specs.Beyond.{needs_whole}
 use Rattle.mrp_advice.specs.Needed.{asked_by, is_needed_by, may_come_sooner, needed, pieces_of, there_beside}
 use Rattle.mrp_advice.specs.OpenOrders.{all_orders, comes_by, open_order_at, open_orders, orders_in}
 use Rattle.mrp_advice.specs.PlainNeeds.{gross_to, plain_needed}
@@ -132,9 +134,9 @@ CancelledOrdersChangeNothing =
 abbrev pub PlainPairsAreAdvised : Type 0
 PlainPairsAreAdvised =
     (N : Table) (table : List PlanRows) → Fits N table → (x : ℕ) → IsPair N x
-    → (policy_of N x).sooner ≡ 0 → (policy_of N x).cover ≡ 0 → (until : Option ℕ)
-    → pair_advice until N table x
-    ≡ messages_by until (plain_needed (pair_at N x) (rows_at table x).gross (open_orders N x)) (open_orders N x)
+    → (policy_of N x).sooner ≡ 0 → (policy_of N x).cover ≡ 0 → (wholes : Option (List ℕ)) (until : Option ℕ)
+    → pair_advice wholes until N table x
+    ≡ messages_by (needs_whole wholes N x) until (plain_needed (pair_at N x) (rows_at table x).gross (open_orders N x)) (open_orders N x)
 
 -- if each order came when it is needed, the balance without any planned order would be at safety stock or above in each
 -- period before one in which an order is needed
@@ -189,28 +191,29 @@ OrdersAreAllPlanned = (N : Table) (table : List PlanRows) → Fits N table → (
 
 -- without a period the report has all messages of a pair
 abbrev pub AllAreAdvised : Type 0
-AllAreAdvised = (N : Table) (table : List PlanRows) (x : ℕ)
-    → pair_advice None N table x ≡ messages (pair_data N table x) (open_orders N x)
+AllAreAdvised = (wholes : Option (List ℕ)) (N : Table) (table : List PlanRows) (x : ℕ)
+    → pair_advice wholes None N table x ≡ messages (needs_whole wholes N x) (pair_data N table x) (open_orders N x)
 
 -- with one it has none for an open order that comes later
 abbrev pub NoneComesLater : Type 0
-NoneComesLater = (until : ℕ) (N : Table) (table : List PlanRows) (x : ℕ)
-    → All (λ a. a.order.period ≤ until) (pair_advice (Some until) N table x)
+NoneComesLater = (wholes : Option (List ℕ)) (until : ℕ) (N : Table) (table : List PlanRows) (x : ℕ)
+    → All (λ a. a.order.period ≤ until) (pair_advice wholes (Some until) N table x)
 
 -- and with the messages for those it has all, each once
 abbrev pub OthersAreKept : Type 0
-OthersAreKept = (until : ℕ) (N : Table) (table : List PlanRows) (x : ℕ)
-    → IsPermutation (pair_advice None N table x)
-    (pair_advice (Some until) N table x ++ filter (λ a. nat_lt until a.order.period) (pair_advice None N table x))
+OthersAreKept = (wholes : Option (List ℕ)) (until : ℕ) (N : Table) (table : List PlanRows) (x : ℕ)
+    → IsPermutation (pair_advice wholes None N table x)
+    (pair_advice wholes (Some until) N table x
+    ++ filter (λ a. nat_lt until a.order.period) (pair_advice wholes None N table x))
 
 -- so the last period of the horizon leaves nothing out, nor does a later one
 abbrev pub HorizonDropsNone : Type 0
-HorizonDropsNone = (until : ℕ) (N : Table) → IsTable N → horizon N ≤ until + 1 → (table : List PlanRows) (x : ℕ)
-    → pair_advice (Some until) N table x ≡ pair_advice None N table x
+HorizonDropsNone = (wholes : Option (List ℕ)) (until : ℕ) (N : Table) → IsTable N → horizon N ≤ until + 1 → (table : List PlanRows) (x : ℕ)
+    → pair_advice wholes (Some until) N table x ≡ pair_advice wholes None N table x
 
 -- the report of an accepted table is read back: what csv reads of it by its defaults is the fields that its rows are
 -- made of
 abbrev pub AdviceIsReadBack : Type 0
 AdviceIsReadBack =
-    (N : Table) → IsTable N → (heading : Heading) (until : Option ℕ) (table : List PlanRows)
-    → IsReadAs (advice_text heading until N table) (advice_sheet heading until N table)
+    (N : Table) → IsTable N → (heading : Heading) (wholes : Option (List ℕ)) (until : Option ℕ) (table : List PlanRows)
+    → IsReadAs (advice_text heading wholes until N table) (advice_sheet heading wholes until N table)

@@ -14,15 +14,17 @@ use Rattle.mrp_advice.specs.declared.advice_report.AdviceLine.{AdviceLine}
 use Rattle.mrp_advice.specs.declared.lacks.Lacks.{Lacks}
 use Rattle.mrp_advice.specs.Advice.{messages_by}
 use Rattle.mrp_advice.specs.AdviceRows.{advice_row}
+use Rattle.mrp_advice.specs.Beyond.{needs_whole}
 use Rattle.mrp_advice.specs.Lacking.{HaveRoom}
 use Rattle.mrp_advice.specs.OpenOrders.{comes_by}
 
 -- what the rows of a pair's messages have in common
-pub record IsAdviceLine (N : Table) (x : ℕ) (until : Option ℕ) (line : AdviceLine) : Type 0 where
+pub record IsAdviceLine (N : Table) (x : ℕ) (wholes : Option (List ℕ)) (until : Option ℕ) (line : AdviceLine) : Type 0 where
   pub network : line.network.now ≡ N
   pub plant : line.plant.now ≡ plant_of N x
   pub item : line.item.now ≡ item_of N x
   pub dates : line.dates.now ≡ dates_of N.calendar
+  pub whole : line.whole ≡ needs_whole wholes N x
   pub by_then : line.until ≡ until
 
 -- the row of a message, and that of an open order where it has a message and comes by then
@@ -35,7 +37,7 @@ message_text line (Some advice) = if comes_by line.until advice.order then advic
 
 -- those of all messages of a pair for orders that come by then, where each order is needed in some period or in none
 abbrev pub advice_line_text : AdviceLine → (ℕ → Option ℕ) → List OpenOrder → List ℕ
-advice_line_text line needs orders = flat_map (advice_line_row line) (messages_by line.until needs orders)
+advice_line_text line needs orders = flat_map (advice_line_row line) (messages_by line.whole line.until needs orders)
 
 -- a shipment comes from a plant of the table
 abbrev pub HasSender : Table → OrderKind → Type 0

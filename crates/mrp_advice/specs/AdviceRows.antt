@@ -11,7 +11,7 @@ use Rattle.mrp_csv_out.specs.Headings.{header_row}
 use Rattle.mrp_csv_out.specs.Names.{item_of, pairs_of, plant_of}
 use Rattle.mrp_csv_out.specs.Rows.{row}
 use Rattle.mrp_advice.specs.declared.advice.Action.{Action}
-use Rattle.mrp_advice.specs.declared.advice.Action.TheVariants.{Expedite, Defer, Cancel}
+use Rattle.mrp_advice.specs.declared.advice.Action.TheVariants.{Expedite, Defer, Cancel, Beyond}
 use Rattle.mrp_advice.specs.declared.advice.Advice.{Advice}
 use Rattle.mrp_advice.specs.declared.orders.OrderKind.{OrderKind}
 use Rattle.mrp_advice.specs.declared.orders.OrderKind.TheVariants.{Firm, Receipt, Ship}
@@ -31,6 +31,7 @@ abbrev pub action_word : Action → List ℕ
 action_word Expedite = text_bytes "expedite"
 action_word Defer = text_bytes "defer"
 action_word Cancel = text_bytes "cancel"
+action_word Beyond = text_bytes "beyond"
 
 abbrev pub order_kind_word : OrderKind → List ℕ
 order_kind_word Receipt = text_bytes "receipt"
@@ -44,7 +45,7 @@ sender_name N (Ship from) = plant_name N from.0
 sender_name N Firm = []
 
 -- the fields of the row of a message: what to do, what the order is, when it is due, and when it is needed, which is
--- empty where it is needed in no period
+-- empty where it is needed in no period, or where that isn't known
 abbrev pub advice_fields : Table → List ℕ → List ℕ → List (List ℕ) → Advice → List (List ℕ)
 advice_fields N plant item dates advice =
     text_bytes "advice" ∷ action_word advice.action ∷ order_kind_word advice.order.kind ∷ plant ∷ item
@@ -57,14 +58,14 @@ unfoldable pub advice_row : Table → List ℕ → List ℕ → List (List ℕ) 
 advice_row N plant item dates advice = row (advice_fields N plant item dates advice)
 
 -- the rows of a pair's messages for open orders that come by then, in the order of these
-unfoldable pub pair_advice_text : Option ℕ → Table → List PlanRows → ℕ → List ℕ
-pair_advice_text until N table x = flat_map (advice_row N (plant_of N x) (item_of N x) (dates_of N.calendar))
-    (pair_advice until N table x)
+unfoldable pub pair_advice_text : Option (List ℕ) → Option ℕ → Table → List PlanRows → ℕ → List ℕ
+pair_advice_text wholes until N table x = flat_map (advice_row N (plant_of N x) (item_of N x) (dates_of N.calendar))
+    (pair_advice wholes until N table x)
 
 -- the messages of each pair, in table order
-unfoldable pub messages_text : Option ℕ → Table → List PlanRows → List ℕ
-messages_text until N table = flat_map (pair_advice_text until N table) (pairs_of N)
+unfoldable pub messages_text : Option (List ℕ) → Option ℕ → Table → List PlanRows → List ℕ
+messages_text wholes until N table = flat_map (pair_advice_text wholes until N table) (pairs_of N)
 
 -- the report: the names of its columns, where they are asked for, and the messages
-unfoldable pub advice_text : Heading → Option ℕ → Table → List PlanRows → List ℕ
-advice_text heading until N table = header_row heading advice_names ++ messages_text until N table
+unfoldable pub advice_text : Heading → Option (List ℕ) → Option ℕ → Table → List PlanRows → List ℕ
+advice_text heading wholes until N table = header_row heading advice_names ++ messages_text wholes until N table

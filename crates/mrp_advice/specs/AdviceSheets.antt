@@ -11,11 +11,11 @@ use Rattle.mrp_advice.specs.Advice.{pair_advice}
 use Rattle.mrp_advice.specs.AdviceRows.{advice_fields, advice_names}
 
 -- the messages of a pair for open orders that come by then, in the order of these
-abbrev pub pair_advice_sheet : Option ℕ → Table → List PlanRows → ℕ → Sheet
-pair_advice_sheet until N table x = map (advice_fields N (plant_of N x) (item_of N x) (dates_of N.calendar))
-    (pair_advice until N table x)
+abbrev pub pair_advice_sheet : Option (List ℕ) → Option ℕ → Table → List PlanRows → ℕ → Sheet
+pair_advice_sheet wholes until N table x = map (advice_fields N (plant_of N x) (item_of N x) (dates_of N.calendar))
+    (pair_advice wholes until N table x)
 
 -- those of each pair, in table order, below the names of their columns, where these are asked for
-abbrev pub advice_sheet : Heading → Option ℕ → Table → List PlanRows → Sheet
-advice_sheet heading until N table = header_sheet heading advice_names
-    ++ flat_map (pair_advice_sheet until N table) (pairs_of N)
+abbrev pub advice_sheet : Heading → Option (List ℕ) → Option ℕ → Table → List PlanRows → Sheet
+advice_sheet heading wholes until N table = header_sheet heading advice_names
+    ++ flat_map (pair_advice_sheet wholes until N table) (pairs_of N)

@@ -1,4 +1,4 @@
--- What periods lack beside open orders, and how far the open orders of a sort reach while they are gone through.
+-- What periods lack beside open orders, and how long the open orders of a sort last while they are gone through.
 use Rattle.std.specs.Prelude.{◌≡◌, ℕ, ◌+◌, ◌-◌, ◌<◌, ◌≤◌, suc, nat_lt, Bool, true, false, List, length, sum, take}
 use Rattle.std.specs.Prelude.{slice_index, Option}
 use Rattle.std.specs.List.{find, range_with_len}
@@ -7,8 +7,8 @@ use Rattle.mrp_netting.specs.declared.planning_data.Policy.{Policy}
 use Rattle.mrp_netting.specs.PlanningData.{PairData}
 use Rattle.mrp_advice.specs.declared.lacks.Lacks.{Lacks}
 use Rattle.mrp_advice.specs.declared.orders.OpenOrder.{OpenOrder}
-use Rattle.mrp_advice.specs.declared.reach.Reach.{Reach}
-use Rattle.mrp_advice.specs.declared.reach.Reaches.{Reaches}
+use Rattle.mrp_advice.specs.declared.run_out.RunOut.{RunOut}
+use Rattle.mrp_advice.specs.declared.run_out.RunOuts.{RunOuts}
 use Rattle.mrp_advice.specs.Needed.{asked_by, may_come_sooner, pieces_of, there_beside}
 use Rattle.mrp_advice.specs.OpenOrders.{open_order_at}
 
@@ -45,9 +45,9 @@ abbrev pub lacks_of : Lacks → Bool → List ℕ
 lacks_of lacks true = lacks.receipts
 lacks_of lacks false = lacks.others
 
-abbrev pub reach_of : Reaches → Bool → Reach
-reach_of reaches true = reaches.receipts
-reach_of reaches false = reaches.others
+abbrev pub run_out_of : RunOuts → Bool → RunOut
+run_out_of run_outs true = run_outs.receipts
+run_out_of run_outs false = run_outs.others
 
 -- the period in which the i-th open order is needed, by the row of its sort
 abbrev pub needed_by : Policy → Lacks → List OpenOrder → ℕ → Option ℕ
@@ -56,11 +56,11 @@ needed_by policy lacks orders i =
     first_lacking (lacks_of lacks sooner) (pieces_of policy sooner (take i orders))
 
 -- the periods before one lack no more than so many pieces
-pub record IsReach (row : List ℕ) (reach : Reach) : Type 0 where
-  pub within : reach.period ≤ length row
-  pub enough : (t : ℕ) → t < reach.period → slice_index row t ≤ reach.pieces
+pub record IsRunOut (row : List ℕ) (run_out : RunOut) : Type 0 where
+  pub within : run_out.period ≤ length row
+  pub enough : (t : ℕ) → t < run_out.period → slice_index row t ≤ run_out.pieces
 
 -- so it is of both sorts
-pub record AreReaches (lacks : Lacks) (reaches : Reaches) : Type 0 where
-  pub receipts : IsReach lacks.receipts reaches.receipts
-  pub others : IsReach lacks.others reaches.others
+pub record AreRunOuts (lacks : Lacks) (run_outs : RunOuts) : Type 0 where
+  pub receipts : IsRunOut lacks.receipts run_outs.receipts
+  pub others : IsRunOut lacks.others run_outs.others

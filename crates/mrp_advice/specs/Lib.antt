@@ -1,6 +1,8 @@
 pub mod OpenOrders
 pub mod Needed
 pub mod PlainNeeds
+pub mod Actions
+pub mod Beyond
 pub mod Advice
 pub mod Lacking
 pub mod Gathered
@@ -8,4 +10,5 @@ pub mod AdviceRows
 pub mod AdviceLines
 pub mod AdviceSheets
 pub mod AdviceLaws
+pub mod BeyondLaws
 pub mod WorkedOrders

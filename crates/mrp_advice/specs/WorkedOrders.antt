@@ -15,7 +15,7 @@ order_of kind period quantity = record { kind = kind; pair = record { 0 = 0 }; p
 
 -- a receipt of 60 in 3 of which 40 are short in 1 is to be expedited
 abbrev pub SixtyAreExpedited : Type 0
-SixtyAreExpedited = messages counted_sooner (order_of Receipt 3 60 ∷ [])
+SixtyAreExpedited = messages None counted_sooner (order_of Receipt 3 60 ∷ [])
     ≡ record { action = Expedite; order = order_of Receipt 3 60; needed = Some 1 } ∷ []
 
 -- when each of these orders is needed

@@ -1,7 +1,7 @@
 //! What a message says of an open order.
 
 ghost use Rattle.std.specs.Prelude.{◌≡◌};
-ghost use Rattle.mrp_advice.specs.Advice.{action_for, advice_for};
+ghost use Rattle.mrp_advice.specs.Actions.{action_for, advice_for};
 
 use crate::OpenOrder;
 
@@ -14,6 +14,8 @@ pub enum Action {
     Defer,
     /// It is needed in no period of the horizon.
     Cancel,
+    /// It isn't needed in the periods in which the plan is whole, and nothing is known of later ones.
+    Beyond,
 }
 
 /// An exception message for an open order.
@@ -23,7 +25,8 @@ pub struct Advice {
     pub action: Action,
     /// The order.
     pub order: OpenOrder,
-    /// The period in which it is needed, from 0, below the horizon; none where it is to be cancelled.
+    /// The period in which it is needed, from 0, below the horizon; none where it is to be cancelled, or where nothing
+    /// is known of it.
     pub needed: Option<usize>,
 }
 

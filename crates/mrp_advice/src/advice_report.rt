@@ -5,21 +5,23 @@ ghost use Rattle.mrp_qty.specs.declared.quantity.TheConstants.{MOST};
 ghost use Rattle.mrp_master_data.specs.Table.{IsPair, horizon};
 ghost use Rattle.mrp_net.specs.PlanLaws.{Fits};
 ghost use Rattle.mrp_loops.specs.Sized.{IsSized};
+ghost use Rattle.mrp_reach.specs.Reach.{AreWhole};
 ghost use Rattle.mrp_csv_out.specs.Dates.{dates_of};
 ghost use Rattle.mrp_csv_out.specs.Writing.{IsBetweenRows, written};
 ghost use Rattle.mrp_csv_out.specs.Sent.{SendsReport};
-ghost use Rattle.mrp_advice.specs.Advice.{advice_for};
 ghost use Rattle.mrp_advice.specs.AdviceLines.{HasSender, IsAdvice, IsAdvised, IsAdviceLine, IsOpenOrder};
 ghost use Rattle.mrp_advice.specs.AdviceLines.{advice_line_row, advice_line_text, message_text};
+ghost use Rattle.mrp_advice.specs.Beyond.{advice_within, wholes_of};
 ghost use Rattle.mrp_advice.specs.Gathered.{AreOpenOrders};
-ghost use Rattle.mrp_advice.specs.Lacking.{AreReaches, HaveRoom, first_lacking, lacks_of, needed_by, reach_of};
+ghost use Rattle.mrp_advice.specs.Lacking.{AreRunOuts, HaveRoom, first_lacking, lacks_of, needed_by, run_out_of};
 ghost use Rattle.mrp_advice.specs.Needed.{may_come_sooner};
 ghost use Rattle.mrp_advice.specs.AdviceRows.{action_word, advice_text, order_kind_word};
 ghost use Rattle.mrp_advice.specs.AdviceRows.{messages_text, pair_advice_text, sender_name};
 
+use crate::beyond::needs_whole;
 use crate::gathering::open_orders;
 use crate::lacks::{Lacks, find_lacks};
-use crate::reach::{Reach, Reaches, next_advice};
+use crate::run_out::{RunOut, RunOuts, next_advice};
 use crate::{Action, Advice, OpenOrder, OrderKind};
 use csv::Writer;
 use itoa::Buffer;
@@ -42,30 +44,34 @@ use std::io::Write;
 const LONGEST_ROW: usize = 131;
 
 /// What the advice rows are of: a plan, its network, the open orders of all pairs, the text of each
-/// period's date, and the last period of an order that has a row.
+/// period's date, the whole periods of each pair's gross requirements, if they are given, and the last period
+/// of an order that has a row.
 #[derive(Clone, Copy)]
 struct AdviceReport<'a> {
     network: &'a Network,
     plan: &'a Plan,
     orders: &'a Groups<OpenOrder>,
     dates: &'a [[u8; 10]],
+    wholes: Option<&'a [usize]>,
     until: Option<u64>,
 }
 
 /// What the rows of a pair's messages have in common: the network, the names of the pair's plant and
-/// item, the text of each period's date, and the last period of an order that has a row.
+/// item, the text of each period's date, in how many periods it is whole which orders are needed there, if that is
+/// asked for, and the last period of an order that has a row.
 #[derive(Clone, Copy)]
 pub(crate) struct AdviceLine<'a> {
     pub(crate) network: &'a Network,
     pub(crate) plant: &'a str,
     pub(crate) item: &'a str,
     pub(crate) dates: &'a [[u8; 10]],
+    pub(crate) whole: Option<usize>,
     pub(crate) until: Option<u64>,
 }
 
 /// Writes a row for each open order that isn't due in the period in which it is needed, pairs in table
 /// order and the open orders of a pair by rising period, in one period receipts before shipments before
-/// firm planned orders and each in table order: `advice`, what to do (`expedite`, `defer` or `cancel`),
+/// firm planned orders and each in table order: `advice`, what to do (`expedite`, `defer`, `cancel` or `beyond`),
 /// `receipt`, `ship` or `firm`, plant and item, the sender of a shipment, the period in which the order is
 /// due and its first day, its quantity in pieces, and the period in which it is needed and its first day,
 /// which are empty where it is to be cancelled. The names of the columns stand above them where `heading`
@@ -81,6 +87,11 @@ pub(crate) struct AdviceLine<'a> {
 /// before it, and of the receipts that may be counted by the period those that are short. So each receipt that the
 /// plan counts sooner has `expedite`.
 ///
+/// With `wholes`, the whole periods of the network, a row has what holds whatever is wanted behind the horizon. When the
+/// orders of a pair are needed is whole in as many periods as its gross requirements are, less its periods of cover. An
+/// order that isn't needed in one of these has `beyond` where it is due in one of them, with no period in which it is
+/// needed, and no row where it is due later.
+///
 /// With `until`, a period from 0, an open order that is due after it has no row, and nothing else changes. A
 /// period past the horizon leaves nothing out.
 ///
@@ -93,13 +104,15 @@ pub fn advice_rows<W: Write>(
     alloc: Global,
     net: &SizedNet<'_>,
     plan: &Plan,
+    wholes: Option<&[usize]>,
     until: Option<u64>,
     heading: Heading,
     out: &mut W,
 ) -> Result<(), ReportFault>
     requires fits { Fits net.now.network plan.now }
+    requires wholes { IfSome wholes (λ wholes. AreWhole net.now.network wholes.now) }
     ensures text { SendsReport (W.contents out.old) (W.contents out.new) result
-        (advice_text heading until net.now.network plan.now) }
+        (advice_text heading (wholes_of wholes.entry) until net.now.network plan.now) }
     ensures untouched { result ≡ Err ReportFault.Memory → out.new ≡ out.old }
 {
     let network = net.network();
@@ -110,6 +123,7 @@ pub fn advice_rows<W: Write>(
         plan,
         orders: &orders,
         dates: dates.as_slice(),
+        wholes,
         until,
     };
     let text = advice_text(alloc, &report, heading)?;
@@ -127,8 +141,9 @@ fn advice_text(
     requires orders { AreOpenOrders report.now.network.now report.now.orders.now.rows.items
         report.now.orders.now.starts.items }
     requires dates { report.now.dates.now ≡ dates_of report.now.network.now.calendar }
+    requires wholes { IfSome report.now.wholes (λ wholes. length wholes.now ≡ length report.now.network.now.pairs) }
     ensures text { IfOk result (λ text. text.items
-        ≡ advice_text heading report.now.until report.now.network.now report.now.plan.now) }
+        ≡ advice_text heading (wholes_of report.now.wholes) report.now.until report.now.network.now report.now.plan.now) }
     ensures fault { IfErr result (λ fault. fault ≡ ReportFault.Memory) }
 {
     // Room to begin with, which grows where there are more messages than pairs.
@@ -166,8 +181,9 @@ fn put_all_messages(
     requires orders { AreOpenOrders report.now.network.now report.now.orders.now.rows.items
         report.now.orders.now.starts.items }
     requires dates { report.now.dates.now ≡ dates_of report.now.network.now.calendar }
+    requires wholes { IfSome report.now.wholes (λ wholes. length wholes.now ≡ length report.now.network.now.pairs) }
     ensures rows { OnOk result (written rows.new ≡ written rows.old
-        ++ messages_text report.now.until report.now.network.now report.now.plan.now) }
+        ++ messages_text (wholes_of report.now.wholes) report.now.until report.now.network.now report.now.plan.now) }
     ensures between { OnOk result (IsBetweenRows rows.new) }
     ensures fault { IfErr result (λ fault. fault ≡ ReportFault.Memory) }
 {
@@ -189,9 +205,10 @@ fn put_pairs(
     requires orders { AreOpenOrders report.now.network.now report.now.orders.now.rows.items
         report.now.orders.now.starts.items }
     requires dates { report.now.dates.now ≡ dates_of report.now.network.now.calendar }
+    requires wholes { IfSome report.now.wholes (λ wholes. length wholes.now ≡ length report.now.network.now.pairs) }
     requires room { HaveRoom (horizon report.now.network.now) lacks.old }
     ensures rows { OnOk result (written rows.new ≡ written rows.old
-        ++ messages_text report.now.until report.now.network.now report.now.plan.now) }
+        ++ messages_text (wholes_of report.now.wholes) report.now.until report.now.network.now report.now.plan.now) }
     ensures between { OnOk result (IsBetweenRows rows.new) }
     ensures fault { IfErr result (λ fault. fault ≡ ReportFault.Memory) }
 {
@@ -214,10 +231,11 @@ fn put_pair_messages(
     requires orders { AreOpenOrders report.now.network.now report.now.orders.now.rows.items
         report.now.orders.now.starts.items }
     requires dates { report.now.dates.now ≡ dates_of report.now.network.now.calendar }
+    requires wholes { IfSome report.now.wholes (λ wholes. length wholes.now ≡ length report.now.network.now.pairs) }
     requires room { HaveRoom (horizon report.now.network.now) lacks.old }
     requires pair { IsPair report.now.network.now x.0 }
     ensures rows { OnOk result (written rows.new ≡ written rows.old
-        ++ pair_advice_text report.now.until report.now.network.now report.now.plan.now x.0) }
+        ++ pair_advice_text (wholes_of report.now.wholes) report.now.until report.now.network.now report.now.plan.now x.0) }
     ensures between { OnOk result (IsBetweenRows rows.new) }
     ensures fault { IfErr result (λ fault. fault ≡ ReportFault.Memory) }
     ensures room { HaveRoom (horizon report.now.network.now) lacks.new }
@@ -234,8 +252,9 @@ fn put_pair_messages(
 /// What the rows of a pair's messages have in common.
 fn line_of<'a>(report: &AdviceReport<'a>, x: PairNo) -> AdviceLine<'a>
     requires dates { report.now.dates.now ≡ dates_of report.now.network.now.calendar }
+    requires wholes { IfSome report.now.wholes (λ wholes. length wholes.now ≡ length report.now.network.now.pairs) }
     requires pair { IsPair report.now.network.now x.0 }
-    ensures { IsAdviceLine report.now.network.now x.0 report.now.until result }
+    ensures { IsAdviceLine report.now.network.now x.0 (wholes_of report.now.wholes) report.now.until result }
 {
     let (plant, item) = report.network.pair_name(x);
     AdviceLine {
@@ -243,6 +262,7 @@ fn line_of<'a>(report: &AdviceReport<'a>, x: PairNo) -> AdviceLine<'a>
         plant,
         item,
         dates: report.dates,
+        whole: needs_whole(report.network, report.wholes, x),
         until: report.until,
     }
 }
@@ -263,12 +283,12 @@ fn put_messages<'a>(
     ensures between { OnOk result (IsBetweenRows rows.new) }
     ensures fault { IfErr result (λ fault. fault ≡ ReportFault.Memory) }
 {
-    let mut reaches = Reaches {
-        receipts: Reach::START,
-        others: Reach::START,
+    let mut run_outs = RunOuts {
+        receipts: RunOut::START,
+        others: RunOut::START,
     };
     'orders: for i in 0..orders.len() {
-        put_next(rows, line, policy, lacks, &mut reaches, orders[i])?;
+        put_next(rows, line, policy, lacks, &mut run_outs, orders[i])?;
     }
     Ok(())
 }
@@ -279,28 +299,28 @@ fn put_next<'a>(
     line: &'a AdviceLine<'a>,
     policy: Policy,
     lacks: &Lacks,
-    reaches: &mut Reaches,
+    run_outs: &mut RunOuts,
     order: OpenOrder,
 ) -> Result<(), ReportFault>
     requires between { IsBetweenRows rows.old }
     requires dates { length line.now.dates.now ≡ horizon line.now.network.now }
     requires room { HaveRoom (horizon line.now.network.now) lacks.now }
-    requires reaches { AreReaches lacks.now reaches.old }
-    requires room_of_receipts { reaches.old.receipts.pieces + order.quantity ≤ MOST }
-    requires room_of_others { reaches.old.others.pieces + order.quantity ≤ MOST }
+    requires run_outs { AreRunOuts lacks.now run_outs.old }
+    requires room_of_receipts { run_outs.old.receipts.pieces + order.quantity ≤ MOST }
+    requires room_of_others { run_outs.old.others.pieces + order.quantity ≤ MOST }
     requires order { IsOpenOrder line.now.network.now order }
     ensures row { OnOk result (written rows.new ≡ written rows.old
-        ++ message_text line.now (advice_for order (first_lacking (lacks_of lacks.now (may_come_sooner policy order))
-        (reach_of reaches.old (may_come_sooner policy order)).pieces))) }
+        ++ message_text line.now (advice_within line.now.whole order (first_lacking (lacks_of lacks.now (may_come_sooner policy order))
+        (run_out_of run_outs.old (may_come_sooner policy order)).pieces))) }
     ensures between { OnOk result (IsBetweenRows rows.new) }
     ensures fault { IfErr result (λ fault. fault ≡ ReportFault.Memory) }
-    ensures reaches { AreReaches lacks.now reaches.new }
-    ensures receipts { reaches.new.receipts.pieces
-        ≡ reaches.old.receipts.pieces + (if may_come_sooner policy order then order.quantity else 0) }
-    ensures others { reaches.new.others.pieces
-        ≡ reaches.old.others.pieces + (if may_come_sooner policy order then 0 else order.quantity) }
+    ensures run_outs { AreRunOuts lacks.now run_outs.new }
+    ensures receipts { run_outs.new.receipts.pieces
+        ≡ run_outs.old.receipts.pieces + (if may_come_sooner policy order then order.quantity else 0) }
+    ensures others { run_outs.new.others.pieces
+        ≡ run_outs.old.others.pieces + (if may_come_sooner policy order then 0 else order.quantity) }
 {
-    let advice = next_advice(policy, lacks, reaches, order);
+    let advice = next_advice(line.whole, policy, lacks, run_outs, order);
     put_message(rows, line, advice)
 }
 
@@ -366,6 +386,7 @@ fn action_word<'a>(action: Action) -> &'a [u8]
         Action::Expedite => b"expedite",
         Action::Defer => b"defer",
         Action::Cancel => b"cancel",
+        Action::Beyond => b"beyond",
     }
 }
 

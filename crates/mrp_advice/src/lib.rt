@@ -9,16 +9,19 @@
 //! Keeps true: an order is needed in the first period that what comes before it doesn't cover; one that is due
 //! then has no message. Receipts that the plan counts sooner, and no others of their pairs, are expedited. Without the orders that are to be cancelled
 //! a pair orders the same by the same gross requirements; a cancelled firm planned order takes no components, so theirs
-//! may change.
+//! may change. Where the whole periods of each pair are given, each message but `beyond` is a message of every table that
+//! goes on where this one ends.
 #![tactic(auto)]
 
 mod advice;
 mod advice_laws;
 mod advice_report;
+mod beyond;
+mod beyond_laws;
 mod gathering;
 mod lacks;
 mod orders;
-mod reach;
+mod run_out;
 
 pub use advice::{Action, Advice};
 pub use advice_laws::{
@@ -28,6 +31,7 @@ pub use advice_laws::{
     timely_orders_suffice, worked_orders_are_needed,
 };
 pub use advice_report::advice_rows;
+pub use beyond_laws::known_messages_stay;
 pub use mrp_csv_out::{Heading, ReportFault};
 pub use mrp_net::PlantNo;
 pub use orders::{OpenOrder, OrderKind};

@@ -10,7 +10,7 @@ put_next-requires-clause-room_of_receipts c =
     let i = c.orders.i in
     let order = c.index-orders-i.result in
     let same : order ≡ open_order_at orders i = c.index-orders-i.is ∙ get_or_default orders i order no_order c.orders-test.true in
-    room_next c.args.line.now c.args.policy c.args.lacks.now orders i order same true c.orders.reaches.receipts.pieces c.orders-test.true
+    room_next c.args.line.now c.args.policy c.args.lacks.now orders i order same true c.orders.run_outs.receipts.pieces c.orders-test.true
     c.orders.invariant.receipts c.requires.advised.pieces
 
 pub put_next-requires-clause-room_of_others : goal.put_next-requires-clause-room_of_others
@@ -19,7 +19,7 @@ put_next-requires-clause-room_of_others c =
     let i = c.orders.i in
     let order = c.index-orders-i.result in
     let same : order ≡ open_order_at orders i = c.index-orders-i.is ∙ get_or_default orders i order no_order c.orders-test.true in
-    room_next c.args.line.now c.args.policy c.args.lacks.now orders i order same false c.orders.reaches.others.pieces c.orders-test.true
+    room_next c.args.line.now c.args.policy c.args.lacks.now orders i order same false c.orders.run_outs.others.pieces c.orders-test.true
     c.orders.invariant.others c.requires.advised.pieces
 
 pub orders-preserved : goal.orders-preserved
@@ -34,10 +34,10 @@ orders-preserved c =
     let same : order ≡ open_order_at orders i = c.index-orders-i.is ∙ get_or_default orders i order no_order c.orders-test.true in
     record {
       between = c.in_ok-put_next.ensures.between;
-      reaches = c.put_next.ensures.reaches;
-      receipts = receipts_next line policy lacks orders i order same c.orders.reaches.receipts.pieces c.put_next.new.reaches.receipts.pieces
+      run_outs = c.put_next.ensures.run_outs;
+      receipts = receipts_next line policy lacks orders i order same c.orders.run_outs.receipts.pieces c.put_next.new.run_outs.receipts.pieces
           c.orders-test.true was.receipts c.put_next.ensures.receipts;
-      others = others_next line policy lacks orders i order same c.orders.reaches.others.pieces c.put_next.new.reaches.others.pieces
+      others = others_next line policy lacks orders i order same c.orders.run_outs.others.pieces c.put_next.new.run_outs.others.pieces
           c.orders-test.true was.others c.put_next.ensures.others;
-      so_far = rows_next line policy lacks orders i order same c.orders.reaches _ _ _ was.receipts was.others was.so_far c.in_ok-put_next.ensures.row;
+      so_far = rows_next line policy lacks orders i order same c.orders.run_outs _ _ _ was.receipts was.others was.so_far c.in_ok-put_next.ensures.row;
     }
