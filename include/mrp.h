@@ -17,7 +17,7 @@
  * own. It takes memory by malloc and gives it back; it isn't for a signal handler, nor for the forked child of a
  * process with threads.
  *
- * With `header` the names of the columns stand above the rows. That status and text are these is proved of the library
+ * `reading` says how the table is to be read. With `header` the names of the columns stand above the rows. That status and text are these is proved of the library
  * that a caller links (crates/mrp_c_api); that a caller keeps to this page isn't.
  */
 #ifndef MRP_H
@@ -31,35 +31,50 @@
 extern "C" {
 #endif
 
+/* How a table is to be read. With `whole` it has to end with an `end` row, as with mrp's option --whole: one without it was
+ * cut off, and is refused. */
+typedef struct mrp_reading {
+    bool whole;
+} mrp_reading;
+
 /* The plan, as mrp plan: a row for each pair and period, then a row for each late order. */
-uint32_t mrp_plan(const uint8_t *table, size_t table_size, uint8_t *buffer, size_t buffer_size, size_t *size);
+uint32_t mrp_plan(const uint8_t *table, size_t table_size, const mrp_reading *reading,
+                  uint8_t *buffer, size_t buffer_size, size_t *size);
 
 /* The planned and firm orders, as mrp orders: where `limited` those alone that are released in period `until`, counted from 0,
  * or before it. */
-uint32_t mrp_orders(const uint8_t *table, size_t table_size, bool limited, uint64_t until, bool header,
+uint32_t mrp_orders(const uint8_t *table, size_t table_size, const mrp_reading *reading,
+                    bool limited, uint64_t until, bool header,
                     uint8_t *buffer, size_t buffer_size, size_t *size);
 
 /* The delivery schedules, as mrp schedule: from the plant or the vendor `from` alone and to the plant `to` alone, where
  * their names aren't empty. */
-uint32_t mrp_schedule(const uint8_t *table, size_t table_size, const uint8_t *from, size_t from_size,
-                      const uint8_t *to, size_t to_size, bool header,
+uint32_t mrp_schedule(const uint8_t *table, size_t table_size, const mrp_reading *reading,
+                      const uint8_t *from, size_t from_size, const uint8_t *to, size_t to_size, bool header,
                       uint8_t *buffer, size_t buffer_size, size_t *size);
 
 /* The low-level code of each pair, as mrp check. */
-uint32_t mrp_check(const uint8_t *table, size_t table_size, bool header,
+uint32_t mrp_check(const uint8_t *table, size_t table_size, const mrp_reading *reading, bool header,
+                   uint8_t *buffer, size_t buffer_size, size_t *size);
+
+/* Until which period the gross requirements of each pair, and its releases, are whole, whatever is wanted behind the horizon,
+ * as mrp check --reach. */
+uint32_t mrp_reach(const uint8_t *table, size_t table_size, const mrp_reading *reading, bool header,
                    uint8_t *buffer, size_t buffer_size, size_t *size);
 
 /* The cumulative figures of the lanes between plants, as mrp cums. */
-uint32_t mrp_cums(const uint8_t *table, size_t table_size, bool header,
+uint32_t mrp_cums(const uint8_t *table, size_t table_size, const mrp_reading *reading, bool header,
                   uint8_t *buffer, size_t buffer_size, size_t *size);
 
 /* Which open orders to expedite, to defer and to cancel, as mrp advice: where `limited` those alone that come in period
- * `until`, counted from 0, or before it. */
-uint32_t mrp_advice(const uint8_t *table, size_t table_size, bool limited, uint64_t until, bool header,
+ * `until`, counted from 0, or before it. With `reach` as mrp advice --reach: a message that holds only as long as nothing is
+ * wanted behind the horizon is told as `beyond`, or not at all where the order comes beyond it too. */
+uint32_t mrp_advice(const uint8_t *table, size_t table_size, const mrp_reading *reading,
+                    bool limited, uint64_t until, bool reach, bool header,
                     uint8_t *buffer, size_t buffer_size, size_t *size);
 
 /* Which requirements of period 0 lack parts, and how many pieces, as mrp shortages. */
-uint32_t mrp_shortages(const uint8_t *table, size_t table_size, bool header,
+uint32_t mrp_shortages(const uint8_t *table, size_t table_size, const mrp_reading *reading, bool header,
                        uint8_t *buffer, size_t buffer_size, size_t *size);
 
 #ifdef __cplusplus

@@ -12,7 +12,7 @@ ghost use Rattle.mrp_api.specs.Ending.{Reports};
 ghost use Rattle.mrp.specs.Ending.{refusal_fault, refusal_printed, refusal_status};
 
 use mrp_api::{Ending, REFUSED, TextFault, after_help, answer, ended, unread};
-use mrp_command_line::{ChooseFault, Meaning, choose, means, named_words};
+use mrp_command_line::{ChooseFault, Meaning, means, named_words, request};
 use mrp_report::{ReportFault, send};
 use std::env::FillError;
 use std::io::{IsTerminal, Stderr, Write};
@@ -29,10 +29,10 @@ fn main(rt: HostRuntime) -> ExitCode {
     let Ok(words) = named_words(rt.alloc(), arguments.as_slice()) else {
         return left(ended::<Stderr>(&Err(TextFault::Memory), &mut rt.stderr()));
     };
-    left(match choose(rt.alloc(), words.as_slice()) {
-        Ok(choice) => {
+    left(match request(rt.alloc(), words.as_slice()) {
+        Ok(request) => {
             await_table(&rt);
-            let done = answer(&rt, rt.alloc(), choice, rt.reader(), &mut rt.stdout());
+            let done = answer(&rt, rt.alloc(), request, rt.reader(), &mut rt.stdout());
             ended::<Stderr>(&done, &mut rt.stderr())
         }
         Err(ChooseFault::Words(error)) => {
@@ -94,7 +94,7 @@ fn await_table(rt: &HostRuntime) {
     }
 }
 
-/// The end where no choice was made, after what `clap` had to say was printed or could not be: the
+/// The end where nothing was asked for, after what `clap` had to say was printed or could not be: the
 /// status is 0 after help or the version that was printed, 2 where the words are refused, 3 where memory
 /// was refused or help or the version could not be printed; of these a line is reported to this writer.
 fn refused<W: Write>(meaning: Meaning, said: io::Result<()>, writer: &mut W) -> Ending

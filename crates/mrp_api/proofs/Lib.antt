@@ -5,5 +5,7 @@ pub mod TextFacts
 pub mod RowFacts
 pub mod GateFacts
 pub mod TableFacts
+pub mod CutFacts
+pub mod AskedFacts
 pub mod OneReport
 pub mod FigureFacts

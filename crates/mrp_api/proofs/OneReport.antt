@@ -1,5 +1,6 @@
 -- The plan of a network that can be planned is one, and so is each report of a text; one that has a report is not refused.
-use Rattle.std.proofs.Common.{◌≡◌, ℕ, true, false, List, ◌++◌, Option, Some, None, Ok, Err, refl, sym, ap, ◌∙◌, subst, ⊎_elim, arith}
+-- A text that is cut off has no other report where its table has to be whole.
+use Rattle.std.proofs.Common.{◌≡◌, ℕ, Bool, true, false, List, ◌++◌, Option, Some, None, Ok, Err, refl, sym, ap, ◌∙◌, subst, ⊎_elim, arith}
 use Rattle.std.proofs.lemmas.Bool.{true≢false}
 use Rattle.csv.specs.Reading.{strip_bom, records, default_config}
 use Rattle.mrp_netting.specs.PlanRows.{PlanRows}
@@ -8,13 +9,15 @@ use Rattle.mrp_net.specs.Sums.{pair_at}
 use Rattle.mrp_validation.specs.declared.fault.TableFault.{TableFault}
 use Rattle.mrp_validation.specs.declared.fault.TableFaultKind.{TableFaultKind}
 use Rattle.mrp_validation.specs.declared.fault.TableFaultKind.TheVariants as kind
-use Rattle.mrp_validation.specs.Reading.{OfRows, Reads}
+use Rattle.mrp_validation.specs.Reading.{OfRows, Reads, ReadsAs}
+use Rattle.mrp_validation.proofs.Asked.{one_way_as, whole_end}
 use Rattle.mrp_validation.proofs.OneWay.{reads_one_way}
 use Rattle.mrp_net.specs.Names.{IsNamed}
 use Rattle.mrp_net.specs.Plan.{plan_of}
 use Rattle.mrp_net.specs.PlanLaws.{Fits, OfPlan}
 use Rattle.mrp_net.proofs.Naming.{same_place}
 use Rattle.mrp_net.proofs.Sharing.{pairs_are_found}
+use Rattle.mrp_loops.specs.Loop.{IsLoopFree}
 use Rattle.mrp_loops.specs.Sized.{IsSized}
 use Rattle.mrp_loops.proofs.OnePlan.{one_plan}
 use Rattle.mrp_loops.proofs.Upstream.{codes_are_one}
@@ -27,19 +30,24 @@ use Rattle.mrp_report.specs.Codes.{code_text}
 use Rattle.mrp_report.specs.Terms.{peg_text}
 use Rattle.mrp_report.specs.Orders.{order_text}
 use Rattle.mrp_report.specs.Pegs.{pegs_text}
+use Rattle.mrp_reach.specs.ReachRows.{reach_text}
+use Rattle.mrp_reach.proofs.WholePeriods.{wholes_are_one}
 use Rattle.mrp_advice.specs.AdviceRows.{advice_text}
 use Rattle.mrp_shortages.specs.ShortageRows.{shortage_text}
 use Rattle.mrp_commands.specs.Given.{name_of}
 use Rattle.mrp_commands.specs.declared.choice.Choice.{Choice}
-use Rattle.mrp_commands.specs.declared.choice.Choice.TheVariants.{Plan, Check, Peg, Cums, Orders, Schedule, Pegs, Advice, Shortages}
+use Rattle.mrp_commands.specs.declared.choice.Choice.TheVariants.{Plan, Check, Reach, Peg, Cums, Orders, Schedule, Pegs, Advice, Shortages}
+use Rattle.mrp_commands.specs.declared.reading.Reading.{Reading}
 use Rattle.mrp_api.specs.declared.fault.TextFault.{TextFault}
 use Rattle.mrp_api.specs.declared.fault.TextFault.TheVariants as fault
 use Rattle.mrp_api.specs.Answer.{IsAnswer, question_of}
 use Rattle.mrp_api.specs.Fault.{status_of, table_status_of}
-use Rattle.mrp_api.specs.Laws.{BytesMakeOneTable, ReportsAreOne, ReportsExcludeRefusals}
+use Rattle.mrp_api.specs.Laws.{BytesMakeOneTable, CutTablesAreOne, CutTablesHaveNoOtherReport, ReportsAreOne, ReportsExcludeRefusals}
+use Rattle.mrp_api.specs.Laws.{RequestsExcludeRefusals}
 use Rattle.mrp_api.specs.Text.{IsPlanReport}
 use Rattle.mrp_api.specs.Refusals.{LacksPair, LacksPeriod, LacksPlant, IsNoPlant, IsNoSupplier, RefusesTable}
-use Rattle.mrp_api.specs.Reports.{IsHeaded, IsCodeReport, IsCumReport, IsPegReport, IsPlanRows}
+use Rattle.mrp_api.specs.Reports.{AreWholeIf, IsAdviceReport, IsHeaded, IsCodeReport, IsCumReport, IsPegReport, IsPlanRows, IsReachReport}
+use Rattle.mrp_api.proofs.CutFacts.{cut_off}
 use Rattle.mrp_api.proofs.TableFacts.{tables_are_read}
 use Rattle.mrp_api.specs.Reports.{IsKnownPlant, IsKnownSupplier, IsPegsReport}
 
@@ -88,6 +96,26 @@ one_peg_report plant item period N a b table x y =
 one_code_report : (N : Table) (a b : List ℕ) → IsCodeReport N a → IsCodeReport N b → a ≡ b
 one_code_report N a b x y = x.1.2 ∙ ap (code_text N) (codes_are_one N x.1.0 y.1.0 x.1.1 y.1.1) ∙ sym y.1.2
 
+-- how far the requirements are whole, where that is asked, is one
+wholes_if_one : (reach : Bool) (N : Table) (a b : Option (List ℕ)) → IsTable N → IsLoopFree N → AreWholeIf reach N a → AreWholeIf reach N b → a ≡ b
+wholes_if_one true N (Some a) (Some b) table free x y = ap (λ (wholes : List ℕ). Some wholes) (wholes_are_one N table free a b x y)
+wholes_if_one true N (Some a) None table free x y = absurd y
+wholes_if_one true N None b table free x y = absurd x
+wholes_if_one false N None None table free x y = refl
+wholes_if_one false N None (Some b) table free x y = absurd y
+wholes_if_one false N (Some a) b table free x y = absurd x
+
+one_reach_report : (heading : Heading) (N : Table) (a b : List ℕ) → IsTable N → IsReachReport heading N a → IsReachReport heading N b → a ≡ b
+one_reach_report heading N a b table x y =
+    x.1.2 ∙ ap (reach_text heading N) (wholes_are_one N table x.0.loop_free x.1.0 y.1.0 x.1.1 y.1.1) ∙ sym y.1.2
+
+one_advice_report : (until : Option ℕ) (reach : Bool) (heading : Heading) (N : Table) (a b : List ℕ) → IsTable N → IsAdviceReport until reach heading N a
+    → IsAdviceReport until reach heading N b → a ≡ b
+one_advice_report until reach heading N a b table x y =
+    one_of_plan N (advice_text heading y.1.0 until N) a b x.0
+    (subst (λ (wholes : Option (List ℕ)). OfPlan N (λ plans. a ≡ advice_text heading wholes until N plans))
+    (wholes_if_one reach N x.1.0 y.1.0 table x.0.loop_free x.1.1 y.1.1) x.1.2) y.1.2
+
 -- names above rows that are one don't make two
 one_headed : (heading : Heading) (names : List (List ℕ)) (P : List ℕ → Type 0) (a b : List ℕ) → ((c d : List ℕ) → P c → P d → c ≡ d)
     → IsHeaded heading names P a → IsHeaded heading names P b → a ≡ b
@@ -96,13 +124,14 @@ one_headed heading names P a b one x y = x.2 ∙ ap (λ (rows : List ℕ). heade
 one_answer : (choice : Choice) (N : Table) (a b : List ℕ) → IsTable N → IsAnswer choice N a → IsAnswer choice N b → a ≡ b
 one_answer (Plan workers capacity single) N a b table x y = one_of_plan N (λ plans. plan_text N plans ++ late_text N plans) a b x.0 x.1 y.1
 one_answer (Check heading) N a b table x y = one_headed heading _ (IsCodeReport N) a b (one_code_report N) x y
+one_answer (Reach heading) N a b table x y = one_reach_report heading N a b table x y
 one_answer (Peg plant item period heading) N a b table x y =
     one_headed heading _ (IsPegReport plant.now item.now period N) a b (λ c d p q. one_peg_report plant.now item.now period N c d table p q) x y
 one_answer (Cums heading) N a b table x y = one_headed heading _ (IsCumReport N) a b (λ c d p q. p.1 ∙ sym q.1) x y
 one_answer (Orders until heading) N a b table x y = one_of_plan N (order_text heading until N) a b x.0 x.1 y.1
 one_answer (Schedule from to heading) N a b table x y = x.2.1 ∙ sym y.2.1
 one_answer (Pegs heading) N a b table x y = one_headed heading _ (IsPegsReport N) a b (λ c d p q. one_of_plan N (pegs_text N) c d p.0 p.1 q.1) x y
-one_answer (Advice until heading) N a b table x y = one_of_plan N (advice_text heading until N) a b x.0 x.1 y.1
+one_answer (Advice until reach heading) N a b table x y = one_advice_report until reach heading N a b table x y
 one_answer (Shortages heading) N a b table x y = one_of_plan N (shortage_text heading N) a b x.0 x.1 y.1
 
 pub one_report : ReportsAreOne
@@ -115,12 +144,13 @@ one_report choice bytes a b x y =
 answer_sized : (choice : Choice) (N : Table) (text : List ℕ) → IsAnswer choice N text → IsSized N
 answer_sized (Plan workers capacity single) N text is = is.0
 answer_sized (Check heading) N text is = is.1.0
+answer_sized (Reach heading) N text is = is.0
 answer_sized (Peg plant item period heading) N text is = is.1.2.0
 answer_sized (Cums heading) N text is = is.1.0
 answer_sized (Orders until heading) N text is = is.0
 answer_sized (Schedule from to heading) N text is = is.2.0
 answer_sized (Pegs heading) N text is = is.1.0
-answer_sized (Advice until heading) N text is = is.0
+answer_sized (Advice until reach heading) N text is = is.0
 answer_sized (Shortages heading) N text is = is.0
 
 -- a report about a pair and a period is of a pair and a period that are there
@@ -128,24 +158,26 @@ pair_known : (choice : Choice) (N : Table) (text : List ℕ) → IsAnswer choice
 pair_known (Plan workers capacity true) N text is unknown = unknown
 pair_known (Plan workers capacity false) N text is unknown = unknown
 pair_known (Check heading) N text is unknown = unknown
+pair_known (Reach heading) N text is unknown = unknown
 pair_known (Peg plant item period heading) N text is unknown = unknown is.1.0 is.1.1
 pair_known (Cums heading) N text is unknown = unknown
 pair_known (Orders until heading) N text is unknown = unknown
 pair_known (Schedule from to heading) N text is unknown = unknown
 pair_known (Pegs heading) N text is unknown = unknown
-pair_known (Advice until heading) N text is unknown = unknown
+pair_known (Advice until reach heading) N text is unknown = unknown
 pair_known (Shortages heading) N text is unknown = unknown
 
 period_known : (choice : Choice) (N : Table) (text : List ℕ) → IsAnswer choice N text → LacksPeriod (question_of choice) N → ⊥
 period_known (Plan workers capacity true) N text is unknown = unknown
 period_known (Plan workers capacity false) N text is unknown = unknown
 period_known (Check heading) N text is unknown = unknown
+period_known (Reach heading) N text is unknown = unknown
 period_known (Peg plant item period heading) N text is unknown = absurd (omega (arith, unknown.2, is.1.2.1))
 period_known (Cums heading) N text is unknown = unknown
 period_known (Orders until heading) N text is unknown = unknown
 period_known (Schedule from to heading) N text is unknown = unknown
 period_known (Pegs heading) N text is unknown = unknown
-period_known (Advice until heading) N text is unknown = unknown
+period_known (Advice until reach heading) N text is unknown = unknown
 period_known (Shortages heading) N text is unknown = unknown
 
 -- one about plants and vendors is of those that are there
@@ -161,12 +193,13 @@ plant_known : (choice : Choice) (N : Table) (text : List ℕ) → IsAnswer choic
 plant_known (Plan workers capacity true) N text is unknown = unknown
 plant_known (Plan workers capacity false) N text is unknown = unknown
 plant_known (Check heading) N text is unknown = unknown
+plant_known (Reach heading) N text is unknown = unknown
 plant_known (Peg plant item period heading) N text is unknown = unknown
 plant_known (Cums heading) N text is unknown = unknown
 plant_known (Orders until heading) N text is unknown = unknown
 plant_known (Schedule from to heading) N text is unknown = ⊎_elim (supplier_known N (name_of from) is.0) (name_known N (name_of to) is.1) unknown
 plant_known (Pegs heading) N text is unknown = unknown
-plant_known (Advice until heading) N text is unknown = unknown
+plant_known (Advice until reach heading) N text is unknown = unknown
 plant_known (Shortages heading) N text is unknown = unknown
 
 -- so a table of which there is a report isn't refused
@@ -204,3 +237,29 @@ accepted_passes choice bytes text (fault.Table e) is said = rows_pass (records d
 accepted_passes choice bytes text fault.Memory is said = refl
 accepted_passes choice bytes text f is said =
     answer_passes choice is.0 text f is.2 (subst (λ (N : Table). RefusesTable (question_of choice) N f) (one_table bytes said.0 is.0 said.1 is.1) said.2)
+
+-- nor where a request says how the rows are to be read
+rows_pass_as : (reading : Reading) (rows : List (List (List ℕ))) (N : Table) (e : TableFault) (k : TableFaultKind) (above : Type 0) → ReadsAs reading rows (Ok N)
+    → OfRows k above (ReadsAs reading rows (Err e)) → table_status_of k ≡ 3
+rows_pass_as reading rows N e kind.ReadFault above read said = refl
+rows_pass_as reading rows N e kind.Memory above read said = refl
+rows_pass_as reading rows N e _ above read said = let same = one_way_as reading rows (Ok N) (Err e) read said in absurd (cc)
+
+pub requested_passes : RequestsExcludeRefusals
+requested_passes request bytes text (fault.Table e) is said =
+    let rows = records default_config (strip_bom bytes) in
+    rows_pass_as request.reading rows is.0 e e.kind _ ((whole_end request.reading rows is.0).1 ((tables_are_read bytes is.0).0 is.1, is.2.0)) said
+requested_passes request bytes text fault.Memory is said = refl
+requested_passes request bytes text f is said =
+    answer_passes request.choice is.0 text f is.2.1
+    (subst (λ (N : Table). RefusesTable (question_of request.choice) N f) (one_table bytes said.0 is.0 said.1 is.1) said.2.1)
+
+-- ---- tables that are cut off
+
+pub cut_tables_are_one : CutTablesAreOne
+cut_tables_are_one bytes more N M is whole ended = cut_off bytes more N M is whole ended
+
+pub no_other_report : CutTablesHaveNoOtherReport
+no_other_report request bytes more a b asked x y =
+    let same = cut_off bytes more x.0 y.0 x.1 y.1 (x.2.0 asked) in
+    one_answer request.choice y.0 a b y.1.table (subst (λ (N : Table). IsAnswer request.choice N a) same x.2.1) y.2.1

@@ -1,10 +1,12 @@
 -- The table of some bytes is the one that the grammar reads in them.
 use Rattle.std.proofs.Common.{◌≡◌, ◌↔◌, ℕ, List, length, Option, None, Some, Ok, option_map}
 use Rattle.csv.specs.Reading.{default_config, records, strip_bom}
+use Rattle.mrp_commands.specs.declared.reading.Reading.{Reading}
 use Rattle.mrp_master_data.specs.Table.{Table, IsTable}
-use Rattle.mrp_validation.specs.Reading.{Reads, TellsRows}
+use Rattle.mrp_validation.specs.Reading.{Reads, TellsRowsAs}
 use Rattle.mrp_validation.specs.Written.{OfRecords}
 use Rattle.mrp_validation.specs.Written.{AreNumbered, rows_of}
+use Rattle.mrp_validation.proofs.Asked.{whole_end}
 use Rattle.mrp_validation.proofs.BackTable.{read_from_its_rows}
 use Rattle.mrp_api.specs.Laws.{TablesAreRead}
 use Rattle.mrp_api.specs.Text.{IsTableOf}
@@ -14,16 +16,19 @@ abbrev AreRowsOf : Table → List (List (List ℕ)) → Type 0
 AreRowsOf N rows = (rows ≡ rows_of N) × AreNumbered 0 N.pairs (length N.items)
 
 -- what is read are the rows of the table
-are_rows : (rows : List (List (List ℕ))) (N : Table) → Reads rows (Ok N) → AreRowsOf N rows
+pub are_rows : (rows : List (List (List ℕ))) (N : Table) → Reads rows (Ok N) → AreRowsOf N rows
 are_rows rows N read = let is = (read_from_its_rows rows N).0 read in (is.0, is.2)
 
-of_records : (known : Option (List ℕ)) (N : Table) → OfRecords known (TellsRows (Ok N)) → OfRecords known (AreRowsOf N)
-of_records None N told = tt
-of_records (Some text) N told = are_rows (records default_config text) N told
+of_records : (reading : Reading) (known : Option (List ℕ)) (N : Table) → OfRecords known (TellsRowsAs reading (Ok N)) → OfRecords known (AreRowsOf N)
+of_records reading None N told = tt
+of_records reading (Some text) N told =
+    let rows = records default_config text in
+    are_rows rows N ((whole_end reading rows N).0 told).0
 
--- a table whose rows were read is that of the bytes
-pub is_table_of : (known : Option (List ℕ)) (N : Table) → IsTable N → OfRecords (option_map strip_bom known) (TellsRows (Ok N)) → IsTableOf known N
-is_table_of known N table told = record { table = table; rows = of_records (option_map strip_bom known) N told }
+-- a table whose rows were read, as was asked, is that of the bytes
+pub is_table_of : (reading : Reading) (known : Option (List ℕ)) (N : Table) → IsTable N → OfRecords (option_map strip_bom known) (TellsRowsAs reading (Ok N))
+    → IsTableOf known N
+is_table_of reading known N table told = record { table = table; rows = of_records reading (option_map strip_bom known) N told }
 
 pub tables_are_read : TablesAreRead
 tables_are_read bytes N =

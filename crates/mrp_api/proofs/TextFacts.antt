@@ -1,6 +1,7 @@
 -- What became of a text that was sent, and what its refusals say.
 use Rattle.std.proofs.Common.{◌≡◌, ℕ, List, ◌++◌, Option, None, Some, Result, Ok, Err, IfErr, inl, inr, ⊎_elim, subst, sym, refl}
 use Rattle.std.specs.Io.KnownBytes.{Appends, Keeps}
+use Rattle.mrp_commands.specs.declared.reading.Reading.{Reading}
 use Rattle.mrp_master_data.specs.Table.{Table}
 use Rattle.mrp_csv_out.specs.Sent.{SendsReport}
 use Rattle.mrp_csv_out.specs.declared.fault.ReportFault.{ReportFault}
@@ -9,8 +10,8 @@ use Rattle.mrp_csv_out.proofs.Fronts.{front-after, front-longer, some-longer}
 use Rattle.mrp_api.specs.declared.fault.TextFault.{TextFault}
 use Rattle.mrp_api.specs.declared.fault.TextFault.TheVariants as fault
 use Rattle.mrp_api.specs.Fault.{IsLate, IsOfReport}
-use Rattle.mrp_api.specs.Text.{IsTableOf, Writes}
-use Rattle.mrp_api.specs.Refusals.{Question, Refuses, RefusesTable}
+use Rattle.mrp_api.specs.Text.{IsTableOf, Suits, Writes}
+use Rattle.mrp_api.specs.Refusals.{Question, RefusesAs, RefusesTable}
 
 -- what was written of a text of one kind was written of a text of each kind that it is of
 pub writes-of : {U : Type 0} (a b : Option (List ℕ)) (r : Result U TextFault) (P Q : List ℕ → Type 0)
@@ -22,15 +23,16 @@ writes-of a b (Err fault.Memory) P Q along written =
 writes-of a b (Err _) P Q along written = written
 
 -- what a fault says of a table that was read, it says of the text
-refused-of : (known : Option (List ℕ)) (asked : Question) (N : Table) (f : TextFault) → IsTableOf known N → RefusesTable asked N f → Refuses known asked f
-refused-of known asked N (fault.Table e) is said = absurd said
-refused-of known asked N fault.Memory is said = tt
-refused-of known asked N _ is said = (N, is, said)
+refused-of : (reading : Reading) (known : Option (List ℕ)) (asked : Question) (N : Table) (f : TextFault) → IsTableOf known N → Suits reading N
+    → RefusesTable asked N f → RefusesAs reading known asked f
+refused-of reading known asked N (fault.Table e) is suits said = absurd said
+refused-of reading known asked N fault.Memory is suits said = tt
+refused-of reading known asked N _ is suits said = (N, is, (suits, said))
 
-pub refuses-of : {U : Type 0} (known : Option (List ℕ)) (asked : Question) (N : Table) (r : Result U TextFault) → IsTableOf known N
-    → IfErr r (RefusesTable asked N) → IfErr r (Refuses known asked)
-refuses-of known asked N (Ok u) is said = tt
-refuses-of known asked N (Err f) is said = refused-of known asked N f is said
+pub refuses-of : {U : Type 0} (reading : Reading) (known : Option (List ℕ)) (asked : Question) (N : Table) (r : Result U TextFault) → IsTableOf known N
+    → Suits reading N → IfErr r (RefusesTable asked N) → IfErr r (RefusesAs reading known asked)
+refuses-of reading known asked N (Ok u) is suits said = tt
+refuses-of reading known asked N (Err f) is suits said = refused-of reading known asked N f is suits said
 
 -- a fault that is met once the input is tested is one of the machine, of which nothing is said
 pub late-refuses : {U : Type 0} (asked : Question) (N : Table) (r : Result U TextFault) → IfErr r IsLate → IfErr r (RefusesTable asked N)

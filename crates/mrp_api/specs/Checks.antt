@@ -2,7 +2,8 @@
 -- bound are.
 use Rattle.std.specs.Prelude.{ℕ, List, map, All, Err, Option, option_map}
 use Rattle.csv.specs.Reading.{strip_bom}
-use Rattle.mrp_validation.specs.Reading.{TellsRows}
+use Rattle.mrp_commands.specs.declared.reading.Reading.{Reading}
+use Rattle.mrp_validation.specs.Reading.{TellsRowsAs}
 use Rattle.mrp_validation.specs.Written.{OfRecords}
 use Rattle.mrp_master_data.specs.Table.{Table, IsPair}
 use Rattle.mrp_loops.specs.declared.loops.LoopFault.{LoopFault}
@@ -40,10 +41,10 @@ IsOfBound N _ _ = ⊥
 -- ---- the faults of each step
 
 -- reading answers the first fault of the rows, or memory was wanting for the network
-abbrev pub NetworkAnswers : Option (List ℕ) → TextFault → Type 0
-NetworkAnswers known (fault.Table e) = OfRecords (option_map strip_bom known) (TellsRows (Err e))
-NetworkAnswers known fault.Memory = Unit {0}
-NetworkAnswers known _ = ⊥
+abbrev pub NetworkAnswers : Reading → Option (List ℕ) → TextFault → Type 0
+NetworkAnswers reading known (fault.Table e) = OfRecords (option_map strip_bom known) (TellsRowsAs reading (Err e))
+NetworkAnswers reading known fault.Memory = Unit {0}
+NetworkAnswers reading known _ = ⊥
 
 -- the loop check answers a loop, or that memory was wanting
 abbrev pub LoopCheckAnswers : Table → TextFault → Type 0

@@ -1,14 +1,15 @@
 -- What holds of the reports and refusals of one text.
-use Rattle.std.specs.Prelude.{◌≡◌, ◌↔◌, List, ℕ, Some, Ok}
+use Rattle.std.specs.Prelude.{◌≡◌, ◌↔◌, true, List, ◌++◌, ℕ, Some, Ok}
 use Rattle.csv.specs.Reading.{default_config, records, strip_bom}
 use Rattle.mrp_master_data.specs.Table.{Table}
 use Rattle.mrp_validation.specs.Reading.{Reads}
 use Rattle.mrp_commands.specs.declared.choice.Choice.{Choice}
+use Rattle.mrp_commands.specs.declared.request.Request.{Request}
 use Rattle.mrp_api.specs.declared.fault.TextFault.{TextFault}
-use Rattle.mrp_api.specs.Answer.{IsAnswer, question_of}
+use Rattle.mrp_api.specs.Answer.{IsAnswer, IsRequested, question_of}
 use Rattle.mrp_api.specs.Fault.{status_of}
 use Rattle.mrp_api.specs.Text.{IsTableOf, OfTable}
-use Rattle.mrp_api.specs.Refusals.{Refuses}
+use Rattle.mrp_api.specs.Refusals.{Refuses, RefusesAs}
 
 -- bytes are a table exactly where the grammar reads that table in their records
 abbrev pub TablesAreRead : Type 0
@@ -31,3 +32,24 @@ ReportsExcludeRefusals =
     (choice : Choice) (bytes text : List ℕ) (fault : TextFault)
     → OfTable (Some bytes) (λ N. IsAnswer choice N text) → Refuses (Some bytes) (question_of choice) fault
     → status_of fault ≡ 3
+
+-- so it is of a request
+abbrev pub RequestsExcludeRefusals : Type 0
+RequestsExcludeRefusals =
+    (request : Request) (bytes text : List ℕ) (fault : TextFault)
+    → OfTable (Some bytes) (λ N. IsRequested request N text)
+    → RefusesAs request.reading (Some bytes) (question_of request.choice) fault
+    → status_of fault ≡ 3
+
+-- bytes that begin others, where both are tables and the first one ends with an `end` row, are those of the same table
+abbrev pub CutTablesAreOne : Type 0
+CutTablesAreOne =
+    (bytes more : List ℕ) (N M : Table) → IsTableOf (Some bytes) N → IsTableOf (Some (bytes ++ more)) M
+    → N.ended ≡ true → N ≡ M
+
+-- so where a table has to be whole, what was cut off it has no report, or the report of all of it
+abbrev pub CutTablesHaveNoOtherReport : Type 0
+CutTablesHaveNoOtherReport =
+    (request : Request) (bytes more a b : List ℕ) → request.reading.whole ≡ true
+    → OfTable (Some bytes) (λ N. IsRequested request N a)
+    → OfTable (Some (bytes ++ more)) (λ N. IsRequested request N b) → a ≡ b

@@ -50,6 +50,7 @@ table_fault_word kind.TooMany = codes "TooMany"
 table_fault_word kind.Empty = codes "Empty"
 table_fault_word kind.Memory = codes "Memory"
 table_fault_word kind.ResetOrder = codes "ResetOrder"
+table_fault_word kind.Cut = codes "Cut"
 
 unfoldable pub row_line : TableFault → List ℕ
 row_line fault = concatenated (codes "mrp: row " ∷ decimal fault.row ∷ codes ": " ∷ table_fault_word fault.kind

@@ -3,7 +3,8 @@ use Rattle.std.specs.Prelude.{◌≡◌, ℕ, ◌<◌, ◌≤◌, ◌⊎◌, Lis
 use Rattle.std.specs.Prelude.{Contains, Err, false, string_bytes}
 use Rattle.csv.specs.Reading.{strip_bom}
 use Rattle.mrp_master_data.specs.Table.{Table, horizon}
-use Rattle.mrp_validation.specs.Reading.{TellsRows}
+use Rattle.mrp_commands.specs.declared.reading.Reading.{Reading}
+use Rattle.mrp_validation.specs.Reading.{TellsRows, TellsRowsAs}
 use Rattle.mrp_validation.specs.Written.{OfRecords}
 use Rattle.mrp_net.specs.Names.{IsNamed}
 use Rattle.mrp_loops.specs.Loop.{IsLoopFree}
@@ -15,7 +16,7 @@ use Rattle.mrp_api.specs.declared.fault.PairName.{PairName}
 use Rattle.mrp_api.specs.declared.fault.TextFault.{TextFault}
 use Rattle.mrp_api.specs.declared.fault.TextFault.TheVariants as fault
 use Rattle.mrp_api.specs.Reports.{is_vendor}
-use Rattle.mrp_api.specs.Text.{OfTable}
+use Rattle.mrp_api.specs.Text.{OfTable, Suits}
 
 -- the names of the pair
 abbrev pub IsPairName : Table → ℕ → PairName → Type 0
@@ -108,3 +109,9 @@ abbrev pub Refuses : Option (List ℕ) → Question → TextFault → Type 0
 Refuses known asked (fault.Table e) = OfRecords (option_map strip_bom known) (TellsRows (Err e))
 Refuses known asked fault.Memory = Unit {0}
 Refuses known asked other = OfTable known (λ N. RefusesTable asked N other)
+
+-- and what it says of bytes that are read as is asked: their table is as it has to be, where the fault isn't of a row
+abbrev pub RefusesAs : Reading → Option (List ℕ) → Question → TextFault → Type 0
+RefusesAs reading known asked (fault.Table e) = OfRecords (option_map strip_bom known) (TellsRowsAs reading (Err e))
+RefusesAs reading known asked fault.Memory = Unit {0}
+RefusesAs reading known asked other = OfTable known (λ N. Suits reading N × RefusesTable asked N other)

@@ -1,5 +1,5 @@
 -- The other reports: which text each function writes of the table.
-use Rattle.std.specs.Prelude.{◌≡◌, ℕ, ◌<◌, ◌⊎◌, Bool, true, List, ◌++◌, Option, Some, None, Contains, Result, Err}
+use Rattle.std.specs.Prelude.{◌≡◌, ℕ, ◌<◌, ◌⊎◌, Bool, true, false, List, ◌++◌, Option, Some, None, Contains, Result, Err}
 use Rattle.std.specs.List.{list_any}
 use Rattle.std.specs.Str.{bytes_eq}
 use Rattle.std.specs.Io.KnownBytes.{Appends}
@@ -18,6 +18,8 @@ use Rattle.mrp_report.specs.Codes.{code_text}
 use Rattle.mrp_report.specs.Terms.{peg_text}
 use Rattle.mrp_report.specs.Pegs.{pegs_text}
 use Rattle.mrp_schedules.specs.ScheduleRows.{schedule_text}
+use Rattle.mrp_reach.specs.Reach.{AreWhole}
+use Rattle.mrp_reach.specs.ReachRows.{reach_text}
 use Rattle.mrp_advice.specs.AdviceRows.{advice_text}
 use Rattle.mrp_shortages.specs.ShortageRows.{shortage_text}
 use Rattle.mrp_world.specs.Figures.{last_figures}
@@ -77,10 +79,22 @@ IsScheduleReport from to heading N text =
 abbrev pub IsPegsReport : Table → List ℕ → Type 0
 IsPegsReport N text = IsSized N × OfPlan N (λ plans. text ≡ pegs_text N plans)
 
--- the advice rows of the plan of the network: those of the open orders that come by then, with the names of their
--- columns above them where they are asked for
-abbrev pub IsAdviceReport : Option ℕ → Heading → Table → List ℕ → Type 0
-IsAdviceReport until heading N text = IsSized N × OfPlan N (λ plans. text ≡ advice_text heading until N plans)
+-- the reach rows of the network, with the names of their columns above them where they are asked for
+abbrev pub IsReachReport : Heading → Table → List ℕ → Type 0
+IsReachReport heading N text = IsSized N × ((wholes : List ℕ) × AreWhole N wholes × (text ≡ reach_text heading N wholes))
+
+-- how far the requirements of each pair are whole, where that is asked
+abbrev pub AreWholeIf : Bool → Table → Option (List ℕ) → Type 0
+AreWholeIf true N (Some wholes) = AreWhole N wholes
+AreWholeIf true N None = ⊥
+AreWholeIf false N (Some wholes) = ⊥
+AreWholeIf false N None = Unit {0}
+
+-- the advice rows of the plan of the network: those of the open orders that come by then, with `beyond` for messages
+-- that the horizon makes where that is asked, and with the names of their columns above them where they are asked for
+abbrev pub IsAdviceReport : Option ℕ → Bool → Heading → Table → List ℕ → Type 0
+IsAdviceReport until reach heading N text = IsSized N × ((wholes : Option (List ℕ)) × AreWholeIf reach N wholes
+    × OfPlan N (λ plans. text ≡ advice_text heading wholes until N plans))
 
 -- the shortage rows of the plan of the network, with the names of their columns above them where they are asked for
 abbrev pub IsShortagesReport : Heading → Table → List ℕ → Type 0

@@ -1,7 +1,8 @@
 -- The table of some bytes, the plan report of it, and what becomes of a text that is written.
-use Rattle.std.specs.Prelude.{◌≡◌, ℕ, ◌⊎◌, List, ◌++◌, Option, option_map, length, Result, Ok, Err}
+use Rattle.std.specs.Prelude.{◌≡◌, true, ℕ, ◌⊎◌, List, ◌++◌, Option, option_map, length, Result, Ok, Err}
 use Rattle.std.specs.Io.KnownBytes.{Appends, Keeps}
 use Rattle.csv.specs.Reading.{strip_bom}
+use Rattle.mrp_commands.specs.declared.reading.Reading.{Reading}
 use Rattle.mrp_master_data.specs.Table.{Table, IsTable}
 use Rattle.mrp_validation.specs.Written.{OfRecords}
 use Rattle.mrp_validation.specs.Written.{AreNumbered, rows_of}
@@ -25,6 +26,10 @@ pub record IsTableOf (known : Option (List ℕ)) (N : Table) : Type 0 where
 -- so it is of some table of these bytes, of which there is one at most; where they aren't known, of some table
 abbrev pub OfTable : Option (List ℕ) → (Table → Type 0) → Type 0
 OfTable known says = (N : Table) × IsTableOf known N × says N
+
+-- a table that has to be whole ends with an `end` row
+abbrev pub Suits : Reading → Table → Type 0
+Suits reading N = reading.whole ≡ true → N.ended ≡ true
 
 -- ---- reports
 

@@ -2,21 +2,21 @@
 
 ghost use Rattle.std.specs.Prelude.{◌≡◌, IfErr};
 ghost use Rattle.mrp_commands.specs.Range.{IsInRange};
-ghost use Rattle.mrp_api.specs.Answer.{IsAnswer, question_of, IsBeforeReport, IsNoShutGate, exit_status_of};
+ghost use Rattle.mrp_api.specs.Answer.{IsRequested, question_of, IsBeforeReport, IsNoShutGate, exit_status_of};
 ghost use Rattle.mrp_api.specs.Text.{Writes, OfTable};
-ghost use Rattle.mrp_api.specs.Refusals.{Refuses};
+ghost use Rattle.mrp_api.specs.Refusals.{RefusesAs};
 ghost use Rattle.mrp_api.specs.Reports.{WritesRows, IsPlanRows};
 
 use crate::fault::{TextFault, status};
-use crate::text::{plan_text, report_text};
-use mrp_commands::Choice;
+use crate::text::{plan_as, report_text};
+use mrp_commands::{Choice, Request};
 use mrp_run::{NoGate, Settings};
 use std::alloc::Global;
 use std::io::{Read, Write};
 use std::sync::Wait;
 use std::thread::Threads;
 
-/// Does what was chosen: reads a table and writes the report that the choice asks for.
+/// Does what is asked: reads a table as the request says and writes the report that its choice asks for.
 ///
 /// # Errors
 ///
@@ -25,20 +25,21 @@ use std::thread::Threads;
 pub fn answer<T: Threads + Wait + Sync, R: Read + Drop, W: Write>(
     rt: &T,
     alloc: Global,
-    choice: Choice<'_>,
+    request: Request<'_>,
     reader: R,
     writer: &mut W,
 ) -> Result<(), TextFault>
-    requires { IsInRange choice }
+    requires { IsInRange request.choice }
     ensures text { Writes (W.contents writer.old) (W.contents writer.new) result
-        (λ text. OfTable (R.remaining reader) (λ N. IsAnswer choice.entry N text)) }
+        (λ text. OfTable (R.remaining reader) (λ N. IsRequested request.entry N text)) }
     ensures rows { WritesRows W.contents writer.old writer.new result
         (λ rows. OfTable (R.remaining reader) (λ N. IsPlanRows N rows)) }
-    ensures refusal { IfErr result (Refuses (R.remaining reader) (question_of choice.entry)) }
-    ensures untouched { IfErr result (λ fault. IsBeforeReport choice.entry fault → writer.new ≡ writer.old) }
+    ensures refusal { IfErr result (RefusesAs request.entry.reading (R.remaining reader)
+        (question_of request.entry.choice)) }
+    ensures untouched { IfErr result (λ fault. IsBeforeReport request.entry.choice fault → writer.new ≡ writer.old) }
     ensures gate { IfErr result IsNoShutGate }
 {
-    match choice {
+    match request.choice {
         Choice::Plan {
             workers,
             capacity,
@@ -47,9 +48,17 @@ pub fn answer<T: Threads + Wait + Sync, R: Read + Drop, W: Write>(
             let Some(settings) = Settings::new(workers, capacity) else {
                 unreachable!()
             };
-            plan_text(rt, alloc, reader, writer, settings, &NoGate)
+            plan_as(
+                rt,
+                alloc,
+                request.reading,
+                reader,
+                writer,
+                settings,
+                &NoGate,
+            )
         }
-        _ => report_text(alloc, reader, writer, choice),
+        _ => report_text(alloc, reader, writer, request),
     }
 }
 

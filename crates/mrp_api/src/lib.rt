@@ -7,8 +7,9 @@
 //! and [`drive_text`] the same plan on one thread; [`check_text`] writes the low-level codes, [`peg_text`] what a gross
 //! requirement consists of, and [`pegs_text`] so of the whole plan, [`cums_text`] the cumulative figures of the lanes
 //! between plants, [`orders_text`] the planned and firm orders, [`schedule_text`] the delivery schedules of plants and vendors,
-//! [`advice_text`] which open orders to move, and [`shortages_text`] which requirements lack parts. [`report_text`] writes
-//! the report that a `Choice` of `mrp_commands` asks for on one thread, and [`answer`] that and a plan by threads. A
+//! [`advice_text`] which open orders to move, [`shortages_text`] which requirements lack parts, and [`reach_text`] until
+//! when requirements and releases are whole. [`report_text`] writes the report that a [`Request`] asks for on one thread,
+//! and [`answer`] that and a plan by threads; a request says too whether the table has to end with an `end` row. A
 //! [`Heading`] says whether the names of the columns stand above the rows; for codes, terms and figures a `Choice` has one.
 //! Where a text was not written whole, a [`TextFault`] says why: [`write_fault`] writes the line that
 //! reports it, and [`status`] and [`exit_status`] are the statuses with which a program ends. [`ended`]
@@ -37,14 +38,14 @@ pub use answers::{answer, exit_status};
 pub use ending::{Ending, REFUSED, after_help, ended, unread};
 pub use fault::{PairName, TextFault, status};
 pub use laws::{
-    bytes_make_one_table, figures_are_called_for, reports_are_one, reports_exclude_refusals,
-    tables_are_read,
+    bytes_make_one_table, cut_tables_are_refused_or_whole, figures_are_called_for, reports_are_one,
+    reports_exclude_refusals, tables_are_read,
 };
 pub use lines::write_fault;
-pub use mrp_commands::Heading;
+pub use mrp_commands::{Heading, Reading, Request};
 pub use mrp_report::ReportFault;
 pub use mrp_run::{Gate, NoGate, Settings};
 pub use text::{
     advice_text, check_text, cums_text, drive_text, orders_text, peg_text, pegs_text, plan_text,
-    report_text, schedule_text, shortages_text,
+    reach_text, report_text, schedule_text, shortages_text,
 };

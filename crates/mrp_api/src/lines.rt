@@ -184,6 +184,7 @@ fn kind_word<'a>(kind: TableFaultKind) -> &'a [u8]
         TableFaultKind::Empty => b"Empty",
         TableFaultKind::Memory => b"Memory",
         TableFaultKind::ResetOrder => b"ResetOrder",
+        TableFaultKind::Cut => b"Cut",
     }
 }
 

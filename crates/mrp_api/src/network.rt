@@ -5,25 +5,31 @@ ghost use Rattle.mrp_loops.specs.Sized.{IsSized};
 ghost use Rattle.mrp_master_data.specs.Table.{IsPair};
 ghost use Rattle.mrp_loops.specs.Loop.{IsLoopFree};
 ghost use Rattle.mrp_loops.specs.Codes.{AreCodes};
-ghost use Rattle.mrp_api.specs.Text.{IsTableOf};
+ghost use Rattle.mrp_api.specs.Text.{IsTableOf, Suits};
 ghost use Rattle.mrp_api.specs.Refusals.{IsPairName, AreCalled};
 ghost use Rattle.mrp_api.specs.Checks.{AreLoopPairs, BoundAnswers, IsBoundPair};
 ghost use Rattle.mrp_api.specs.Checks.{LoopCheckAnswers, IsOfBound, IsOfLoop};
 ghost use Rattle.mrp_api.specs.Checks.{NetworkAnswers};
 
 use crate::fault::{PairName, TextFault};
+use mrp_commands::Reading;
 use mrp_loops::{BoundFault, Levels, LoopFault, SizedNet, bound, check};
 use mrp_net::{Network, PairNo};
 use mrp_tables::read_tables_uncounted;
 use std::alloc::{AllocError, Global};
 use std::io::Read;
 
-/// The network of the table.
-pub(crate) fn network_of<R: Read + Drop>(alloc: Global, reader: R) -> Result<Network, TextFault>
+/// The network of the table, which is read as is asked.
+pub(crate) fn network_of<R: Read + Drop>(
+    alloc: Global,
+    reading: Reading,
+    reader: R,
+) -> Result<Network, TextFault>
     ensures rows { IfOk result (IsTableOf (R.remaining reader)) }
-    ensures refusal { IfErr result (NetworkAnswers (R.remaining reader)) }
+    ensures whole { IfOk result (Suits reading) }
+    ensures refusal { IfErr result (NetworkAnswers reading (R.remaining reader)) }
 {
-    let tables = read_tables_uncounted(alloc, reader)?;
+    let tables = read_tables_uncounted(alloc, reading, reader)?;
     let network = Network::of(alloc, tables)?;
     // Every network is that of a table.
     let _pairs = network.pairs();

@@ -4,20 +4,21 @@
 //! `refusal` what each fault says of the input, `untouched` after which faults nothing is written. The last clause
 //! of a run by threads, `gate`, is for those who give a gate of their own.
 //!
-//! `plan_text` and `report_text` alone hold a network. They let it go by `drop` and not at the end of a scope: what
+//! `plan_as` and `report_text` alone hold a network. They let it go by `drop` and not at the end of a scope: what
 //! lets go each of its lists is then proved once.
 
 ghost use Rattle.std.specs.Prelude.{◌≡◌, ◌≢◌, ◌≤◌, IfErr};
 ghost use Rattle.mrp_qty.specs.declared.limits.TheConstants.{MOST_TURNS};
-ghost use Rattle.mrp_api.specs.Answer.{IsAlone, IsAnswer, IsBeforeReport, question_of};
+ghost use Rattle.mrp_api.specs.Answer.{IsAlone, IsAnswer, IsBeforeReport, IsRequested, question_of};
 ghost use Rattle.mrp_api.specs.Fault.{IsBeforeWriting};
-ghost use Rattle.mrp_api.specs.Text.{Writes, OfTable, IsPlanReport};
+ghost use Rattle.mrp_api.specs.Text.{Writes, OfTable, IsPlanReport, Suits};
 ghost use Rattle.mrp_api.specs.Reports.{WritesRows, IsPlanRows, IsCodeReport};
 ghost use Rattle.mrp_report.specs.Headings.{pegs_names};
 ghost use Rattle.mrp_api.specs.Reports.{IsPegReport, IsCumReport, IsOrderReport, IsHeaded};
 ghost use Rattle.mrp_commands.specs.Given.{name_of};
-ghost use Rattle.mrp_api.specs.Reports.{IsAdviceReport, IsPegsReport, IsScheduleReport, IsShortagesReport};
-ghost use Rattle.mrp_api.specs.Refusals.{Refuses, AskWhole, AskByThreads, AskPair, AskPlants};
+ghost use Rattle.mrp_api.specs.Reports.{IsAdviceReport, IsPegsReport, IsReachReport, IsScheduleReport};
+ghost use Rattle.mrp_api.specs.Reports.{IsShortagesReport};
+ghost use Rattle.mrp_api.specs.Refusals.{Refuses, RefusesAs, AskWhole, AskByThreads, AskPair, AskPlants};
 ghost use Rattle.mrp_api.specs.Gates.{GateExplains};
 ghost use Rattle.mrp_commands.specs.declared.choice.TheConstants.{MOST_CAPACITY};
 
@@ -25,12 +26,15 @@ use crate::fault::TextFault;
 use crate::network::network_of;
 use crate::run::write_run;
 use crate::writing::write_report;
-use mrp_commands::{Choice, Heading, MOST_CAPACITY};
+use mrp_commands::{Choice, Heading, MOST_CAPACITY, Reading, Request};
 use mrp_run::{Gate, Settings};
 use std::alloc::Global;
 use std::io::{Read, Write};
 use std::sync::Wait;
 use std::thread::Threads;
+
+/// Any table will do, whether it ends with an `end` row or not.
+const READ_ALL: Reading = Reading { whole: false };
 
 /// Reads a table and writes its plan: a row for each pair and period, then a row for each late order. Each plant plans
 /// in a thread of its own, with the workers and the mailboxes of `settings`.
@@ -63,7 +67,29 @@ pub fn plan_text<T: Threads + Wait + Sync, R: Read + Drop, W: Write, G: Gate>(
     ensures gate { GateExplains G.turn_open G.turn_shut G.worker_shut settings.workers MOST_TURNS
         (OfTable (R.remaining reader)) result }
 {
-    let network = network_of(alloc, reader)?;
+    plan_as(rt, alloc, READ_ALL, reader, writer, settings, gate)
+}
+
+/// Reads a table as is asked, and writes its plan as [`plan_text`] does.
+pub(crate) fn plan_as<T: Threads + Wait + Sync, R: Read + Drop, W: Write, G: Gate>(
+    rt: &T,
+    alloc: Global,
+    reading: Reading,
+    reader: R,
+    writer: &mut W,
+    settings: Settings,
+    gate: &G,
+) -> Result<(), TextFault>
+    ensures text { Writes (W.contents writer.old) (W.contents writer.new) result
+        (λ text. OfTable (R.remaining reader) (λ N. Suits reading N × IsPlanReport N text)) }
+    ensures rows { WritesRows W.contents writer.old writer.new result
+        (λ rows. OfTable (R.remaining reader) (λ N. IsPlanRows N rows)) }
+    ensures refusal { IfErr result (RefusesAs reading (R.remaining reader) AskByThreads) }
+    ensures untouched { IfErr result (λ fault. IsBeforeWriting fault → writer.new ≡ writer.old) }
+    ensures gate { GateExplains G.turn_open G.turn_shut G.worker_shut settings.workers MOST_TURNS
+        (OfTable (R.remaining reader)) result }
+{
+    let network = network_of(alloc, reading, reader)?;
     let written = write_run(rt, alloc, &network, writer, settings, gate);
     drop(network);
     written
@@ -108,7 +134,7 @@ pub fn drive_text<R: Read + Drop, W: Write>(
         capacity,
         single: true,
     };
-    report_text(alloc, reader, writer, choice)
+    usual_text(alloc, reader, writer, choice)
 }
 
 /// Reads a table and writes the low-level code of each pair.
@@ -128,7 +154,7 @@ pub fn check_text<R: Read + Drop, W: Write>(
     ensures untouched { IfErr result (λ fault. fault ≢ TextFault.WriteFault → writer.new ≡ writer.old) }
 {
     let heading = Heading::Without;
-    report_text(alloc, reader, writer, Choice::Check { heading })
+    usual_text(alloc, reader, writer, Choice::Check { heading })
 }
 
 /// Reads a table and writes what the gross requirement of a pair in a period, counted from 0, consists of: a row for
@@ -158,7 +184,7 @@ pub fn peg_text<R: Read + Drop, W: Write>(
         period,
         heading: Heading::Without,
     };
-    report_text(alloc, reader, writer, choice)
+    usual_text(alloc, reader, writer, choice)
 }
 
 /// Reads a table and writes the cumulative figures of the lanes between its plants, once all plants have
@@ -179,7 +205,7 @@ pub fn cums_text<R: Read + Drop, W: Write>(
     ensures untouched { IfErr result (λ fault. fault ≢ TextFault.WriteFault → writer.new ≡ writer.old) }
 {
     let heading = Heading::Without;
-    report_text(alloc, reader, writer, Choice::Cums { heading })
+    usual_text(alloc, reader, writer, Choice::Cums { heading })
 }
 
 /// Reads a table and writes its orders, firm and planned: a row for each that is released in period `until` or
@@ -203,7 +229,7 @@ pub fn orders_text<R: Read + Drop, W: Write>(
     ensures refusal { IfErr result (Refuses (R.remaining reader) AskWhole) }
     ensures untouched { IfErr result (λ fault. fault ≢ TextFault.WriteFault → writer.new ≡ writer.old) }
 {
-    report_text(alloc, reader, writer, Choice::Orders { until, heading })
+    usual_text(alloc, reader, writer, Choice::Orders { until, heading })
 }
 
 /// Reads a table and writes the delivery schedules of its plants and vendors: for each item that a customer plant
@@ -232,7 +258,7 @@ pub fn schedule_text<R: Read + Drop, W: Write>(
     ensures refusal { IfErr result (Refuses (R.remaining reader) (AskPlants (name_of from.entry) (name_of to.entry))) }
     ensures untouched { IfErr result (λ fault. fault ≢ TextFault.WriteFault → writer.new ≡ writer.old) }
 {
-    report_text(
+    usual_text(
         alloc,
         reader,
         writer,
@@ -259,13 +285,14 @@ pub fn pegs_text<R: Read + Drop, W: Write>(
     ensures refusal { IfErr result (Refuses (R.remaining reader) AskWhole) }
     ensures untouched { IfErr result (λ fault. fault ≢ TextFault.WriteFault → writer.new ≡ writer.old) }
 {
-    report_text(alloc, reader, writer, Choice::Pegs { heading })
+    usual_text(alloc, reader, writer, Choice::Pegs { heading })
 }
 
 /// Reads a table and writes which of its open orders, receipts, shipments and firm planned orders, to expedite, to
 /// defer and to cancel, since they are needed in another period than they come in, or in none of the plan: a row for
 /// each that comes in period `until` or before it, without it for each, with the names of the columns above them where
-/// `heading` says so.
+/// `heading` says so. With `reach` a message that holds only as long as nothing is wanted behind the horizon is told as
+/// `beyond`, or not at all where the order comes beyond it too.
 ///
 /// # Errors
 ///
@@ -276,14 +303,20 @@ pub fn advice_text<R: Read + Drop, W: Write>(
     reader: R,
     writer: &mut W,
     until: Option<u64>,
+    reach: bool,
     heading: Heading,
 ) -> Result<(), TextFault>
     ensures text { Writes (W.contents writer.old) (W.contents writer.new) result
-        (λ text. OfTable (R.remaining reader) (λ N. IsAdviceReport until heading N text)) }
+        (λ text. OfTable (R.remaining reader) (λ N. IsAdviceReport until reach heading N text)) }
     ensures refusal { IfErr result (Refuses (R.remaining reader) AskWhole) }
     ensures untouched { IfErr result (λ fault. fault ≢ TextFault.WriteFault → writer.new ≡ writer.old) }
 {
-    report_text(alloc, reader, writer, Choice::Advice { until, heading })
+    let choice = Choice::Advice {
+        until,
+        reach,
+        heading,
+    };
+    usual_text(alloc, reader, writer, choice)
 }
 
 /// Reads a table and writes which requirements of its plan in period 0 lack parts: a row for each that gets less than it
@@ -305,19 +338,33 @@ pub fn shortages_text<R: Read + Drop, W: Write>(
     ensures refusal { IfErr result (Refuses (R.remaining reader) AskWhole) }
     ensures untouched { IfErr result (λ fault. fault ≢ TextFault.WriteFault → writer.new ≡ writer.old) }
 {
-    report_text(alloc, reader, writer, Choice::Shortages { heading })
+    usual_text(alloc, reader, writer, Choice::Shortages { heading })
 }
 
-/// Reads a table and writes the report that one thread is asked for: what each text function but [`plan_text`] does.
-///
-/// A plan is asked for with `single` alone, and with mailboxes for 1 to [`MOST_CAPACITY`] records; its workers aren't
-/// looked at.
+/// Reads a table and writes until which period the gross requirements of each pair, and its releases, are whole:
+/// nothing that is wanted behind the horizon changes them. With the names of the columns above the rows where `heading`
+/// says so.
 ///
 /// # Errors
 ///
-/// As [`TextFault`] says. Of a plan as those of [`drive_text`]; of every other report a prefix of the text is written
-/// after [`TextFault::WriteFault`], and nothing after every other fault.
-pub fn report_text<R: Read + Drop, W: Write>(
+/// As [`TextFault`] says. After [`TextFault::WriteFault`] a prefix of the text is written, and nothing
+/// after every other fault.
+pub fn reach_text<R: Read + Drop, W: Write>(
+    alloc: Global,
+    reader: R,
+    writer: &mut W,
+    heading: Heading,
+) -> Result<(), TextFault>
+    ensures text { Writes (W.contents writer.old) (W.contents writer.new) result
+        (λ text. OfTable (R.remaining reader) (λ N. IsReachReport heading N text)) }
+    ensures refusal { IfErr result (Refuses (R.remaining reader) AskWhole) }
+    ensures untouched { IfErr result (λ fault. fault ≢ TextFault.WriteFault → writer.new ≡ writer.old) }
+{
+    usual_text(alloc, reader, writer, Choice::Reach { heading })
+}
+
+/// Reads a table, which may lack an `end` row, and writes the report that one thread is asked for.
+fn usual_text<R: Read + Drop, W: Write>(
     alloc: Global,
     reader: R,
     writer: &mut W,
@@ -331,8 +378,37 @@ pub fn report_text<R: Read + Drop, W: Write>(
     ensures refusal { IfErr result (Refuses (R.remaining reader) (question_of choice.entry)) }
     ensures untouched { IfErr result (λ fault. IsBeforeReport choice.entry fault → writer.new ≡ writer.old) }
 {
-    let network = network_of(alloc, reader)?;
-    let written = write_report(alloc, &network, writer, choice);
+    let reading = READ_ALL;
+    report_text(alloc, reader, writer, Request { reading, choice })
+}
+
+/// Reads a table as is asked and writes the report that one thread is asked for: what each text function but
+/// [`plan_text`] does.
+///
+/// A plan is asked for with `single` alone, and with mailboxes for 1 to [`MOST_CAPACITY`] records; its workers aren't
+/// looked at.
+///
+/// # Errors
+///
+/// As [`TextFault`] says. Of a plan as those of [`drive_text`]; of every other report a prefix of the text is written
+/// after [`TextFault::WriteFault`], and nothing after every other fault.
+pub fn report_text<R: Read + Drop, W: Write>(
+    alloc: Global,
+    reader: R,
+    writer: &mut W,
+    request: Request<'_>,
+) -> Result<(), TextFault>
+    requires alone { IsAlone request.choice }
+    ensures text { Writes (W.contents writer.old) (W.contents writer.new) result
+        (λ text. OfTable (R.remaining reader) (λ N. IsRequested request.entry N text)) }
+    ensures rows { WritesRows W.contents writer.old writer.new result
+        (λ rows. OfTable (R.remaining reader) (λ N. IsPlanRows N rows)) }
+    ensures refusal { IfErr result (RefusesAs request.entry.reading (R.remaining reader)
+        (question_of request.entry.choice)) }
+    ensures untouched { IfErr result (λ fault. IsBeforeReport request.entry.choice fault → writer.new ≡ writer.old) }
+{
+    let network = network_of(alloc, request.reading, reader)?;
+    let written = write_report(alloc, &network, writer, request.choice);
     drop(network);
     written
 }

@@ -13,7 +13,7 @@ ghost use Rattle.mrp_api.specs.Reports.{WritesRows, IsPlanRows, IsCodeReport};
 ghost use Rattle.mrp_report.specs.Headings.{code_names, lane_names, peg_names, pegs_names};
 ghost use Rattle.mrp_api.specs.Reports.{IsPegReport, IsCumReport, IsPegs, IsOrderReport, IsHeaded};
 ghost use Rattle.mrp_api.specs.Reports.{AreSchedules, IsAdviceReport, IsKnownPlant, IsKnownSupplier, is_vendor};
-ghost use Rattle.mrp_api.specs.Reports.{IsPegsReport, IsScheduleReport, IsShortagesReport};
+ghost use Rattle.mrp_api.specs.Reports.{IsPegsReport, IsReachReport, IsScheduleReport, IsShortagesReport};
 ghost use Rattle.mrp_commands.specs.Given.{name_of};
 ghost use Rattle.mrp_api.specs.Refusals.{IsNoPlant, IsNoSupplier, RefusesTable, AskPair, AskPlants};
 ghost use Rattle.mrp_commands.specs.declared.choice.TheConstants.{MOST_CAPACITY};
@@ -27,6 +27,7 @@ use mrp_loops::{Levels, SizedNet};
 use mrp_master_data::is_same_text;
 use mrp_net::{Network, PairNo};
 use mrp_plan::{Plan, peg, plan_all};
+use mrp_reach::{reach_rows, whole_periods};
 use mrp_report::{code_rows, lane_rows, late_rows, order_rows, peg_rows, pegs_rows, plan_rows};
 use mrp_schedules::schedule_rows;
 use mrp_shortages::shortage_rows;
@@ -72,6 +73,7 @@ fn report<W: Write>(
     match choice {
         Choice::Plan { capacity, .. } => report_driven(alloc, net, writer, capacity),
         Choice::Check { heading } => report_codes(alloc, net.network(), levels, writer, heading),
+        Choice::Reach { heading } => report_reach(alloc, net, writer, heading),
         Choice::Peg {
             plant,
             item,
@@ -84,7 +86,11 @@ fn report<W: Write>(
             report_schedule(alloc, net, writer, from, to, heading)
         }
         Choice::Pegs { heading } => report_all_pegs(alloc, net, writer, heading),
-        Choice::Advice { until, heading } => report_advice(alloc, net, writer, until, heading),
+        Choice::Advice {
+            until,
+            reach,
+            heading,
+        } => report_advice(alloc, net, writer, until, reach, heading),
         Choice::Shortages { heading } => report_shortages(alloc, net, writer, heading),
     }
 }
@@ -339,22 +345,48 @@ fn report_all_pegs<W: Write>(
     Ok(())
 }
 
-/// Writes the advice rows of those open orders that come in period `until` or before it, without it of all.
+/// Writes the reach rows: how far the requirements and the releases of each pair are whole.
+fn report_reach<W: Write>(
+    alloc: Global,
+    net: &SizedNet<'_>,
+    writer: &mut W,
+    heading: Heading,
+) -> Result<(), TextFault>
+    requires { IsSized net.now.network }
+    ensures text { Writes (W.contents writer.old) (W.contents writer.new) result
+        (IsReachReport heading net.now.network) }
+    ensures fault { IfErr result IsLate }
+    ensures untouched { IfErr result (λ fault. fault ≢ TextFault.WriteFault → writer.new ≡ writer.old) }
+{
+    let wholes = whole_periods(alloc, net)?;
+    reach_rows(alloc, net, wholes.as_slice(), heading, writer)?;
+    Ok(())
+}
+
+/// Writes the advice rows of those open orders that come in period `until` or before it, without it of all; with `reach`
+/// messages that the horizon makes are told as beyond it.
 fn report_advice<W: Write>(
     alloc: Global,
     net: &SizedNet<'_>,
     writer: &mut W,
     until: Option<u64>,
+    reach: bool,
     heading: Heading,
 ) -> Result<(), TextFault>
     requires { IsSized net.now.network }
     ensures text { Writes (W.contents writer.old) (W.contents writer.new) result
-        (IsAdviceReport until heading net.now.network) }
+        (IsAdviceReport until reach heading net.now.network) }
     ensures fault { IfErr result IsLate }
     ensures untouched { IfErr result (λ fault. fault ≢ TextFault.WriteFault → writer.new ≡ writer.old) }
 {
     let plan = plan_all(alloc, net)?;
-    advice_rows(alloc, net, &plan, until, heading, writer)?;
+    if reach {
+        let wholes = whole_periods(alloc, net)?;
+        let known = Some(wholes.as_slice());
+        advice_rows(alloc, net, &plan, known, until, heading, writer)?;
+        return Ok(());
+    }
+    advice_rows(alloc, net, &plan, None, until, heading, writer)?;
     Ok(())
 }
 

@@ -2,6 +2,12 @@
 use Rattle.std.specs.Prelude.{ℕ, Bool, true, false, List, [], ◌∷◌, Option, Some, None}
 use Rattle.mrp_commands.specs.declared.choice.Heading.{Heading}
 use Rattle.mrp_commands.specs.declared.choice.Heading.TheVariants.{Names, Without}
+use Rattle.mrp_commands.specs.declared.reading.Reading as of_request
+use Rattle.mrp_c_api.specs.declared.options.Reading as of_c
+
+-- how the table is to be read
+unfoldable pub reading_of : of_c.Reading → of_request.Reading
+reading_of reading = record { whole = reading.whole }
 
 -- the names of the columns
 abbrev pub heading_of : Bool → Heading

@@ -6,23 +6,23 @@ ghost use Rattle.mrp_c_api.specs.Buffer.{HandsOver};
 ghost use Rattle.mrp_api.specs.Answer.{IsAlone, IsAnswer, question_of};
 
 use mrp_api::{REFUSED, TextFault, report_text, status, write_fault};
-use mrp_commands::Choice;
+use mrp_commands::Request;
 use std::alloc::Global;
 
 /// Hands over the report that one thread is asked for, or the line of its fault. Answers with the status.
 pub(crate) fn answer(
     alloc: Global,
     table: &[u8],
-    choice: Choice<'_>,
+    request: Request<'_>,
     buffer: &mut [u8],
     size: &mut usize,
 ) -> u32
-    requires { IsAlone choice }
-    ensures { Answers table.now (question_of choice.entry) (IsAnswer choice.entry) result
-        buffer.old buffer.new size.new }
+    requires { IsAlone request.choice }
+    ensures { Answers table.now request.entry.reading (question_of request.entry.choice) (IsAnswer request.entry.choice)
+        result buffer.old buffer.new size.new }
 {
     let mut report = Vec::new(alloc);
-    let done = report_text(alloc, table, &mut report, choice);
+    let done = report_text(alloc, table, &mut report, request);
     tell(alloc, done, report, buffer, size)
 }
 

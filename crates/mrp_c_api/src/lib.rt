@@ -7,6 +7,9 @@
 //! UTF-8. Where there is no memory for the line of a fault, the fault is that: 3, `mrp: Memory`. The contracts allow 3
 //! with the line of a failed read too, below rows without a fault: nothing that is read here fails.
 //!
+//! **Reading.** Each call is told how the table is to be read: where [`Reading::whole`] is true, one that does not end with
+//! an `end` row is refused, as with the option `--whole` of the program.
+//!
 //! **Buffer.** `size` tells the length of the text in bytes. Where that is at most the length of the buffer, the buffer
 //! begins with the text and goes on as it was. Else the whole buffer is as it was, and the caller asks again with as
 //! much room. No byte behind the text and none outside the buffer is written.
@@ -22,16 +25,17 @@ mod buffer;
 mod options;
 
 ghost use Rattle.mrp_c_api.specs.Answers.{Answers, AnswersNamed};
-ghost use Rattle.mrp_c_api.specs.Options.{heading_of, limit_of};
+ghost use Rattle.mrp_c_api.specs.Options.{heading_of, limit_of, reading_of};
 ghost use Rattle.mrp_report.specs.Headings.{code_names, lane_names};
 ghost use Rattle.mrp_api.specs.Refusals.{AskWhole};
 ghost use Rattle.mrp_api.specs.Reports.{IsAdviceReport, IsCodeReport, IsCumReport, IsHeaded, IsOrderReport};
-ghost use Rattle.mrp_api.specs.Reports.{IsShortagesReport};
+ghost use Rattle.mrp_api.specs.Reports.{IsReachReport, IsShortagesReport};
 ghost use Rattle.mrp_api.specs.Text.{IsPlanReport};
 
 use crate::buffer::{answer, refuse_name};
-use crate::options::{given, heading, limit};
-use mrp_commands::Choice;
+use crate::options::{given, heading, limit, reading_of};
+use mrp_commands::{Choice, Request};
+pub use options::Reading;
 use std::alloc::Global;
 use std::str::from_utf8;
 
@@ -43,15 +47,23 @@ use std::str::from_utf8;
 ///
 /// Status 1 where the table is refused, and 3 where memory was refused; the text is the line of the fault.
 #[unsafe(no_mangle)]
-pub extern "C" fn mrp_plan(alloc: Global, table: &[u8], buffer: &mut [u8], size: &mut usize) -> u32
-    ensures { Answers table.now AskWhole IsPlanReport result buffer.old buffer.new size.new }
+pub extern "C" fn mrp_plan(
+    alloc: Global,
+    table: &[u8],
+    reading: &Reading,
+    buffer: &mut [u8],
+    size: &mut usize,
+) -> u32
+    ensures { Answers table.now (reading_of reading.now) AskWhole IsPlanReport result
+        buffer.old buffer.new size.new }
 {
+    let reading = reading_of(reading);
     let choice = Choice::Plan {
         workers: 1,
         capacity: 64,
         single: true,
     };
-    answer(alloc, table, choice, buffer, size)
+    answer(alloc, table, Request { reading, choice }, buffer, size)
 }
 
 /// Writes the planned and firm orders of a table: where `limited` is true those alone that are released in period `until` or
@@ -67,19 +79,21 @@ pub extern "C" fn mrp_plan(alloc: Global, table: &[u8], buffer: &mut [u8], size:
 pub extern "C" fn mrp_orders(
     alloc: Global,
     table: &[u8],
+    reading: &Reading,
     limited: bool,
     until: u64,
     header: bool,
     buffer: &mut [u8],
     size: &mut usize,
 ) -> u32
-    ensures { Answers table.now AskWhole (IsOrderReport (limit_of limited until) (heading_of header))
-        result buffer.old buffer.new size.new }
+    ensures { Answers table.now (reading_of reading.now) AskWhole
+        (IsOrderReport (limit_of limited until) (heading_of header)) result buffer.old buffer.new size.new }
 {
+    let reading = reading_of(reading);
     let until = limit(limited, until);
     let heading = heading(header);
     let choice = Choice::Orders { until, heading };
-    answer(alloc, table, choice, buffer, size)
+    answer(alloc, table, Request { reading, choice }, buffer, size)
 }
 
 /// Writes the delivery schedules of a table: those of the plant or the vendor `from` alone and to the customer plant
@@ -97,13 +111,15 @@ pub extern "C" fn mrp_orders(
 pub extern "C" fn mrp_schedule(
     alloc: Global,
     table: &[u8],
+    reading: &Reading,
     from: &[u8],
     to: &[u8],
     header: bool,
     buffer: &mut [u8],
     size: &mut usize,
 ) -> u32
-    ensures { AnswersNamed table.now from.now to.now (heading_of header) result buffer.old buffer.new size.new }
+    ensures { AnswersNamed table.now (reading_of reading.now) from.now to.now (heading_of header) result
+        buffer.old buffer.new size.new }
 {
     let Ok(supplier) = from_utf8(from) else {
         return refuse_name(buffer, size);
@@ -111,11 +127,12 @@ pub extern "C" fn mrp_schedule(
     let Ok(customer) = from_utf8(to) else {
         return refuse_name(buffer, size);
     };
+    let reading = reading_of(reading);
     let from = given(supplier);
     let to = given(customer);
     let heading = heading(header);
     let choice = Choice::Schedule { from, to, heading };
-    answer(alloc, table, choice, buffer, size)
+    answer(alloc, table, Request { reading, choice }, buffer, size)
 }
 
 /// Writes the low-level code of each pair of a table.
@@ -129,15 +146,44 @@ pub extern "C" fn mrp_schedule(
 pub extern "C" fn mrp_check(
     alloc: Global,
     table: &[u8],
+    reading: &Reading,
     header: bool,
     buffer: &mut [u8],
     size: &mut usize,
 ) -> u32
-    ensures { Answers table.now AskWhole (λ N. IsHeaded (heading_of header) code_names (IsCodeReport N))
+    ensures { Answers table.now (reading_of reading.now) AskWhole
+        (λ N. IsHeaded (heading_of header) code_names (IsCodeReport N)) result buffer.old buffer.new size.new }
+{
+    let reading = reading_of(reading);
+    let heading = heading(header);
+    let choice = Choice::Check { heading };
+    answer(alloc, table, Request { reading, choice }, buffer, size)
+}
+
+/// Writes until which period the gross requirements of each pair of a table, and its releases, are whole: nothing that is
+/// wanted behind the horizon changes them.
+///
+/// Where `header` is true the names of the columns stand above the rows. The text is that of `mrp check --reach`.
+///
+/// # Errors
+///
+/// Status 1 where the table is refused, and 3 where memory was refused; the text is the line of the fault.
+#[unsafe(no_mangle)]
+pub extern "C" fn mrp_reach(
+    alloc: Global,
+    table: &[u8],
+    reading: &Reading,
+    header: bool,
+    buffer: &mut [u8],
+    size: &mut usize,
+) -> u32
+    ensures { Answers table.now (reading_of reading.now) AskWhole (IsReachReport (heading_of header))
         result buffer.old buffer.new size.new }
 {
+    let reading = reading_of(reading);
     let heading = heading(header);
-    answer(alloc, table, Choice::Check { heading }, buffer, size)
+    let choice = Choice::Reach { heading };
+    answer(alloc, table, Request { reading, choice }, buffer, size)
 }
 
 /// Writes the cumulative figures of the lanes between the plants of a table, once all plants have planned.
@@ -151,22 +197,27 @@ pub extern "C" fn mrp_check(
 pub extern "C" fn mrp_cums(
     alloc: Global,
     table: &[u8],
+    reading: &Reading,
     header: bool,
     buffer: &mut [u8],
     size: &mut usize,
 ) -> u32
-    ensures { Answers table.now AskWhole (λ N. IsHeaded (heading_of header) lane_names (IsCumReport N))
-        result buffer.old buffer.new size.new }
+    ensures { Answers table.now (reading_of reading.now) AskWhole
+        (λ N. IsHeaded (heading_of header) lane_names (IsCumReport N)) result buffer.old buffer.new size.new }
 {
+    let reading = reading_of(reading);
     let heading = heading(header);
-    answer(alloc, table, Choice::Cums { heading }, buffer, size)
+    let choice = Choice::Cums { heading };
+    answer(alloc, table, Request { reading, choice }, buffer, size)
 }
 
 /// Writes which open orders of a table to expedite, to defer and to cancel: where `limited` is true of those alone that
 /// come in period `until` or before it.
 ///
 /// `until` counts periods from 0, and is read only where `limited` is true; from the last period on no open order is
-/// left out. Where `header` is true the names of the columns stand above the rows. The text is that of `mrp advice`.
+/// left out. Where `reach` is true a message that holds only as long as nothing is wanted behind the horizon is told as
+/// `beyond`, or not at all where the order comes beyond it too. Where `header` is true the names of the columns stand above
+/// the rows. The text is that of `mrp advice`, and of `mrp advice --reach` where `reach` is true.
 ///
 /// # Errors
 ///
@@ -175,19 +226,26 @@ pub extern "C" fn mrp_cums(
 pub extern "C" fn mrp_advice(
     alloc: Global,
     table: &[u8],
+    reading: &Reading,
     limited: bool,
     until: u64,
+    reach: bool,
     header: bool,
     buffer: &mut [u8],
     size: &mut usize,
 ) -> u32
-    ensures { Answers table.now AskWhole (IsAdviceReport (limit_of limited until) (heading_of header))
-        result buffer.old buffer.new size.new }
+    ensures { Answers table.now (reading_of reading.now) AskWhole
+        (IsAdviceReport (limit_of limited until) reach (heading_of header)) result buffer.old buffer.new size.new }
 {
+    let reading = reading_of(reading);
     let until = limit(limited, until);
     let heading = heading(header);
-    let choice = Choice::Advice { until, heading };
-    answer(alloc, table, choice, buffer, size)
+    let choice = Choice::Advice {
+        until,
+        reach,
+        heading,
+    };
+    answer(alloc, table, Request { reading, choice }, buffer, size)
 }
 
 /// Writes which requirements of a table's plan in period 0 lack parts, and how many pieces.
@@ -201,12 +259,16 @@ pub extern "C" fn mrp_advice(
 pub extern "C" fn mrp_shortages(
     alloc: Global,
     table: &[u8],
+    reading: &Reading,
     header: bool,
     buffer: &mut [u8],
     size: &mut usize,
 ) -> u32
-    ensures { Answers table.now AskWhole (IsShortagesReport (heading_of header)) result buffer.old buffer.new size.new }
+    ensures { Answers table.now (reading_of reading.now) AskWhole (IsShortagesReport (heading_of header))
+        result buffer.old buffer.new size.new }
 {
+    let reading = reading_of(reading);
     let heading = heading(header);
-    answer(alloc, table, Choice::Shortages { heading }, buffer, size)
+    let choice = Choice::Shortages { heading };
+    answer(alloc, table, Request { reading, choice }, buffer, size)
 }

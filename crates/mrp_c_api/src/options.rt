@@ -1,10 +1,26 @@
-//! What C says of a report, as a choice takes it.
+//! What C says of a table and of a report, as a request takes it.
 
 ghost use Rattle.std.specs.Prelude.{◌≡◌};
-ghost use Rattle.mrp_c_api.specs.Options.{heading_of, limit_of, name_given};
+ghost use Rattle.mrp_c_api.specs.Options.{heading_of, limit_of, name_given, reading_of};
 ghost use Rattle.mrp_commands.specs.Given.{name_of};
 
 use mrp_commands::Heading;
+
+/// How a table is to be read.
+#[repr(C)]
+pub struct Reading {
+    /// It has to end with an `end` row: one without it was cut off, and is refused.
+    pub whole: bool,
+}
+
+/// The same, as a request takes it.
+pub(crate) fn reading_of(reading: &Reading) -> mrp_commands::Reading
+    ensures { result ≡ reading_of reading.now }
+{
+    mrp_commands::Reading {
+        whole: reading.whole,
+    }
+}
 
 /// Whether the names of the columns stand above the rows.
 pub(crate) fn heading(names: bool) -> Heading

@@ -1,4 +1,5 @@
--- Where no step of the parse fails, the words name one of the nine commands, with its values.
+-- Where no step of the parse fails, the words name one of the nine commands, with its values, and say how the table is to
+-- be read.
 use Rattle.std.proofs.Common.{◌≡◌, ◌∙◌, ◌&&◌, ◌||◌, inl, inr, ℕ, Bool, cond, true, false, not, List, [], ◌∷◌, Option, Some, None, codes, option_map, refl, sym}
 use Rattle.std.proofs.Common.{ap, ap₂, subst, is_some, true≢false}
 use Rattle.std.specs.Prelude.{unwrap_or}
@@ -14,17 +15,18 @@ use Rattle.clap.specs.Walk.{Names, Row, Rule, Text, answers_to, finished, has_ro
 use Rattle.clap.specs.Faults.{built_fault, check_fault, defaults_fault, entered_fault, level_fault, settle_fault, walk_fault}
 use Rattle.clap.specs.Simple.{App, Shape, argument_words, built, built_leaf, entered, help_shape, inherited, is_simple, label_of, marked_built, names_of}
 use Rattle.clap.specs.Simple.{rows_at, with_filled_rules, with_help_flag, with_leaf_noted, with_version_flag}
-use Rattle.clap.specs.Words.{HasKind, fault_of, is_simple_and_free, subcommand_of}
+use Rattle.clap.specs.Words.{HasKind, fault_of, is_simple_and_free, subcommand_of, with_rule}
 use Rattle.clap.specs.declared.error.Error.{Error}
 use Rattle.clap.specs.declared.builder.value_parser.ValueParser.TheVariants.{Unsigned, Bool as Truth}
 use Rattle.clap.proofs.OnLiterals.{clap_on_literals}
 use Rattle.clap.proofs.ValueTestLemmas.{accepts-Accepts}
-use Rattle.mrp_command_line.specs.Choice.{IsCommand, IsMeantBy, number_value}
+use Rattle.mrp_command_line.specs.Choice.{IsCommand, IsMeantBy, ReadsTable, flag_at, number_value}
 use Rattle.mrp_command_line.specs.CommandLine.{advice_words, check_words, cums_words, mrp, orders_words, peg_words, pegs_words, plan_words, program_words}
-use Rattle.mrp_command_line.specs.CommandLine.{schedule_words, shortages_words}
+use Rattle.mrp_command_line.specs.CommandLine.{schedule_words, shortages_words, whole}
 use Rattle.mrp_commands.specs.declared.choice.TheConstants.{MOST_WORKERS, MOST_CAPACITY, LAST_PERIOD}
 use Rattle.mrp_commands.specs.declared.choice.Choice.{Choice}
-use Rattle.mrp_command_line.specs.Values.{HasFlag, HasNumber, HasOrderValues, HasPegValues, HasPlanValues}
+use Rattle.mrp_commands.specs.declared.reading.Reading.{Reading}
+use Rattle.mrp_command_line.specs.Values.{HasAdviceValues, HasCheckValues, HasFlag, HasNumber, HasOrderValues, HasPegValues, HasPlanValues}
 use Rattle.mrp_command_line.specs.Values.{HasText, HasCommandValues, IsWholeCommand, LiesWithin}
 use Rattle.mrp_command_line.specs.Values.{MayBeWithin, MayHaveNumber}
 use Rattle.mrp_command_line.proofs.RowFacts.{asks_at, defaults_gain, either, first_none, given_row, has_some, is_plain_rule, next_none, no_kind}
@@ -36,35 +38,35 @@ use Rattle.mrp_command_line.proofs.RowFacts.{rows_pass, unfailed, value_found, v
 abbrev top : Shape
 top = with_leaf_noted (marked_built (record (program_words (codes "mrp")).top { is_leaf = false }))
 
-abbrev leaf : Shape → Shape
-leaf s = built_leaf (inherited top s)
+abbrev leaf : App → Shape
+leaf words = built_leaf (inherited top (with_rule words whole).top)
 
 abbrev plan_leaf : Shape
-plan_leaf = leaf plan_words.top
+plan_leaf = leaf plan_words
 
 abbrev check_leaf : Shape
-check_leaf = leaf check_words.top
+check_leaf = leaf check_words
 
 abbrev peg_leaf : Shape
-peg_leaf = leaf peg_words.top
+peg_leaf = leaf peg_words
 
 abbrev cums_leaf : Shape
-cums_leaf = leaf cums_words.top
+cums_leaf = leaf cums_words
 
 abbrev orders_leaf : Shape
-orders_leaf = leaf orders_words.top
+orders_leaf = leaf orders_words
 
 abbrev schedule_leaf : Shape
-schedule_leaf = leaf schedule_words.top
+schedule_leaf = leaf schedule_words
 
 abbrev pegs_leaf : Shape
-pegs_leaf = leaf pegs_words.top
+pegs_leaf = leaf pegs_words
 
 abbrev advice_leaf : Shape
-advice_leaf = leaf advice_words.top
+advice_leaf = leaf advice_words
 
 abbrev shortages_leaf : Shape
-shortages_leaf = leaf shortages_words.top
+shortages_leaf = leaf shortages_words
 
 abbrev help_leaf : Shape
 help_leaf = built_leaf help_shape
@@ -148,31 +150,34 @@ plan_whole words e =
       single = flag_whole (codes "single") rows single.0 single.1 (only _ single.2);
     }
 
--- a command whose one argument is the flag for the names of the columns
-header_whole : (s : Shape) (words : List Text) → list_all is_plain_rule s.rules ≡ true
-    → list_any (λ a. bytes_eq a.id (codes "header") && has_some a.defaults) s.rules ≡ true
-    → ((v : Text) → value_known s.rules (codes "header") v ≡ true → accepts false Truth v ≡ true)
-    → level_fault s [] nothing_held words false [] ≡ [] → HasFlag (codes "header") (rows_after s.rules [] words)
-header_whole s words plain filled flag e =
+-- a flag of a command is given or isn't
+flag_known : (id : Text) (s : Shape) (words : List Text) → list_all is_plain_rule s.rules ≡ true
+    → list_any (λ a. bytes_eq a.id id && has_some a.defaults) s.rules ≡ true
+    → ((v : Text) → value_known s.rules id v ≡ true → accepts false Truth v ≡ true)
+    → level_fault s [] nothing_held words false [] ≡ [] → HasFlag id (rows_after s.rules [] words)
+flag_known id s words plain filled flag e =
     let p = level_passes s [] words false [] e in
     let rows = rows_after s.rules [] words in
     let kept = (settled s.rules (walk s.rules [] nothing_held words).held).rows in
     let ok = rows_good s [] words plain p.words_pass p.last_passes in
-    let header = value_found s.rules (codes "header") rows (defaults_gain (codes "header") s.rules kept filled) ok in
-    flag_whole (codes "header") rows header.0 header.1 (flag header.0 header.2)
+    let given = value_found s.rules id rows (defaults_gain id s.rules kept filled) ok in
+    flag_whole id rows given.0 given.1 (flag given.0 given.2)
 
-check_whole : (words : List Text) → level_fault check_leaf [] nothing_held words false [] ≡ [] → HasFlag (codes "header") (rows_after check_leaf.rules [] words)
-check_whole words e = header_whole check_leaf words refl refl (λ v known. only _ known) e
+check_whole : (words : List Text) → level_fault check_leaf [] nothing_held words false [] ≡ [] → HasCheckValues (rows_after check_leaf.rules [] words)
+check_whole words e = record {
+  reach = flag_known (codes "reach") check_leaf words refl refl (λ v known. only _ known) e;
+  header = flag_known (codes "header") check_leaf words refl refl (λ v known. only _ known) e;
+}
 
 cums_whole : (words : List Text) → level_fault cums_leaf [] nothing_held words false [] ≡ [] → HasFlag (codes "header") (rows_after cums_leaf.rules [] words)
-cums_whole words e = header_whole cums_leaf words refl refl (λ v known. only _ known) e
+cums_whole words e = flag_known (codes "header") cums_leaf words refl refl (λ v known. only _ known) e
 
 schedule_whole : (words : List Text) → level_fault schedule_leaf [] nothing_held words false [] ≡ []
     → HasFlag (codes "header") (rows_after schedule_leaf.rules [] words)
-schedule_whole words e = header_whole schedule_leaf words refl refl (λ v known. only _ known) e
+schedule_whole words e = flag_known (codes "header") schedule_leaf words refl refl (λ v known. only _ known) e
 
 pegs_whole : (words : List Text) → level_fault pegs_leaf [] nothing_held words false [] ≡ [] → HasFlag (codes "header") (rows_after pegs_leaf.rules [] words)
-pegs_whole words e = header_whole pegs_leaf words refl refl (λ v known. only _ known) e
+pegs_whole words e = flag_known (codes "header") pegs_leaf words refl refl (λ v known. only _ known) e
 
 -- a number that may be left out
 free_number_whole : (rows : List Row) → MayHaveNumber (codes "until") rows → MayBeWithin 0 LAST_PERIOD (number_value (codes "until") rows)
@@ -195,7 +200,7 @@ limited_whole s words plain filled flag period e = go (has_row (codes "until") r
     rows = rows_after s.rules [] words
 
     header : HasFlag (codes "header") rows
-    header = header_whole s words plain filled flag e
+    header = flag_known (codes "header") s words plain filled flag e
 
     ok : rows_pass s.rules rows ≡ true
     ok = let p = level_passes s [] words false [] e in rows_good s [] words plain p.words_pass p.last_passes
@@ -213,12 +218,15 @@ limited_whole s words plain filled flag period e = go (has_row (codes "until") r
 orders_whole : (words : List Text) → level_fault orders_leaf [] nothing_held words false [] ≡ [] → HasOrderValues (rows_after orders_leaf.rules [] words)
 orders_whole words e = limited_whole orders_leaf words refl refl (λ v known. only _ known) (λ v known. only _ known) e
 
-advice_whole : (words : List Text) → level_fault advice_leaf [] nothing_held words false [] ≡ [] → HasOrderValues (rows_after advice_leaf.rules [] words)
-advice_whole words e = limited_whole advice_leaf words refl refl (λ v known. only _ known) (λ v known. only _ known) e
+advice_whole : (words : List Text) → level_fault advice_leaf [] nothing_held words false [] ≡ [] → HasAdviceValues (rows_after advice_leaf.rules [] words)
+advice_whole words e = record {
+  order = limited_whole advice_leaf words refl refl (λ v known. only _ known) (λ v known. only _ known) e;
+  reach = flag_known (codes "reach") advice_leaf words refl refl (λ v known. only _ known) e;
+}
 
 shortages_whole : (words : List Text) → level_fault shortages_leaf [] nothing_held words false [] ≡ []
     → HasFlag (codes "header") (rows_after shortages_leaf.rules [] words)
-shortages_whole words e = header_whole shortages_leaf words refl refl (λ v known. only _ known) e
+shortages_whole words e = flag_known (codes "header") shortages_leaf words refl refl (λ v known. only _ known) e
 
 three : (a b d r : Bool) → (not a || (not b || (not d || r))) ≡ false → (a ≡ true) × (b ≡ true) × (d ≡ true)
 three true true true r e = (refl, refl, refl)
@@ -260,15 +268,42 @@ picked : (words : List Text) (plan check peg cums orders schedule pegs advice sh
     → option_map_or (λ s. level_fault s [] nothing_held words false []) (pick plan check peg cums orders schedule pegs advice shortages help) [] ≡ []
     → is_some (option_map (λ s. rows_at s words) (pick plan check peg cums orders schedule pegs advice shortages help)) ≡ true → help ≡ false
     → IsWholeCommand (option_map (λ s. rows_at s words) (pick plan check peg cums orders schedule pegs advice shortages help))
-picked words true check peg cums orders schedule pegs advice shortages help e some off = inl (refl, plan_whole words e)
-picked words false true peg cums orders schedule pegs advice shortages help e some off = inr (inl (refl, check_whole words e))
-picked words false false true cums orders schedule pegs advice shortages help e some off = inr (inr (inl (refl, peg_whole words e)))
-picked words false false false true orders schedule pegs advice shortages help e some off = inr (inr (inr (inl (refl, cums_whole words e))))
-picked words false false false false true schedule pegs advice shortages help e some off = inr (inr (inr (inr (inl (refl, orders_whole words e)))))
-picked words false false false false false true pegs advice shortages help e some off = inr (inr (inr (inr (inr (inl (refl, schedule_whole words e))))))
-picked words false false false false false false true advice shortages help e some off = inr (inr (inr (inr (inr (inr (inl (refl, pegs_whole words e)))))))
-picked words false false false false false false false true shortages help e some off = inr (inr (inr (inr (inr (inr (inr (inl (refl, advice_whole words e))))))))
-picked words false false false false false false false false true help e some off = inr (inr (inr (inr (inr (inr (inr (inr (refl, shortages_whole words e))))))))
+picked words true check peg cums orders schedule pegs advice shortages help e some off = (
+  inl (refl, plan_whole words e),
+  flag_known (codes "whole") plan_leaf words refl refl (λ v known. only _ known) e,
+)
+picked words false true peg cums orders schedule pegs advice shortages help e some off = (
+  inr (inl (refl, check_whole words e)),
+  flag_known (codes "whole") check_leaf words refl refl (λ v known. only _ known) e,
+)
+picked words false false true cums orders schedule pegs advice shortages help e some off = (
+  inr (inr (inl (refl, peg_whole words e))),
+  flag_known (codes "whole") peg_leaf words refl refl (λ v known. only _ known) e,
+)
+picked words false false false true orders schedule pegs advice shortages help e some off = (
+  inr (inr (inr (inl (refl, cums_whole words e)))),
+  flag_known (codes "whole") cums_leaf words refl refl (λ v known. only _ known) e,
+)
+picked words false false false false true schedule pegs advice shortages help e some off = (
+  inr (inr (inr (inr (inl (refl, orders_whole words e))))),
+  flag_known (codes "whole") orders_leaf words refl refl (λ v known. only _ known) e,
+)
+picked words false false false false false true pegs advice shortages help e some off = (
+  inr (inr (inr (inr (inr (inl (refl, schedule_whole words e)))))),
+  flag_known (codes "whole") schedule_leaf words refl refl (λ v known. only _ known) e,
+)
+picked words false false false false false false true advice shortages help e some off = (
+  inr (inr (inr (inr (inr (inr (inl (refl, pegs_whole words e))))))),
+  flag_known (codes "whole") pegs_leaf words refl refl (λ v known. only _ known) e,
+)
+picked words false false false false false false false true shortages help e some off = (
+  inr (inr (inr (inr (inr (inr (inr (inl (refl, advice_whole words e)))))))),
+  flag_known (codes "whole") advice_leaf words refl refl (λ v known. only _ known) e,
+)
+picked words false false false false false false false false true help e some off = (
+  inr (inr (inr (inr (inr (inr (inr (inr (refl, shortages_whole words e)))))))),
+  flag_known (codes "whole") shortages_leaf words refl refl (λ v known. only _ known) e,
+)
 picked words false false false false false false false false false true e some off = absurd (true≢false off)
 picked words false false false false false false false false false false e some off = absurd (true≢false (sym some))
 
@@ -352,10 +387,21 @@ pair_is (Some b) f g name rows e h =
 -- the command that was found is whole, where the words' is
 pub found_whole : {B : Type 0} (o : Option B) (f : B → Text) (g : B → List Row) (name : Text) (rows : List Row) → Some name ≡ option_map f o
     → Some rows ≡ option_map second (paired f g o) → IsWholeCommand (paired f g o) → HasCommandValues name rows
-found_whole o f g name rows e h whole = subst IsWholeCommand (pair_is o f g name rows e h) whole
+found_whole o f g name rows e h values = (subst IsWholeCommand (pair_is o f g name rows e h) values).0
+
+-- and it says how the table is to be read
+pub found_reading : {B : Type 0} (o : Option B) (f : B → Text) (g : B → List Row) (name : Text) (rows : List Row) → Some name ≡ option_map f o
+    → Some rows ≡ option_map second (paired f g o) → IsWholeCommand (paired f g o) → HasFlag (codes "whole") rows
+found_reading o f g name rows e h values = (subst IsWholeCommand (pair_is o f g name rows e h) values).1
 
 pub other_name : (name other : Text) (r : Bool) → r ≡ bytes_eq name other → r ≡ false → name ≡ other → ⊥
 other_name name other r e off is = true≢false (sym ((bytes_eq-Decides name other).1 is) ∙ (sym e ∙ off))
+
+-- what the rows say of the table is what the command's say of it
+pub read_so : {B : Type 0} (o : Option B) (f : B → Text) (g : B → List Row) (name : Text) (rows : List Row) (reading : Reading)
+    → Some name ≡ option_map f o → Some rows ≡ option_map second (paired f g o) → flag_at (codes "whole") rows ≡ reading.whole
+    → ReadsTable (paired f g o) reading
+read_so o f g name rows reading e h right = subst (λ w. ReadsTable w reading) (sym (pair_is o f g name rows e h)) right
 
 -- what is meant by the text of a test is meant by the name that passed it
 pub meant : {B : Type 0} (o : Option B) (f : B → Text) (g : B → List Row) (name text : Text) (rows : List Row) (choice : Choice) (r : Bool)

@@ -1,4 +1,4 @@
--- Which choice the words of a command line are.
+-- What the words of a command line ask: which choice they are, and how the table is to be read.
 use Rattle.std.specs.Prelude.{◌≡◌, ℕ, Bool, false, true, List, Option, Some, None, codes}
 use Rattle.std.specs.Prelude.{map, option_map}
 use Rattle.std.specs.Borrow.{Bor}
@@ -9,10 +9,11 @@ use Rattle.clap.specs.Words.{HasKind, Row, Text, fault_of, first_of, kind_of, su
 use Rattle.clap.specs.declared.error.kind.ErrorKind.TheVariants.{OutOfMemory}
 use Rattle.mrp_command_line.specs.CommandLine.{mrp}
 use Rattle.mrp_commands.specs.declared.choice.Choice.{Choice}
-use Rattle.mrp_commands.specs.declared.choice.Choice.TheVariants.{Plan, Check, Peg, Cums}
+use Rattle.mrp_commands.specs.declared.choice.Choice.TheVariants.{Plan, Check, Reach, Peg, Cums}
 use Rattle.mrp_commands.specs.declared.choice.Choice.TheVariants.{Orders, Schedule, Pegs, Advice, Shortages}
 use Rattle.mrp_commands.specs.declared.choice.Heading.{Heading}
 use Rattle.mrp_commands.specs.declared.choice.Heading.TheVariants.{Without, Names}
+use Rattle.mrp_commands.specs.declared.reading.Reading.{Reading}
 use Rattle.mrp_command_line.specs.declared.words.ChooseFault.{ChooseFault}
 use Rattle.mrp_command_line.specs.declared.words.ChooseFault.TheVariants.{Words, Memory}
 
@@ -51,7 +52,10 @@ IsCommand name rows (Plan workers capacity single) =
     (name ≡ codes "plan") × (number_value (codes "workers") rows ≡ Some workers)
     × (number_value (codes "capacity") rows ≡ Some capacity)
     × (flag_at (codes "single") rows ≡ single)
-IsCommand name rows (Check heading) = (name ≡ codes "check") × IsHeadedBy rows heading
+IsCommand name rows (Check heading) =
+    (name ≡ codes "check") × (flag_at (codes "reach") rows ≡ false) × IsHeadedBy rows heading
+IsCommand name rows (Reach heading) =
+    (name ≡ codes "check") × (flag_at (codes "reach") rows ≡ true) × IsHeadedBy rows heading
 IsCommand name rows (Peg plant item period heading) =
     (name ≡ codes "peg") × (text_at (codes "plant") rows ≡ Some plant.now)
     × (text_at (codes "item") rows ≡ Some item.now)
@@ -65,8 +69,10 @@ IsCommand name rows (Schedule from to heading) =
     × (text_at (codes "to") rows ≡ word_text to)
     × IsHeadedBy rows heading
 IsCommand name rows (Pegs heading) = (name ≡ codes "pegs") × IsHeadedBy rows heading
-IsCommand name rows (Advice until heading) =
-    (name ≡ codes "advice") × (number_value (codes "until") rows ≡ until) × IsHeadedBy rows heading
+IsCommand name rows (Advice until reach heading) =
+    (name ≡ codes "advice") × (number_value (codes "until") rows ≡ until)
+    × (flag_at (codes "reach") rows ≡ reach)
+    × IsHeadedBy rows heading
 IsCommand name rows (Shortages heading) = (name ≡ codes "shortages") × IsHeadedBy rows heading
 
 -- the same, where there is a subcommand
@@ -77,6 +83,15 @@ IsMeantBy (Some command) choice = IsCommand command.0 command.1 choice
 -- the choice is the one that clap reads in the words
 abbrev pub IsChosenBy : List Text → Choice → Type 0
 IsChosenBy words = IsMeantBy (subcommand_of mrp words)
+
+-- the table has to be whole where the subcommand has the flag for it
+abbrev pub ReadsTable : Option (Text × List Row) → Reading → Type 0
+ReadsTable None reading = ⊥
+ReadsTable (Some command) reading = flag_at (codes "whole") command.1 ≡ reading.whole
+
+-- the reading is the one that clap reads in the words
+abbrev pub IsReadBy : List Text → Reading → Type 0
+IsReadBy words = ReadsTable (subcommand_of mrp words)
 
 -- a growth was refused, in clap or here
 abbrev pub IsMemory : ChooseFault → Type 0

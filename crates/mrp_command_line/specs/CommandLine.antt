@@ -54,6 +54,14 @@ single = flag (codes "single")
 abbrev pub header : Rule
 header = flag (codes "header")
 
+-- until when each pair is whole, in the place of the codes; and messages that the horizon makes told as beyond it
+abbrev pub reach : Rule
+reach = flag (codes "reach")
+
+-- a table that was cut off is refused
+abbrev pub whole : Rule
+whole = flag (codes "whole")
+
 -- the last period of a release, or in which an open order comes
 abbrev pub until : Rule
 until = free_number_option (codes "until") 0 LAST_PERIOD
@@ -78,9 +86,9 @@ period = wanted_number (codes "period") 0 LAST_PERIOD
 abbrev pub plan_words : App
 plan_words = with_rule (with_rule (with_rule (new_app (codes "plan")) workers) capacity) single
 
--- `check [--header]`
+-- `check [--reach] [--header]`
 abbrev pub check_words : App
-check_words = with_rule (new_app (codes "check")) header
+check_words = with_rule (with_rule (new_app (codes "check")) reach) header
 
 -- `peg PLANT ITEM PERIOD [--header]`
 abbrev pub peg_words : App
@@ -102,9 +110,9 @@ schedule_words = with_rule (with_rule (with_rule (new_app (codes "schedule")) fr
 abbrev pub pegs_words : App
 pegs_words = with_rule (new_app (codes "pegs")) header
 
--- `advice [--until PERIOD] [--header]`
+-- `advice [--until PERIOD] [--reach] [--header]`
 abbrev pub advice_words : App
-advice_words = with_rule (with_rule (new_app (codes "advice")) until) header
+advice_words = with_rule (with_rule (with_rule (new_app (codes "advice")) until) reach) header
 
 -- `shortages [--header]`
 abbrev pub shortages_words : App
@@ -117,32 +125,35 @@ program_words name =
       top = record (new_app name).top { has_version = true; subcommand_required = true };
     }
 
+-- the command line with one command more, which has `[--whole]` too
+abbrev pub with_command : App → App → App
+with_command line command = with_subcommand line (with_rule command whole).top
+
 -- the command line up to each command
 abbrev pub up_to_check : App
-up_to_check =
-    with_subcommand (with_subcommand (program_words (codes "mrp")) plan_words.top) check_words.top
+up_to_check = with_command (with_command (program_words (codes "mrp")) plan_words) check_words
 
 abbrev pub up_to_peg : App
-up_to_peg = with_subcommand up_to_check peg_words.top
+up_to_peg = with_command up_to_check peg_words
 
 abbrev pub up_to_cums : App
-up_to_cums = with_subcommand up_to_peg cums_words.top
+up_to_cums = with_command up_to_peg cums_words
 
 abbrev pub up_to_orders : App
-up_to_orders = with_subcommand up_to_cums orders_words.top
+up_to_orders = with_command up_to_cums orders_words
 
 abbrev pub up_to_schedule : App
-up_to_schedule = with_subcommand up_to_orders schedule_words.top
+up_to_schedule = with_command up_to_orders schedule_words
 
 abbrev pub up_to_pegs : App
-up_to_pegs = with_subcommand up_to_schedule pegs_words.top
+up_to_pegs = with_command up_to_schedule pegs_words
 
 abbrev pub up_to_advice : App
-up_to_advice = with_subcommand up_to_pegs advice_words.top
+up_to_advice = with_command up_to_pegs advice_words
 
 -- the command line
 unfoldable pub mrp : App
-mrp = with_subcommand up_to_advice shortages_words.top
+mrp = with_command up_to_advice shortages_words
 
 -- the argument has this rule, at its own command alone
 abbrev pub IsRuled : Rule → Arg → Type 0

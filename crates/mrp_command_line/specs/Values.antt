@@ -44,6 +44,10 @@ pub record HasPlanValues (rows : List Row) : Type 0 where
   pub capacity_within : LiesWithin 1 MOST_CAPACITY (number_value (codes "capacity") rows)
   pub single : HasFlag (codes "single") rows
 
+pub record HasCheckValues (rows : List Row) : Type 0 where
+  pub reach : HasFlag (codes "reach") rows
+  pub header : HasFlag (codes "header") rows
+
 pub record HasPegValues (rows : List Row) : Type 0 where
   pub plant : HasNameValue (codes "plant") rows
   pub item : HasNameValue (codes "item") rows
@@ -57,21 +61,26 @@ pub record HasOrderValues (rows : List Row) : Type 0 where
   pub until_within : MayBeWithin 0 LAST_PERIOD (number_value (codes "until") rows)
   pub header : HasFlag (codes "header") rows
 
+pub record HasAdviceValues (rows : List Row) : Type 0 where
+  pub order : HasOrderValues rows
+  pub reach : HasFlag (codes "reach") rows
+
 -- the command is a report on the whole plan, with its values
 abbrev pub IsWholeReport : Text → List Row → Type 0
 IsWholeReport name rows = ((name ≡ codes "orders") × HasOrderValues rows)
     ⊎ (((name ≡ codes "schedule") × HasFlag (codes "header") rows)
     ⊎ (((name ≡ codes "pegs") × HasFlag (codes "header") rows)
-    ⊎ (((name ≡ codes "advice") × HasOrderValues rows)
+    ⊎ (((name ≡ codes "advice") × HasAdviceValues rows)
     ⊎ ((name ≡ codes "shortages") × HasFlag (codes "header") rows))))
 
 -- the command is one of the nine, with its values
 abbrev pub HasCommandValues : Text → List Row → Type 0
 HasCommandValues name rows = ((name ≡ codes "plan") × HasPlanValues rows)
-    ⊎ (((name ≡ codes "check") × HasFlag (codes "header") rows)
+    ⊎ (((name ≡ codes "check") × HasCheckValues rows)
     ⊎ (((name ≡ codes "peg") × HasPegValues rows)
     ⊎ (((name ≡ codes "cums") × HasFlag (codes "header") rows) ⊎ IsWholeReport name rows)))
 
+-- the same, and it says how the table is to be read
 abbrev pub IsWholeCommand : Option (Text × List Row) → Type 0
 IsWholeCommand None = ⊥
-IsWholeCommand (Some command) = HasCommandValues command.0 command.1
+IsWholeCommand (Some command) = HasCommandValues command.0 command.1 × HasFlag (codes "whole") command.1

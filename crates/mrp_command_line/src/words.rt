@@ -2,22 +2,24 @@
 
 ghost use Rattle.std.specs.Prelude.{◌≡◌, ◌≤◌, Some, true, [], codes, IfOk, IfErr};
 ghost use Rattle.clap.specs.Words.{App, app_of, fault_of, found_of, new_app, rows_of, subcommand_rows_of, takes};
-ghost use Rattle.clap.specs.Words.{with_rule, with_subcommand};
+ghost use Rattle.clap.specs.Words.{with_rule};
 ghost use Rattle.clap.specs.declared.builder.value_parser.ValueParser.TheVariants.{Unsigned};
 ghost use Rattle.mrp_commands.specs.Range.{IsInRange};
-ghost use Rattle.mrp_command_line.specs.Choice.{IsChosenBy, IsCommand, IsHeadedBy, IsMeantBy, IsMemory};
-ghost use Rattle.mrp_command_line.specs.Choice.{IsRefusalOf, flag_at, number_value, text_at, word_text, texts_of};
-ghost use Rattle.mrp_command_line.specs.CommandLine.{IsRuled, IsWorded, mrp, peg_words, plan_words};
-ghost use Rattle.mrp_command_line.specs.CommandLine.{program_words, schedule_words};
+ghost use Rattle.mrp_command_line.specs.Choice.{IsChosenBy, IsCommand, IsHeadedBy, IsMeantBy, IsMemory, IsReadBy};
+ghost use Rattle.mrp_command_line.specs.Choice.{IsRefusalOf, ReadsTable, flag_at, number_value, text_at, word_text};
+ghost use Rattle.mrp_command_line.specs.Choice.{texts_of};
+ghost use Rattle.mrp_command_line.specs.CommandLine.{IsRuled, IsWorded, advice_words, check_words, mrp, orders_words};
+ghost use Rattle.mrp_command_line.specs.CommandLine.{peg_words, plan_words, program_words, schedule_words};
+ghost use Rattle.mrp_command_line.specs.CommandLine.{with_command};
 ghost use Rattle.mrp_command_line.specs.CommandLine as rule;
 ghost use Rattle.mrp_commands.specs.declared.choice.TheConstants.{MOST_CAPACITY};
-ghost use Rattle.mrp_command_line.specs.Values.{HasFlag, HasNameValue, HasNumber, HasOrderValues};
-ghost use Rattle.mrp_command_line.specs.Values.{HasPegValues, HasPlanValues, IsWholeCommand};
+ghost use Rattle.mrp_command_line.specs.Values.{HasAdviceValues, HasCheckValues, HasFlag, HasNameValue, HasNumber};
+ghost use Rattle.mrp_command_line.specs.Values.{HasOrderValues, HasPegValues, HasPlanValues, IsWholeCommand};
 ghost use Rattle.mrp_command_line.specs.Values.{IsWholeReport, MayHaveNumber};
 
 use clap::builder::ValueParser;
 use clap::{Arg, ArgAction, ArgMatches, Command, value_parser};
-use mrp_commands::{Choice, Heading, LAST_PERIOD, MOST_CAPACITY, MOST_WORKERS};
+use mrp_commands::{Choice, Heading, LAST_PERIOD, MOST_CAPACITY, MOST_WORKERS, Reading, Request};
 use std::alloc::{AllocError, Global};
 use thiserror::Error;
 
@@ -53,10 +55,12 @@ firm,PLANT,ITEM,START,DUE,QUANTITY,,\n  \
 policy,PLANT,ITEM,FENCE,SOONER,COVER,LEAST,MULTIPLE\n  \
 usage,PLANT,PARENT,COMPONENT,PERIOD,PER,BASE,\n  \
 vendor,VENDOR,PLANT,ITEM,FIGURE,TRANSIT,RESET,\n  \
-day,PERIOD,DATE,,,,,\n\n\
+day,PERIOD,DATE,,,,,\n  \
+end,ROWS,,,,,,\n\n\
 SUPPLY is make, buy, from:PLANT, or from: with two to four plants and their\n\
 shares in thousandths, as from:B:600:C:400. RULE is lot, fixed:Q, periods:K or\n\
-min:M:K. Periods count from 0.\n\n\
+min:M:K. Periods count from 0. ROWS counts the rows before the end row, which\n\
+may be left out.\n\n\
 Statuses: 0 done, 1 the table or the question is refused, 2 the words are\n\
 refused, 3 reading, writing, memory or a thread failed. After 1 and 3 one line\n\
 on standard error says why.";
@@ -76,9 +80,16 @@ const CHECK: &str = "Write the low-level code of each pair";
 const CHECK_LONG: &str =
     "Writes the low-level code of each pair: the length of the longest chain of\n\
 demanders above it. Refuses a table with a loop, or with quantities above 10^15.\n\n  \
-code,PLANT,ITEM,CODE";
+code,PLANT,ITEM,CODE\n\n\
+With --reach its rows say until which period the gross requirements of a pair,\n\
+and until which its releases are whole, whatever is wanted behind the horizon:\n\
+none where no period is.\n\n  \
+reach,PLANT,ITEM,PERIOD,RELEASE";
 
-const CHECK_EXAMPLE: &str = "Example: mrp check < bicycle.csv";
+const CHECK_EXAMPLE: &str = "Examples: mrp check < bicycle.csv\n          \
+mrp check --reach < firm.csv";
+
+const CHECK_REACH: &str = "Write until which period each pair is whole, and no codes";
 
 const PEG: &str = "Write what the gross requirement of a pair in a period consists of";
 
@@ -139,12 +150,17 @@ const ADVICE_LONG: &str =
     "Writes the open orders, receipts, shipments and firm orders, that are needed in\n\
 another period than they come in: ACTION is expedite, defer, or cancel, the last\n\
 where what is there and comes before is enough in all periods. It changes no\n\
-plan. --until leaves out the orders that come after PERIOD, and no other.\n\n  \
+plan. --until leaves out the orders that come after PERIOD, and no other.\n\
+--reach writes beyond, with NEEDED and NEEDED_DATE empty, in the place of a\n\
+cancel or defer that the horizon makes, which a longer one may change, and\n\
+leaves out orders that come beyond it, unless they are needed before.\n\n  \
 advice,ACTION,KIND,PLANT,ITEM,SUPPLIER,PERIOD,DATE,QUANTITY,NEEDED,NEEDED_DATE";
 
 const ADVICE_EXAMPLE: &str = "Example: mrp advice --until 3 < firm.csv";
 
 const ADVICE_UNTIL: &str = "The last period in which an open order comes, 0 to 103; without it all";
+
+const ADVICE_REACH: &str = "Tell messages that the horizon makes as beyond it";
 
 const SHORTAGES: &str = "Write which requirements of period 0 lack parts";
 
@@ -160,17 +176,18 @@ shortage,PLANT,ITEM,SOURCE,BY_PLANT,BY_ITEM,QUANTITY,SHORT";
 const SHORTAGES_EXAMPLE: &str = "Example: mrp shortages < bicycle.csv";
 
 /// Reads the words of a command line, of which the first is the program's name: the choice is the
-/// subcommand that `clap` reads in them, with its values. It is made only of words in which `clap`
-/// finds no fault.
+/// subcommand that `clap` reads in them, with its values, and the table has to be whole exactly where
+/// the subcommand has `--whole`. A request is made only of words in which `clap` finds no fault.
 ///
 /// # Errors
 ///
 /// [`ChooseFault::Words`] where `clap` refuses the words, was asked for help or the version, or ran out of
 /// memory: the error has one of the kinds that the words have, or `OutOfMemory`. [`ChooseFault::Memory`] where a
 /// growth was refused. Where `clap` takes the words, memory alone is missing.
-pub fn choose<'a>(alloc: Global, words: &'a [&'a str]) -> Result<Choice<'a>, ChooseFault>
-    ensures range { IfOk result IsInRange }
-    ensures choice { IfOk result (IsChosenBy (texts_of words.now)) }
+pub fn request<'a>(alloc: Global, words: &'a [&'a str]) -> Result<Request<'a>, ChooseFault>
+    ensures range { IfOk result (λ request. IsInRange request.choice) }
+    ensures choice { IfOk result (λ request. IsChosenBy (texts_of words.now) request.choice) }
+    ensures reading { IfOk result (λ request. IsReadBy (texts_of words.now) request.reading) }
     ensures free { IfOk result (λ _. fault_of mrp (texts_of words.now) ≡ []) }
     ensures taken { takes mrp (texts_of words.now) ≡ true → IfErr result IsMemory }
     ensures refused { IfErr result (IsRefusalOf (texts_of words.now)) }
@@ -179,8 +196,27 @@ pub fn choose<'a>(alloc: Global, words: &'a [&'a str]) -> Result<Choice<'a>, Cho
         return Err(ChooseFault::Memory);
     };
     match command.try_get_matches_from(words) {
-        Ok(matches) => Ok(chosen(&matches)),
+        Ok(matches) => Ok(asked(&matches)),
         Err(error) => Err(ChooseFault::Words(error)),
+    }
+}
+
+/// The choice of the request that [`request`] reads. It leaves out how the table is to be read: words
+/// with `--whole` and without it are the same choice.
+///
+/// # Errors
+///
+/// Those of [`request`].
+pub fn choose<'a>(alloc: Global, words: &'a [&'a str]) -> Result<Choice<'a>, ChooseFault>
+    ensures range { IfOk result IsInRange }
+    ensures choice { IfOk result (IsChosenBy (texts_of words.now)) }
+    ensures free { IfOk result (λ _. fault_of mrp (texts_of words.now) ≡ []) }
+    ensures taken { takes mrp (texts_of words.now) ≡ true → IfErr result IsMemory }
+    ensures refused { IfErr result (IsRefusalOf (texts_of words.now)) }
+{
+    match request(alloc, words) {
+        Ok(request) => Ok(request.choice),
+        Err(fault) => Err(fault),
     }
 }
 
@@ -190,33 +226,16 @@ pub fn choose<'a>(alloc: Global, words: &'a [&'a str]) -> Result<Choice<'a>, Cho
 fn program<'a>(alloc: Global) -> Result<Command<'a>, AllocError>
     ensures { IfOk result (λ command. app_of command ≡ mrp) }
 {
-    let line = with(Ok(described(alloc)), plan_command(alloc));
-    let check = headed_command(alloc, "check", CHECK, CHECK_LONG, CHECK_EXAMPLE);
-    let line = with(line, check);
-    let line = with(line, peg_command(alloc));
+    let line = with(alloc, Ok(described(alloc)), plan_command(alloc));
+    let line = with(alloc, line, check_command(alloc));
+    let line = with(alloc, line, peg_command(alloc));
     let cums = headed_command(alloc, "cums", CUMS, CUMS_LONG, CUMS_EXAMPLE);
-    let line = with(line, cums);
-    let orders = limited_command(
-        alloc,
-        "orders",
-        ORDERS,
-        ORDERS_LONG,
-        ORDERS_EXAMPLE,
-        ORDERS_UNTIL,
-    );
-    let line = with(line, orders);
-    let line = with(line, schedule_command(alloc));
+    let line = with(alloc, line, cums);
+    let line = with(alloc, line, orders_command(alloc));
+    let line = with(alloc, line, schedule_command(alloc));
     let pegs = headed_command(alloc, "pegs", PEGS, PEGS_LONG, PEGS_EXAMPLE);
-    let line = with(line, pegs);
-    let advice = limited_command(
-        alloc,
-        "advice",
-        ADVICE,
-        ADVICE_LONG,
-        ADVICE_EXAMPLE,
-        ADVICE_UNTIL,
-    );
-    let line = with(line, advice);
+    let line = with(alloc, line, pegs);
+    let line = with(alloc, line, advice_command(alloc));
     let shortages = headed_command(
         alloc,
         "shortages",
@@ -224,26 +243,50 @@ fn program<'a>(alloc: Global) -> Result<Command<'a>, AllocError>
         SHORTAGES_LONG,
         SHORTAGES_EXAMPLE,
     );
-    with(line, shortages)
+    with(alloc, line, shortages)
 }
 
-/// The command line with one command more, where both were made.
+/// The command line with one command more, which has `--whole` too, where both were made.
 fn with<'a>(
+    alloc: Global,
     line: Result<Command<'a>, AllocError>,
     command: Result<Command<'a>, AllocError>,
 ) -> Result<Command<'a>, AllocError>
     ensures { (app sub : App) → IfOk line.entry (λ old. app_of old ≡ app) → IfOk command.entry (IsWorded sub)
-        → IfOk result (λ new. app_of new ≡ with_subcommand app sub.top) }
+        → IfOk result (λ new. app_of new ≡ with_command app sub) }
 {
     let Ok(old) = line else {
         drop(command);
         return Err(AllocError);
     };
-    let Ok(more) = command else {
+    let Ok(more) = readable(alloc, command) else {
         drop(old);
         return Err(AllocError);
     };
     old.subcommand(more)
+}
+
+/// The command with `--whole`, where it was made.
+fn readable<'a>(
+    alloc: Global,
+    command: Result<Command<'a>, AllocError>,
+) -> Result<Command<'a>, AllocError>
+    ensures { (app : App) → IfOk command.entry (IsWorded app) → IfOk result (IsWorded (with_rule app rule.whole)) }
+{
+    let Ok(bare) = command else {
+        return Err(AllocError);
+    };
+    bare.arg(whole_flag(alloc))
+}
+
+/// `--whole`.
+fn whole_flag<'a>(alloc: Global) -> Arg<'a>
+    ensures { IsRuled rule.whole result }
+{
+    Arg::new(alloc, "whole")
+        .long("whole")
+        .action(ArgAction::SetTrue)
+        .help("Refuse a table without an end row: one that was cut off")
 }
 
 /// What the command line says of itself, without a command.
@@ -295,6 +338,27 @@ fn header_flag<'a>(alloc: Global) -> Arg<'a>
         .long("header")
         .action(ArgAction::SetTrue)
         .help("Write the names of the columns above the rows")
+}
+
+/// `check`.
+fn check_command<'a>(alloc: Global) -> Result<Command<'a>, AllocError>
+    ensures { IfOk result (IsWorded check_words) }
+{
+    let check = explained(alloc, "check", CHECK, CHECK_LONG, CHECK_EXAMPLE);
+    let Ok(with_reach) = check.arg(reach_flag(alloc, CHECK_REACH)) else {
+        return Err(AllocError);
+    };
+    with_reach.arg(header_flag(alloc))
+}
+
+/// `--reach`, which has this help.
+fn reach_flag<'a>(alloc: Global, help: &'a str) -> Arg<'a>
+    ensures { IsRuled rule.reach result }
+{
+    Arg::new(alloc, "reach")
+        .long("reach")
+        .action(ArgAction::SetTrue)
+        .help(help)
 }
 
 /// `plan`.
@@ -367,23 +431,29 @@ fn single_flag<'a>(alloc: Global) -> Arg<'a>
         .help("Plan all plants on one thread")
 }
 
-/// The command that is called `name`, with what help says of it and of its `--until`, and with `--until` and
-/// `--header`.
-fn limited_command<'a>(
-    alloc: Global,
-    name: &'a str,
-    about: &'a str,
-    long_about: &'a str,
-    example: &'a str,
-    until: &'a str,
-) -> Result<Command<'a>, AllocError>
-    ensures { IfOk result (IsWorded (with_rule (with_rule (new_app name.entry.now) rule.until) rule.header)) }
+/// `orders`.
+fn orders_command<'a>(alloc: Global) -> Result<Command<'a>, AllocError>
+    ensures { IfOk result (IsWorded orders_words) }
 {
-    let limited = explained(alloc, name, about, long_about, example);
-    let Ok(with_until) = limited.arg(until_option(alloc, until)) else {
+    let orders = explained(alloc, "orders", ORDERS, ORDERS_LONG, ORDERS_EXAMPLE);
+    let Ok(with_until) = orders.arg(until_option(alloc, ORDERS_UNTIL)) else {
         return Err(AllocError);
     };
     with_until.arg(header_flag(alloc))
+}
+
+/// `advice`.
+fn advice_command<'a>(alloc: Global) -> Result<Command<'a>, AllocError>
+    ensures { IfOk result (IsWorded advice_words) }
+{
+    let advice = explained(alloc, "advice", ADVICE, ADVICE_LONG, ADVICE_EXAMPLE);
+    let Ok(with_until) = advice.arg(until_option(alloc, ADVICE_UNTIL)) else {
+        return Err(AllocError);
+    };
+    let Ok(with_reach) = with_until.arg(reach_flag(alloc, ADVICE_REACH)) else {
+        return Err(AllocError);
+    };
+    with_reach.arg(header_flag(alloc))
 }
 
 /// `--until`, which has this help.
@@ -486,6 +556,32 @@ fn wanted_argument<'a>(alloc: Global, name: &'a str, value_name: &'a str, help: 
         .help(help)
 }
 
+/// What the matches ask: the choice, of a table read so.
+fn asked<'a>(matches: &ArgMatches<'a>) -> Request<'a>
+    requires { IsWholeCommand (subcommand_rows_of matches.now) }
+    ensures range { IsInRange result.choice }
+    ensures choice { IsMeantBy (subcommand_rows_of matches.now) result.choice }
+    ensures reading { ReadsTable (subcommand_rows_of matches.now) result.reading }
+{
+    Request {
+        reading: reading(matches),
+        choice: chosen(matches),
+    }
+}
+
+/// How the table is to be read.
+fn reading(matches: &ArgMatches<'_>) -> Reading
+    requires { IsWholeCommand (subcommand_rows_of matches.now) }
+    ensures { ReadsTable (subcommand_rows_of matches.now) result }
+{
+    let Some((_, values)) = matches.subcommand() else {
+        unreachable!()
+    };
+    Reading {
+        whole: is_given(values, "whole"),
+    }
+}
+
 /// The choice that the matches name.
 fn chosen<'a>(matches: &ArgMatches<'a>) -> Choice<'a>
     requires { IsWholeCommand (subcommand_rows_of matches.now) }
@@ -498,9 +594,7 @@ fn chosen<'a>(matches: &ArgMatches<'a>) -> Choice<'a>
     if name == "plan" {
         planning(values)
     } else if name == "check" {
-        Choice::Check {
-            heading: heading(values),
-        }
+        checking(values)
     } else if name == "peg" {
         pegging(values)
     } else if name == "cums" {
@@ -548,6 +642,20 @@ fn planning<'a>(values: &ArgMatches<'a>) -> Choice<'a>
     }
 }
 
+/// The values of `check`: the low-level codes, or until when each pair is whole.
+fn checking<'a>(values: &ArgMatches<'a>) -> Choice<'a>
+    requires { HasCheckValues (rows_of (found_of values.now)) }
+    ensures range { IsInRange result }
+    ensures choice { IsCommand (codes "check") (rows_of (found_of values.now)) result }
+{
+    let heading = heading(values);
+    if is_given(values, "reach") {
+        Choice::Reach { heading }
+    } else {
+        Choice::Check { heading }
+    }
+}
+
 /// The values of `peg`.
 fn pegging<'a>(values: &ArgMatches<'a>) -> Choice<'a>
     requires { HasPegValues (rows_of (found_of values.now)) }
@@ -575,13 +683,18 @@ fn ordering<'a>(values: &ArgMatches<'a>) -> Choice<'a>
 
 /// The values of `advice`.
 fn advising<'a>(values: &ArgMatches<'a>) -> Choice<'a>
-    requires { HasOrderValues (rows_of (found_of values.now)) }
+    requires { HasAdviceValues (rows_of (found_of values.now)) }
     ensures range { IsInRange result }
     ensures choice { IsCommand (codes "advice") (rows_of (found_of values.now)) result }
 {
     let until = free_number(values, "until");
+    let reach = is_given(values, "reach");
     let heading = heading(values);
-    Choice::Advice { until, heading }
+    Choice::Advice {
+        until,
+        reach,
+        heading,
+    }
 }
 
 /// The values of `schedule`.

@@ -1,5 +1,13 @@
-use Rattle.std.proofs.Common.{sym}
+use Rattle.std.proofs.Common.{subst, sym}
+use Rattle.mrp_commands.specs.declared.reading.Reading.{Reading}
+use Rattle.mrp_api.specs.Refusals.{AskWhole}
+use Rattle.mrp_api.specs.Reports.{IsOrderReport}
+use Rattle.mrp_c_api.specs.Answers.{Answers}
+use Rattle.mrp_c_api.specs.Options.{heading_of, limit_of}
 use Rattle.mrp_c_api.proofs.mrp_orders.Goals as goal
 
 pub returns : goal.returns
-returns c = rw (sym c.limit-until.ensures) (rw (sym c.heading-heading.ensures) c.answer.ensures)
+returns c =
+    subst (λ (reading : Reading). Answers c.args.table.now reading AskWhole (IsOrderReport (limit_of c.args.limited c.args.until) (heading_of c.args.header))
+    c.answer.result c.args.buffer.now c.answer.new.buffer c.answer.new.size)
+    c.reading_of-reading.ensures (rw (sym c.limit-until.ensures) (rw (sym c.heading-heading.ensures) c.answer.ensures))

@@ -6,13 +6,13 @@ use Rattle.mrp_api.proofs.text.report_text.Goals as goal
 
 pub returns-clause-text : goal.returns-clause-text
 returns-clause-text g c =
-    writes-of _ _ c.write_report-written.result (IsAnswer c.args.choice c.in_ok-network.network) _
-    (λ text is. (c.in_ok-network.network, c.in_ok-network.ensures.rows, is)) c.write_report-written.ensures.text
+    writes-of _ _ c.write_report-written.result (IsAnswer c.args.request.choice c.in_ok-network.network) _
+    (λ text is. (c.in_ok-network.network, c.in_ok-network.ensures.rows, (c.in_ok-network.ensures.whole, is))) c.write_report-written.ensures.text
 
 pub returns-clause-refusal : goal.returns-clause-refusal
 returns-clause-refusal g c =
-    refuses-of _ (question_of c.args.choice) c.in_ok-network.network c.write_report-written.result c.in_ok-network.ensures.rows
-    c.write_report-written.ensures.refusal
+    refuses-of c.args.request.reading _ (question_of c.args.request.choice) c.in_ok-network.network c.write_report-written.result
+    c.in_ok-network.ensures.rows c.in_ok-network.ensures.whole c.write_report-written.ensures.refusal
 
 pub returns-clause-rows : goal.returns-clause-rows
 returns-clause-rows g c =

@@ -1,4 +1,4 @@
 use Rattle.mrp_api.proofs.text.shortages_text.Goals as goal
 
 pub returns-clause-text : goal.returns-clause-text
-returns-clause-text g c = c.report_text.ensures.text
+returns-clause-text g c = c.usual_text.ensures.text

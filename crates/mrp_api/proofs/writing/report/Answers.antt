@@ -33,6 +33,9 @@ returns-in-Check-clause-text g c = rw (c.in-Check.is)
     (IsHeaded c.in-Check.heading code_names (IsCodeReport N)))
     c.network.ensures.value c.report_codes.ensures.text)
 
+pub returns-in-Reach-clause-text : goal.returns-in-Reach-clause-text
+returns-in-Reach-clause-text g c = rw (c.in-Reach.is) c.report_reach.ensures.text
+
 pub returns-in-Peg-clause-text : goal.returns-in-Peg-clause-text
 returns-in-Peg-clause-text g c = rw (c.in-Peg.is) c.report_pegs.ensures.text
 
@@ -59,6 +62,12 @@ returns-in-Check-clause-refusal g c = late-refuses _ _ c.report_codes.result c.r
 
 pub returns-in-Check-clause-rows : goal.returns-in-Check-clause-rows
 returns-in-Check-clause-rows g c = rows-kept g.W.Write.contents _ _ c.report_codes.result _ c.report_codes.ensures.untouched
+
+pub returns-in-Reach-clause-refusal : goal.returns-in-Reach-clause-refusal
+returns-in-Reach-clause-refusal g c = late-refuses _ _ c.report_reach.result c.report_reach.ensures.fault
+
+pub returns-in-Reach-clause-rows : goal.returns-in-Reach-clause-rows
+returns-in-Reach-clause-rows g c = rows-kept g.W.Write.contents _ _ c.report_reach.result _ c.report_reach.ensures.untouched
 
 pub returns-in-Peg-clause-rows : goal.returns-in-Peg-clause-rows
 returns-in-Peg-clause-rows g c = rows-kept g.W.Write.contents _ _ c.report_pegs.result _ c.report_pegs.ensures.untouched

@@ -3,7 +3,7 @@ use Rattle.std.specs.Str.{bytes_eq}
 use Rattle.std.specs.Box.{box_value}
 use Rattle.clap.specs.Words.{found_of, rows_of}
 use Rattle.clap.specs.declared.parser.matches.ArgMatches.TheViews.{out-ArgMatches, out-SubCommand}
-use Rattle.mrp_commands.specs.declared.choice.Choice.TheVariants.{Check, Cums}
+use Rattle.mrp_commands.specs.declared.choice.Choice.TheVariants.{Cums}
 use Rattle.mrp_command_line.proofs.CommandFacts.{meant, other_name, found_whole}
 use Rattle.mrp_command_line.proofs.words.chosen.Goals as goal
 
@@ -24,8 +24,8 @@ planning-requires c =
       | inr (inr (inr (inr (inr (inr (inr (inr p))))))) ↦ absurd (true≢false (sym c.if-eq.true ∙ c.eq.ensures ∙ ap (λ n. bytes_eq n (codes "plan")) p.0))
     ]
 
-pub heading-requires : goal.heading-requires
-heading-requires c =
+pub checking-requires : goal.checking-requires
+checking-requires c =
     let whole = found_whole (out-ArgMatches c.args.matches.now).subcommand (λ b. (out-SubCommand (box_value b)).name.now)
     (λ b. rows_of (found_of (out-SubCommand (box_value b)).matches))
     c.in-Some.name.now (rows_of (found_of c.in-Some.values.now)) c.in-Some.ensures.name c.in-Some.ensures.rows c.requires in
@@ -83,13 +83,12 @@ returns-then-eq c = record {
 
 pub returns-then-eq-2 : goal.returns-then-eq-2
 returns-then-eq-2 c = record {
-  range = tt;
+  range = c.checking.ensures.range;
   choice =
       meant (out-ArgMatches c.args.matches.now).subcommand (λ b. (out-SubCommand (box_value b)).name.now)
       (λ b. rows_of (found_of (out-SubCommand (box_value b)).matches))
-      c.in-Some.name.now (codes "check") (rows_of (found_of c.in-Some.values.now))
-      (Check c.heading.result) c.eq-else-eq.result c.in-Some.ensures.name c.in-Some.ensures.rows c.eq-else-eq.ensures c.if-eq-2.true
-      (refl, c.heading.ensures);
+      c.in-Some.name.now (codes "check") (rows_of (found_of c.in-Some.values.now)) c.checking.result c.eq-else-eq.result c.in-Some.ensures.name
+      c.in-Some.ensures.rows c.eq-else-eq.ensures c.if-eq-2.true c.checking.ensures.choice;
 }
 
 pub returns-then-eq-3 : goal.returns-then-eq-3
@@ -109,6 +108,6 @@ returns-then-eq-4 c = record {
       meant (out-ArgMatches c.args.matches.now).subcommand (λ b. (out-SubCommand (box_value b)).name.now)
       (λ b. rows_of (found_of (out-SubCommand (box_value b)).matches))
       c.in-Some.name.now (codes "cums") (rows_of (found_of c.in-Some.values.now))
-      (Cums c.heading-then-eq-4.result) c.eq-else-eq-3.result c.in-Some.ensures.name c.in-Some.ensures.rows c.eq-else-eq-3.ensures c.if-eq-4.true
-      (refl, c.heading-then-eq-4.ensures);
+      (Cums c.heading.result) c.eq-else-eq-3.result c.in-Some.ensures.name c.in-Some.ensures.rows c.eq-else-eq-3.ensures c.if-eq-4.true
+      (refl, c.heading.ensures);
 }
