@@ -5,3 +5,4 @@ mod UsageFacts
 mod VendorFacts
 mod PumpsFacts
 pub mod ShortFacts
+mod FrameFacts

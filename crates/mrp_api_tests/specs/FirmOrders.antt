@@ -1,6 +1,6 @@
 -- Firm planned orders, worked by hand: one beside planned orders, which takes its components, and one that calls for
 -- pieces of another plant.
-use Rattle.std.specs.Prelude.{◌≡◌, [], ◌∷◌, ◌++◌, None, codes}
+use Rattle.std.specs.Prelude.{◌≡◌, [], ◌∷◌, ◌++◌, false, None, codes}
 use Rattle.mrp_lot.specs.declared.rule.Rule.TheVariants.{LotForLot}
 use Rattle.mrp_master_data.specs.declared.rows.Supply.TheVariants.{Make, Buy, From}
 use Rattle.mrp_master_data.specs.Table.{Table}
@@ -52,6 +52,7 @@ firm_and_planned = record {
   policies = [];
   usages = [];
   vendors = [];
+  ended = false;
 }
 
 abbrev pub FirmAndPlannedIsWritten : Type 0
@@ -136,6 +137,7 @@ firm_call = record {
   policies = [];
   usages = [];
   vendors = [];
+  ended = false;
 }
 
 -- the firm order is a call in the period of its release, and the cumulative figure has it

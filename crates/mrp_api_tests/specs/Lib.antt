@@ -6,3 +6,4 @@ pub mod PumpsReports
 pub mod ShortParts
 pub mod Usages
 pub mod Vendors
+pub mod Frames

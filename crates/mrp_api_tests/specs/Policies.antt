@@ -1,5 +1,5 @@
 -- Policies, worked by hand: a fence, an open order that is counted sooner than it comes, and a period of cover.
-use Rattle.std.specs.Prelude.{◌≡◌, [], ◌∷◌, ◌++◌, None, codes}
+use Rattle.std.specs.Prelude.{◌≡◌, [], ◌∷◌, ◌++◌, false, None, codes}
 use Rattle.mrp_lot.specs.declared.rule.Rule.TheVariants.{LotForLot}
 use Rattle.mrp_master_data.specs.declared.rows.Supply.TheVariants.{Buy}
 use Rattle.mrp_master_data.specs.Table.{Table}
@@ -82,6 +82,7 @@ by_policy = record {
       ∷ [];
   usages = [];
   vendors = [];
+  ended = false;
 }
 
 abbrev pub ByPolicyIsWritten : Type 0
@@ -148,6 +149,6 @@ ByPolicyIsOrdered =
 -- the open order that counts sooner than it comes is to be expedited
 abbrev pub ByPolicyIsAdvised : Type 0
 ByPolicyIsAdvised =
-    advice_text Names None by_policy (plan_of by_policy)
+    advice_text Names None None by_policy (plan_of by_policy)
     ≡ codes "row,action,kind,plant,item,supplier,period,date,quantity,needed,needed_date\n"
     ++ codes "advice,expedite,receipt,A,X,,3,2026-01-26,60,1,2026-01-12\n"

@@ -1,7 +1,7 @@
 -- A firm that was worked by hand: pumps made in one plant, of castings and brass of another, and sold from a depot,
 -- with each lot rule, safety stocks, receipts, shipments, shares of two sources, figures that start anew, and late
 -- orders.
-use Rattle.std.specs.Prelude.{◌≡◌, [], ◌∷◌, ◌++◌, codes}
+use Rattle.std.specs.Prelude.{◌≡◌, [], ◌∷◌, ◌++◌, false, codes}
 use Rattle.mrp_lot.specs.declared.rule.Rule.TheVariants.{Fixed, LotForLot, MinMultiple, Periods}
 use Rattle.mrp_master_data.specs.declared.rows.Supply.TheVariants.{Buy, From, Make}
 use Rattle.mrp_master_data.specs.Table.{Table}
@@ -175,6 +175,7 @@ pumps = record {
   policies = [];
   usages = [];
   vendors = [];
+  ended = false;
 }
 
 -- its rows, field by field

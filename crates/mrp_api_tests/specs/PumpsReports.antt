@@ -90,7 +90,7 @@ PumpsAreScheduled =
 -- which open orders to move
 abbrev pub PumpsAreAdvised : Type 0
 PumpsAreAdvised =
-    advice_text Names None pumps (plan_of pumps)
+    advice_text Names None None pumps (plan_of pumps)
     ≡ codes "row,action,kind,plant,item,supplier,period,date,quantity,needed,needed_date\n"
     ++ codes "advice,defer,receipt,WORKS,PUMP,,0,2026-11-30,10,1,2026-12-07\n"
     ++ codes "advice,defer,ship,WORKS,IMPELLER,FOUNDRY,1,2026-12-07,24,2,2026-12-14\n"

@@ -1,5 +1,5 @@
 -- Requirements that lack parts, worked by hand: a phantom and a pair inside its fence; and two demanders of one pair.
-use Rattle.std.specs.Prelude.{◌≡◌, [], ◌∷◌, ◌++◌, codes}
+use Rattle.std.specs.Prelude.{◌≡◌, [], ◌∷◌, ◌++◌, false, codes}
 use Rattle.mrp_lot.specs.declared.rule.Rule.TheVariants.{LotForLot}
 use Rattle.mrp_master_data.specs.declared.rows.Supply.TheVariants.{Buy, From, Make}
 use Rattle.mrp_master_data.specs.Table.{Table}
@@ -77,6 +77,7 @@ phantom = record {
       ∷ [];
   usages = [];
   vendors = [];
+  ended = false;
 }
 
 abbrev pub PhantomIsWritten : Type 0
@@ -169,6 +170,7 @@ two_demanders = record {
       ∷ [];
   usages = [];
   vendors = [];
+  ended = false;
 }
 
 abbrev pub TwoDemandersAreWritten : Type 0

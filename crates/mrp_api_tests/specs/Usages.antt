@@ -1,5 +1,5 @@
 -- Usages, worked by hand: scrap, a fraction, a component that replaces another, and one that isn't used for a while.
-use Rattle.std.specs.Prelude.{◌≡◌, [], ◌∷◌, ◌++◌, codes}
+use Rattle.std.specs.Prelude.{◌≡◌, [], ◌∷◌, ◌++◌, false, codes}
 use Rattle.mrp_lot.specs.declared.rule.Rule.TheVariants.{Fixed, LotForLot}
 use Rattle.mrp_master_data.specs.declared.rows.Supply.TheVariants.{Buy, Make}
 use Rattle.mrp_master_data.specs.Table.{Table}
@@ -116,6 +116,7 @@ by_usage = record {
       ∷ record { parent = record { 0 = 0 }; component = record { 0 = 5 }; period = 1; usage = record { per = 0; base = 1 } }
       ∷ [];
   vendors = [];
+  ended = false;
 }
 
 abbrev pub ByUsageIsWritten : Type 0
@@ -273,6 +274,7 @@ scrapped_thrice = record {
       ∷ record { parent = record { 0 = 2 }; component = record { 0 = 3 }; period = 0; usage = record { per = 103; base = 100 } }
       ∷ [];
   vendors = [];
+  ended = false;
 }
 
 abbrev pub ScrappedThriceIsWritten : Type 0

@@ -1,5 +1,5 @@
 -- Vendors, and periods whose first days are given, worked by hand.
-use Rattle.std.specs.Prelude.{◌≡◌, [], ◌∷◌, ◌++◌, Some, None, codes}
+use Rattle.std.specs.Prelude.{◌≡◌, [], ◌∷◌, ◌++◌, false, Some, None, codes}
 use Rattle.mrp_lot.specs.declared.rule.Rule.TheVariants.{Fixed, LotForLot}
 use Rattle.mrp_master_data.specs.declared.rows.Supply.TheVariants.{Buy, From}
 use Rattle.mrp_master_data.specs.Table.{Table}
@@ -52,6 +52,7 @@ by_vendor = record {
   vendors =
       record { name = codes "V-MOTORS"; pair = record { 0 = 0 }; figure = 2300; transit = 100; reset = Some 3 }
       ∷ [];
+  ended = false;
 }
 
 abbrev pub ByVendorIsWritten : Type 0
@@ -148,6 +149,7 @@ two_vendors = record {
       record { name = codes "SOUTH"; pair = record { 0 = 2 }; figure = 200; transit = 6; reset = None }
       ∷ record { name = codes "NORTH"; pair = record { 0 = 1 }; figure = 0; transit = 0; reset = None }
       ∷ [];
+  ended = false;
 }
 
 abbrev pub TwoVendorsAreWritten : Type 0
@@ -231,6 +233,7 @@ over_new_year = record {
   policies = [];
   usages = [];
   vendors = [];
+  ended = false;
 }
 
 abbrev pub OverNewYearIsWritten : Type 0
@@ -291,6 +294,7 @@ working_days = record {
   policies = [];
   usages = [];
   vendors = record { name = codes "V"; pair = record { 0 = 0 }; figure = 0; transit = 0; reset = Some 5 } ∷ [];
+  ended = false;
 }
 
 abbrev pub WorkingDaysAreWritten : Type 0

@@ -1,5 +1,5 @@
 -- Two tables that were worked by hand: the rows that say them, and the report of their plan.
-use Rattle.std.specs.Prelude.{◌≡◌, [], ◌∷◌, ◌++◌, codes}
+use Rattle.std.specs.Prelude.{◌≡◌, [], ◌∷◌, ◌++◌, false, codes}
 use Rattle.mrp_lot.specs.declared.rule.Rule.TheVariants.{LotForLot}
 use Rattle.mrp_master_data.specs.declared.rows.Supply.TheVariants.{Make, Buy, From}
 use Rattle.mrp_master_data.specs.Table.{Table}
@@ -45,6 +45,7 @@ bicycle = record {
   policies = [];
   usages = [];
   vendors = [];
+  ended = false;
 }
 
 -- its rows, field by field
@@ -110,6 +111,7 @@ firm_of_two = record {
   policies = [];
   usages = [];
   vendors = [];
+  ended = false;
 }
 
 abbrev pub FirmOfTwoIsWritten : Type 0

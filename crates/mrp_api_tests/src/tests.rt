@@ -9,24 +9,29 @@ mod outcomes;
 mod record_faults;
 mod records;
 mod reports;
+mod requests;
 mod streams;
 mod vendors;
 
+use mrp_commands::Reading;
 use mrp_net::Network;
 use mrp_tables::read_tables_uncounted;
 use std::alloc::Global;
 use std::process::Abort;
 use std::test::Fail;
 
+/// Any table will do, whether it ends with an `end` row or not.
+const READ_ALL: Reading = Reading { whole: false };
+
 /// The network of a table's text.
 fn network(alloc: Global, text: &str) -> Result<Network, Fail> {
-    let tables = read_tables_uncounted(alloc, text.as_bytes())?;
+    let tables = read_tables_uncounted(alloc, READ_ALL, text.as_bytes())?;
     Ok(Network::of(alloc, tables)?)
 }
 
 /// The same, where why there is none doesn't matter.
 fn network_of(alloc: Global, text: &str) -> Option<Network> {
-    let tables = read_tables_uncounted(alloc, text.as_bytes()).ok()?;
+    let tables = read_tables_uncounted(alloc, READ_ALL, text.as_bytes()).ok()?;
     Network::of(alloc, tables).ok()
 }
 

@@ -3,6 +3,9 @@
 
 ghost use Rattle.mrp_api_tests.specs.FirmOrders.{FirmAndPlannedIsOrdered, FirmAndPlannedIsPlanned};
 ghost use Rattle.mrp_api_tests.specs.FirmOrders.{FirmAndPlannedIsWritten, FirmCallIsScheduled};
+ghost use Rattle.mrp_api_tests.specs.Frames.{FramesAreAdvised, FramesAreAdvisedWithin, FramesAreWhole};
+ghost use Rattle.mrp_api_tests.specs.Frames.{FramesAreCut, FramesAreUncut, FramesAreWritten};
+ghost use Rattle.mrp_api_tests.specs.Frames.{FramesNeedNoEnd, FramesReach};
 ghost use Rattle.mrp_api_tests.specs.Policies.{ByPolicyIsAdvised, ByPolicyIsOrdered};
 ghost use Rattle.mrp_api_tests.specs.Policies.{ByPolicyIsPlanned, ByPolicyIsWritten};
 ghost use Rattle.mrp_api_tests.specs.Pumps.{PumpsArePlanned, PumpsAreWritten};
@@ -228,4 +231,34 @@ pub fn working_days_are_ordered()
 /// Their vendor's schedule, to the byte, with the date of its reset.
 pub fn working_days_are_scheduled()
     ensures { WorkingDaysAreScheduled }
+{}
+
+/// The rows that are written of bicycles, their frames, tubes and pipe, and of the end of the table, field by field.
+pub fn frames_are_written()
+    ensures { FramesAreWritten }
+{}
+
+/// Until when what is wanted of each, and what is released, is whole, with the report of it, to the byte: a pair that
+/// nobody takes, one that is ordered for two periods at a time, and what these are made of, a lead time before.
+pub fn frames_reach()
+    ensures whole { FramesAreWhole }
+    ensures report { FramesReach }
+{}
+
+/// Their messages, to the byte: receipts that no period of the plan needs are to be cancelled.
+pub fn frames_are_advised()
+    ensures { FramesAreAdvised }
+{}
+
+/// Those within reach, to the byte: a receipt that comes as far as all is whole is beyond it, and a later one isn't told.
+pub fn frames_are_advised_within_reach()
+    ensures { FramesAreAdvisedWithin }
+{}
+
+/// Their table ends: where it has to be whole it is taken as it stands, and refused behind its last row where it is cut
+/// off; where it need not be, it is taken cut off too.
+pub fn frames_have_an_end()
+    ensures whole { FramesAreUncut }
+    ensures cut { FramesAreCut }
+    ensures usual { FramesNeedNoEnd }
 {}

@@ -14,12 +14,13 @@ mod stops;
 mod trials;
 
 use mrp_net::Network;
-use mrp_tables::read_tables_uncounted;
+use mrp_tables::{Reading, read_tables_uncounted};
 use std::alloc::Global;
 use std::test::Fail;
 
 /// The network of a table's text.
 fn network_of(alloc: Global, text: &str) -> Result<Network, Fail> {
-    let tables = read_tables_uncounted(alloc, text.as_bytes())?;
+    let reading = Reading { whole: false };
+    let tables = read_tables_uncounted(alloc, reading, text.as_bytes())?;
     Ok(Network::of(alloc, tables)?)
 }

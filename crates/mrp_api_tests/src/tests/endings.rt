@@ -51,6 +51,7 @@ const ROW_FAULTS: &[(TableFaultKind, u8, &str)] = &[
     (TableFaultKind::NotSourced, 1, "mrp: row 3: NotSourced\n"),
     (TableFaultKind::TooMany, 1, "mrp: row 3: TooMany\n"),
     (TableFaultKind::ResetOrder, 1, "mrp: row 3: ResetOrder\n"),
+    (TableFaultKind::Cut, 1, "mrp: row 3: Cut\n"),
     (TableFaultKind::Memory, 3, "mrp: Memory\n"),
 ];
 

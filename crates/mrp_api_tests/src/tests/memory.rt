@@ -1,12 +1,13 @@
 //! Texts where memory is refused: what is written is the right text, or a prefix of it.
 
 use super::reports::{
-    EARLY, EARLY_ADVICE, LACKING, LACKING_SHORTAGES, MOTORS, MOTORS_SCHEDULE, TWO_PLANTS_CUMS,
-    TWO_PLANTS_ORDERS, TWO_PLANTS_PEGS, TWO_PLANTS_PLAN, TWO_PLANTS_SCHEDULE,
+    EARLY, EARLY_ADVICE, EARLY_ADVICE_WITHIN, LACKING, LACKING_SHORTAGES, MOTORS, MOTORS_SCHEDULE,
+    TWO_PLANTS_CUMS, TWO_PLANTS_ORDERS, TWO_PLANTS_PEGS, TWO_PLANTS_PLAN, TWO_PLANTS_REACH,
+    TWO_PLANTS_SCHEDULE,
 };
 use mrp_api::{
-    TextFault, advice_text, cums_text, drive_text, orders_text, pegs_text, schedule_text,
-    shortages_text,
+    TextFault, advice_text, cums_text, drive_text, orders_text, pegs_text, reach_text,
+    schedule_text, shortages_text,
 };
 use mrp_commands::Heading;
 use mrp_run_tests::TWO_PLANTS;
@@ -94,8 +95,36 @@ fn pegs_or_is_refused(alloc: Global) -> Result<bool, Fail> {
 /// Whether the advice is written, or memory was refused.
 fn advice_or_is_refused(alloc: Global) -> Result<bool, Fail> {
     let mut advice = Vec::with_capacity(alloc, ROOM)?;
-    let answer = advice_text(alloc, EARLY.as_bytes(), &mut advice, None, Heading::Names);
+    let answer = advice_text(
+        alloc,
+        EARLY.as_bytes(),
+        &mut advice,
+        None,
+        false,
+        Heading::Names,
+    );
     Ok(is_written_or_refused(&answer, advice.as_slice(), EARLY_ADVICE))
+}
+
+/// Whether the advice within reach is written, or memory was refused.
+fn advice_within_or_is_refused(alloc: Global) -> Result<bool, Fail> {
+    let mut advice = Vec::with_capacity(alloc, ROOM)?;
+    let answer = advice_text(
+        alloc,
+        EARLY.as_bytes(),
+        &mut advice,
+        None,
+        true,
+        Heading::Names,
+    );
+    Ok(is_written_or_refused(&answer, advice.as_slice(), EARLY_ADVICE_WITHIN))
+}
+
+/// Whether the reach is written, or memory was refused.
+fn reach_or_is_refused(alloc: Global) -> Result<bool, Fail> {
+    let mut reach = Vec::with_capacity(alloc, ROOM)?;
+    let answer = reach_text(alloc, TWO_PLANTS.as_bytes(), &mut reach, Heading::Names);
+    Ok(is_written_or_refused(&answer, reach.as_slice(), TWO_PLANTS_REACH))
 }
 
 /// Whether the shortages are written, or memory was refused.
@@ -130,6 +159,20 @@ fn pegs_where_memory_is_refused(rt: HostRuntime) -> Result<(), Fail> {
 #[test]
 fn advice_where_memory_is_refused(rt: HostRuntime) -> Result<(), Fail> {
     assert!(rt; advice_or_is_refused(rt.alloc())?);
+    Ok(())
+}
+
+/// With an allocation refused its assertion holds, or the room of the writer is refused.
+#[test]
+fn advice_within_reach_where_memory_is_refused(rt: HostRuntime) -> Result<(), Fail> {
+    assert!(rt; advice_within_or_is_refused(rt.alloc())?);
+    Ok(())
+}
+
+/// With an allocation refused its assertion holds, or the room of the writer is refused.
+#[test]
+fn a_reach_where_memory_is_refused(rt: HostRuntime) -> Result<(), Fail> {
+    assert!(rt; reach_or_is_refused(rt.alloc())?);
     Ok(())
 }
 

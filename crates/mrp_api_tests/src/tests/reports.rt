@@ -45,6 +45,18 @@ pub(super) const EARLY_ADVICE: &str =
 advice,defer,receipt,P1,WHEEL,,1,2026-01-12,4,3,2026-01-26\n\
 advice,cancel,receipt,P1,WHEEL,,2,2026-01-19,6,,\n";
 
+/// What is advised of them where nothing is known behind the last period: the receipt that is not needed before may be
+/// needed there.
+pub(super) const EARLY_ADVICE_WITHIN: &str =
+    "row,action,kind,plant,item,supplier,period,date,quantity,needed,needed_date\n\
+advice,defer,receipt,P1,WHEEL,,1,2026-01-12,4,3,2026-01-26\n\
+advice,beyond,receipt,P1,WHEEL,,2,2026-01-19,6,,\n";
+
+/// Until when the requirements and the releases of two plants are whole, below the names of the columns: those of A to
+/// the end, but for the releases of the lead time there, and those of B as far as A's releases.
+pub(super) const TWO_PLANTS_REACH: &str =
+    "row,plant,item,period,release\nreach,A,X,3,2\nreach,B,X,2,2\n";
+
 /// A frame that is started in period 0 takes a welded part, which is made at once: three of it by a firm order. With two
 /// of the part and ten tubes on hand, safety stock among them, the frames lack tubes.
 pub(super) const LACKING: &str =

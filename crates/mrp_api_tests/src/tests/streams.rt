@@ -5,11 +5,11 @@ ghost use Rattle.mrp_commands.specs.Range.{IsInRange};
 use super::is_report;
 use super::outcomes::outcome;
 use super::reports::{
-    BICYCLE_PLAN, EARLY, EARLY_ADVICE, LACKING, LACKING_SHORTAGES, TWO_PLANTS_CUMS,
-    TWO_PLANTS_PEGS, TWO_PLANTS_SCHEDULE,
+    BICYCLE_PLAN, EARLY, EARLY_ADVICE, EARLY_ADVICE_WITHIN, LACKING, LACKING_SHORTAGES,
+    TWO_PLANTS_CUMS, TWO_PLANTS_PEGS, TWO_PLANTS_REACH, TWO_PLANTS_SCHEDULE,
 };
 use mrp_api::{TextFault, answer, check_text, drive_text, status};
-use mrp_commands::{Choice, Heading};
+use mrp_commands::{Choice, Heading, Reading, Request};
 use mrp_run_tests::{BICYCLE, TWO_PLANTS};
 use mrp_validation::TableFaultKind;
 use std::alloc::{AllocError, Global};
@@ -154,7 +154,7 @@ fn choice_tells<T: Threads + Wait + Sync>(
     fails: usize,
 ) -> bool {
     let mut written = Vec::new(alloc);
-    let answer = answer(rt, alloc, choice_of(asked), failing(fails), &mut written);
+    let answer = answer(rt, alloc, request_of(asked), failing(fails), &mut written);
     tells_the_read(&answer, written.as_slice(), fails)
 }
 
@@ -244,7 +244,9 @@ enum Asked {
     Orders,
     Schedules,
     Pegs,
+    Reach,
     Advice,
+    AdviceWithin,
     Shortages,
 }
 
@@ -287,13 +289,32 @@ fn choice_of(asked: Asked) -> Choice<'static>
         Asked::Pegs => Choice::Pegs {
             heading: Heading::Names,
         },
+        Asked::Reach => Choice::Reach {
+            heading: Heading::Names,
+        },
         Asked::Advice => Choice::Advice {
             until: None,
+            reach: false,
+            heading: Heading::Names,
+        },
+        Asked::AdviceWithin => Choice::Advice {
+            until: None,
+            reach: true,
             heading: Heading::Names,
         },
         Asked::Shortages => Choice::Shortages {
             heading: Heading::Names,
         },
+    }
+}
+
+/// The request that asks for it, of any table.
+fn request_of(asked: Asked) -> Request<'static>
+    ensures { IsInRange result.choice }
+{
+    Request {
+        reading: Reading { whole: false },
+        choice: choice_of(asked),
     }
 }
 
@@ -305,7 +326,7 @@ struct Written {
 }
 
 /// A report of each choice, of three writes at least.
-const REPORTS: [Written; 10] = [
+const REPORTS: [Written; 12] = [
     Written {
         asked: Asked::PlanByThreads,
         table: BICYCLE,
@@ -348,9 +369,19 @@ order,P1,BIKE,make,10,2,2026-01-19,3,2026-01-26,0\norder,P1,WHEEL,buy,20,1,2026-
         report: TWO_PLANTS_PEGS,
     },
     Written {
+        asked: Asked::Reach,
+        table: TWO_PLANTS,
+        report: TWO_PLANTS_REACH,
+    },
+    Written {
         asked: Asked::Advice,
         table: EARLY,
         report: EARLY_ADVICE,
+    },
+    Written {
+        asked: Asked::AdviceWithin,
+        table: EARLY,
+        report: EARLY_ADVICE_WITHIN,
     },
     Written {
         asked: Asked::Shortages,
@@ -370,9 +401,9 @@ fn choice_ends<T: Threads + Wait + Sync>(
     if ends.saturating_mul(10) >= written.report.len() {
         return true;
     }
-    let choice = choice_of(written.asked);
+    let request = request_of(written.asked);
     let mut sink = ending(alloc, ends, takes_nothing);
-    let answer = answer(rt, alloc, choice, written.table.as_bytes(), &mut sink);
+    let answer = answer(rt, alloc, request, written.table.as_bytes(), &mut sink);
     ended_in_front(&answer, &sink, written.report.as_bytes())
 }
 
