@@ -101,6 +101,11 @@ quantities() {
     echo "receipt,P,Y,0,$lot,,,"
 }
 
+# The rows on standard input, and an end row behind them.
+ended() {
+    awk '{ print } END { print "end," NR ",,,,,," }'
+}
+
 wrong=0
 # Runs a command over the table. Its answer is the line of a fault, or in how many rows of the report a condition of awk holds.
 try() {
@@ -122,6 +127,7 @@ printf '%-18s %8s  %-34s %8s %8s\n' table rows command seconds memory
 chain >"$table"
 try chain plan "20000 of 2080000" '$4 == 103 && $6 == 7 && $8 == 7 && $9 == 7 && $10 == 0'
 try chain check "20000 of 20000" '$4 == NR - 1'
+try chain "check --reach" "20000 of 20000" '$4 == 103 && $5 == 103'
 one_for_all >"$table"
 try one_for_all plan "20000 of 2080000" '$4 == 103 && $6 == ($3 == "ONE" ? 19999 : 1) && $8 == $6'
 try one_for_all "peg P ONE 103" "19999 of 19999" '$2 == "bill" && $7 == 1'
@@ -140,10 +146,13 @@ for words in "plan --single" "plan --capacity 1" "plan --workers 2 --capacity 65
 done
 try lanes cums "149760 of 149760" '$6 == 1000 && $7 == ($2 == "despatch" ? 1000 : 1001) && $9 == 0'
 everything >"$table"
+try "everything, cut" "plan --whole" "mrp: row $(($(wc -l <"$table") + 1)): Cut"
+everything | ended >"$table"
 parts='$2 == "P0" ? $6 == 0 : $6 == 60 && $8 == 60'
-for words in "plan --single" plan "plan --workers 2 --capacity 65536"; do
+for words in "plan --single" "plan --whole" "plan --workers 2 --capacity 65536"; do
     try everything "$words" "1058304 of 2076672" '$4 < 53 && (substr($2, 2) + 0 < 4 ? ('"$parts"') : $6 == 4 && $7 == 1 && $8 == 3)'
 done
+try everything "check --reach --whole" "19968 of 19968" '$4 == 103 && $5 == 103'
 try everything cums "149760 of 149760" '$2 == "despatch" ? $7 == 1013 : $6 == 1013 && $7 == ($4 == "P0" ? 1013 : 1066)'
 rows 2 20000 1000000 1000000 1000000 >"$table"
 try "million of each" plan "208 of 2080000" '$3 == "I0" && $8 == 0 && $9 == 0'

@@ -3,6 +3,7 @@
 #
 #   bench/vendors.sh         of each bought pair 1000 pieces are booked and 7 are under way, from a vendor of its own
 #   bench/vendors.sh days    and a day row for each period but the first: it begins a day later than it would
+# An end row stays the last, with the number of rows before it.
 #
 # bench/reports.sh table prints a large table. It needs awk.
 set -eu
@@ -24,6 +25,7 @@ exec awk -F, -v days="${1-}" '
         if (month > 12) { month = 1; year++ }
         return sprintf("%04d-%02d-%02d", year, month, day)
     }
+    $1 == "end" { is_ended = 1; next }
     { print }
     $1 == "run" { first = $2; length_of = $3; periods = $4 }
     $1 == "pair" && $4 == "buy" { vendors[++count] = "vendor,V" count "," $2 "," $3 ",1000,7,," }
@@ -33,4 +35,6 @@ exec awk -F, -v days="${1-}" '
             for (k = 0; k <= length_of; k++) first = next_day(first)
             print "day," t "," first ",,,,,"
         }
+        rows = NR - is_ended + count + (days != "" ? periods - 1 : 0)
+        if (is_ended) print "end," rows ",,,,,,"
     }'

@@ -48,10 +48,10 @@ def day_of(text):
 
 
 class Spelling:
-    """How a field is spelled, as a pattern, and what its text is read as. One that may be empty is then None."""
+    """How a field is spelled, as a pattern, and what its text is read as. One that may be empty is then None, and so is a word for none."""
 
-    def __init__(self, pattern, read=str, is_period=False, may_be_empty=False):
-        self.pattern, self.read, self.is_period, self.may_be_empty = pattern, read, is_period, may_be_empty
+    def __init__(self, pattern, read=str, is_period=False, may_be_empty=False, none=""):
+        self.pattern, self.read, self.is_period, self.may_be_empty, self.none = pattern, read, is_period, may_be_empty, none
 
     def __call__(self, text):
         """Returns what a text is read as."""
@@ -95,6 +95,8 @@ NAME = Spelling("[A-Za-z0-9._-]{1,20}")
 NUMBER = Spelling("0|[1-9][0-9]{0,15}", int)
 # (in a table a date may stand in the place of a period)
 PERIOD = Spelling(NUMBER.pattern, int, is_period=True)
+# The last of some periods, if there is one.
+LAST = Spelling(f"{NUMBER.pattern}|none", lambda text: None if text == "none" else int(text), none="none")
 # Pieces of a component in a parent: in reports a number, or a Per.
 PER = Spelling(f"(?:{NUMBER.pattern})(?:/[1-9][0-9]{{0,15}})?", per_of)
 DATE = Spelling("[0-9]{4}-[0-9]{2}-[0-9]{2}", day_of)
@@ -270,10 +272,16 @@ class Day(NamedTuple):
     date: DATE
 
 
+class End(NamedTuple):
+    """The end of a table, with the number of rows before it: a table without it may be cut."""
+
+    rows: NUMBER
+
+
 # The kinds of rows, by the names of their lists in a table.
 LISTS = {"runs": Run, "plants": Plant, "pairs": Pair, "bills": Bill, "demands": Demand}
 LISTS |= {"receipts": Receipt, "ships": Ship, "cums": Cum, "resets": Reset, "firms": Firm, "policies": Policy, "usages": Usage}
-LISTS |= {"vendors": Vendor, "days": Day}
+LISTS |= {"vendors": Vendor, "days": Day, "ends": End}
 KINDS = tuple(LISTS.values())
 
 
@@ -344,6 +352,16 @@ class Code(NamedTuple):
     code: NUMBER
 
 
+class Reach(NamedTuple):
+    """How far a pair's plan is whole: the last period whose gross requirements, and whose releases, stay what they are whatever is
+    wanted behind the horizon. Each is None where there is no such period."""
+
+    plant: NAME
+    item: NAME
+    period: LAST
+    release: LAST
+
+
 class Lane(NamedTuple):
     """The cumulative figures of an item on a lane between two plants."""
 
@@ -383,9 +401,10 @@ class Peg(NamedTuple):
 
 
 class Advice(NamedTuple):
-    """A message for an open order that comes in `period`. One to cancel is never needed; only a shipment has a supplier."""
+    """A message for an open order that comes in `period`. One to cancel isn't needed before the horizon ends, and of one beyond it
+    isn't known yet when it is needed; only a shipment has a supplier."""
 
-    action: one_of("expedite", "defer", "cancel")
+    action: one_of("expedite", "defer", "cancel", "beyond")
     kind: one_of("receipt", "ship", "firm")
     plant: NAME
     item: NAME
@@ -423,9 +442,9 @@ class Hit(NamedTuple):
 
 
 # The rows of reports by their words; and of each report whose columns --header names, the kind of its rows.
-ROWS = {"plan": Plan, "late": Late, "order": Order, "firm": FirmOrder, "schedule": Schedule, "code": Code, "lane": Lane}
+ROWS = {"plan": Plan, "late": Late, "order": Order, "firm": FirmOrder, "schedule": Schedule, "code": Code, "reach": Reach, "lane": Lane}
 ROWS |= {"peg": Term, "pegs": Peg, "advice": Advice, "shortage": Shortage, "hit": Hit}
-REPORTS = {"check": Code, "peg": Term, "cums": Lane, "orders": Order, "schedule": Schedule}
+REPORTS = {"check": Code, "check --reach": Reach, "peg": Term, "cums": Lane, "orders": Order, "schedule": Schedule}
 REPORTS |= {"pegs": Peg, "advice": Advice, "shortages": Shortage, "hit": Hit}
 
 
@@ -469,6 +488,7 @@ class Form:
         return self.kind._make(fields)
 
 
+END = End.__name__.lower()
 TABLE_FORMS = {it.__name__.lower(): Form(it.__name__.lower(), it) for it in KINDS}
 REPORT_FORMS = {word: Form(word, kind) for word, kind in ROWS.items()}
 WORDS = {kind: word for word, kind in ROWS.items()}
@@ -537,19 +557,35 @@ class Table:
     BadNumber. What is no kind is refused by mrp too.
 
     The rows of a kind are read by name: `table.demands[0].quantity`, `table.run.days`.
+
+    As bytes it ends with an end row, which says how many rows are before it. One that is given stays as it is.
     """
 
     def __init__(self, rows):
         self.rows = [(type(it).__name__.lower(), *it) if isinstance(it, KINDS) else tuple(it) for it in rows if it]
 
     @classmethod
-    def read(cls, lines):
-        """Returns the table of some lines, as of a file that `open_table` opens. A row of no kind is refused."""
+    def read(cls, lines, whole=False):
+        """Returns the table of some lines, as of a file that `open_table` opens. A row of no kind is refused, and an end row that
+        isn't the last or has another number than that of the rows before it; with `whole` a table without one.
+
+        The end row isn't among the rows: who adds some needs no other one.
+        """
         table = cls(fields_of(lines))
-        for number, (word, *_) in enumerate(table.rows, 1):
+        for number, (word, *fields) in enumerate(table.rows, 1):
             if word not in TABLE_FORMS:
                 raise Refused(f"row {number}: no kind of row is {word!r}")
+            if word == END and (number < len(table.rows) or fields[:1] != [str(number - 1)]):
+                raise Refused(f"row {number}: the table doesn't end here, or has lost rows")
+        if table.is_ended():
+            table.rows.pop()
+        elif whole:
+            raise Refused(f"row {len(table.rows) + 1}: the table has no end row, so it may be cut")
         return table
+
+    def is_ended(self):
+        """Tells whether the last row is an end row."""
+        return bool(self.rows) and self.rows[-1][0] == END
 
     def __getattr__(self, name):
         if name not in LISTS:
@@ -572,7 +608,8 @@ class Table:
         """Returns the table as mrp reads it."""
         text = io.StringIO()
         writer = csv.writer(text, lineterminator="\n")
-        for row in self.rows:
+        ends = [] if self.is_ended() or not self.rows else [(END, len(self.rows))]
+        for row in (*self.rows, *ends):
             writer.writerow([row[0], *self.fields(row), *[""] * (FIELDS - len(row))])
         return text.getvalue().encode(errors="surrogateescape")
 
@@ -632,7 +669,8 @@ def sources(supply):
 
 def line_of(row):
     """Returns a row of a report as a line, without its end."""
-    return ",".join((WORDS[type(row)], *("" if it is None else str(it) for it in row)))
+    form = REPORT_FORMS[WORDS[type(row)]]
+    return ",".join((form.word, *(spelling.none if it is None else str(it) for spelling, it in zip(form.spellings, row))))
 
 
 def header(kind):
@@ -761,26 +799,28 @@ class Library:
 
         self.ctypes, self.calls, library = ctypes, {}, ctypes.CDLL(path)
         name, flag, size = [ctypes.c_char_p, ctypes.c_size_t], ctypes.c_bool, ctypes.c_size_t
-        limited = [flag, ctypes.c_uint64, flag]
-        options = {"plan": [], "orders": limited, "advice": limited, "schedule": [*name, *name, flag]}
-        options |= {"check": [flag], "cums": [flag], "shortages": [flag]}
+        limited = [flag, ctypes.c_uint64]
+        options = {"plan": [], "orders": [*limited, flag], "advice": [*limited, flag, flag], "schedule": [*name, *name, flag]}
+        options |= {it: [flag] for it in ("check", "reach", "cums", "shortages")}
         for it, types in options.items():
             call = self.calls[it] = library[f"mrp_{it}"]
-            call.argtypes = [*name, *types, ctypes.c_char_p, size, ctypes.POINTER(size)]
+            # (how a table is to be read is a struct of a flag)
+            call.argtypes = [*name, ctypes.POINTER(flag), *types, ctypes.c_char_p, size, ctypes.POINTER(size)]
             call.restype = ctypes.c_uint32
 
-    def ask(self, name, table, until=None, supplier=None, customer=None):
+    def ask(self, name, table, until=None, supplier=None, customer=None, reach=False, whole=False):
         """Returns the status and the text of a call."""
         plants = [(it or "").encode() for it in (supplier, customer)]
         names = [it for plant in plants for it in (plant, len(plant))]
-        limited = [until is not None, until or 0, False]
-        options = {"plan": [], "orders": limited, "advice": limited, "schedule": [*names, False]}
+        limited = [until is not None, until or 0]
+        options = {"plan": [], "orders": [*limited, False], "advice": [*limited, reach, False], "schedule": [*names, False]}
         options, ctypes = options.get(name, [False]), self.ctypes
-        size = ctypes.c_size_t(4 * len(table) + 4096)
+        call = self.calls["reach" if reach and name == "check" else name]
+        size, reading = ctypes.c_size_t(4 * len(table) + 4096), ctypes.c_bool(whole)
         while True:
             room = size.value
             buffer = ctypes.create_string_buffer(room)
-            status = self.calls[name](table, len(table), *options, buffer, room, ctypes.byref(size))
+            status = call(table, len(table), ctypes.byref(reading), *options, buffer, room, ctypes.byref(size))
             if size.value <= room:
                 return status, ctypes.string_at(buffer, size.value)
 
@@ -791,11 +831,11 @@ class Program:
     def __init__(self, path):
         self.path = path
 
-    def ask(self, name, table, until=None, supplier=None, customer=None):
+    def ask(self, name, table, until=None, supplier=None, customer=None, reach=False, whole=False):
         """Returns the status and what the program writes."""
         options = {"--until": until if until is None else min(until, LAST_PERIOD)}
         options |= {"--from": supplier or None, "--to": customer or None}
-        words = [name, *(f"{word}={it}" for word, it in options.items() if it is not None)]
+        words = [name, *["--reach"] * reach, *["--whole"] * whole, *(f"{word}={it}" for word, it in options.items() if it is not None)]
         done = subprocess.run([self.path, *words], input=table, capture_output=True, check=False)
         return done.returncode, done.stderr if done.returncode else done.stdout
 
@@ -815,7 +855,8 @@ def program():
 
 
 def report(by, name, table, **options):
-    """Returns the rows of a report of a table, by the library or the program. Raises Fault where it is refused."""
+    """Returns the rows of a report of a table, by the library or the program. Raises Fault where it is refused, with `whole` also
+    where the bytes of a table have no end row."""
     status, text = by.ask(name, bytes(table), **options)
     if status == 0:
         return [*rows_of(text)]
@@ -847,6 +888,11 @@ def check(table):
     return report(library() or program(), "check", table)
 
 
+def reach(table):
+    """Returns how far the plan of each pair is whole, as a Reach."""
+    return report(library() or program(), "check", table, reach=True)
+
+
 def cums(table):
     """Returns the cumulative figures of the lanes between plants, each as a Lane."""
     return report(library() or program(), "cums", table)
@@ -857,11 +903,12 @@ def pegs(table):
     return report(program(), "pegs", table)
 
 
-def advice(table, until=None):
+def advice(table, until=None, reach=False):
     """Returns which open orders to expedite, to defer and to cancel, each as an Advice: with `until` those that come up to
-    that period.
+    that period. With `reach` no message follows from where the horizon ends: of an order whose action is `beyond` it isn't known
+    yet when it is needed.
     """
-    return report(library() or program(), "advice", table, until=until)
+    return report(library() or program(), "advice", table, until=until, reach=reach)
 
 
 def shortages(table):

@@ -11,6 +11,9 @@ from crates import TOP  # (which lets the modules of bin/ be found)
 import mrp
 
 COMMANDS = ("check", "plan", "plan --single", "peg A X 0", "cums", "orders", "schedule --from none", "pegs", "advice", "shortages")
+COMMANDS += ("check --reach", "advice --reach")
+# With these a row's fault comes before the lack of an end.
+WHOLE = ("plan --whole", "check --whole --reach")
 # The words that ask for the reports that are stored beside the tables of examples/, by the ends of their names.
 STORED = {"plan": "plan", "cums": "cums", **{it: f"{it} --header" for it in ("orders", "schedule", "pegs", "advice", "shortages")}}
 # With how many workers a plant and records a mailbox a plan is made: the answer is the same.
@@ -73,7 +76,7 @@ def run_case(program, table, asks):
         at += 1
         if mark == "! ":
             fault, _, row = ask.partition("  ")
-            refused(program, f"{table}{row}\n", f"row {table.count(chr(10)) + 1}: {fault}")
+            refused(program, f"{table}{row}\n", f"row {table.count(chr(10)) + 1}: {fault}", (*COMMANDS, *WHOLE))
             continue
         end = next((it for it in range(at, len(asks)) if asks[it].startswith(("$ ", "! "))), len(asks))
         expect(program, ask.removeprefix("mrp "), table, "".join(f"{it}\n" for it in asks[at:end]))
@@ -140,18 +143,25 @@ def tables_of_other_programs(program):
     refused(program, zeros, "row 4: UnknownPair")
 
 
-def tables_cut_within_a_row(program):
-    """A firm of two plants, cut behind each of its characters that neither ends a row nor stands before the end of one."""
+def tables_cut_anywhere(program):
+    """A firm of two plants, cut behind each of its characters. One that is wanted whole is refused, but where the last line has no end."""
     rows = "demand,A,X,2,30,,,\nship,B,A,X,2,8,,\ncum,B,A,X,100,,,\nreset,B,A,X,2,,,\nfirm,A,X,0,1,12,,\npolicy,A,X,1,2,0,30,5\nusage,A,Z,X,2,103,100,\n"
-    rows += "vendor,V,B,X,100,50,2,\nday,1,2026-01-19,,,,,\n"
+    rows += "vendor,V,B,X,100,50,2,\nday,1,2026-01-19,,,,,\nend,16,,,,,,\n"
     firm = "run,2026-01-05,7,4,,,,\nplant,A,,,,,,\nplant,B,,,,,,\npair,A,X,from:B,lot,1,0,0\npair,B,X,buy,lot,0,0,0\n"
     firm += f"pair,A,Z,make,lot,0,0,0\nbill,A,Z,X,1,,,\n{rows}"
-    for count in range(1, len(firm)):
-        if "\n" not in firm[count - 1 : count + 1]:
-            row = firm.count("\n", 0, count) + 1
-            # (where the last digit of a row of eight fields is cut off its last field is empty)
-            fault = "BadNumber" if row in (4, 5, 6, 13) and firm[count + 1] == "\n" else "FieldCount"
-            refused(program, firm[:count], f"row {row}: {fault}", ("plan --single",))
+    expect(program, "plan --whole", firm[:-1], answer(program, "plan --whole", firm))
+    refused(program, "", "row 0: Empty", ("check --whole",))
+    for count in range(1, len(firm) - 1):
+        row = firm.count("\n", 0, count) + 1
+        if "\n" in firm[count - 1 : count + 1]:
+            rows = row - (firm[count] != "\n")
+            # (the fourth row takes from a pair that the fifth one is)
+            fault = "row 4: UnknownPair" if rows == 4 else f"row {rows + 1}: Cut"
+            refused(program, firm[:count], fault, ("plan --whole", "check --reach --whole"))
+            continue
+        # (where the last digit of a row of eight fields is cut off its last field is empty)
+        fault = "BadNumber" if row in (4, 5, 6, 13) and firm[count + 1] == "\n" else "FieldCount"
+        refused(program, firm[:count], f"row {row}: {fault}", ("plan --single", "check --whole"))
 
 
 def plans_are_sent_by_sixteen_pairs(program):
@@ -355,7 +365,7 @@ MADE = (
     rules_have_the_least_and_the_greatest_numbers,
     rows_that_are_no_text,
     tables_of_other_programs,
-    tables_cut_within_a_row,
+    tables_cut_anywhere,
     plans_are_sent_by_sixteen_pairs,
     kinds_have_their_limits,
     firm_orders_have_the_bound_of_quantities,

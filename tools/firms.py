@@ -14,7 +14,7 @@ QUANTITIES = (1, 2, 5, 7, 30, 99, 1000, 10**6)
 FIELDS = ("", "0", "1", "31", "32", "104", "105", "02", "+1", "1.5", "1000000000000", "1000000000001", "9999999999999999")
 FIELDS += ("A", "B", "X" * 21, "a b", "make", "buy", "lot", "fixed:0", "fixed:7", "periods:105", "min:3:2", "min:1")
 FIELDS += ("from:A", "from:A:500:B:500", "from:B:600:A:300", "2026-02-30", "2199-12-31", '"A"', '"', "103", "policy", "usage", "1000000", "1000001")
-FIELDS += ("vendor", "day", "V-1", "1000000000000000", "1000000000000001", "2026-01-12", "2199-12-01", "9999-12-31", "1969-12-31")
+FIELDS += ("vendor", "day", "end", "V-1", "1000000000000000", "1000000000000001", "2026-01-12", "2199-12-01", "9999-12-31", "1969-12-31")
 BYTES = b',,,"\r\n\n019ABXx:-._ \x00\x7f\xc3\xff'
 
 
@@ -33,7 +33,14 @@ def table(chance, plants=12, pairs=30):
     rows += [*firm.policy_rows([it for it in rows if isinstance(it, mrp.Pair)], [it.pair for it in rows if isinstance(it, mrp.Receipt)])]
     rows += [*firm.usage_rows([it for it in rows if isinstance(it, mrp.Bill)])]
     rows += [*firm.vendor_rows(names), *firm.day_rows(run)]
-    return bytes(mrp.Table(rows))
+    whole = bytes(mrp.Table(rows))
+    return whole if chance.random() < 0.5 else unended(whole)
+
+
+def unended(text):
+    """Returns a table without its end row, where it has one with the number of rows before it."""
+    front = text[: text.rfind(b"\nend,") + 1]
+    return front if text == front + b"end,%d,,,,,,\n" % front.count(b"\n") else text
 
 
 class Draft:
@@ -270,6 +277,17 @@ def more_days(chance, text):
     return put_rows(chance, rows, row, b"")
 
 
+def more_ends(chance, text):
+    """Adds an end row with the number of rows before it or another, once or twice, or with any word in a field, at the end or anywhere; or
+    drops a row of a table that has one.
+    """
+    rows = text.splitlines(keepends=True)
+    if chance.random() < 0.3:
+        return b"".join(it for place, it in enumerate(rows) if place != chance.randrange(len(rows) + 1))
+    count = chance.choice((len(rows), len(rows), len(rows) + chance.choice((-1, 1)), chance.choice((0, 9, 5_540_170))))
+    return put_rows(chance, rows, [b"end", str(count).encode(), *[b""] * 6], b"end,")
+
+
 def put_rows(chance, rows, row, behind):
     """Returns the table of rows with one more, once or twice, at times with any word in a field: at the end, before the kind behind, or anywhere."""
     if chance.random() < 0.4:
@@ -281,4 +299,4 @@ def put_rows(chance, rows, row, behind):
 
 
 DAMAGES = (cut, changed_byte, changed_byte, changed_rows, swapped_rows, changed_field, changed_field, changed_field, other_ends, more_usage)
-DAMAGES += (more_vendors, more_days)
+DAMAGES += (more_vendors, more_days, more_ends, more_ends)

@@ -34,6 +34,7 @@ COLUMNS = {
     "usage": ("name", "name", "name", "period", "any per", "per"),
     "vendor": ("name", "name", "name", "figure", "figure", "any period"),
     "day": ("later period", "date"),
+    "end": ("rows before",),
 }
 KINDS = list(COLUMNS)
 RANGES = {
@@ -53,6 +54,7 @@ MOST = {"plant": 64, "pair": 20_000, "bill": 200_000, "usage": 200_000, **dict.f
 # The names of the columns, as --header writes them above a report.
 HEADERS = {
     "check": "row,plant,item,code",
+    "check --reach": "row,plant,item,period,release",
     "peg": "row,source,plant,item,release,per,quantity",
     "cums": "row,kind,sender,receiver,item,opening,shipped,received,transit",
     "orders": "row,plant,item,supply,quantity,release,release_date,due,due_date,late",
@@ -61,6 +63,7 @@ HEADERS = {
     "advice": "row,action,kind,plant,item,supplier,period,date,quantity,needed,needed_date",
     "shortages": "row,plant,item,source,by_plant,by_item,quantity,short",
 }
+HEADERS["advice --reach"] = HEADERS["advice"]
 NAME = re.compile(r"[A-Za-z0-9._-]{1,20}")
 NUMBER = re.compile(r"0|[1-9][0-9]{0,15}")
 RULE = re.compile(r"lot|fixed:([^:]*)|periods:([^:]*)|min:([^:]*):([^:]*)")
@@ -248,26 +251,33 @@ class Firm:
     """The firm of a table, and its reports."""
 
     def __init__(self, table):
-        self.periods, self.kind, self.counts, self.said = 0, None, {}, set()
+        self.rows, self.periods, self.kind, self.counts, self.said = 0, 0, None, {}, set()
         self.plants, self.pairs, self.bills, self.cums, self.ships, self.resets = [], {}, {}, {}, [], {}
         self.demand, self.incoming, self.receipts, self.open_orders, self.firm_orders, self.policies = {}, {}, {}, {}, {}, {}
-        self.usages, self.vendors, self.begun = {}, {}, {}
-        count = 0
-        for count, fields in enumerate(rows(table), 1):
+        self.usages, self.vendors, self.begun, self.wholes = {}, {}, {}, {}
+        for self.rows, fields in enumerate(rows(table), 1):
             fault = self.spelling_fault(fields) or self.fault([it.decode() for it in fields])
             if fault:
-                raise Refused(f"mrp: row {count}: {fault}")
-            self.add(count, *(it.decode() for it in fields))
-        if not count:
+                raise Refused(f"mrp: row {self.rows}: {fault}")
+            self.add(self.rows, *(it.decode() for it in fields))
+        if not self.rows:
             raise Refused("mrp: row 0: Empty")
         for (_, item), pair in self.pairs.items():
             if any((plant, item) not in self.pairs for plant, _, _ in pair.sources):
                 raise Refused(f"mrp: row {pair.row}: UnknownPair")
+
+    def cut(self):
+        """Returns the line that refuses a table whose end is wanted and is missing, or nothing where it is there."""
+        return None if "end" in self.counts else f"mrp: row {self.rows + 1}: Cut"
+
+    def plan(self):
+        """Plans all pairs, or refuses the firm."""
         self.find_edges()
         self.find_codes()
         self.find_needs()
         plans = self.find_plans()
         self.plans = {it: plans[it] for it in self.pairs}
+        self.find_wholes()
 
     def spelling_fault(self, fields):
         """Returns the first fault of a row that is looked at by itself, but for where it stands."""
@@ -283,13 +293,14 @@ class Firm:
         if any(texts[1 + len(columns) :]):
             return "FieldCount"
         place = KINDS.index(texts[0])
-        if (self.kind is None) != (place == 0) or place < (self.kind or 0):
+        if (self.kind is None) != (place == 0) or place < (self.kind or 0) or "end" in self.counts:
             return "KindOrder"
         values = list(zip(columns, texts[1:]))
         if not all(NAME.fullmatch(it) for column, it in values if column == "name"):
             return "BadName"
         ranges = {**RANGES, "period": (0, self.periods - 1), "any period": (0, self.periods - 1)}
         ranges["later period"] = max(self.begun, default=0) + 1, self.periods - 1
+        ranges["rows before"] = 2 * (self.rows - 1,)
         # (a vendor may have no reset)
         values = [it for it in values if it != ("any period", "")]
         if any(number(it, *ranges[column]) is None for column, it in values if column in ranges):
@@ -309,6 +320,8 @@ class Firm:
         if kind == "day":
             found = self.day_fault(int(plant), day_of(item))
             return found and f"CalendarFault {found}"
+        if kind == "end":
+            return None
         if self.key(texts) in self.said:
             return "Repeated"
         # (a vendor's name stands before those of its pair, and is that of no plant)
@@ -542,6 +555,30 @@ class Firm:
         for pair in self.pairs:
             yield "code", *pair, self.codes[pair]
 
+    def reach_report(self):
+        """Yields the fields of the reach rows: the last period of a pair whose requirements, and whose releases, are whole."""
+        for pair in self.pairs:
+            yield "reach", *pair, *(it - 1 if it else "none" for it in (self.wholes[pair], self.out(pair)))
+
+    def find_wholes(self):
+        """Finds in how many periods requirements of each pair stay what they are, whatever is wanted behind the horizon."""
+        for pair in sorted(self.pairs, key=self.codes.get):
+            self.wholes[pair] = min([self.periods, *(self.out(it.pair) for it in self.demanders[pair])])
+
+    def held(self, pair):
+        """Returns in how many periods orders of a pair stay what they are."""
+        word, *given = self.pairs[pair].rule
+        joined = given[0] if word == "periods" else 1
+        return max(0, self.wholes[pair] - (self.policy(pair).cover + joined - 1))
+
+    def out(self, pair):
+        """Returns in how many periods releases of a pair stay what they are."""
+        return max(0, max(self.earliest(pair), self.held(pair)) - self.pairs[pair].lead)
+
+    def known(self, pair):
+        """Returns the first period of which requirements that open orders are held against aren't whole."""
+        return max(0, self.wholes[pair] - self.policy(pair).cover)
+
     def peg_report(self, plant, item, period):
         pair, t = (plant, item), int(period)
         if pair not in self.pairs:
@@ -647,6 +684,17 @@ class Firm:
                     when = ("", "") if action == "cancel" else (needed, self.day(needed))
                     yield "advice", action, kind, *pair, supplier, period, self.day(period), quantity, *when
 
+    def advice_within_reach(self, until=103):
+        """Yields the fields of the advice rows, where no message speaks of periods whose requirements aren't whole. An order that comes in
+        one that is, and is to be moved out of it, or is never needed, is needed beyond those periods.
+        """
+        for word, action, kind, plant, item, supplier, period, day, quantity, needed, date_needed in self.advice_report(until):
+            known = self.known((plant, item))
+            if needed != "" and needed < known:
+                yield word, action, kind, plant, item, supplier, period, day, quantity, needed, date_needed
+            elif period < known:
+                yield word, "beyond", kind, plant, item, supplier, period, day, quantity, "", ""
+
     def needed(self, pair):
         """Yields the open orders of a pair, by period, each with the period in which it is needed, or the end of the plan."""
         lacks, is_one, before = self.lacked(pair), self.policy(pair).sooner == 0, {True: 0, False: 0}
@@ -671,22 +719,28 @@ class Firm:
 
 REPORTS = {"plan": Firm.plan_report, "check": Firm.code_report, "peg": Firm.peg_report, "cums": Firm.lane_report, "orders": Firm.order_report}
 REPORTS |= {"schedule": Firm.schedule_report, "pegs": Firm.pegs_report, "advice": Firm.advice_report}
-REPORTS |= {"shortages": Firm.shortage_report}
+REPORTS |= {"shortages": Firm.shortage_report, "check --reach": Firm.reach_report, "advice --reach": Firm.advice_within_reach}
 
 
 class Oracle:
     """What mrp has to answer of a table."""
 
     def __init__(self, table):
+        self.firm, self.refused, self.cut = None, None, None
         try:
-            self.firm, self.refused = Firm(table), None
+            firm = Firm(table)
+            self.cut = firm.cut()
+            firm.plan()
+            self.firm = firm
         except Refused as line:
-            self.firm, self.refused = None, str(line)
+            self.refused = str(line)
 
-    def answer(self, command, *asked, header=False):
+    def answer(self, command, *asked, header=False, whole=False):
         """Returns the answer to a command; peg is asked with a pair and a period, orders and advice with a period or none, schedule
-        with a supplier and a customer or none.
+        with a supplier and a customer or none. With whole a table without an end row is cut.
         """
+        if whole and self.cut:
+            return refusal(self.cut)
         if self.refused:
             return refusal(self.refused)
         try:

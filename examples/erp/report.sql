@@ -124,7 +124,8 @@ SELECT plant, item, period, source, by_plant, by_item, release, CAST(per AS INTE
     CASE instr(per, '/') WHEN 0 THEN 1 ELSE CAST(substr(per, instr(per, '/') + 1) AS INTEGER) END AS base
 FROM pegs_rows;
 
--- open orders and firm ones to expedite, to defer and to cancel; one to cancel isn't needed before the horizon ends
+-- open orders and firm ones to expedite, to defer and to cancel; one to cancel isn't needed before the horizon ends. By mrp advice --reach one is
+-- beyond that isn't needed as far as that is known, and none is to be cancelled
 DROP VIEW IF EXISTS exception_message;
 CREATE VIEW exception_message AS
 SELECT action, kind, plant, item, nullif(supplier, '') AS supplier, quantity, date AS comes, nullif(needed_date, '') AS needed FROM advice_rows;

@@ -70,55 +70,60 @@ SELECT supplier, customer, item, quantity FROM shipments WHERE received IS NOT N
 UNION ALL
 SELECT supplier, customer, item, quantity FROM under_way, calendar WHERE period >= periods;
 
--- the kinds in their order, and within a kind by names
+CREATE TEMP TABLE lines AS
+SELECT 1 AS place, 'run' AS kind, first_day AS b, days::text AS c, periods::text AS d, NULL AS e, NULL AS f, NULL AS g, NULL AS h FROM calendar
+UNION ALL
+SELECT 2, 'plant', plant, NULL, NULL, NULL, NULL, NULL, NULL FROM plants
+UNION ALL
+SELECT 3, 'pair', plant, item, supply, lot_rule, lead_time::text,
+    (SELECT coalesce(sum(quantity), 0)::text FROM stock WHERE stock.plant = items.plant AND stock.item = items.item), safety_stock::text
+FROM items
+UNION ALL
+SELECT 4, 'bill', plant, parent, component, per::text, NULL, NULL, NULL FROM bills
+UNION ALL
+SELECT CASE kind WHEN 'demand' THEN 5 ELSE 6 END, kind, plant, item, period::text, quantity::text, NULL, NULL, NULL
+FROM wanted, calendar
+WHERE coalesce(period, 0) < periods
+UNION ALL
+SELECT 6, 'receipt', plant, item, '0', sum(quantity)::text, NULL, NULL, NULL
+FROM stock
+WHERE NOT EXISTS (SELECT * FROM items WHERE items.plant = stock.plant AND items.item = stock.item)
+GROUP BY plant, item
+HAVING sum(quantity) <> 0
+UNION ALL
+SELECT 7, 'ship', supplier, customer, item, period::text, quantity::text, NULL, NULL
+FROM under_way, calendar
+WHERE coalesce(period, 0) < periods
+UNION ALL
+SELECT 8, 'cum', supplier, customer, item, sum(quantity)::text, NULL, NULL, NULL
+FROM shipped_before
+GROUP BY supplier, customer, item
+UNION ALL
+SELECT 9, 'firm', plant, item, start::text, due::text, quantity::text, NULL, NULL
+FROM firm, calendar
+WHERE coalesce(due, 0) < periods
+UNION ALL
+SELECT 10, 'policy', plant, item, coalesce(fence, 0)::text, coalesce(sooner, 0)::text, coalesce(cover, 0)::text, coalesce(least, 0)::text,
+    coalesce(multiple, 0)::text
+FROM policies
+UNION ALL
+SELECT 11, 'usage', plant, parent, component, period::text, per::text, base::text, NULL
+FROM usage, calendar
+WHERE coalesce(period, 0) < periods
+UNION ALL
+SELECT 12, 'vendor', vendor, plant, item, received::text, in_transit::text, reset, NULL FROM delivered
+UNION ALL
+SELECT 13, 'day', period::text, begins::text, NULL, NULL, NULL, NULL, NULL FROM begun
+UNION ALL
+SELECT 13, 'day', NULL, date::text, NULL, NULL, NULL, NULL, NULL FROM days WHERE date::text !~ '^\d{4}-\d\d-\d\d';
+
+-- the kinds in their order, and within a kind by names; at the end how many there are, so that mrp --whole refuses a table that is cut
 COPY (
     SELECT kind, b, c, d, e, f, g, h
     FROM (
-        SELECT 1 AS place, 'run' AS kind, first_day AS b, days::text AS c, periods::text AS d, NULL AS e, NULL AS f, NULL AS g, NULL AS h FROM calendar
+        SELECT * FROM lines
         UNION ALL
-        SELECT 2, 'plant', plant, NULL, NULL, NULL, NULL, NULL, NULL FROM plants
-        UNION ALL
-        SELECT 3, 'pair', plant, item, supply, lot_rule, lead_time::text,
-            (SELECT coalesce(sum(quantity), 0)::text FROM stock WHERE stock.plant = items.plant AND stock.item = items.item), safety_stock::text
-        FROM items
-        UNION ALL
-        SELECT 4, 'bill', plant, parent, component, per::text, NULL, NULL, NULL FROM bills
-        UNION ALL
-        SELECT CASE kind WHEN 'demand' THEN 5 ELSE 6 END, kind, plant, item, period::text, quantity::text, NULL, NULL, NULL
-        FROM wanted, calendar
-        WHERE coalesce(period, 0) < periods
-        UNION ALL
-        SELECT 6, 'receipt', plant, item, '0', sum(quantity)::text, NULL, NULL, NULL
-        FROM stock
-        WHERE NOT EXISTS (SELECT * FROM items WHERE items.plant = stock.plant AND items.item = stock.item)
-        GROUP BY plant, item
-        HAVING sum(quantity) <> 0
-        UNION ALL
-        SELECT 7, 'ship', supplier, customer, item, period::text, quantity::text, NULL, NULL
-        FROM under_way, calendar
-        WHERE coalesce(period, 0) < periods
-        UNION ALL
-        SELECT 8, 'cum', supplier, customer, item, sum(quantity)::text, NULL, NULL, NULL
-        FROM shipped_before
-        GROUP BY supplier, customer, item
-        UNION ALL
-        SELECT 9, 'firm', plant, item, start::text, due::text, quantity::text, NULL, NULL
-        FROM firm, calendar
-        WHERE coalesce(due, 0) < periods
-        UNION ALL
-        SELECT 10, 'policy', plant, item, coalesce(fence, 0)::text, coalesce(sooner, 0)::text, coalesce(cover, 0)::text, coalesce(least, 0)::text,
-            coalesce(multiple, 0)::text
-        FROM policies
-        UNION ALL
-        SELECT 11, 'usage', plant, parent, component, period::text, per::text, base::text, NULL
-        FROM usage, calendar
-        WHERE coalesce(period, 0) < periods
-        UNION ALL
-        SELECT 12, 'vendor', vendor, plant, item, received::text, in_transit::text, reset, NULL FROM delivered
-        UNION ALL
-        SELECT 13, 'day', period::text, begins::text, NULL, NULL, NULL, NULL, NULL FROM begun
-        UNION ALL
-        SELECT 13, 'day', NULL, date::text, NULL, NULL, NULL, NULL, NULL FROM days WHERE date::text !~ '^\d{4}-\d\d-\d\d'
+        SELECT 14, 'end', count(*)::text, NULL, NULL, NULL, NULL, NULL, NULL FROM lines
     ) AS rows
     ORDER BY place, CASE kind WHEN 'day' THEN lpad(b, 3, '0') ELSE b END, c, d, e, f
 ) TO STDOUT (FORMAT csv);

@@ -83,52 +83,60 @@ SELECT supplier, customer, item, quantity, rowid AS row FROM shipments WHERE rec
 UNION ALL
 SELECT supplier, customer, item, quantity, row FROM under_way, calendar WHERE period >= periods;
 
--- the kinds in their order, and within a kind the rows as they were entered
+-- (columns without a type, so that a name as 007 stays what it is)
+CREATE TEMP TABLE lines (place, row, kind, b, c, d, e, f, g, h);
+INSERT INTO lines
+SELECT 1, 0, 'run', first_day, days, periods, '', '', '', '' FROM calendar
+UNION ALL
+SELECT 2, rowid, 'plant', plant, '', '', '', '', '', '' FROM plants
+UNION ALL
+SELECT 3, items.rowid, 'pair', plant, item, supply, lot_rule, lead_time,
+    (SELECT coalesce(sum(quantity), 0) FROM stock WHERE stock.plant = items.plant AND stock.item = items.item), safety_stock
+FROM items
+UNION ALL
+SELECT 4, rowid, 'bill', plant, parent, component, per, '', '', '' FROM bills
+UNION ALL
+SELECT CASE kind WHEN 'demand' THEN 5 ELSE 6 END, row, kind, plant, item, coalesce(period, ''), quantity, '', '', ''
+FROM wanted, calendar
+WHERE coalesce(period, 0) < periods
+UNION ALL
+SELECT 6, min(rowid), 'receipt', plant, item, 0, sum(quantity), '', '', ''
+FROM stock
+WHERE NOT EXISTS (SELECT * FROM items WHERE items.plant = stock.plant AND items.item = stock.item)
+GROUP BY plant, item
+HAVING sum(quantity) <> 0
+UNION ALL
+SELECT 7, row, 'ship', supplier, customer, item, coalesce(period, ''), quantity, '', ''
+FROM under_way, calendar
+WHERE coalesce(period, 0) < periods
+UNION ALL
+SELECT 8, min(row), 'cum', supplier, customer, item, sum(quantity), '', '', ''
+FROM shipped_before
+GROUP BY supplier, customer, item
+UNION ALL
+SELECT 9, row, 'firm', plant, item, coalesce(start, ''), coalesce(due, ''), quantity, '', ''
+FROM firm, calendar
+WHERE coalesce(due, 0) < periods
+UNION ALL
+SELECT 10, rowid, 'policy', plant, item, coalesce(fence, 0), coalesce(sooner, 0), coalesce(cover, 0), coalesce(least, 0), coalesce(multiple, 0)
+FROM policies
+UNION ALL
+SELECT 11, row, 'usage', plant, parent, component, coalesce(period, ''), per, base, ''
+FROM usage, calendar
+WHERE coalesce(period, 0) < periods
+UNION ALL
+SELECT 12, row, 'vendor', vendor, plant, item, received, in_transit, reset, '' FROM delivered
+UNION ALL
+SELECT 13, period, 'day', period, begins, '', '', '', '', '' FROM begun
+UNION ALL
+SELECT 13, 0, 'day', '', date, '', '', '', '', '' FROM days WHERE date IS NULL OR date(date, '+0 days') IS NOT substr(date, 1, 10);
+
+-- the kinds in their order, and within a kind the rows as they were entered; at the end how many there are, so that mrp --whole refuses a
+-- table that is cut
 SELECT kind, b, c, d, e, f, g, h
 FROM (
-    SELECT 1 AS place, 0 AS row, 'run' AS kind, first_day AS b, days AS c, periods AS d, '' AS e, '' AS f, '' AS g, '' AS h FROM calendar
+    SELECT * FROM lines
     UNION ALL
-    SELECT 2, rowid, 'plant', plant, '', '', '', '', '', '' FROM plants
-    UNION ALL
-    SELECT 3, items.rowid, 'pair', plant, item, supply, lot_rule, lead_time,
-        (SELECT coalesce(sum(quantity), 0) FROM stock WHERE stock.plant = items.plant AND stock.item = items.item), safety_stock
-    FROM items
-    UNION ALL
-    SELECT 4, rowid, 'bill', plant, parent, component, per, '', '', '' FROM bills
-    UNION ALL
-    SELECT CASE kind WHEN 'demand' THEN 5 ELSE 6 END, row, kind, plant, item, coalesce(period, ''), quantity, '', '', ''
-    FROM wanted, calendar
-    WHERE coalesce(period, 0) < periods
-    UNION ALL
-    SELECT 6, min(rowid), 'receipt', plant, item, 0, sum(quantity), '', '', ''
-    FROM stock
-    WHERE NOT EXISTS (SELECT * FROM items WHERE items.plant = stock.plant AND items.item = stock.item)
-    GROUP BY plant, item
-    HAVING sum(quantity) <> 0
-    UNION ALL
-    SELECT 7, row, 'ship', supplier, customer, item, coalesce(period, ''), quantity, '', ''
-    FROM under_way, calendar
-    WHERE coalesce(period, 0) < periods
-    UNION ALL
-    SELECT 8, min(row), 'cum', supplier, customer, item, sum(quantity), '', '', ''
-    FROM shipped_before
-    GROUP BY supplier, customer, item
-    UNION ALL
-    SELECT 9, row, 'firm', plant, item, coalesce(start, ''), coalesce(due, ''), quantity, '', ''
-    FROM firm, calendar
-    WHERE coalesce(due, 0) < periods
-    UNION ALL
-    SELECT 10, rowid, 'policy', plant, item, coalesce(fence, 0), coalesce(sooner, 0), coalesce(cover, 0), coalesce(least, 0), coalesce(multiple, 0)
-    FROM policies
-    UNION ALL
-    SELECT 11, row, 'usage', plant, parent, component, coalesce(period, ''), per, base, ''
-    FROM usage, calendar
-    WHERE coalesce(period, 0) < periods
-    UNION ALL
-    SELECT 12, row, 'vendor', vendor, plant, item, received, in_transit, reset, '' FROM delivered
-    UNION ALL
-    SELECT 13, period, 'day', period, begins, '', '', '', '', '' FROM begun
-    UNION ALL
-    SELECT 13, 0, 'day', '', date, '', '', '', '', '' FROM days WHERE date IS NULL OR date(date, '+0 days') IS NOT substr(date, 1, 10)
+    SELECT 14, 0, 'end', count(*), '', '', '', '', '', '' FROM lines
 )
 ORDER BY place, row;

@@ -106,7 +106,21 @@ def reports_from_files(room, table, *words):
     room.write("table.csv", table)
     room.stand_in("words/files", "from_files")
     for it in words:
-        room.write(f"{it}.csv", oracle.Oracle(table.encode()).answer(it).out.decode())
+        room.write(f"{it.split()[0]}.csv", oracle.Oracle(table.encode()).answer(it).out.decode())
+
+
+def cut_anywhere(program, table, end=b"\n"):
+    """Has the program refuse a whole table that is cut behind each of its bytes; without the end of its last line it is whole."""
+    assert table.endswith(end)
+    words = [program, "check", "--whole"]
+    whole = subprocess.run(words, input=table, capture_output=True, check=True)
+    for count in range(len(table)):
+        done = subprocess.run(words, input=table[:count], capture_output=True, check=False)
+        if count >= len(table) - len(end):
+            assert (done.returncode, done.stdout) == (0, whole.stdout)
+        else:
+            line = rb"mrp: row [0-9]+: (Cut|Empty|FieldCount|UnknownKind|UnknownPair|Bad[A-Z][a-z]+|CalendarFault [A-Za-z]+)\n"
+            assert (done.returncode, done.stdout, bool(re.fullmatch(line, done.stderr))) == (1, b"", True), (table[:count], done)
 
 
 COMMANDS = ("plan", "check", "peg", "cums", "orders", "schedule", "pegs", "advice", "shortages")

@@ -250,7 +250,7 @@ def test_what_has_no_advice_stays(tmp_path):
         "shipments": rows(HEADS["shipments"], "FOUNDRY,WORKS,LID,2026-12-02,3"),
         "booked": BOOKED + "F-84,FOUNDRY,WORKS,CASTING,25,2026-11-28\nF-84,FOUNDRY,WORKS,CASTING,-25,2026-11-28\n",
         "advices": EXAMPLE["advices.csv"] + "K-2,FOUNDRY,WORKS,CASTING,0,1095,2026-11-28,2026-11-28\n",
-        "resets": rows(HEADS["resets"], "FOUNDRY,WORKS,LID,2026-01-05", "FOUNDRY,WORKS,CASTING,2027-01-04"),
+        "resets": rows(HEADS["resets"], "FOUNDRY,WORKS,LID,2027-01-05", "FOUNDRY,WORKS,CASTING,2027-01-04"),
     }
     status, said, files = advices(tmp_path, **changes)
     assert (status, said) == (0, "")

@@ -157,7 +157,7 @@ BAD = {
     PUMPS.replace("2026-12-14", "2026-12-21"): "due_date: 2026-12-21 is behind the period of 2026-12-14, in which it is needed: the "
     "plan would order again for the time in between; keep that date",
     MOTORS.replace("2026-12-07", "2026-12-14"): "due_date: 2026-12-14 is behind the period of 2026-12-07, in which it is needed: the "
-    "plan would order again for the time in between; keep that date",
+    "plan would order again for the time in between; keep that date, or have the plan count it sooner: Sooner (periods) 1 in items.csv",
     PUMPS.replace("2026-12-14", "2026-11-29"): "due_date: 2026-11-29 is before 2026-11-30, the first day of the plan",
     PUMPS.replace("2026-12-14", "2026-12-32"): "due_date: '2026-12-32' is on no calendar",
     PUMPS.replace("make,4", "make,0"): "quantity: '0' is not from 1 to 1000000000000",
@@ -281,7 +281,9 @@ KINDS = "run", "plant", "pair", "bill", "demand", "receipt", "ship", "cum", "res
 
 def planned(rows):
     """Returns the planned orders of the rows of a table, which may be refused, by the second planner."""
-    table = "".join(f"{it}\n" for it in sorted(rows, key=lambda it: KINDS.index(it.split(",")[0])))
+    # (an order that is booked is a row more: where the table ends isn't said)
+    kept = sorted((it for it in rows if not it.startswith("end,")), key=lambda it: KINDS.index(it.split(",")[0]))
+    table = "".join(f"{it}\n" for it in kept)
     return [it for it in oracle.Oracle(table.encode()).answer("orders").out.decode().splitlines() if it.startswith("order")]
 
 

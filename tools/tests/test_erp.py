@@ -1,6 +1,15 @@
 """The queries of examples/erp/, and the run at night of docs/integrate.md."""
+import shutil
+
+import mrp
 import oracle
+import support
 from support import postgresql, skip, TOP, wants, write_from_recipe
+
+
+# What writes the rows of a table before its end row.
+SQLITE = "sqlite3 -bail -list -separator , firm.db < examples/erp/table.sql | sed /^end,/d"
+POSTGRESQL = "psql -qd firm -f examples/erp/table.postgresql.sql | sed /^end,/d"
 
 
 def test_database_is_the_firm_of_three_plants(room):
@@ -16,7 +25,8 @@ def test_database_is_the_firm_of_three_plants(room):
                 base.executescript(";\n".join(parts) + ";")
                 rows = base.execute(last).fetchall()
     with open(f"{TOP}/examples/three_plants.csv", encoding="utf-8") as file:
-        assert "".join(",".join(map(str, row)) + "\n" for row in rows) == file.read()
+        text = file.read()
+    assert "".join(",".join(map(str, row)) + "\n" for row in rows) == f"{text}end,{text.count(chr(10))},,,,,,\n"
 
 
 # Rows of an ERP that no table can have: dates that are none, or aren't there, and stock of what isn't planned.
@@ -46,7 +56,7 @@ WRONG_FIRM_ROWS = "firm,NORTH,BIKE,,2,1,,\nfirm,NORTH,BIKE,2,,2,,\nfirm,NORTH,RI
 def test_firm_orders_end_the_table(room):
     """They stand after all other kinds, with the periods of their days."""
     wants("sqlite3")
-    table = "sqlite3 -bail -list -separator , firm.db < examples/erp/table.sql"
+    table = SQLITE
     added = "tail -n +$(($(wc -l < examples/three_plants.csv) + 1))"
     room.run(f'sqlite3 firm.db < examples/erp/firm.sql; sqlite3 firm.db "{FIRM}"; {table} > table.csv')
     assert room.run("head -n $(wc -l < examples/three_plants.csv) table.csv | diff - examples/three_plants.csv") == ""
@@ -65,7 +75,7 @@ WRONG_POLICY_ROWS = "policy,NORTH,TUBE,1,0,0,0,0\npolicy,SOUTH,FRAME,-1,0,0,0,0\
 def test_policies_end_the_table(room):
     """They stand behind the firm orders, as they were entered."""
     wants("sqlite3")
-    table = "sqlite3 -bail -list -separator , firm.db < examples/erp/table.sql"
+    table = SQLITE
     added = "tail -n +$(($(wc -l < examples/three_plants.csv) + 1))"
     room.run(f'sqlite3 firm.db < examples/erp/firm.sql; sqlite3 firm.db "{POLICIES}; {FIRM}"; {table} > table.csv')
     assert room.run("head -n $(wc -l < examples/three_plants.csv) table.csv | diff - examples/three_plants.csv") == ""
@@ -79,7 +89,7 @@ def test_policies_end_the_table_of_postgresql(room):
     """By their names."""
     with postgresql(room):
         room.run(f'createdb firm && psql -qd firm -f examples/erp/firm.sql && psql -qd firm -c "{POLICIES}; {FIRM}; {WRONG_POLICIES}"')
-        rows = room.run("psql -qd firm -f examples/erp/table.postgresql.sql | grep -vxFf examples/three_plants.csv").splitlines(keepends=True)
+        rows = room.run("psql -qd firm -f examples/erp/table.postgresql.sql | grep -v ^end, | grep -vxFf examples/three_plants.csv").splitlines(keepends=True)
         firm, policies = (sorted(it.splitlines(keepends=True)) for it in (FIRM_ROWS, POLICY_ROWS + WRONG_POLICY_ROWS))
         assert rows == firm + policies
 
@@ -97,7 +107,7 @@ WRONG_USAGE_ROWS = "usage,NORTH,BIKE,RIM,0,1,1,\nusage,NORTH,WHEEL,RIM,,1,3,\n"
 def test_usages_end_the_table(room):
     """They stand behind the policies, by the periods of their days, as they were entered."""
     wants("sqlite3")
-    table = "sqlite3 -bail -list -separator , firm.db < examples/erp/table.sql"
+    table = SQLITE
     added = "tail -n +$(($(wc -l < examples/three_plants.csv) + 1))"
     room.run(f'sqlite3 firm.db < examples/erp/firm.sql; sqlite3 firm.db "{USAGES}; {POLICIES}"; {table} > table.csv')
     assert room.run(f"{added} table.csv") == POLICY_ROWS + USAGE_ROWS
@@ -112,7 +122,7 @@ def test_usages_end_the_table_of_postgresql(room):
     """By their names."""
     with postgresql(room):
         room.run(f'createdb firm && psql -qd firm -f examples/erp/firm.sql && psql -qd firm -c "{USAGES}; {POLICIES}; {WRONG_USAGES}"')
-        rows = room.run("psql -qd firm -f examples/erp/table.postgresql.sql | grep -vxFf examples/three_plants.csv").splitlines(keepends=True)
+        rows = room.run("psql -qd firm -f examples/erp/table.postgresql.sql | grep -v ^end, | grep -vxFf examples/three_plants.csv").splitlines(keepends=True)
         policies, usages = (sorted(it.splitlines(keepends=True)) for it in (POLICY_ROWS, USAGE_ROWS + WRONG_USAGE_ROWS))
         assert rows == policies + usages
 
@@ -129,7 +139,7 @@ WRONG_VENDOR_ROWS = "vendor,ALU,NORTH,WHEEL,1,0,,\nvendor,V,EAST,NUT,2,0,,\nvend
 def test_vendors_end_the_table(room):
     """They stand behind the usages, as they were entered, with the periods of their days."""
     wants("sqlite3")
-    table = "sqlite3 -bail -list -separator , firm.db < examples/erp/table.sql"
+    table = SQLITE
     added = "tail -n +$(($(wc -l < examples/three_plants.csv) + 1))"
     room.run(f'sqlite3 firm.db < examples/erp/firm.sql; sqlite3 firm.db "{VENDORS}; {USAGES}"; {table} > table.csv')
     assert room.run(f"{added} table.csv") == USAGE_ROWS + VENDOR_ROWS
@@ -144,7 +154,7 @@ def test_vendors_end_the_table_of_postgresql(room):
     """By their names."""
     with postgresql(room):
         room.run(f'createdb firm && psql -qd firm -f examples/erp/firm.sql && psql -qd firm -c "{VENDORS}; {USAGES}; {WRONG_VENDORS}"')
-        rows = room.run("psql -qd firm -f examples/erp/table.postgresql.sql | grep -vxFf examples/three_plants.csv").splitlines(keepends=True)
+        rows = room.run("psql -qd firm -f examples/erp/table.postgresql.sql | grep -v ^end, | grep -vxFf examples/three_plants.csv").splitlines(keepends=True)
         usages, vendors = (sorted(it.splitlines(keepends=True)) for it in (USAGE_ROWS, VENDOR_ROWS + WRONG_VENDOR_ROWS))
         assert rows[: len(usages)] == usages
         assert sorted(rows[len(usages) :]) == vendors
@@ -186,7 +196,7 @@ ship,NORTH,EAST,BIKE,0,4,,
 def test_days_end_the_table(room):
     """They are the last rows, and all dates count by them."""
     wants("sqlite3")
-    table = "sqlite3 -bail -list -separator , firm.db < examples/erp/table.sql"
+    table = SQLITE
     room.run(f'sqlite3 firm.db < examples/erp/firm.sql; sqlite3 firm.db "{DAYS}; {VENDORS}; {USAGES}"; {table} > table.csv')
     assert room.run("tail -n 4 table.csv") == VENDOR_ROWS.replace(",2,", ",0,") + DAY_ROWS
     assert room.run("grep -E '^(demand|receipt|ship),' table.csv") == MOVED
@@ -206,7 +216,7 @@ def test_days_end_the_table_of_postgresql(room):
     """In their order, of more than ten too."""
     with postgresql(room):
         room.run(f'createdb firm && psql -qd firm -f examples/erp/firm.sql && psql -qd firm -c "{DAYS}; {USAGES}"')
-        table = "psql -qd firm -f examples/erp/table.postgresql.sql"
+        table = POSTGRESQL
         room.run(f"{table} > table.csv")
         assert room.run("tail -n 2 table.csv") == DAY_ROWS
         assert room.run("grep -E '^(demand|receipt|ship),' table.csv | sort") == "".join(sorted(MOVED.splitlines(keepends=True)))
@@ -222,6 +232,35 @@ def test_days_end_the_table_of_postgresql(room):
         assert room.run("grep ^day table.csv") == "".join(f"day,{it},2026-01-{5 + it:02},,,,,\n" for it in range(1, 12))
         wrong = "DELETE FROM days; INSERT INTO days VALUES ('12.1.2026'), ('2026-01-26')"
         assert room.run(f'psql -qd firm -c "{wrong}"; {table} | grep ^day | sort') == "day,,12.1.2026,,,,,\nday,1,2026-01-26,,,,,\n"
+
+
+def whole_tables(room):
+    """Yields tables of the databases with rows of each kind, as they write them; of PostgreSQL where it is there."""
+    own = f"{FIRM}; {POLICIES}; {USAGES}; {VENDORS}; {DAYS}"
+    if shutil.which("sqlite3"):
+        yield room.run(f'sqlite3 firm.db < examples/erp/firm.sql; sqlite3 firm.db "{own}"; {SQLITE.partition(" |")[0]}')
+    with postgresql(room):
+        room.run(f'createdb firm && psql -qd firm -f examples/erp/firm.sql && psql -qd firm -c "{own}"')
+        yield room.run(POSTGRESQL.partition(" |")[0])
+
+
+def test_tables_say_where_they_end(room):
+    """The last row has the number of rows before it, of an empty database too; a query that fails writes none."""
+    for table in whole_tables(room):
+        rows = table.splitlines()
+        assert rows[-1] == f"end,{len(rows) - 1},,,,,,"
+        assert {it.split(",")[0] for it in rows} == {*mrp.TABLE_FORMS} - {"reset"}
+        assert oracle.Oracle(table.encode()).answer("check", whole=True).status == 0
+    wants("sqlite3")
+    empty = "sqlite3 -bail -list -separator , none.db < examples/erp/table.sql"
+    assert room.run(f"grep ^CREATE examples/erp/firm.sql | sqlite3 none.db; {empty}") == "end,0,,,,,,\n"
+    assert room.run(f"sqlite3 none.db 'DROP TABLE stock'; {empty} 2> said || true") == ""
+
+
+def test_a_table_of_a_database_is_refused_when_it_is_cut(room, program):
+    """Behind each of its bytes. Without its last line feed it is whole."""
+    for table in whole_tables(room):
+        support.cut_anywhere(program, table.encode())
 
 
 # A firm order that comes a period too soon, in the reports of a table of five periods: 5 of P are on hand, and 30 and 10
@@ -317,7 +356,7 @@ def test_postgresql_tells_firm_orders_too(room):
     with postgresql(room):
         room.run("createdb firm && psql -qd firm -f examples/erp/firm.sql")
         wanted = "".join(sorted((FIRM_ROWS + WRONG_FIRM_ROWS).splitlines(keepends=True)))
-        table = "psql -qd firm -f examples/erp/table.postgresql.sql"
+        table = POSTGRESQL
         room.run(f'psql -qd firm -c "{FIRM}" -c "{WRONG_FIRM}"; {table} > table.csv')
         assert room.run("grep -v ^firm, table.csv | sort | diff - <(sort examples/three_plants.csv)") == ""
         assert room.run("tail -n 6 table.csv | sort") == wanted
@@ -341,7 +380,7 @@ def test_no_row_of_the_database_is_lost(room):
     does stock of no item.
     """
     wants("sqlite3")
-    table, good = "sqlite3 -bail -list -separator , firm.db < examples/erp/table.sql", "examples/three_plants.csv"
+    table, good = SQLITE, "examples/three_plants.csv"
     room.run("sqlite3 firm.db < examples/erp/firm.sql")
     assert (
         room.run(f"""cp firm.db own.db; sqlite3 firm.db "{FAR}"; {table} | grep -vxFf {good}; mv own.db firm.db""")
@@ -436,21 +475,21 @@ def test_postgresql_has_the_same_rows(room):
     read = "psql -qd firm -f examples/erp/report.postgresql.sql"
     with postgresql(room):
         room.run("createdb firm && psql -qd firm -f examples/erp/firm.sql && sqlite3 firm.db < examples/erp/firm.sql")
-        table = room.run("psql -qd firm -f examples/erp/table.postgresql.sql | tee table.csv | sort")
+        table = room.run("psql -qd firm -f examples/erp/table.postgresql.sql | tee table.csv | grep -v ^end, | sort")
         assert table == room.run("sort examples/three_plants.csv")
         far = room.run(
-            f'psql -qd firm -c "BEGIN; {FAR}" -f examples/erp/table.postgresql.sql | grep -vxFf examples/three_plants.csv'
+            f'psql -qd firm -c "BEGIN; {FAR}" -f examples/erp/table.postgresql.sql | grep -v ^end, | grep -vxFf examples/three_plants.csv'
         )
         assert far == FAR_ROWS
         lost = room.run(
-            f'psql -qd firm -c "{UNKNOWN}"; psql -qd firm -f examples/erp/table.postgresql.sql | grep -vxFf examples/three_plants.csv | sort'
+            f'psql -qd firm -c "{UNKNOWN}"; psql -qd firm -f examples/erp/table.postgresql.sql | grep -v ^end, | grep -vxFf examples/three_plants.csv | sort'
         )
         assert lost == "".join(sorted(UNKNOWN_ROWS.splitlines(keepends=True)))
         room.run("dropdb firm && createdb firm && psql -qd firm -f examples/erp/firm.sql")
         for day in ("16.12.2026", "05.12.2026", "05.12.26", "26-12-05", "30/12/2026"):
             wrong = f"BEGIN; INSERT INTO forecasts VALUES ('EAST', 'BIKE', '{day}', 10)"
             lost = room.run(
-                f'psql -qd firm -c "{wrong}" -f examples/erp/table.postgresql.sql | grep -vxFf examples/three_plants.csv'
+                f'psql -qd firm -c "{wrong}" -f examples/erp/table.postgresql.sql | grep -v ^end, | grep -vxFf examples/three_plants.csv'
             )
             assert lost == "demand,EAST,BIKE,,10,,,\n", day
         wrong = "BEGIN; INSERT INTO forecasts VALUES ('EAST', 'BIKE', '2026-02-30', 10)"

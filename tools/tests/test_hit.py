@@ -131,7 +131,7 @@ def plan_of(plant, item, figures):
 def write_firm(room, table, orders, plan, pegs=""):
     """Writes a table with firm orders, and its reports by hand for the program words/files."""
     room.stand_in("words/files", "from_files")
-    for name, text in (("table", table), ("orders", orders), ("plan", plan), ("pegs", pegs)):
+    for name, text in (("table", table), ("orders", orders), ("plan", plan), ("pegs", pegs), ("advice", "")):
         room.write(f"{name}.csv", text)
 
 

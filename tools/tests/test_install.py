@@ -7,7 +7,7 @@ from support import Tags, TOP
 def test_install_puts_and_removes(room):
     room.stand_in("own", "own")
     *paths, last = room.run("MRP=own bin/install here").splitlines()
-    assert (len(paths), last) == (41, "here/bin is not on the path")
+    assert (len(paths), last) == (44, "here/bin is not on the path")
     assert room.run("here/bin/mrp") == "own\n"
     assert ".TH MRP 1" in room.run("cat here/share/man/man1/mrp.1")
     said = room.run("bin/install --remove here")
@@ -36,7 +36,7 @@ def test_installed_tools_need_no_checkout(room):
         )
         == ""
     )
-    for tool in ("record", "page", "why", "hit", "compare", "renew", "sheets", "counts", "orders", "schedule", "book", "advices"):
+    for tool in ("record", "page", "why", "hit", "compare", "renew", "sheets", "counts", "orders", "schedule", "book", "advices", "releases"):
         assert f"usage: mrp-{tool} " in room.run(f"here/bin/mrp-{tool} --help")
         assert room.run(f"here/bin/mrp-{tool} --none", status=2).startswith(f"mrp-{tool}: ")
     room.needs_program()

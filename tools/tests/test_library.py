@@ -15,6 +15,7 @@ def exported():
         "&mut usize": "size_t*",
         "bool": "bool",
         "u64": "uint64_t",
+        "&Reading": "mrp_reading*",
         "Global": "",
     }
     found = rattle.exported("crates/mrp_c_api/src/lib.rt").items()
@@ -107,6 +108,10 @@ def test_library_answers_memory_where_it_is_refused(room):
         assert lacking == {b"mrp: Memory\n", b"report: out of memory\n"}, words
 
 
+# The reports of the example in C that may have names of columns.
+REPORTS = "orders", "schedule", "check", "reach", "cums", "advice", "shortages"
+
+
 def test_library_answers_as_the_program(room, program):
     """Report by report, by the example in C: the same status, and to the byte what is written."""
     library(room)
@@ -120,11 +125,13 @@ def test_library_answers_as_the_program(room, program):
     for table in some_tables():
         for words in (
             ["plan"],
-            *([it, *more] for it in ("orders", "schedule", "check", "cums", "advice", "shortages") for more in ([], ["--header"])),
+            ["plan", "--whole"],
+            *([it, *more] for it in REPORTS for more in ([], ["--header"], ["--whole"], ["--whole", "--header"])),
         ):
+            asked = ["check", "--reach", *words[1:]] if words[0] == "reach" else words
             got, wanted = (
-                subprocess.run([it, *words], input=table, capture_output=True, check=False)
-                for it in (f"{room.folder}/report", program)
+                subprocess.run(it, input=table, capture_output=True, check=False)
+                for it in ([f"{room.folder}/report", *words], [program, *asked])
             )
             assert (got.returncode, got.stdout, got.stderr) == (wanted.returncode, wanted.stdout, wanted.stderr), words
 
@@ -143,7 +150,8 @@ def test_library_writes_no_byte_behind_a_text(room):
     ):
         for room_left in (0, 1, len(wanted[1]) - 1, len(wanted[1]), len(wanted[1]) + 7):
             size, buffer = ctypes.c_size_t(1), ctypes.create_string_buffer(b"\xa5" * (room_left + 64), room_left + 64)
-            status = calls[call](*options, buffer, room_left, ctypes.byref(size))
+            reading = ctypes.byref(ctypes.c_bool(False))
+            status = calls[call](*options[:2], reading, *options[2:], buffer, room_left, ctypes.byref(size))
             text = wanted[1] if len(wanted[1]) <= room_left else b""
             assert (status, size.value) == (wanted[0], len(wanted[1])), (call, room_left)
             assert buffer.raw == text + b"\xa5" * (room_left + 64 - len(text)), (call, room_left)
@@ -155,6 +163,8 @@ def test_library_takes_options(room, program):
     mrp = module_of("mrp.py", "python")
     table = room.run("cat examples/pumps.csv").encode()
     asks = [(name, {"until": it}) for name in ("orders", "advice") for it in (None, 0, 3, 103, 10**6)]
+    asks += [("advice", {"until": it, "reach": True}) for it in (None, 0, 3, 10**6)] + [("check", {"reach": True})]
+    asks += [(name, {"whole": True}) for name in ("plan", "orders", "check", "cums", "schedule", "advice", "shortages")]
     asks += [
         ("schedule", {"supplier": one, "customer": other})
         for one in (None, "FOUNDRY", "NONE", "-")

@@ -26,11 +26,12 @@ def test_program_answers_where_an_end_fails(room, program):
     for command in ("plan", "plan --single"):
         said = room.run(f"{{ mrp {command} < table.csv || echo ended with $? >&2; }} 2> said | head -n 1; cat said")
         assert said.splitlines()[1:] == ["mrp: WriteFault", "ended with 3"]
-    of_three = ("cums", "schedule --from NORTH", "schedule --to NORTH --header", "advice", "advice --header")
+    of_three = ("cums", "schedule --from NORTH", "schedule --to NORTH --header", "advice", "advice --header", "advice --reach")
     of_one = (
         "plan",
         "plan --single",
         "check",
+        "check --reach",
         "peg P1 WHEEL 2",
         "orders",
         "orders --until 0 --header",
@@ -210,6 +211,19 @@ def test_program_says_why_words_are_refused(room, program):
         "advice --until -1",
         "advice --from P1",
     )
+    refused += (
+        "check --reach=1",
+        "check --reach --reach",
+        "check --reach --until 1",
+        "advice --reach --reach",
+        "plan --reach",
+        "orders --reach",
+        "shortages --reach",
+        "plan --whole --whole",
+        "cums --whole=1",
+        "check --wholes",
+        "--whole plan",
+    )
     for words in refused:
         said = room.run(f"mrp {words} < examples/bicycle.csv", status=2)
         assert "error: " in said
@@ -222,6 +236,7 @@ def test_program_says_why_words_are_refused(room, program):
         "orders --until 103 --header",
     )
     taken += ("schedule --from P1 --to=P1 --header", "pegs --header", "advice --header", "advice --until 0 --header")
+    taken += ("check --reach", "check --header --reach", "advice --until 0 --reach --header")
     for words in taken:
         room.run(f"mrp {words} < examples/bicycle.csv")
     assert room.run("mrp peg P1 WHEEL 103 < examples/bicycle.csv", status=1) == "mrp: no period\n"
@@ -233,6 +248,22 @@ def test_program_says_why_words_are_refused(room, program):
     said = room.run("mrp", status=2)
     assert "error: 'mrp' requires a subcommand but one was not provided\n" in said
     assert "\nUsage: mrp <COMMAND>\n" in said
+
+
+def test_program_asks_for_whole_tables(room, program):
+    """Each command, wherever the word stands: with an end row it answers as without the word, and else says where the table is cut."""
+    room.run("(cat examples/bicycle.csv; echo end,6,,,,,,) > whole.csv; (cat examples/bicycle.csv; printf '\\r\\nend,6,,,,,,') > other.csv")
+    for command in COMMANDS:
+        words = "peg P1 WHEEL 2" if command == "peg" else command
+        report = room.run(f"mrp {words} < examples/bicycle.csv")
+        name, _, rest = words.partition(" ")
+        for asked in (f"{name} --whole {rest}", f"{words} --whole"):
+            assert room.run(f"mrp {asked} < whole.csv") == room.run(f"mrp {asked} < other.csv") == report
+            assert room.run(f"mrp {asked} < examples/bicycle.csv", status=1) == "mrp: row 7: Cut\n"
+            assert room.run(f"head -c -3 whole.csv | mrp {asked}", status=1) == "mrp: row 7: FieldCount\n"
+            assert room.run(f"mrp {asked} < /dev/null", status=1) == "mrp: row 0: Empty\n"
+        assert room.run(f"mrp {words} < whole.csv") == report
+        assert "--whole" in room.run(f"mrp {command} --help")
 
 
 def test_program_helps(room, program):

@@ -12,6 +12,7 @@ import firms
 import mrp
 import oracle
 import pytest
+import reach
 from crates import TOP
 
 FIGURES = {
@@ -215,7 +216,7 @@ def some_firms():
         text = firms.table(random.Random(seed), 6, 14)
         judge = oracle.Oracle(text)
         if not judge.refused:
-            yield mrp.Table(csv.reader(text.decode().splitlines())), judge
+            yield mrp.Table.read(text.decode().splitlines()), judge
 
 
 def row_of(periods, quantities):
@@ -548,7 +549,8 @@ def worked(name):
         return [*cases.blocks(file.read())]
 
 
-WORKED_BY_HAND = [*worked("shortages"), *worked("usages"), *worked("vendors"), *worked("days"), *worked("schedules"), *worked("rows")]
+BY_HAND = "shortages", "usages", "vendors", "days", "schedules", "rows", "ends", "reach"
+WORKED_BY_HAND = [it for name in BY_HAND for it in worked(name)]
 
 
 @pytest.mark.parametrize("title, table, asks", WORKED_BY_HAND, ids=[it[0] for it in WORKED_BY_HAND])
@@ -559,9 +561,10 @@ def test_worked_cases(title, table, asks):
         command, *given = words.split()
         # (an option's word stands behind it, or behind its =)
         options = {"--from": None, "--to": None, **dict(re.findall(r"(--from|--to|--until)[ =](\S+)", words))}
-        asked = [] if command in ("schedule", "orders", "advice") else [it for it in given if not it.startswith("--")]
+        asked = [it for it in given if not it.startswith("--")] if command == "peg" else []
         asked += [options["--from"], options["--to"]] if command == "schedule" else [options["--until"]] if "--until" in options else []
-        got = oracle.Oracle(table.encode()).answer(command, *asked, header="--header" in given)
+        how = {"header": "--header" in given, "whole": "--whole" in given}
+        got = oracle.Oracle(table.encode()).answer(command + " --reach" * ("--reach" in given), *asked, **how)
         assert (f"{got.status} {got.err.decode()}" if got.status else got.out.decode()) == answer, (title, words)
     for fault, more in re.findall(r"^! (\w+(?: \w+)?)  (.*)\n", text, re.MULTILINE):
         assert oracle.Oracle(f"{table}{more}\n".encode()).refused == f"mrp: row {row}: {fault}", (title, more)
@@ -734,6 +737,56 @@ def test_faults_of_rows_by_the_program(program, table, row, fault, codes):
         cases.refused(program, f"{table}{row}\n", f"row {table.count(chr(10)) + 1}: {fault}")
     else:
         cases.expect(program, "check", f"{table}{row}\n", codes)
+
+
+# How far a plan is whole.
+
+
+def longer_firms(seeds=150):
+    """Yields tables with their reports, and those of tables that go on where they end."""
+    for seed in range(seeds):
+        chance = random.Random(seed)
+        text = reach.narrow(chance) if seed % 2 else firms.table(chance, 6, 14)
+        judge = oracle.Oracle(text)
+        later = None if judge.refused else oracle.Oracle(reach.lengthened(chance, text))
+        if later and not later.refused:
+            yield text, *({name: it.answer(name).out for name in reach.REPORTS} for it in (judge, later))
+
+
+def test_what_is_whole_stays():
+    """In the plan of a longer table, and so do messages within it. Other figures change."""
+    changed, beyond = 0, 0
+    for text, before, after in longer_firms():
+        assert [*reach.broken(text, before, after)] == [], text
+        own = {tuple(it[:3]): it[3:] for it in mrp.rows_of(after["plan"]) if isinstance(it, mrp.Plan)}
+        changed += any(own[it[:3]] != it[3:] for it in mrp.rows_of(before["plan"]) if isinstance(it, mrp.Plan))
+        beyond += before["advice --reach"].count(b"beyond")
+    assert changed > 30
+    assert beyond > 200
+
+
+@pytest.mark.parametrize("place", [3, 4])
+def test_no_more_is_whole(place):
+    """A period of requirements more, or of releases, and plans that differ are found."""
+    found = 0
+    for text, before, after in longer_firms(60):
+        last = int(text.split(b",")[3]) - 1
+        rows = [it.split(",") for it in before["check --reach"].decode().splitlines()]
+        for it in rows:
+            it[place] = "0" if it[place] == "none" else str(min(int(it[place]) + 1, last))
+        more = "".join(f"{','.join(it)}\n" for it in rows).encode()
+        found += any("falls" not in it for it in reach.broken(text, {**before, "check --reach": more}, after))
+    assert found > 10
+
+
+def test_an_end_row_changes_no_report():
+    """And without one a table is refused where it is wanted whole."""
+    for table, judge in itertools.islice(some_firms(), 30):
+        whole, cut = oracle.Oracle(bytes(table)), oracle.Oracle(firms.unended(bytes(table)))
+        line = oracle.refusal(f"mrp: row {len(table.rows) + 1}: Cut")
+        for name in ("plan", "check", "check --reach", "cums", "orders", "pegs", "advice", "advice --reach", "shortages"):
+            assert judge.answer(name) == whole.answer(name) == whole.answer(name, whole=True) == cut.answer(name)
+            assert cut.answer(name, whole=True) == line
 
 
 def test_bound_of_policies():

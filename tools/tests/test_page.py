@@ -2,6 +2,7 @@
 import datetime
 import re
 
+import oracle
 import reports
 from support import DELAYED_PLAN, listed, plan_rows, reports_from_files, Tags, wants, WITH_DELAYS
 from test_hit import COMING, sheets_of
@@ -120,7 +121,7 @@ def test_page_says_what_is_to_be_done(room):
 
 
 # What the page asks for beside the plan.
-ASKED = "plan", "orders", "advice", "schedule", "shortages"
+ASKED = "plan", "orders", "advice --reach", "schedule", "shortages"
 
 
 def test_page_says_what_orders_lack(room):
@@ -255,6 +256,52 @@ def test_page_says_how_many_rows_scroll(room):
         assert room.run("bin/page < reports.csv", status=1).startswith(f"bin/page: row {place} is no row of a report: ")
 
 
+# Bicycles, of two wheels each, that take a week, and a bell that nobody wants in the four weeks.
+UNKNOWN = """\
+run,2026-01-05,7,4,,,,
+plant,A,,,,,,
+pair,A,BIKE,make,lot,1,0,0
+pair,A,WHEEL,buy,lot,0,0,0
+pair,A,BELL,buy,lot,0,0,0
+bill,A,BIKE,WHEEL,2,,,
+demand,A,BIKE,2,3,,,
+receipt,A,WHEEL,1,6,,,
+receipt,A,WHEEL,2,8,,,
+receipt,A,WHEEL,3,9,,,
+receipt,A,BELL,1,5,,,
+"""
+NOT_KNOWN = "not known yet: needed beyond the horizon"
+
+
+def test_page_calls_nothing_cancelled_that_may_be_needed(room):
+    """By hand. Of wheels requirements are whole up to period 2: 6 are wanted in 1 and come then. The 8 aren't needed up to it, of the 9 of
+    period 3 nothing is known. The bell isn't needed in the four weeks.
+    """
+    assert oracle.Oracle(UNKNOWN.encode()).answer("advice").out.count(b"advice,cancel,") == 3
+    reports_from_files(room, UNKNOWN, *ASKED)
+    text = room.run("MRP=words/files bin/page < table.csv")
+    Tags(text)
+    wheel, bell = (["beyond", "A", item, pieces, day, NOT_KNOWN, "receipt"] for item, pieces, day in (("WHEEL", "8", "19 Jan W04"), ("BELL", "5", "12 Jan W03")))
+    assert listed(text, "moves") == [wheel, bell]
+    assert text.count(f", {NOT_KNOWN}") == 2
+    assert "2 open orders needed beyond the horizon</p>" in text
+    assert "to be moved" not in text
+    assert "<b>cancel</b>" not in text
+    assert "never" not in "".join(it[5] for it in listed(text, "moves"))
+
+
+def test_page_has_what_is_not_known_behind_what_is(room):
+    """Of many messages of a pair those that are to be moved first; what is left out of both is counted."""
+    day, plan = "2026-11-30", plan_rows("2026-11-30", 7, {"I7": (0, 0)})
+    beyond, defer = f"advice,beyond,receipt,A,I7,,0,{day},5,,\n", f"advice,defer,receipt,A,I7,,0,{day},4,1,2026-12-07\n"
+    room.write("reports.csv", plan + 30 * beyond + defer)
+    text = room.run("bin/page < reports.csv")
+    assert [it[0] for it in listed(text, "moves")] == ["defer"] + 30 * ["beyond"]
+    assert "1 open order to be moved, 30 open orders needed beyond the horizon</p>" in text
+    assert text.count(f", {NOT_KNOWN}") == 19
+    assert "<br>and 11 open orders more</p>" in text
+
+
 def test_page_of_a_table_has_its_reports(room, program):
     """What the reports of the table say, with the demands that are hit and what the table says of pairs; a refused
     table is refused in the program's line.
@@ -262,7 +309,8 @@ def test_page_of_a_table_has_its_reports(room, program):
     text = room.run("bin/page < examples/pumps.csv | tee page.html")
     Tags(text)
     assert text.count('<article id="r') == 10
-    given = room.run(f"({PUMPS}; bin/hit < examples/pumps.csv) | bin/page")
+    room.run("mrp advice --reach < examples/pumps.csv > messages.csv")
+    given = room.run(f"({PUMPS.replace('examples/pumps.advice.csv', 'messages.csv')}; bin/hit < examples/pumps.csv) | bin/page")
     for name in ("release", "moves", "deliveries"):
         assert listed(text, name) == listed(given, name)
     assert [it[:4] for it in listed(text, "late")] == [it[:4] for it in listed(given, "late")]

@@ -17,9 +17,13 @@ def test_python_reads_each_report(program):
 def test_python_writes_tables(room):
     """From rows that were read, the same bytes; dates count into periods; a row may be a named tuple."""
     mrp = module_of("mrp.py", "python")
+    ended = 0
     for seed, text in enumerate(some_tables()):
         if (seed - len(cases.examples())) % 3:
-            assert bytes(mrp.Table(csv.reader(text.decode().splitlines()))).decode() == text.decode()
+            written = bytes(mrp.Table(csv.reader(text.decode().splitlines())))
+            assert written.decode() in (text.decode(), f"{text.decode()}end,{text.count(bytes([10]))},,,,,,\n")
+            ended += written == text
+    assert ended > 10
     first, one = datetime.date(2026, 1, 5), ("A", "X")
     rows = [
         mrp.Run(first, 7, 4),
@@ -77,11 +81,13 @@ usage,A,X,Y,1,2026-01-05,1,
 vendor,V,B,X,500,12,2,
 vendor,V,A,X,0,0,,
 day,3,2026-01-26,,,,,
+end,22,,,,,,
 """
 RUN_AS_TEXT = """\
 run,2026-01-05,7,4,,,,
 plant,"a,""b",,,,,,
 demand,A,X,2,1,,,
+end,3,,,,,,
 """
 
 
@@ -94,6 +100,17 @@ def test_python_asks_for_what_comes_up_to_a_period(room):
             assert by.ask(name, b"", until=until) == (1, f"{name}{words}\n".encode())
 
 
+def test_python_asks_how_far_a_plan_is_whole(room):
+    """And for messages within that, and whole tables: by a program that says its words."""
+    room.write("says", '#!/bin/sh\necho "$*" >&2\nexit 1\n')
+    room.variables |= {"MRP": f"{room.folder}/says", "MRP_LIBRARY": "", "PYTHONPATH": "python"}
+    for call, words in (("reach(t)", "check --reach"), ("advice(t, 3, reach=True)", "advice --reach --until=3")):
+        room.write("ask", f"import mrp\nt = mrp.Table([])\ntry:\n    mrp.{call}\nexcept mrp.Fault as fault:\n    print(fault)\n")
+        assert room.run("python3 ask") == f"{words}\n"
+    by = module_of("mrp.py", "python").Program(f"{room.folder}/says")
+    assert by.ask("cums", b"", whole=True) == (1, b"cums --whole\n")
+
+
 def test_python_asks_the_library_for_messages(room):
     """By a library that says its options: all of them up to the last period that there can be."""
     wants("cc")
@@ -101,7 +118,11 @@ def test_python_asks_the_library_for_messages(room):
     room.run("cc -Iinclude -shared -fPIC one.c -o one.so")
     by = module_of("mrp.py", "python").Library(f"{room.folder}/one.so")
     for until, limited in ((None, "0 0"), (0, "1 0"), (7, "1 7"), (10**6, "1 1000000")):
-        assert by.ask("advice", b"", until=until) == (1, f"mrp: until {limited}, 0\n".encode())
+        for reach, whole in ((False, False), (True, False), (False, True)):
+            said = f"mrp: until {limited}, 0, reach {reach:d}, whole {whole:d}\n".encode()
+            assert by.ask("advice", b"", until=until, reach=reach, whole=whole) == (1, said)
+    assert by.ask("check", b"", reach=True, whole=True) == (1, b"mrp: reach 0, whole 1\n")
+    assert by.ask("check", b"")[0] == 0
 
 
 def test_python_has_orders_and_messages(program, monkeypatch):

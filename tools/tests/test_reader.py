@@ -13,7 +13,7 @@ import pytest
 from support import TOP
 
 # How each report of the program is asked for, and of which table.
-ASKED = {it: ([it], "three_plants") for it in mrp.REPORTS if it not in ("peg", "hit")}
+ASKED = {it: (it.split(), "three_plants") for it in mrp.REPORTS if it not in ("peg", "hit")}
 ASKED["peg"] = ["peg", "P1", "WHEEL", "2"], "bicycle"
 # The tables of the databases, by the word of the report's rows.
 SQL = {"plan_rows": "plan", "lane_rows": "lane", "order_rows": "order", "schedule_rows": "schedule"}
@@ -103,6 +103,7 @@ usage,A,X,Y,2,0,1,
 vendor,V-1,A,Y,500,20,2,
 vendor,V-1,A,X,0,0,,
 day,1,2027-01-04,,,,,
+end,20,,,,,,
 """
 
 
@@ -152,13 +153,41 @@ def test_some_kinds_are_read_alone(text):
 
 
 def test_rows_of_no_kind_are_refused():
-    lines = [*ROWS.splitlines(keepends=True), "demands,A,X,2,30,,,\n"]
+    lines = [*ROWS.splitlines(keepends=True)[:-1], "demands,A,X,2,30,,,\n"]
     with pytest.raises(mrp.Refused, match="row 21: no kind of row is 'demands'"):
         mrp.Table.read(lines)
     with pytest.raises(mrp.Refused, match="no kind of row is 'demands'"):
         list(mrp.table_rows(lines, mrp.Run))
     with pytest.raises(AttributeError):
         _ = mrp.Table.read(lines[:-1]).orders
+
+
+@pytest.mark.parametrize("text", written_otherwise())
+def test_tables_that_have_lost_rows_are_refused(text):
+    """Whose end row has another number than that of the rows before it, or isn't the last; with whole also those without one."""
+    lines = io.StringIO(text.removeprefix("\ufeff"), newline="").readlines()
+    rows = [place for place, it in enumerate(lines) if it.strip()]
+    for place in rows[:-1]:
+        with pytest.raises(mrp.Refused, match="row 20: the table doesn't end here, or has lost rows"):
+            mrp.Table.read(lines[:place] + lines[place + 1 :])
+        cut = mrp.Table.read(lines[: rows[-1]][:place]) if place else None
+        assert cut is None or len(cut.rows) == rows.index(place)
+        with pytest.raises(mrp.Refused, match=f"row {rows.index(place) + 1}: the table has no end row, so it may be cut"):
+            mrp.Table.read(lines[:place], whole=True)
+    with pytest.raises(mrp.Refused, match="row 21: the table doesn't end here, or has lost rows"):
+        mrp.Table.read([*lines, "day,2,2027-01-20,,,,,\n"])
+    assert mrp.Table.read(lines, whole=True).rows == mrp.Table.read(lines[: rows[-1]]).rows
+
+
+def test_tables_are_written_with_their_end():
+    """A row that is added counts; an end row that is given stays, be it wrong; a table of no rows has none."""
+    table = mrp.Table.read(ROWS.splitlines(keepends=True))
+    table.rows.append(("day", 2, "2027-01-20"))
+    assert bytes(table).decode() == ROWS.replace("end,20,", "day,2,2027-01-20,,,,,\nend,21,")
+    assert (table.ends, table.days[1].date) == ([], datetime.date(2027, 1, 20))
+    given = mrp.Table([mrp.Plant("A"), mrp.End(7)])
+    assert (given.ends, bytes(given)) == ([(7,)], b"plant,A,,,,,,\nend,7,,,,,,\n")
+    assert bytes(mrp.Table([])) == b""
 
 
 def test_dates_in_a_table_are_periods():
@@ -170,7 +199,7 @@ def test_dates_in_a_table_are_periods():
     assert (table.demands, table.resets) == ([("A", "X", 2, 5)], [("B", "A", "Y", 2)])
     assert table.firms == [("A", "X", 1, 2, 5), ("A", "Y", 0, 2, 6)]
     written = "run,2026-12-21,7,4,,,,\ndemand,A,X,2,5,,,\nreset,B,A,Y,2,,,\n"
-    written += "firm,A,X,1,2,5,,\nfirm,A,Y,0,2,6,,\nother,2027-01-10,,,,,,\n"
+    written += "firm,A,X,1,2,5,,\nfirm,A,Y,0,2,6,,\nother,2027-01-10,,,,,,\nend,6,,,,,,\n"
     assert bytes(table).decode() == written
 
 
@@ -185,9 +214,9 @@ def test_dates_in_a_table_count_by_day_rows():
     assert [it.reset for it in table.vendors] == [None, 3, None]
     assert [str(table.calendar.first_day(it)) for it in range(5)] == ["2026-12-21", "2027-01-04", "2027-01-09", "2027-01-16", "2027-01-23"]
     written = "run,2026-12-21,7,4,,,,\ndemand,A,X,2,5,,,\ndemand,A,X,0,6,,,\nvendor,V,A,X,1,2,,\nvendor,V,A,Y,1,2,3,\nvendor,V,A,Z,3,4,,\n"
-    written += "day,1,2027-01-04,,,,,\nday,2,2027-01-09,,,,,\n"
+    written += "day,1,2027-01-04,,,,,\nday,2,2027-01-09,,,,,\nend,8,,,,,,\n"
     assert bytes(table).decode() == written
-    assert bytes(mrp.Table(rows[-1:])).decode() == "day,2027-01-04,2027-01-20,,,,,\n"
+    assert bytes(mrp.Table(rows[-1:])).decode() == "day,2027-01-04,2027-01-20,,,,,\nend,1,,,,,,\n"
 
 
 # Dates.
@@ -255,12 +284,14 @@ schedule,opening,B,A,Y,,,10,510
 schedule,call,B,A,Y,0,2026-01-05,30,540
 schedule,reset,B,A,Y,2,2026-01-19,,540
 code,A,X,0
+reach,A,X,3,none
 lane,despatch,B,A,Y,1,2,3,4
 peg,bill,A,X,1,2,3
 pegs,A,Y,3,demand,A,Y,1,2,3
 advice,expedite,ship,A,Y,B,1,2026-01-12,7,0,2026-01-05
 advice,cancel,receipt,A,Y,,1,2026-01-12,7,,
 advice,defer,firm,A,Y,,1,2026-01-12,7,3,2026-01-26
+advice,beyond,receipt,A,Y,,1,2026-01-12,7,,
 shortage,A,Y,bill,A,X,120,42
 hit,A,X,1,2026-01-12,7,2,A,Y
 """

@@ -179,10 +179,12 @@ def write_sheets(room, folder, found):
 
 
 def table_of_sheets(room, *words):
-    """Returns status, output and errors of bin/sheets."""
+    """Returns status, the rows before the end row, which says how many they are, and errors of bin/sheets."""
     done = subprocess.run([f"{TOP}/bin/sheets", *words], cwd=room.folder, capture_output=True, timeout=300, check=False)
+    rows = firms.unended(done.stdout)
+    assert (rows == done.stdout) == (not rows)
     # (all but one warning, which goes by the clock)
-    return done.returncode, done.stdout, re.sub("firm.csv row 2, .* doesn't hold today, .*\n", "", done.stderr.decode())
+    return done.returncode, rows, re.sub("firm.csv row 2, .* doesn't hold today, .*\n", "", done.stderr.decode())
 
 
 def test_sheets_give_the_table_back(room, firms_tried=40):
@@ -197,6 +199,7 @@ def test_sheets_give_the_table_back(room, firms_tried=40):
 
 def with_firm_orders(chance, table):
     """Returns a table with some firm orders more."""
+    table = firms.unended(table)
     rows = [it.split(",") for it in table.decode().splitlines()]
     pairs, periods = [it[1:3] for it in rows if it[0] == "pair"], int(rows[0][3])
     for _ in range(chance.choice((0, 1, 5))):

@@ -9,6 +9,7 @@ import re
 import shutil
 import subprocess
 
+import firms
 import pytest
 import support
 from support import TOP
@@ -50,7 +51,15 @@ def sheets(folder, found, *words):
     (folder / "firm").mkdir()
     for name, text in found.items():
         (folder / "firm" / name).write_text(text, encoding="utf-8")
-    return run(folder, "bin/sheets", "--today", MONDAY, *words, "firm")
+    status, written, said = run(folder, "bin/sheets", "--today", MONDAY, *words, "firm")
+    return status, without_end(written), said
+
+
+def without_end(written):
+    """Returns the rows of a table before its end row, which says how many they are."""
+    rows = firms.unended(written.encode()).decode()
+    assert (rows == written) == (not rows)
+    return rows
 
 
 def test_a_good_folder_is_silent(tmp_path):
@@ -175,7 +184,7 @@ def test_the_clock_says_which_day_is_today(tmp_path):
         firm = f"First day,Days,Periods\n{first},7,4\n"
         sheets(tmp_path, {**BICYCLE, "firm.csv": firm, "demands.csv": f"Plant,Item,Due,Quantity\nP1,BIKE,{first},10\n"})
         status, table, said = run(tmp_path, "bin/sheets", "firm")
-        assert (status, table) == (0, TABLE.replace(MONDAY, str(first)).replace("BIKE,3,10", "BIKE,0,10"))
+        assert (status, without_end(table)) == (0, TABLE.replace(MONDAY, str(first)).replace("BIKE,3,10", "BIKE,0,10"))
         assert ("doesn't hold today" in said) == (back > 0)
     for bad, why in (("soon", "'soon' is no date; write it as 2026-12-01"), ("0001-01-01", "'0001-01-01' is not within the years 1970 to 2199")):
         assert run(tmp_path, "bin/sheets", "--today", bad, "firm") == (2, "", f"bin/sheets: argument --today: {why}\n")
@@ -347,7 +356,7 @@ def test_strict_keeps_the_old_files(tmp_path):
     assert sheets(tmp_path, found, *words) == (1, "", NO_DEMAND + STRICT)
     assert [(tmp_path / name).read_text() for name in ("table.csv", "names.csv")] == ["last week\n"] * 2
     assert sheets(tmp_path, BICYCLE, *words) == (0, "", "")
-    assert (tmp_path / "table.csv").read_text() == TABLE
+    assert without_end((tmp_path / "table.csv").read_text()) == TABLE
     # (slips are told as they are without, and no warning beside them)
     found["bills.csv"] = "Plant,Parent,Component,Per\nP1,BIKE,WHEEL,x\n"
     said = f"bills.csv row 2, Per: 'x' is no whole number; write one as 1200\n{REFUSED}"
@@ -484,6 +493,55 @@ def test_counts_refuses_what_is_no_table(tmp_path):
         assert counts(tmp_path, three_plants()) == (1, "bin/counts: counts.csv is no file that bin/counts has written; it is as it was\n", text)
 
 
+WHOLE = f"{three_plants()}end,29,,,,,,\n"
+
+
+def test_counts_refuses_a_table_that_is_cut(tmp_path):
+    """With the rows of each kind, and what the last table had: behind each row, and within the last one."""
+    kept = f"{KEPT}end,1\n"
+    cut, as_it_was = "bin/counts: the table is cut, for it doesn't say where it ends: ", "; counts.csv is as it was\n"
+    assert counts(tmp_path, three_plants(), "--whole") == (1, f"{cut}{', '.join(f'{it} {rows}' for it, rows in THREE.items())}{as_it_was}", None)
+    assert counts(tmp_path, WHOLE, "--whole") == (0, NEW, kept)
+    assert counts(tmp_path, WHOLE.rstrip("\n").replace("\n", "\r\n"), "--whole") == (0, "", kept)
+    lines = WHOLE.splitlines(keepends=True)
+    ends = [sum(map(len, lines[:it])) for it in range(1, len(lines))] + [len(WHOLE) - it for it in range(2, len(lines[-1]))]
+    for end in ends:
+        words = [it.partition(",")[0] for it in WHOLE[:end].splitlines()]
+        now = {it: f"{it} {words.count(it)} of 1" if it == "end" else f"{it} {words.count(it)} of {THREE[it]}" for it in THREE if " " not in it}
+        status, said, found = counts(tmp_path, WHOLE[:end], "--whole", "--check")
+        assert (status, said.startswith(f"{cut}run 1 of 1, "), said.endswith(as_it_was), found) == (1, True, True, kept)
+        told = said.removeprefix(cut).removesuffix(as_it_was).split(", ")
+        assert [it for it in told if not it.startswith(("pair with", "end", "en ", "e "))] == [*now.values()]
+    # (without the option it is one kind less)
+    assert counts(tmp_path, three_plants()) == (1, f"end: 1 row before, none now\n{AS_IT_WAS}", kept)
+    # (rows that are lost from the middle)
+    less = WHOLE.replace(lines[15], "")
+    assert counts(tmp_path, less, "--whole")[1].startswith(cut)
+    assert counts(tmp_path, less) == (0, "", kept.replace("bill,4", "bill,3"))
+
+
+def test_a_table_of_sheets_is_refused_when_it_is_cut(tmp_path):
+    """Behind each of its bytes, as it is and as other programs end lines."""
+    program = support.program() or support.skip("the program")
+    sheets(tmp_path, BICYCLE, "--out", "table.csv")
+    table = (tmp_path / "table.csv").read_bytes()
+    assert table == f"{TABLE}end,6,,,,,,\n".encode()
+    for end in (b"\n", b"\r\n"):
+        support.cut_anywhere(program, table.replace(b"\n", end), end)
+
+
+def test_renew_asks_for_whole_tables(tmp_path):
+    """The report stays where mrp refuses one that is cut."""
+    variables = {**os.environ, "MRP": support.program() or support.skip("the program")}
+    for words in (("plan",), ("orders", "--header"), ("peg", "--", "NORTH", "BIKE", "3")):
+        assert run(tmp_path, "bin/renew", "--whole", "report.csv", *words, given=WHOLE, env=variables) == (0, "", "")
+        old = (tmp_path / "report.csv").read_text()
+        said = "mrp: row 30: Cut\nbin/renew: report.csv is as it was\n"
+        assert run(tmp_path, "bin/renew", "--whole", "report.csv", *words, given=three_plants(), env=variables) == (1, "", said)
+        assert (tmp_path / "report.csv").read_text() == old
+        assert run(tmp_path, "bin/renew", "report.csv", *words, given=three_plants(), env=variables) == (0, "", "")
+
+
 def test_counts_refuses_bad_words(tmp_path):
     for words, why in (
         ((), "the following arguments are required: KEPT"),
@@ -608,7 +666,7 @@ def test_a_night_goes_by_the_last_good_one(tmp_path):
     assert (runs(), files(tmp_path)) == ((1, "", f"demand: 6 rows before, 4 now\n{AS_IT_WAS}"), old)
     subprocess.run("""sqlite3 firm.db "INSERT INTO forecasts VALUES ('NORTH', 'BIKE', '2026-01-30', 10)" """, **shell)
     assert runs() == (0, "", "")
-    assert (tmp_path / "counts.csv").read_text() == KEPT.replace("demand,6", "demand,5")
+    assert (tmp_path / "counts.csv").read_text() == KEPT.replace("demand,6", "demand,5") + "end,1\n"
     subprocess.run("sqlite3 firm.db 'DELETE FROM open_orders'", **shell)
     assert runs() == (1, "", f"receipt: 1 row before, none now\n{AS_IT_WAS}")
     subprocess.run("bin/counts --accept counts.csv < table.new", **shell)

@@ -150,8 +150,8 @@ def test_a_firm_of_200_vendors_through_a_shutdown(room):
     assert said[-1] == "closed.csv: nobody works from 2026-12-28 to 2027-01-03; no period begins there"
     assert [it for it in said if "isn't" in it or "in transit" in it] == []
     table = room.run("cat table.csv")
-    assert table.startswith("run,2026-12-14,7,6,,,,\n") and table.endswith("\nday,2,2027-01-04,,,,,\n")
-    reports_from_files(room, table, "plan", "orders", "advice", "schedule", "shortages")
+    assert table.startswith("run,2026-12-14,7,6,,,,\n") and table.endswith("\nday,2,2027-01-04,,,,,\nend,681,,,,,,\n")
+    reports_from_files(room, table, "plan", "orders", "advice --reach", "schedule", "shortages")
     schedule = room.run("cat schedule.csv").splitlines()
     assert [it for it in schedule if ",Vendor_" in it] == [row for it in range(200) for row in wanted_of(it)]
     # (that the rows are below the names of their columns is what the program would do)
@@ -160,6 +160,8 @@ def test_a_firm_of_200_vendors_through_a_shutdown(room):
     room.variables["MRP"] = "words/files"
     own = room.run("bin/schedule --from 'Vendor 15 & Co' --names names.csv < table.csv").splitlines()[1:]
     parts = [f"{it.replace('Vendor_15___Co', 'Vendor 15 & Co').replace('PART_15', 'PART 15')},,V 15," for it in wanted_of(15)]
+    # (at the opening stand the receipts that are under way)
+    parts[0] += "4 of 2026-12-15"
     assert own == parts
     until = room.run("bin/schedule --from 'Vendor 15 & Co' --until 2027-01-03 --names names.csv < table.csv").splitlines()[1:]
     assert until == parts[:2]

@@ -23,7 +23,7 @@ def test_why_has_each_requirement_once(room, program):
     assert "mrp: row 1" in room.run("bin/why A X 0 < examples/bicycle.plan.csv", status=1)
 
 
-def test_why_asks_for_two_reports(room, program):
+def test_why_asks_for_three_reports(room, program):
     """However many requirements it follows, and whether the table's names stand between quotes; what is on hand, and
     comes in now, is the table's.
     """
@@ -37,11 +37,13 @@ A X: 16 released in period 0, due in period 0 (2026-01-05)
     10 for A Y, 2 each: 5 released in period 0, due in period 1 (2026-01-12)
       5 required in period 1
         5 demand
+Open orders
+  3 in period 1 (2026-01-12), receipt: expedite to period 0 (2026-01-05)
 """
     for quoted in (rows, rows.replace("pair,A,X", 'pair,"A","X"').replace("receipt", '"receipt"')):
         room.write("table.csv", f"run,2026-01-05,7,2,,,,\nplant,A,,,,,,\n{quoted}")
         assert room.run("rm -f asked; MRP=words/asked bin/why A X 0 < table.csv") == wanted
-        assert room.run("cat asked") == "orders\npegs\n"
+        assert room.run("cat asked") == "orders\npegs\nadvice --reach\n"
 
 
 def test_why_tells_late_orders_apart(room, program):
@@ -66,10 +68,10 @@ A X: 19 released in period 0
     )
 
 
-def from_files(room, table, orders, pegs):
+def from_files(room, table, orders, pegs, advice=""):
     """Writes a table with firm orders, and its reports by hand for the program words/files."""
     room.stand_in("words/files", "from_files")
-    for name, text in (("table", table), ("orders", orders), ("pegs", pegs)):
+    for name, text in (("table", table), ("orders", orders), ("pegs", pegs), ("advice", advice)):
         room.write(f"{name}.csv", text)
 
 
@@ -105,6 +107,21 @@ A C: 50 released in period 0
     ):
         below = "".join(f"  {quantity} required in period {it}\n    {quantity} demand\n" for quantity, it in rows)
         assert room.run(f"{why} A P {period} < table.csv") == f"A P: {front}, firm\n{below}"
+
+
+def test_why_shows_messages_for_open_orders(room):
+    """By hand, of the pair that is asked for alone; none is called cancelled that is needed beyond the horizon."""
+    day = "2026-01-12"
+    advice = f"advice,defer,ship,A,P,B,1,{day},9,3,2026-01-26\nadvice,beyond,receipt,A,C,,1,{day},5,,\nadvice,expedite,firm,A,C,,2,2026-01-19,7,1,{day}\n"
+    from_files(room, FIRM, FIRM_ORDERS, FIRM_PEGS, advice)
+    said = room.run("MRP=words/files bin/why A C 0 < table.csv").partition("Open orders\n")[2]
+    assert said == f"""\
+  5 in period 1 ({day}), receipt: not known yet: needed beyond the horizon
+  7 in period 2 (2026-01-19), firm order: expedite to period 1 ({day})
+"""
+    said = room.run("MRP=words/files bin/why A P 1 < table.csv").partition("Open orders\n")[2]
+    assert said == f"  9 in period 1 ({day}), in transit from B: defer to period 3 (2026-01-26)\n"
+    assert [*dict.fromkeys(room.run("cat asked").splitlines())] == ["orders", "pegs", "advice"]
 
 
 def test_why_has_safety_stock_behind_firm_orders(room):
@@ -150,7 +167,7 @@ def test_why_takes_a_day_for_its_period(room):
     """Each day of a week, from the first to the last; one outside the plan is refused, and one in which nothing is
     released is told with its period.
     """
-    reports_from_files(room, three_plants(), "orders", "pegs")
+    reports_from_files(room, three_plants(), "orders", "pegs", "advice --reach")
     why = "MRP=words/files bin/why"
     wanted = room.run(f"{why} EAST BIKE 4 < table.csv")
     assert wanted.startswith("EAST BIKE: 12 released in period 4, due in period 5 (2026-02-09)\n")
@@ -167,7 +184,7 @@ def test_why_takes_a_day_for_its_period(room):
 
 def test_why_takes_a_day_by_day_rows(room):
     """By hand. With a closed week before period 5 that is in period 4, and the plan ends a week later."""
-    reports_from_files(room, three_plants() + "day,5,2026-02-16,,,,,\n", "orders", "pegs")
+    reports_from_files(room, three_plants() + "day,5,2026-02-16,,,,,\n", "orders", "pegs", "advice --reach")
     why = "MRP=words/files bin/why EAST BIKE"
     wanted = room.run(f"{why} 4 < table.csv")
     assert wanted.startswith("EAST BIKE: 12 released in period 4, due in period 5 (2026-02-16)\n")
@@ -180,7 +197,7 @@ def test_why_takes_a_day_by_day_rows(room):
 
 def test_why_names_the_nearest(room):
     """Plants that keep the item, else items of the plant, else pairs; by the names of the sheets where given."""
-    reports_from_files(room, three_plants(), "orders", "pegs")
+    reports_from_files(room, three_plants(), "orders", "pegs", "advice --reach")
     for words, meant in (
         ("SOUTH TUB", " (SOUTH TUBE?)"),
         ("X FRAME", " (NORTH FRAME, SOUTH FRAME?)"),
@@ -191,7 +208,7 @@ def test_why_names_the_nearest(room):
         assert said == f"bin/why: the table has no pair {words}{meant}\n"
     room.run("bin/sheets --names names.csv --out table.csv examples/sheets 2> said")
     with open(f"{room.folder}/table.csv", encoding="utf-8") as file:
-        reports_from_files(room, file.read(), "orders", "pegs")
+        reports_from_files(room, file.read(), "orders", "pegs", "advice --reach")
     for words, meant in (("WORKS SEAL", "SEAL_25"), ("--names names.csv WORKS SEAL", "SEAL 25")):
         said = room.run(f"MRP=words/files bin/why {words} 0 < table.csv", status=1)
         assert said == f"bin/why: the table has no pair WORKS SEAL (WORKS {meant}?)\n"
@@ -201,7 +218,7 @@ def test_why_goes_from_orders_to_what_they_cover(room):
     """By hand. With a period covered the 20 of period 1 are for the demand of period 2, and the 5 of period 2 for that of 3. What is
     ordered for period 0 is for its demands too; safety stock is covered by receipts that count sooner, and then by the order.
     """
-    reports_from_files(room, COVERED, "orders", "pegs")
+    reports_from_files(room, COVERED, "orders", "pegs", "advice --reach")
     assert room.run("MRP=words/files bin/why A X 0 < table.csv") == """\
 A X: 20 released in period 0, due in period 1 (2026-01-12)
   20 required in period 2
@@ -210,15 +227,17 @@ A X: 20 released in period 0, due in period 1 (2026-01-12)
     assert "5 required in period 3\n" in room.run("MRP=words/files bin/why A X 1 < table.csv")
     # (8 are missing of 9 and of the 5 and 5 of periods 0 and 1, for which 1 and the 10 of period 1 are there; then 20 of period 2)
     table = COVERED.replace("buy,lot,1,10,0", "buy,lot,0,1,9").replace("policy,A,X,0,0", "receipt,A,X,1,10,,,\npolicy,A,X,0,1")
-    reports_from_files(room, table, "orders", "pegs")
+    reports_from_files(room, table, "orders", "pegs", "advice --reach")
     assert room.run("MRP=words/files bin/why A X 0 < table.csv") == """\
 A X: 8 released in period 0, due in period 0 (2026-01-05)
   5 required in period 0
     5 demand
   5 required in period 1
     5 demand
+Open orders
+  10 in period 1 (2026-01-12), receipt: expedite to period 0 (2026-01-05)
 """
-    reports_from_files(room, table.replace("1,10,,", "1,3,,"), "orders", "pegs")
+    reports_from_files(room, table.replace("1,10,,", "1,3,,"), "orders", "pegs", "advice --reach")
     assert room.run("MRP=words/files bin/why A X 0 < table.csv").splitlines()[:3] == [
         "A X: 15 released in period 0, due in period 0 (2026-01-05)",
         "  5 for safety stock",
@@ -228,7 +247,7 @@ A X: 8 released in period 0, due in period 0 (2026-01-05)
 
 def test_why_says_of_how_many_parents(room):
     """By hand. 10.3 castings are 11; of OLD 2 go into each, and from period 2 on none."""
-    reports_from_files(room, CHANGED, "orders", "pegs")
+    reports_from_files(room, CHANGED, "orders", "pegs", "advice --reach")
     assert room.run("MRP=words/files bin/why A CASTING 1 < table.csv") == """\
 A CASTING: 11 released in period 1, due in period 1 (2026-01-12)
   11 required in period 1

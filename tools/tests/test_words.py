@@ -17,6 +17,7 @@ TOOLS = [
     "bin/schedule",
     "bin/book",
     "bin/advices",
+    "bin/releases",
     "bin/install",
     "bin/release",
 ]
@@ -28,6 +29,7 @@ TOOLS += [
     "tools/edits",
     "tools/costs",
     "tools/torture",
+    "tools/year",
     "tools/oracle.py",
     "tools/pairs",
     "tools/theorem",
@@ -68,6 +70,7 @@ def test_words_of_tools(room):
     bad += ["bin/orders A", "bin/orders --until x", "bin/orders --until 2026-02-30", "bin/orders --sums plant"]
     bad += ["bin/schedule A", "bin/schedule --until -1", "bin/schedule --from", "bin/schedule --sums item"]
     bad += ["bin/advices", "bin/advices firm", "bin/advices --out a", "bin/advices --out a b c", "bin/advices --accept"]
+    bad += ["bin/releases", "bin/releases --sheets a", "bin/releases --out a", "bin/releases --sheets a --out b --number 0"]
     bad += ["bin/book", "bin/book orders.csv", "bin/book --firm --receipts a b", "bin/book --number '' a b"]
     bad += ["bin/renew", "bin/renew plan.csv", "tools/try", "tools/torture x", "tools/torture --seed 0"]
     bad += [
@@ -88,6 +91,7 @@ def test_words_of_tools(room):
     ]
     bad += ["tools/torture --trials 0", "tools/torture --kind none", "tools/completions x", "tools/completions --none"]
     bad += ["tools/oracle.py", "tools/oracle.py --seed 1", "tools/oracle.py --cases 0", "tools/oracle.py --cases 1 x"]
+    bad += ["tools/year x", "tools/year --seeds 0", "tools/year --firm none", "tools/year --trouble x"]
     bad += ["tools/pairs x", "tools/pairs --cases 0", "tools/pairs --seed x", "tools/pairs --none"]
     bad += [
         "tools/costs",

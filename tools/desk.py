@@ -1,0 +1,245 @@
+"""A planner's Monday, for tools/year: sheets are written, despatch advices booked, the plan made, obeyed and booked, and releases sent."""
+import contextlib
+import csv
+import datetime
+import importlib.machinery
+import importlib.util
+import io
+import os
+import shutil
+import subprocess
+import sys
+from collections import Counter
+
+import crates
+import hits
+import mrp
+import reports
+from world import WEEK, Order
+
+PERIODS = 16
+HORIZONS = 2, 6, 12
+ITEM_HEADS = "Plant,Item,Supply,Lot rule,Lead (weeks),Safety stock,Fence (periods),Sooner (periods),Cover (periods),Least,Multiple,On hand"
+REPORTS = "cums", "shortages", "check --reach"
+
+
+def script(name):
+    """Returns the module of a script of bin/, which isn't run."""
+    loader = importlib.machinery.SourceFileLoader(name, f"{crates.TOP}/bin/{name}")
+    module = importlib.util.module_from_spec(importlib.util.spec_from_loader(name, loader))
+    loader.exec_module(module)
+    return module
+
+
+SCRIPTS = {name: script(name) for name in ("sheets", "advices", "book")}
+
+
+class Ended(Exception):
+    """A script ended with another status than 0, and said why."""
+
+
+def run(name, *words):
+    """Runs a script in this process, and returns what it says."""
+    said, before = io.StringIO(), sys.argv
+    sys.argv = [f"bin/{name}", *map(str, words)]
+    out = io.TextIOWrapper(io.BytesIO(), encoding="utf-8")
+    try:
+        with contextlib.redirect_stderr(said), contextlib.redirect_stdout(out):
+            SCRIPTS[name].main()
+    except (reports.Refused, OSError, SystemExit) as why:
+        raise Ended(f"bin/{name}: {said.getvalue()}{why}") from None
+    finally:
+        sys.argv = before
+    return said.getvalue()
+
+
+def table_of(folder, room, chosen):
+    """Returns the table of some sheets, and puts it and their names into a folder, as bin/book has it, in this process."""
+    words = ["--numbers", chosen.numbers] if chosen.numbers else []
+    run("sheets", *words, "--names", f"{room}/names.csv", "--out", f"{room}/table.csv", folder)
+    return f"{room}/table.csv"
+
+
+SCRIPTS["book"].table_of = table_of
+
+
+def report(words, table):
+    """Returns a report of the program, as it is written."""
+    with open(table, "rb") as rows:
+        done = subprocess.run([reports.program(), *words.split()], stdin=rows, capture_output=True, check=False)
+    if done.returncode:
+        raise Ended(f"mrp {words}: {done.stderr.decode()}")
+    return done.stdout
+
+
+class Desk:
+    """The planner's folder of each Monday, in a folder for all."""
+
+    def __init__(self, folder, firm):
+        self.folder, self.firm, self.table, self.week = folder, firm, None, None
+        self.figures, self.said, self.received = {}, [], []
+
+    def path(self, name):
+        return f"{self.week}/{name}"
+
+    def write(self, name, heads, rows):
+        """Writes a sheet of the Monday."""
+        with open(self.path(name), "w", encoding="utf-8", newline="") as file:
+            csv.writer(file, lineterminator="\n").writerows([heads.split(","), *rows])
+
+    def open(self):
+        """Writes the sheets of a Monday, as the firm is."""
+        firm, self.said = self.firm, []
+        self.week = f"{self.folder}/{firm.monday}"
+        os.mkdir(self.week)
+        self.write("firm.csv", "First day,Days,Periods,Firm (weeks),Fab (weeks),Raw (weeks)", [(firm.monday, 7, PERIODS, *HORIZONS)])
+        self.write("items.csv", ITEM_HEADS, [(*it[:11], firm.stock[it.key]) for it in firm.pairs.values()])
+        bills = [(*pair, *it) for pair, parts in firm.bills.items() for it in parts.items()]
+        self.write("bills.csv", "Plant,Parent,Component,Per", bills)
+        self.write("demands.csv", "Order,Plant,Item,Due,Quantity", [(it.number, *it.pair, it.due, it.quantity) for it in firm.demands])
+        starts = [(it.number, *it.pair, it.start, it.due, it.quantity, it.comes) for it in firm.starts.values()]
+        self.write("firm_orders.csv", "Order,Plant,Item,Start,Due,Quantity,Comes", starts)
+        orders = [(it.number, *it.pair, it.due, it.quantity, it.comes) for it in self.orders()]
+        self.write("receipts.csv", "Order,Plant,Item,Due,Quantity,Comes", orders)
+        self.write("resets.csv", "From,To,Item,Date", [(*names, day) for names, day in firm.resets.items() if self.is_plant(names)])
+        self.write_figures()
+
+    def orders(self):
+        return [*self.firm.purchases.values(), *self.firm.production.values()]
+
+    def is_plant(self, names):
+        return (names[0], names[2]) in self.firm.pairs
+
+    def write_figures(self):
+        """Writes the figures as they were booked last; the first time with what was closed then."""
+        for name, heads in (("cums.csv", "From,To,Item,Cum received"), ("vendors.csv", "Vendor,Plant,Item,Figure received")):
+            if name in self.figures:
+                with open(self.path(name), "wb") as file:
+                    file.write(self.figures[name])
+                continue
+            rows = [it for it in self.firm.lanes.values() if self.is_plant(it.names) == (name == "cums.csv")]
+            more = "" if name == "cums.csv" else ",Starts again"
+            found = [(*it.names, it.figure(), it.started, it.closed, *[self.firm.resets.get(it.names, "")] * bool(more)) for it in rows]
+            self.write(name, f"{heads},Started,Closed{more}", found)
+
+    def book(self, trouble, *accepted):
+        """Books what came in, and what is on its way, into the sheets."""
+        known = [*self.received, *self.firm.under_way]
+        advices = trouble.advised(known)
+        rows = [(it.number, *it.names, it.quantity, it.figure, it.despatched, it.arrives) for it in advices]
+        self.write("advices.csv", "Advice,From,To,Item,Quantity,Cumulative,Despatched,Arrives", rows)
+        self.write("booked.csv", "Advice,From,To,Item,Quantity,Date", [(it.number, *it.names, it.quantity, it.day) for it in self.firm.booked])
+        if self.figures:
+            shutil.rmtree(f"{self.week}.in", ignore_errors=True)
+            shutil.copytree(self.week, f"{self.week}.in")
+            words = [word for item in accepted for word in ("--accept", item)]
+            self.said += run("advices", *words, "--out", self.week, f"{self.week}.in").splitlines()
+        self.received = []
+        self.figures = {name: reports.kept_bytes(self.path(name)) for name in ("cums.csv", "vendors.csv")}
+
+    def plan(self, *more):
+        """Makes the table, its plan, orders and messages, and other reports that are named, with what late orders hit."""
+        self.table = self.path("table.csv")
+        words = "--today", self.firm.monday, "--names", self.path("names.csv"), "--out", self.table, self.week
+        self.told = run("sheets", *words).splitlines()
+        texts = {name: report(name, self.table) for name in ("plan", "orders", "advice --reach", *more)}
+        self.reports = {name: [*mrp.rows_of(text)] for name, text in texts.items()}
+        if more:
+            lines = io.BytesIO(texts["plan"])
+            self.hits = hits.firm_of(self.table, lines, mrp.Names(self.path("names.csv"))).worst_first()
+
+    def obey(self):
+        """Moves purchases as messages within reach say. One that is needed sooner comes next week at the earliest."""
+        calendar, changed = reports.Table(self.table).calendar, False
+        for it in self.reports["advice --reach"]:
+            same = (o for o in self.firm.purchases.values() if o.pair == (it.plant, it.item) and o.quantity == it.quantity)
+            order = next((o for o in same if max(0, calendar.period(o.due)) == it.period and o.comes == o.due), None)
+            if it.kind != "receipt" or not order or it.action not in ("expedite", "defer"):
+                continue
+            day = max(calendar.first_day(it.needed), self.firm.monday + WEEK)
+            if it.action == "defer" or day < order.due:
+                order.due = order.comes = day
+                changed = True
+        if changed:
+            rows = [(it.number, *it.pair, it.due, it.quantity, it.comes) for it in self.orders()]
+            self.rewrite(rows)
+            self.plan()
+
+    def rewrite(self, rows):
+        """Writes the orders of the planner again, and keeps what is on its way by advices."""
+        with open(self.path("receipts.csv"), encoding="utf-8", newline="") as file:
+            heads, *found = csv.reader(file)
+        advised = [it for it in found if "Advice" in heads and it[heads.index("Advice")]]
+        wide = len(heads)
+        self.write("receipts.csv", ",".join(heads), [[*map(str, it), *[""] * (wide - len(it))] for it in rows] + advised)
+
+    def kept(self):
+        """Returns the orders that are to be booked now: bought ones that are released, and where releases are frozen those that fall into that time."""
+        found = []
+        for it in self.reports["orders"]:
+            pair = self.firm.pairs[it.plant, it.item]
+            is_own = pair.supply == "make" or pair.supply == "buy" and (not pair.vendor or pair.frozen)
+            if isinstance(it, mrp.Order) and is_own and it.release <= pair.frozen:
+                found.append(it)
+        return found
+
+    def order(self):
+        """Books orders, and returns them. The firm has them by their numbers then."""
+        kept = self.kept()
+        if not kept:
+            return []
+        with open(self.path("kept.txt"), "w", encoding="utf-8") as file:
+            file.writelines(f"{it}\n" for it in (mrp.header(mrp.Order), *map(mrp.line_of, kept)))
+        run("book", "--number", "FA-", self.path("kept.txt"), self.week)
+        for name, found in (("firm_orders.csv", self.firm.starts), ("receipts.csv", self.firm.purchases)):
+            with open(self.path(name), encoding="utf-8", newline="") as file:
+                for row in csv.DictReader(file):
+                    self.take(row, found)
+        return kept
+
+    def take(self, row, orders):
+        """Takes a row that is new as an order."""
+        if row["Order"] and row["Order"] not in {*self.firm.purchases, *self.firm.starts, *self.firm.production}:
+            days = [datetime.date.fromisoformat(it) if it else None for it in (row.get("Start"), row["Due"], row.get("Comes"))]
+            start, due, comes = days
+            pair, quantity = (row["Plant"], row["Item"]), int(row["Quantity"])
+            orders[row["Order"]] = Order(row["Order"], pair, quantity, start, due, comes or due)
+            self.firm.moved[pair, "placed"] += quantity
+
+    def release(self):
+        """Sends the releases, and returns up to which figure each supplier is to ship before next Monday."""
+        before = f"{self.folder}/{self.firm.monday - WEEK}.out"
+        last = ["--last", before] if os.path.isdir(before) else []
+        words = [f"{crates.TOP}/bin/releases", "--sheets", self.week, *last, "--names", self.path("names.csv"), "--out", f"{self.week}.out"]
+        with open(self.table, "rb") as rows:
+            done = subprocess.run([sys.executable, *words], stdin=rows, capture_output=True, text=True, check=False)
+        if done.returncode:
+            raise Ended(f"bin/releases: {done.stderr}")
+        self.said += done.stderr.splitlines()
+        self.released = {}
+        for name in sorted(os.listdir(f"{self.week}.out")):
+            with open(f"{self.week}.out/{name}", encoding="utf-8", newline="") as file:
+                for row in csv.DictReader(file):
+                    self.released.setdefault((row["Supplier"], row["Customer"], row["Item"]), []).append(row)
+        end = str(self.firm.monday + WEEK)
+        return {names: self.called(rows, end) for names, rows in self.released.items()}
+
+    def called(self, rows, end):
+        """Returns up to which figure a release calls for an item before a day: at least what is shipped by it."""
+        opening = sum(int(rows[0][it]) for it in ("Closed", "Received", "In transit"))
+        return max([opening, *(int(it["With closed years"]) for it in rows if it["Despatch"] and it["Despatch"] < end)])
+
+    def gross(self, table=None):
+        """Returns the gross requirements of each pair: of the table of this Monday, or of another one."""
+        found = {}
+        for it in mrp.rows_of(report("plan", table)) if table else self.reports["plan"]:
+            if isinstance(it, mrp.Plan):
+                found.setdefault((it.plant, it.item), []).append(it.gross)
+        return found
+
+    def sums(self, *kinds):
+        """Returns the pieces of each pair in rows of the table."""
+        found = Counter()
+        for it in reports.Table(self.table).rows(*kinds):
+            found[it.pair] += it.quantity
+        return found
