@@ -11,8 +11,8 @@ import mrp
 MOST_ROWS, MOST_SEEN, MOST_ORDERS, MOST_LINES = 1000, 100, 4, 20
 # The days of a month: what is released in it is unfolded, and what is late by as much is marked most.
 MONTH = 31
-# What open orders are called that aren't in transit.
-KINDS = {"receipt": "receipt", "firm": "firm order"}
+# When those are needed that aren't within the horizon, by their messages.
+NEVER = {"cancel": "never", "beyond": reports.BEYOND}
 RULES = {"lot": "lot for lot", "fixed": "lots of {}", "periods": "for {} {}s", "min": "at least {}, by {}"}
 IN_TIME = (
     f'<p id="delays">{reports.LABELS[2]} counts late orders as if they came when they are due{{}}; '
@@ -23,6 +23,8 @@ SOONER = ", and receipts sooner than they come where a policy says so"
 # What stands behind late orders of items that have open orders that come late, and of those that have none.
 COMES = "<p>Open orders that the sheets say come later than they are due (Comes) stand here too.</p>"
 EXPEDITE = "<p>An item that has no late order here has receipts that the plan counts sooner than they come: they are to be expedited.</p>"
+# What is overdue in the sheets.
+OVERDUE = {"demand": "demand", "receipt": "receipt", "firm": "firm order", "ship": "in transit"}
 
 
 def is_firm(order):
@@ -166,10 +168,10 @@ class Board:
         rows = self.outline.rows
         counts = [(len(self.outline.pairs), "pair"), (len(self.dates), self.unit), (len(rows[mrp.Late]), "late order")]
         counts += [(len(rows[mrp.Hit]), "demand"), (len(rows[mrp.Order]), "order")]
-        counts += [(self.messages.count(), "open order")]
+        counts += [(self.messages.counts.total(), "open order"), (self.messages.beyond.total(), "open order")]
         firm, lacking = sum(map(is_firm, rows[mrp.Order])), sum((it.plant, it.item) in self.outline.lacking.of for it in rows[mrp.Order])
         of_these = f", {firm:,} of them firm" * bool(firm) + f", {lacking:,} of them lacking parts" * bool(lacking)
-        ends = ["", "", "", " hit", f" to release{of_these}", " to be moved"]
+        ends = ["", "", "", " hit", f" to release{of_these}", " to be moved", " needed beyond the horizon"]
         return ", ".join(reports.counted(*it) + end for it, end in zip(counts, ends) if it[0] or not end)
 
     def vendor(self, order):
@@ -234,6 +236,17 @@ class Board:
         note += COMES * any(map(self.outline.asked, *zip(*self.delays))) if self.delays else ""
         return self.section("late", title, sortable(["Plant", "Item", "Late", "Orders", *heads], rows, " stack") + note, "")
 
+    def overdue(self):
+        """Returns the demands and open orders of the sheets whose date was before the plan, whatever it makes of them."""
+        found = [it for it in named.overdue(self.names) if self.outline.asked(it.plant, it.item)]
+        rows = []
+        for it in found:
+            kind = OVERDUE[it.kind] + f"<br><small>{html.escape(it.note)}</small>" * bool(it.note)
+            late = f'<b class="late">{it.late}</b>', it.days
+            rows.append([self.plant(it.plant), self.item(it.plant, it.item), it.quantity, late, self.dated(it.date), kind])
+        heads = ["Plant", "Item", "Quantity", "Late", "Due", "Kind"]
+        return self.section("overdue", "Overdue in the sheets", sortable(heads, rows, " stack"), "") if rows else ""
+
     def expedited(self):
         """Returns the pairs without late orders for which demands wait, for receipts that the plan counts sooner than they come, and
         those with open orders that come late."""
@@ -276,11 +289,11 @@ class Board:
         rows = []
         for it in self.messages.rows():
             comes = self.day(it.date) + self.notes(it.kind, it.plant, it.item, it.period)
-            needed = self.dated(it.needed_date) if it.needed_date else ("never", "never")
-            kind = f"in transit from {self.plant(it.supplier)}" if it.supplier else KINDS[it.kind]
+            needed = self.dated(it.needed_date) if it.needed_date else 2 * (NEVER[it.action],)
+            kind = f"in transit from {self.plant(it.supplier)}" if it.supplier else reports.OPEN_ORDERS[it.kind]
             rows.append([f"<b>{it.action}</b>", self.plant(it.plant), self.item(it.plant, it.item), it.quantity, (comes, str(it.date)), needed, kind])
         heads = ["Message", "Plant", "Item", "Quantity", "Comes", "Needed", "Kind"]
-        table = sortable(heads, rows, " stack", self.messages.count()) if rows else ""
+        table = sortable(heads, rows, " stack", self.messages.counts.total() + self.messages.beyond.total()) if rows else ""
         return self.section("moves", "Open orders to expedite, defer, cancel", table, "Each comes when it is needed.")
 
     def deliveries(self):
@@ -381,9 +394,10 @@ class Board:
         messages = self.messages.rows(pair)
         for it in messages:
             needed = f", needed {self.day(it.needed_date)}" if it.needed_date else ""
-            lines.append(f"{it.action} {self.open_order(it)}{needed}")
-        more = self.messages.counts[pair] - len(messages)
-        lines += [f"and {reports.counted(more, 'open order')} more to be moved"] if more else []
+            order = self.open_order(it)
+            lines.append(f"{order}, {reports.BEYOND}" if it.action == "beyond" else f"{it.action} {order}{needed}")
+        more = self.messages.counts[pair] + self.messages.beyond[pair] - len(messages)
+        lines += [f"and {reports.counted(more, 'open order')} more{' to be moved' * (not self.messages.beyond[pair])}"] if more else []
         return "<br>".join(lines)
 
     def heads(self):

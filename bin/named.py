@@ -1,7 +1,9 @@
 """Reports in the firm's own names, for bin/orders and bin/schedule: what names.csv says of items, rows, and sums."""
 import csv
+import re
 import shutil
 import sys
+from typing import NamedTuple
 
 import headed
 import reports
@@ -15,16 +17,43 @@ VENDOR_ITEM += " lieferantenteil lieferantenteile lieferantenartikel lieferanten
 VENDOR_ITEM += " referencefournisseur reffournisseur articlefournisseur"
 VENDOR_ITEM += " referenciaproveedor referenciadelproveedor articuloproveedor"
 HEADINGS = {**dict.fromkeys(VENDOR.split(), "vendor"), **dict.fromkeys(VENDOR_ITEM.split(), "vendor_item")}
+ADVICE = dict.fromkeys(headed.keys("Advice", headed.ADVICE), "advice")
 
 
-def headed_words(part):
-    """Returns what a part of a note says, vendor or vendor_item, and the words behind that heading; or None."""
+def headed_words(part, headings=HEADINGS):
+    """Returns what a part of a note says, as vendor or vendor_item, and the words behind that heading; or None."""
     words = part.split(" ")
     # (the longest heading: that of a vendor's part number begins as that of a vendor)
     for place in range(len(words) - 1, 0, -1):
-        if found := HEADINGS.get(headed.key(" ".join(words[:place]))):
+        if found := headings.get(headed.key(" ".join(words[:place]))):
             return found, " ".join(words[place:])
     return None
+
+
+class Overdue(NamedTuple):
+    """A demand or an open order of the sheets whose date is before the plan: its kind, pair, pieces, days late and what says so, its
+    date, and what its row says besides.
+    """
+
+    kind: str
+    plant: str
+    item: str
+    quantity: int
+    days: int
+    late: str
+    date: object
+    note: str
+
+
+def overdue(names):
+    """Returns what names.csv says is overdue, the latest first."""
+    found = []
+    for (word, plant, item, _), texts in names.rows.items():
+        front, _, kind = word.partition(" ")
+        for text in texts if front == "overdue" else ():
+            quantity, date, late, days, note = re.fullmatch(r"(\d+) of (\S+): ((?:its start )?([\d,]+) days? late)(?:, (.*))?", text, re.DOTALL).groups("")
+            found.append(Overdue(kind, plant, item, int(quantity), int(days.replace(",", "")), late, mrp.day_of(date), note))
+    return sorted(found, key=lambda it: -it.days)
 
 
 class Items:

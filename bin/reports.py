@@ -204,6 +204,12 @@ def policy_words(policy, unit):
         yield "orders " + ", ".join([*least, *([f"in multiples of {policy.multiple:,}"] if policy.multiple else [])])
 
 
+# What open orders are called that aren't in transit.
+OPEN_ORDERS = {"receipt": "receipt", "firm": "firm order"}
+# What is said of an open order of which requirements within the horizon don't tell when it is needed.
+BEYOND = "not known yet: needed beyond the horizon"
+
+
 def notes_of_firm(names, row):
     """Returns what the sheets say of a firm order: of those of its pair that are due in its period and have its quantity."""
     return [it for it in names.of("firm", row.plant, row.item, row.due) if it.startswith(f"{row.quantity} of ")]
