@@ -1,4 +1,8 @@
-/* Answers as mrp does, by the library: report plan|orders|schedule|check|cums|advice|shortages [--header] < table
+/* Answers as mrp does, by the library:
+ *
+ *   report plan|orders|schedule|check|reach|cums|advice|shortages [--whole] [--header] < table
+ *
+ * `reach` is mrp check --reach. Advice is that of all messages, as without --reach.
  *
  * The report goes to standard output, the line of a fault to standard error, and the status is that of the call, 2 for other
  * words, or 3 where standard input can't be read or standard output not be written.
@@ -44,32 +48,37 @@ static struct bytes read_all(FILE *file)
 }
 
 /* Makes the call of that name. */
-static uint32_t call(const char *name, bool header, struct bytes table, struct bytes buffer, size_t *size)
+static uint32_t call(const char *name, const mrp_reading *reading, bool header, struct bytes table, struct bytes buffer,
+                     size_t *size)
 {
     const uint8_t none[1] = {0};
     if (!strcmp(name, "plan"))
-        return mrp_plan(table.at, table.size, buffer.at, buffer.size, size);
+        return mrp_plan(table.at, table.size, reading, buffer.at, buffer.size, size);
     if (!strcmp(name, "orders"))
-        return mrp_orders(table.at, table.size, false, 0, header, buffer.at, buffer.size, size);
+        return mrp_orders(table.at, table.size, reading, false, 0, header, buffer.at, buffer.size, size);
     if (!strcmp(name, "schedule"))
-        return mrp_schedule(table.at, table.size, none, 0, none, 0, header, buffer.at, buffer.size, size);
+        return mrp_schedule(table.at, table.size, reading, none, 0, none, 0, header, buffer.at, buffer.size, size);
     if (!strcmp(name, "check"))
-        return mrp_check(table.at, table.size, header, buffer.at, buffer.size, size);
+        return mrp_check(table.at, table.size, reading, header, buffer.at, buffer.size, size);
+    if (!strcmp(name, "reach"))
+        return mrp_reach(table.at, table.size, reading, header, buffer.at, buffer.size, size);
     if (!strcmp(name, "cums"))
-        return mrp_cums(table.at, table.size, header, buffer.at, buffer.size, size);
+        return mrp_cums(table.at, table.size, reading, header, buffer.at, buffer.size, size);
     if (!strcmp(name, "advice"))
-        return mrp_advice(table.at, table.size, false, 0, header, buffer.at, buffer.size, size);
+        return mrp_advice(table.at, table.size, reading, false, 0, false, header, buffer.at, buffer.size, size);
     if (!strcmp(name, "shortages"))
-        return mrp_shortages(table.at, table.size, header, buffer.at, buffer.size, size);
+        return mrp_shortages(table.at, table.size, reading, header, buffer.at, buffer.size, size);
     fprintf(stderr, "report: no report is called %s\n", name);
     exit(2);
 }
 
 int main(int count, char **words)
 {
-    bool header = count == 3 && !strcmp(words[2], "--header");
-    if (count < 2 || count > 2 + header) {
-        fputs("report: give it the name of a report, and --header where names of columns are wanted\n", stderr);
+    mrp_reading reading = {count > 2 && !strcmp(words[2], "--whole")};
+    bool header = count > 2 + reading.whole && !strcmp(words[2 + reading.whole], "--header");
+    if (count < 2 || count > 2 + reading.whole + header) {
+        fputs("report: give it the name of a report, --whole where the table has to end with an end row, and --header where"
+              " names of columns are wanted\n", stderr);
         return 2;
     }
     struct bytes table = read_all(stdin), text = {NULL, 0};
@@ -78,7 +87,7 @@ int main(int count, char **words)
     do {
         text.size = size;
         grow(&text, size);
-        status = call(words[1], header, table, text, &size);
+        status = call(words[1], &reading, header, table, text, &size);
     } while (size > text.size);
     FILE *out = status ? stderr : stdout;
     if (fwrite(text.at, 1, size, out) < size || fflush(out)) {
