@@ -8,15 +8,15 @@ _mrp() {
         words="plan check peg cums orders schedule pegs advice shortages help --help --version"
     else
         case ${COMP_WORDS[1]} in
-            plan) words="--workers --capacity --single --help" ;;
-            check) words="--header --help" ;;
-            peg) words="--header --help" ;;
-            cums) words="--header --help" ;;
-            orders) words="--until --header --help" ;;
-            schedule) words="--from --to --header --help" ;;
-            pegs) words="--header --help" ;;
-            advice) words="--until --header --help" ;;
-            shortages) words="--header --help" ;;
+            plan) words="--workers --capacity --single --whole --help" ;;
+            check) words="--reach --header --whole --help" ;;
+            peg) words="--header --whole --help" ;;
+            cums) words="--header --whole --help" ;;
+            orders) words="--until --header --whole --help" ;;
+            schedule) words="--from --to --header --whole --help" ;;
+            pegs) words="--header --whole --help" ;;
+            advice) words="--until --reach --header --whole --help" ;;
+            shortages) words="--header --whole --help" ;;
             help) words="plan check peg cums orders schedule pegs advice shortages" ;;
             *) words="--help" ;;
         esac
