@@ -259,6 +259,17 @@ def test_slips(room, changes, told):
     assert found == {}
 
 
+def test_closed_years_that_lack_one(room):
+    """Where figures have started again behind Started, the first release can't know what was closed then."""
+    vendors = LATER["vendors.csv"].replace("Since\n", "Since,Started,Closed\n").replace("2027-01-04\n", "2027-01-04,2026-01-05,1900\n")
+    said, found = releases(room, "--out out", NEXT, status=1, **{name[:-4]: text for name, text in LATER.items()} | {"vendors": vendors})
+    assert said == (
+        "bin/releases: Lumen WORKS MOTOR: figures have started again on 2027-01-04, behind Started; write that day there, and in Closed all that"
+        " was closed by then\n"
+    )
+    assert found == {}
+
+
 @pytest.mark.parametrize(
     "edit, told",
     [
