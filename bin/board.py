@@ -1,4 +1,5 @@
 """The parts of the page that bin/page writes: lists of what is to be done, and records, as HTML."""
+import functools
 import html
 from datetime import timedelta
 
@@ -38,6 +39,13 @@ def grouped(rows, *columns):
     for it in rows:
         found.setdefault(tuple(getattr(it, column) for column in columns), []).append(it)
     return found
+
+
+@functools.lru_cache(4096)
+def day_of(day, with_year):
+    """Returns a day with its week, and with its year where that is asked for."""
+    year = f" {day.year}" * with_year
+    return f'<time datetime="{day}">{day.day} {day:%b}{year} <small>W{day.isocalendar().week:02}</small></time>'
 
 
 def sortable(heads, rows, kind="", count=0):
@@ -99,8 +107,7 @@ class Board:
 
     def day(self, day):
         """Returns a day with its week, and with its year where the same day of the plan's first year could be meant."""
-        year = f" {day.year}" if (day - self.dates[0]).days > 330 else ""
-        return f'<time datetime="{day}">{day.day} {day:%b}{year} <small>W{day.isocalendar().week:02}</small></time>'
+        return day_of(day, (day - self.dates[0]).days > 330)
 
     def dated(self, day):
         """Returns a cell with a day, that is sorted by it."""
@@ -216,25 +223,23 @@ class Board:
     def late_orders(self):
         """Returns the pairs with late orders, and with each the demands that wait for it."""
         rows, hits_known = [], self.outline.facts is not None or bool(self.hits)
-        for pair, orders in self.late.items():
-            hits = self.hits.get(pair, [])
-            ends = [len(hits), folded([self.demand(it) for it in hits])] if hits_known else []
-            if others := self.outline.others.get(pair):
-                ends = [("", 0), self.others(others)]
-            rows.append([self.plant(pair[0]), self.item(*pair), self.lateness(orders[0].by), self.due(pair, orders), *ends])
         expedited = self.expedited()
-        for pair in expedited:
-            hits = self.hits.get(pair, [])
+        pairs = [*self.late, *expedited]
+        # (so many are shown)
+        for pair in pairs[:MOST_ROWS]:
+            hits, orders = self.hits.get(pair, []), self.late.get(pair, [])
             ends = [len(hits), folded([self.demand(it) for it in hits])] if hits_known else []
-            late = hits[0].late_at_worst if hits else max(it.by for it in self.delays[pair])
-            rows.append([self.plant(pair[0]), self.item(*pair), self.lateness(late), self.due(pair, []), *ends])
+            if orders and (others := self.outline.others.get(pair)):
+                ends = [("", 0), self.others(others)]
+            late = orders[0].by if orders else hits[0].late_at_worst if hits else max(it.by for it in self.delays[pair])
+            rows.append([self.plant(pair[0]), self.item(*pair), self.lateness(late), self.due(pair, orders), *ends])
         if not rows:
             return self.section("late", "Late orders", "", "No order is late.")
         title, heads = ("Late orders, and the demands that they hit", ["Demands", "Worst by this order"]) if hits_known else ("Late orders", [])
         note = "A demand stands by the late order that delays it most, with how late it is at worst; <em>also</em> counts those that wait for this one too."
         note = f"<p>{note}</p>" + EXPEDITE * any(it not in self.delays for it in expedited) if hits_known else ""
         note += COMES * any(map(self.outline.asked, *zip(*self.delays))) if self.delays else ""
-        return self.section("late", title, sortable(["Plant", "Item", "Late", "Orders", *heads], rows, " stack") + note, "")
+        return self.section("late", title, sortable(["Plant", "Item", "Late", "Orders", *heads], rows, " stack", len(pairs)) + note, "")
 
     def overdue(self):
         """Returns the demands and open orders of the sheets whose date was before the plan, whatever it makes of them."""

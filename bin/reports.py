@@ -265,7 +265,7 @@ class Run(NamedTuple):
 
 
 # How many fields are alike in the rows of a pair, by the first letters of a row, and how many rows of a run are kept.
-PLAN_ROWS, ADVICE_ROWS = {b"plan,": 3}, {b"advic": 5}
+PLAN_ROWS, ADVICE_ROWS, SCHEDULE_ROWS = {b"plan,": 3}, {b"advic": 5}, {b"sched": 5}
 MOST_ALIKE = 1000
 
 
