@@ -53,8 +53,8 @@ pub fn dates_rise()
     ensures end { (c : CalendarTerms) → IsCalendar c → (t : ℕ) → t < c.periods → first_day c t ≤ last_date }
 {}
 
-/// The limits as numbers: DAYS is 1 to 31, and only a period before one whose first day is given may be longer. Days are counted from 1970-01-01, which is day 0,
-/// and the last day that a calendar may have is 2199-12-31.
+/// The limits as numbers: DAYS is 1 to 31, and only a period before one whose first day is given may be longer or
+/// shorter. Days are counted from 1970-01-01, which is day 0, and the last day that a calendar may have is 2199-12-31.
 pub fn limits_are_numbers()
     ensures length { (days : ℕ) → IsPeriodLength days ↔ ((1 ≤ days) × (days ≤ 31)) }
     ensures first { SpellsDay (codes "1970-01-01") (pos 0) }
