@@ -10,6 +10,7 @@ pub mod TogetherLaws
 pub mod OneRows
 pub mod CountSteps
 pub mod DataPlans
+pub mod PlainData
 pub mod Needless
 pub mod Matched
 pub mod WorkedPairs
@@ -17,8 +18,6 @@ pub mod PlannedReleases
 pub mod ReleaseSteps
 pub mod PlainLaws
 pub mod RulesLaws
-pub mod Balances
 pub mod Compared
 pub mod Lates
 pub mod Plans
-pub mod Releases

@@ -2,7 +2,7 @@
 use Rattle.std.specs.Prelude.{◌≡◌, ℕ, ◌+◌, ◌-◌, ◌≤◌, ◌<◌, ◌==◌, if◌then◌else◌, min, max, All}
 use Rattle.std.specs.Prelude.{List, length, map, get_or, sum, sum_by, take, drop, slice_index, zero, suc}
 use Rattle.std.specs.List.{range_with_len}
-use Rattle.std.proofs.Common.{arith, sym, refl, ◌∙◌, ap, subst, add-one, eqb-true, eq-eqb}
+use Rattle.std.proofs.Common.{arith, sym, refl, ◌∙◌, ap, subst, eqb-true, eq-eqb}
 use Rattle.std.proofs.lemmas.Bool.{cond_both, false≢true}
 use Rattle.std.proofs.lemmas.List.FromFn.{length-range_with_len, get_or-range_with_len, length-map-range_with_len, get_or-map-range_with_len}
 use Rattle.std.proofs.lemmas.List.Sums.{sum_by-take-le, sum_by-take-drop, sum-map, get_or-le-sum_by}
@@ -182,16 +182,6 @@ releases-sum pair incoming gross =
 pub releases-le : (pair : PairParams) (incoming gross : List ℕ) → IsWithin pair incoming gross
     → sum_by (release_at pair incoming gross) (range_with_len 0 (length gross)) ≤ pair.safety + rule_quantities pair.rule + sum gross
 releases-le pair incoming gross is = omega (arith, releases-sum pair incoming gross, orders-le pair incoming gross (length gross) is (omega arith))
-
--- the same at n + 1, as a loop counts
-pub greatest_need-more : (pair : PairParams) (incoming gross : List ℕ) (before t n : ℕ)
-    → greatest_need pair incoming gross before t (n + 1)
-    ≡ max (greatest_need pair incoming gross before t n)
-    ((pair.safety + sum (take (n + 1) (drop t gross))) - (before + sum (take (n + 1) (drop t incoming))))
-greatest_need-more pair incoming gross before t n =
-    subst (λ (m : ℕ). greatest_need pair incoming gross before t m
-    ≡ max (greatest_need pair incoming gross before t n) (need_over pair incoming gross before t m))
-    (sym (add-one n)) (greatest_need-suc pair incoming gross before t n)
 
 -- the rows of the plan, by period and as a whole
 pub one-order : (pair : PairParams) (incoming gross : List ℕ) → (one pair incoming gross).order

@@ -1,13 +1,13 @@
 -- The plan of a pair without policy and firm planned orders is the one from two rows.
-use Rattle.std.specs.Prelude.{◌≡◌, ℕ, ◌+◌, ◌-◌, ◌≤◌, ◌<◌, ◌==◌, if◌then◌else◌, min, max}
+use Rattle.std.specs.Prelude.{◌≡◌, ◌≢◌, ℕ, ◌+◌, ◌-◌, ◌≤◌, ◌<◌, ◌==◌, if◌then◌else◌, min, max}
 use Rattle.std.specs.Prelude.{List, length, map, sum, take, drop, slice_index, zero, suc}
 use Rattle.std.specs.List.{range_with_len}
-use Rattle.std.proofs.Common.{arith, sym, refl, ◌∙◌, ap, subst, add-zero, ⊎_elim}
-use Rattle.std.proofs.lemmas.Bool.{cases_lt}
+use Rattle.std.proofs.Common.{arith, sym, refl, ◌∙◌, ap, subst, add-zero, ⊎_elim, eq-eqb, ne_eqb}
+use Rattle.std.proofs.lemmas.Bool.{cases_lt, cond-false, cond-true}
 use Rattle.std.proofs.lemmas.List.{get_or_past, take_all}
 use Rattle.std.proofs.lemmas.List.FromFn.{fill_by_all, length-map-range_with_len}
 use Rattle.mrp_lot.specs.Lot.{lot_of, periods_covered}
-use Rattle.mrp_qty.proofs.RangeLaws.{sum_take-suc, sum_drop_take-one, map-range-same}
+use Rattle.mrp_qty.proofs.RangeLaws.{sum_take-suc, sum_drop_take-one, sum_by-range-suc, sum_by-range-more, map-range-same}
 use Rattle.mrp_netting.specs.declared.params.PairParams.{PairParams}
 use Rattle.mrp_netting.specs.One as today
 use Rattle.mrp_netting.specs.PlanRows.{late_orders}
@@ -18,7 +18,6 @@ use Rattle.mrp_netting.specs.PlanningData.{order_after, balance_before, order_at
 use Rattle.mrp_netting.specs.PlanningLaws.{PlainIsToday, PlainFollowsRules}
 use Rattle.mrp_netting.proofs.OneLaws.{greatest_need-zero, greatest_need-suc}
 use Rattle.mrp_netting.proofs.RulesLaws.{plan-follows_rules, rules-have_one_plan}
-use Rattle.mrp_netting.proofs.Compared.{IsFirst, first_in_zero, first_later, released_before, released_more, released_all}
 use Rattle.mrp_netting.proofs.PlannedReleases.{planned_release-first, planned_release-later}
 use Rattle.mrp_netting.proofs.Greatest.{greatest-zero, greatest-suc}
 use Rattle.mrp_netting.proofs.Lots.{lot_for-is, made_up-none}
@@ -108,6 +107,61 @@ available_row-plain : (pair : PairParams) (incoming gross : List ℕ) → length
 available_row-plain pair incoming gross len =
     map-range-same (λ t. balance_before (plain pair incoming gross) (suc t)) (λ t. today.balance_before pair incoming gross (suc t)) (length gross)
     (λ t h. balance_before-plain pair incoming gross (suc t) len (omega arith))
+
+-- periods whose orders aren't released in u count nothing
+released_skips : (lead : ℕ) (order : List ℕ) (u m k : ℕ) → ((t : ℕ) → m ≤ t → t < m + k → (t - lead) ≢ u)
+    → released lead order (m + k) u ≡ released lead order m u
+released_skips lead order u m zero skips = let same : m + zero ≡ m = omega arith in ap (λ (n : ℕ). released lead order n u) same
+released_skips lead order u m (suc k) skips =
+    let next : m + suc k ≡ suc (m + k) = omega arith in
+    let miss = cond-false (((m + k) - lead) == u) (slice_index order (m + k)) 0 (ne_eqb ((m + k) - lead) u (skips (m + k) (omega arith) (omega arith))) in
+    ap (λ (n : ℕ). released lead order n u) next
+    ∙ omega (
+      arith,
+      miss,
+      sum_by-range-suc (λ t. if (t - lead) == u then slice_index order t else 0) (m + k),
+      released_skips lead order u m k (λ t low high. skips t low (omega arith)),
+    )
+
+-- the first period whose order is released in u: in period 0 that of any order so far
+record IsFirst (lead u first : ℕ) : Type 0 where
+  pub early : (t : ℕ) → t < first → (t - lead) ≢ u
+  pub at : (t : ℕ) → first ≤ t → t < u + lead + 1 → (t - lead) ≡ u
+
+first_in_zero : (lead u first : ℕ) → u ≡ 0 → first ≡ 0 → IsFirst lead u first
+first_in_zero lead u first none is = record {
+  early = λ t h. absurd (omega arith);
+  at = λ t low high. omega arith;
+}
+
+first_later : (lead u first : ℕ) → (u ≡ 0 → ⊥) → first ≡ u + lead → IsFirst lead u first
+first_later lead u first some is = record {
+  early = λ t h e. omega arith;
+  at = λ t low high. omega arith;
+}
+
+released_before : (lead : ℕ) (order : List ℕ) (u first : ℕ) → IsFirst lead u first → released lead order first u ≡ 0
+released_before lead order u first is =
+    let same : first ≡ 0 + first = omega arith in
+    ap (λ (n : ℕ). released lead order n u) same ∙ released_skips lead order u 0 first (λ t low high. is.early t (omega arith))
+
+released_more : (lead : ℕ) (order : List ℕ) (u t : ℕ) → (t - lead) ≡ u → released lead order (t + 1) u ≡ released lead order t u + slice_index order t
+released_more lead order u t at =
+    let hit = cond-true ((t - lead) == u) (slice_index order t) 0 (eq-eqb (t - lead) u at) in
+    omega (arith, hit, sum_by-range-more (λ (j : ℕ). if (j - lead) == u then slice_index order j else 0) t)
+
+released_all : (lead : ℕ) (order : List ℕ) (u first n end t : ℕ) → IsFirst lead u first → end ≡ min n (u + lead + 1) → first ≤ t → end ≤ t
+    → t ≤ max first end
+    → released lead order t u ≡ released lead order n u
+released_all lead order u first n end t is ends low high most =
+    ⊎_elim
+    (λ (past : n < t).
+    let there : n + (t - n) ≡ t = omega arith in
+    ap (λ (m : ℕ). released lead order m u) (sym there) ∙ released_skips lead order u n (t - n) (λ j from to. is.early j (omega arith)))
+    (λ (within : t ≤ n).
+    let there : t + (n - t) ≡ n = omega arith in
+    sym (ap (λ (m : ℕ). released lead order m u) (sym there) ∙ released_skips lead order u t (n - t) (λ j from to e. omega arith)))
+    (cases_lt n t)
 
 -- the releases are the same: in period 0 all orders that are due within the lead time, then those a lead time later
 early : (lead : ℕ) (order : List ℕ) (n : ℕ) → n ≤ suc lead → released lead order n 0 ≡ sum (take n order)

@@ -1,10 +1,8 @@
 -- What a plan of one pair keeps.
 use Rattle.std.specs.Prelude.{◌≡◌, ℕ, ◌<◌, List, [], length, map, replicate, All}
 use Rattle.mrp_qty.specs.Row.{IsRow}
-use Rattle.mrp_netting.specs.declared.params.PairParams.{PairParams}
 use Rattle.mrp_netting.specs.declared.params.Late.{Late}
 use Rattle.mrp_netting.specs.PlanRows.{PlanRows, late_order}
-use Rattle.mrp_netting.specs.One.{order_row, available_row}
 
 -- five rows of one horizon
 pub record AreRows (rows : PlanRows) : Type 0 where
@@ -28,11 +26,6 @@ nothing_planned horizon = record {
   available = replicate horizon 0;
   late = [];
 }
-
--- both are given
-abbrev pub AreOrders : PairParams → List ℕ → List ℕ → List ℕ → List ℕ → Type 0
-AreOrders pair incoming gross order available = (order ≡ order_row pair incoming gross)
-    × (available ≡ available_row pair incoming gross)
 
 -- the late orders of given periods
 abbrev pub late_orders_in : ℕ → List ℕ → List ℕ → List Late

@@ -16,19 +16,16 @@
 
 mod blank;
 mod counting;
-mod following;
 mod incoming;
 mod late;
 mod laws;
 mod matching;
-mod netting;
 mod orders;
 mod params;
 mod pieces;
 mod plan;
 mod planning_data;
 mod planning_laws;
-mod release;
 mod releasing;
 
 pub use blank::blank_plans;

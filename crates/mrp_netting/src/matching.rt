@@ -1,16 +1,17 @@
 //! Whether the rows of a plan follow from its planning data, period by period. Nothing is written.
 
-ghost use Rattle.std.specs.Prelude.{◌≡◌, ℕ, ◌+◌, ◌≤◌, ◌<◌, ◌↔◌, IsTrue, List, length, sum};
+ghost use Rattle.std.specs.Prelude.{◌≡◌, ℕ, ◌+◌, ◌≤◌, ◌<◌, ◌↔◌, IsTrue, List, Some, length, slice_get, sum};
 ghost use Rattle.mrp_qty.specs.declared.quantity.TheConstants.{MOST};
 ghost use Rattle.mrp_lot.specs.declared.rule.TheConstants.{LONGEST_LEAD};
+ghost use Rattle.mrp_netting.specs.PlanRows.{late_orders};
 ghost use Rattle.mrp_netting.specs.PlanningData.{incoming_row, order_row, available_row, planned_release, release_row};
 ghost use Rattle.mrp_netting.specs.PlanningBound.{IsWithinData, data_of};
 
-use crate::PlanningData;
 use crate::counting::Sums;
 use crate::orders::order_and_stock;
 use crate::pieces::{front_quantity, pieces_at, quantity_at};
 use crate::releasing::earliest_period;
+use crate::{PairPlan, PlanningData};
 use mrp_qty::Qty;
 
 /// Whether the row is what comes in: arrivals, firm planned orders, and the receipts that are counted in each period.
@@ -123,4 +124,36 @@ fn planned_in(given: &PlanningData<'_>, order: &[Qty], u: usize) -> u64
         return front_quantity(order, due + 1);
     }
     quantity_at(order, due)
+}
+
+/// Whether the late orders are those of the plan's order row that are due within the lead time.
+pub(crate) fn late_follow(lead: u64, plan: &PairPlan) -> bool
+    ensures { IsTrue result ↔ (plan.now.late ≡ late_orders lead plan.now.order) }
+{
+    let order = plan.order().as_slice();
+    let end = order.len().min(lead as usize);
+    let mut found = 0;
+    for t in 0..end {
+        let quantity = order[t];
+        if quantity.get() > 0 {
+            let by = lead - t as u64;
+            if !has_late(plan, found, t, quantity, by) {
+                return false;
+            }
+            found += 1;
+        }
+    }
+    found == plan.late_count()
+}
+
+/// Whether the late order number `i` is there, and is this one.
+fn has_late(plan: &PairPlan, i: usize, period: usize, quantity: Qty, by: u64) -> bool
+    ensures { IsTrue result ↔
+        (slice_get plan.now.late i ≡ Some (record { period = period; quantity = quantity; by = by })) }
+{
+    if i >= plan.late_count() {
+        return false;
+    }
+    let late = plan.late(i);
+    late.period == period && late.quantity.get() == quantity.get() && late.by == by
 }

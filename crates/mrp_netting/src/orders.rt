@@ -1,13 +1,12 @@
 //! Planned order receipts and projected available from planning data, period by period.
 
-ghost use Rattle.std.specs.Prelude.{◌≡◌, ◌+◌, ◌<◌, ◌≤◌, length, suc};
+ghost use Rattle.std.specs.Prelude.{◌≡◌, ◌+◌, ◌-◌, ◌<◌, ◌≤◌, length, suc};
 ghost use Rattle.mrp_qty.specs.declared.quantity.TheConstants.{MOST};
 ghost use Rattle.mrp_netting.specs.PlanRows.{sum_from};
 ghost use Rattle.mrp_netting.specs.PlanningData.{need, greatest, lot_for, made_up, order_after, order_at};
 ghost use Rattle.mrp_netting.specs.PlanningData.{balance_before, incoming_row, order_row, available_row};
 ghost use Rattle.mrp_netting.specs.PlanningBound.{IsWithinData, data_of};
 
-use crate::netting::balance_after;
 use crate::pieces::{front_quantity, quantity_at};
 use crate::{PlanningData, Policy};
 use mrp_lot::{Rule, lot};
@@ -110,6 +109,16 @@ pub(crate) fn order_and_stock(
     (ordered, after)
 }
 
+/// The balance after a period: what was there, what comes in and what is ordered, less the gross
+/// requirement.
+fn balance_after(before: Qty, receipt: Qty, ordered: Qty, gross: Qty) -> Qty
+    requires covered { gross ≤ before + receipt + ordered }
+    requires within { before + receipt + ordered - gross ≤ MOST }
+    ensures { result ≡ before + receipt + ordered - gross }
+{
+    Qty::of(before.get() + receipt.get() + ordered.get() - gross.get())
+}
+
 /// The planned order receipt of period `t`, where `before` is the balance before it and `ahead` are the gross
 /// requirements of the periods of cover behind it.
 fn order_for(
@@ -151,6 +160,7 @@ fn lot_of_needs(
     ensures { result ≡ lot_for given.now.params.rule (need (data_of given.now gross.now) before t) }
 {
     match given.params.rule {
+        Rule::LotForLot => net,
         Rule::Periods(periods) => greatest_need(given, incoming, gross, before, t, periods),
         rule => lot(&rule, net, Qty::ZERO),
     }

@@ -2,6 +2,7 @@
 
 ghost use Rattle.std.specs.Prelude.{◌≡◌, ℕ, ◌+◌, ◌≤◌, ◌<◌, length, slice_index, sum, take};
 ghost use Rattle.mrp_qty.specs.declared.quantity.TheConstants.{MOST};
+ghost use Rattle.mrp_qty.specs.declared.horizon.TheConstants.{LONGEST};
 
 use mrp_qty::{Qty, Row};
 
@@ -70,4 +71,16 @@ pub(crate) fn put_pieces(row: &mut Row, pieces: &[u64])
     }
     row.clear();
     add_pieces(row, pieces);
+}
+
+/// The quantities of a row of at most 104 periods as pieces, in the first places of an array.
+pub(crate) fn pieces_of(row: &[Qty]) -> [u64; 104]
+    requires { length row.now ≤ LONGEST }
+    ensures { take (length row.now) result ≡ row.now }
+{
+    let mut pieces = [0; 104];
+    for t in 0..row.len() {
+        pieces[t] = row[t].get();
+    }
+    pieces
 }

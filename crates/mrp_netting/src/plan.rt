@@ -8,13 +8,11 @@ ghost use Rattle.mrp_netting.specs.Plan.{AreRows, nothing_planned, late_orders_i
 ghost use Rattle.mrp_netting.specs.PlanningData as planning;
 ghost use Rattle.mrp_netting.specs.PlanningBound.{IsWithinData, data_of};
 
-use crate::following::{late_follow, orders_follow, releases_follow};
 use crate::incoming::plan_incoming;
 use crate::late::note_late;
-use crate::matching::{has_incoming, has_orders, has_releases};
-use crate::netting::plan_orders;
+use crate::matching::{has_incoming, has_orders, has_releases, late_follow};
 use crate::orders::order_all;
-use crate::release::plan_releases;
+use crate::pieces::pieces_of;
 use crate::releasing::{earliest_period, release_all};
 use crate::{Late, PairParams, PlanningData};
 use mrp_qty::{Horizon, Memory, Row};
@@ -201,18 +199,10 @@ pub fn plan_pair(params: &PairParams, incoming: &Row, gross: &Row, into: &mut Pa
     requires room { length into.old.gross ≡ length gross.now }
     ensures { into.new ≡ one (plain params.now incoming.now gross.now) }
 {
+    let count = incoming.len();
+    let pieces = pieces_of(incoming.as_slice());
     into.gross.copy_from(gross);
-    into.incoming.copy_from(incoming);
-    plan_orders(
-        params,
-        incoming.as_slice(),
-        gross.as_slice(),
-        &mut into.order,
-        &mut into.available,
-    );
-    plan_releases(params.lead, into.order.as_slice(), &mut into.release);
-    note_late(params.lead, into.order.as_slice(), &mut into.late);
-    into.lead = params.lead;
+    plan_rows(&PlanningData::plain(*params, &pieces[..count]), into);
 }
 
 /// Plans one pair from its planning data: writes into `into` the rows and the late orders that follow from it and from
@@ -231,6 +221,15 @@ pub fn plan_from(given: &PlanningData<'_>, gross: &mut Row, into: &mut PairPlan)
     ensures room { gross.new ≡ into.old.gross }
 {
     mem::swap(&mut into.gross, gross);
+    plan_rows(given, into);
+}
+
+/// Writes the rows and the late orders that follow from the planning data and from the gross requirements that stand in
+/// the plan.
+fn plan_rows(given: &PlanningData<'_>, into: &mut PairPlan)
+    requires { IsWithinData (data_of given.now into.old.gross) }
+    ensures { into.new ≡ planning.one (data_of given.now into.old.gross) }
+{
     let required = into.gross.as_slice();
     plan_incoming(given, required, &mut into.incoming);
     order_all(
@@ -256,17 +255,9 @@ pub fn is_plan(params: &PairParams, plan: &PairPlan) -> bool
     requires { IsWithin params.now plan.now.incoming plan.now.gross }
     ensures { IsTrue result ↔ (plan.now ≡ one (plain params.now plan.now.incoming plan.now.gross)) }
 {
-    let _len = plan.len();
-    let incoming = plan.incoming().as_slice();
-    let gross = plan.gross().as_slice();
-    let order = plan.order().as_slice();
-    if !orders_follow(params, incoming, gross, order, plan.available().as_slice()) {
-        return false;
-    }
-    if !releases_follow(params.lead, order, plan.release().as_slice()) {
-        return false;
-    }
-    late_follow(params.lead, plan)
+    let count = plan.len();
+    let pieces = pieces_of(plan.incoming().as_slice());
+    is_plan_from(&PlanningData::plain(*params, &pieces[..count]), plan)
 }
 
 /// Whether the plan is the one that follows from its planning data and its gross requirements: what comes in, each

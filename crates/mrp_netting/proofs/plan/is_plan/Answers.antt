@@ -1,55 +1,32 @@
-use Rattle.std.proofs.Common.{◌≡◌, ℕ, List, sum, sym, ap, ◌∙◌, arith}
-use Rattle.std.proofs.lemmas.Bool.{false≢true}
-use Rattle.mrp_netting.specs.One.{release_row}
-use Rattle.mrp_netting.proofs.Compared.{orders_read, is_plan-from, is_plan-orders, is_plan-releases, is_plan-lates}
-use Rattle.mrp_netting.proofs.Plans.{order_row-le}
-use Rattle.mrp_netting.proofs.PlainLaws.{plain_is_today}
+use Rattle.std.proofs.Common.{◌≡◌, ℕ, List, length, take, sym, ◌∙◌, ap, subst}
+use Rattle.mrp_netting.specs.PlanningData.{one, plain}
+use Rattle.mrp_netting.specs.PlanningBound.{IsWithinData, data_of}
+use Rattle.mrp_netting.proofs.PlainData.{plain_is_within, plain_from}
 use Rattle.mrp_netting.proofs.plan.is_plan.Goals as goal
+use Rattle.mrp_netting.proofs.plan.is_plan.Goals.{After-plain}
 
-pub returns-then-not-orders_follow : goal.returns-then-not-orders_follow
-returns-then-not-orders_follow c =
-    let pair = c.args.params.now in
+-- the plan is that of its own two rows
+planned_from : (c : After-plain) → data_of c.plain.result c.args.plan.now.gross ≡ plain c.args.params.now c.args.plan.now.incoming c.args.plan.now.gross
+planned_from c =
     let rows = c.args.plan.now in
-    let same = orders_read pair rows _ _ _ _ (c.as_slice-incoming.ensures.value ∙ c.incoming.ensures) (c.as_slice-gross.ensures.value ∙ c.gross.ensures)
-    (c.as_slice-order.ensures.value ∙ c.order.ensures) (c.as_slice.ensures.value ∙ c.available.ensures) in (
-      λ no_. absurd (false≢true no_),
-      λ is.
-          absurd (false≢true (sym c.if-not-orders_follow.true ∙ c.orders_follow.ensures.1 (same.1 (is_plan-orders pair rows (is ∙ plain_is_today pair rows.incoming rows.gross c.requires.periods))))),
-    )
+    let pieces = c.pieces_of-pieces.result in
+    let read : c.as_slice.result.now ≡ rows.incoming = c.as_slice.ensures.value ∙ c.incoming.ensures in
+    let put : take (length rows.incoming) pieces ≡ rows.incoming = ap (λ (xs : List ℕ). take (length xs) pieces) (sym read) ∙ c.pieces_of-pieces.ensures ∙ read in
+    plain_from c.plain.result c.args.params.now rows.incoming pieces rows.gross c.len-count.result c.plain.ensures put
+    (c.len-count.ensures.value ∙ sym c.len-count.ensures.rows.incoming_len)
 
-pub releases_follow-requires-clause-total : goal.releases_follow-requires-clause-total
-releases_follow-requires-clause-total c =
-    let pair = c.args.params.now in
+pub is_plan_from-requires : goal.is_plan_from-requires
+is_plan_from-requires c =
     let rows = c.args.plan.now in
-    let same = orders_read pair rows _ _ _ _ (c.as_slice-incoming.ensures.value ∙ c.incoming.ensures) (c.as_slice-gross.ensures.value ∙ c.gross.ensures)
-    (c.as_slice-order.ensures.value ∙ c.order.ensures) (c.as_slice.ensures.value ∙ c.available.ensures) in
-    let o : c.as_slice-order.result.now ≡ rows.order = c.as_slice-order.ensures.value ∙ c.order.ensures in
-    let are = same.0 (c.orders_follow.ensures.0 c.if-not-orders_follow.false) in
-    omega (arith, ap (λ (r : List ℕ). sum r) o, order_row-le pair rows.incoming rows.gross rows.order c.requires are.0)
-
-pub returns-then-not-releases_follow : goal.returns-then-not-releases_follow
-returns-then-not-releases_follow c =
-    let pair = c.args.params.now in
-    let rows = c.args.plan.now in
-    let o : c.as_slice-order.result.now ≡ rows.order = c.as_slice-order.ensures.value ∙ c.order.ensures in
-    let r : c.as_slice-2.result.now ≡ rows.release = c.as_slice-2.ensures.value ∙ c.release.ensures in (
-      λ no_. absurd (false≢true no_),
-      λ is.
-          absurd (false≢true (sym c.if-not-releases_follow.true ∙ c.releases_follow.ensures.1 (r ∙ is_plan-releases pair rows (is ∙ plain_is_today pair rows.incoming rows.gross c.requires.periods)
-          ∙ ap (release_row pair.lead) (sym o)))),
-    )
+    let row = c.len-count.ensures.rows.gross in
+    record {
+      within = subst IsWithinData (sym (planned_from (goal.at.is_plan_from-requires c).After-plain))
+          (plain_is_within c.args.params.now rows.incoming rows.gross c.requires row.some row.short);
+    }
 
 pub returns : goal.returns
 returns c =
-    let pair = c.args.params.now in
-    let rows = c.args.plan.now in
-    let same = orders_read pair rows _ _ _ _ (c.as_slice-incoming.ensures.value ∙ c.incoming.ensures) (c.as_slice-gross.ensures.value ∙ c.gross.ensures)
-    (c.as_slice-order.ensures.value ∙ c.order.ensures) (c.as_slice.ensures.value ∙ c.available.ensures) in
-    let o : c.as_slice-order.result.now ≡ rows.order = c.as_slice-order.ensures.value ∙ c.order.ensures in
-    let r : c.as_slice-2.result.now ≡ rows.release = c.as_slice-2.ensures.value ∙ c.release.ensures in
-    let are = same.0 (c.orders_follow.ensures.0 c.if-not-orders_follow.false) in
-    let releases : rows.release ≡ release_row pair.lead rows.order =
-    sym r ∙ c.releases_follow.ensures.0 c.if-not-releases_follow.false ∙ ap (release_row pair.lead) o in (
-      λ yes. is_plan-from pair rows are releases (c.late_follow.ensures.0 yes) ∙ sym (plain_is_today pair rows.incoming rows.gross c.requires.periods),
-      λ is. c.late_follow.ensures.1 (is_plan-lates pair rows (is ∙ plain_is_today pair rows.incoming rows.gross c.requires.periods)),
+    let same = ap one (planned_from (goal.at.returns c).After-plain) in (
+      λ yes. c.is_plan_from.ensures.0 yes ∙ same,
+      λ is. c.is_plan_from.ensures.1 (is ∙ sym same),
     )
