@@ -17,7 +17,7 @@ use Rattle.mrp_history.specs.HistoryLaws.{ExplainedStatesMerge, FinishedStatesMe
 use Rattle.mrp_history.specs.Stamps.{SentAt, TakenAt, Passage, IsExplainedBy, AreExplained, clock_of}
 use Rattle.mrp_history.proofs.Causal.{lanes_are_causal}
 use Rattle.mrp_history.proofs.Merging.{histories_merge, finished_histories_merge}
-use Rattle.mrp_history.proofs.Owners.{sender_is_there, receiver_is_there, owner_is_there}
+use Rattle.mrp_net.proofs.OfPlants.{sender_is_there, receiver_is_there, owner_is_there}
 
 -- a number that none of the first so many is greater than
 bound : (clocks : ℕ → ℕ) (n : ℕ) → (last : ℕ) × ((p : ℕ) → p < n → clocks p ≤ last)

@@ -1,5 +1,4 @@
 pub mod Prefixes
-pub mod Owners
 pub mod Decided
 pub mod Merging
 pub mod Causal

@@ -19,7 +19,7 @@ use Rattle.mrp_history.specs.History.{IsPrefix, sent_by, taken_in, planned_by, I
 use Rattle.mrp_history.specs.HistoryLaws.{HistoriesMerge, FinishedHistoriesMerge}
 use Rattle.mrp_history.proofs.Decided.{sent_is_decided}
 use Rattle.mrp_protocol.proofs.Moving.{HasLists, Moves, HaveMoved, carry, fill, lanes_move}
-use Rattle.mrp_history.proofs.Owners.{sender_is_there, receiver_is_there, owner_is_there}
+use Rattle.mrp_net.proofs.OfPlants.{sender_is_there, receiver_is_there, owner_is_there}
 use Rattle.mrp_protocol.proofs.Planning.{plan_all}
 use Rattle.mrp_history.proofs.Prefixes.{prefix_trans}
 

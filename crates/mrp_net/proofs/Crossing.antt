@@ -6,6 +6,7 @@ use Rattle.mrp_master_data.proofs.tables.Tables.TheSendSync as tables
 use Rattle.mrp_net.proofs.build.Amounts.TheSendSync as amounts
 use Rattle.mrp_net.proofs.build.Edges.TheSendSync as edges
 use Rattle.mrp_net.proofs.lanes.LaneLists.TheSendSync as lanes
+use Rattle.mrp_net.proofs.plants.PlantLists.TheSendSync as plants
 use Rattle.mrp_net.specs.contracts.kept.Kept as Kept
 use Rattle.mrp_net.specs.contracts.kept.Kept.TheInside as kept
 use Rattle.mrp_net.specs.contracts.network.Network as Network
@@ -18,7 +19,7 @@ kept_sync : IsSync Kept.the_row
 kept_sync = view_sync kept.the_row _ _ _ _ (recorded_sync kept.the_field.row _ _ kept.the_type.to_one kept_fields)
 
 network_fields : IsSync inside.the_field.row
-network_fields = struct_sync (shape inside.the_type) (kept_sync, (edges.the_field_sync, (amounts.the_field_sync, (lanes.the_field_sync, tt))))
+network_fields = struct_sync (shape inside.the_type) (kept_sync, (edges.the_field_sync, (amounts.the_field_sync, (lanes.the_field_sync, (plants.the_field_sync, tt)))))
 
 pub network_sync : IsSync Network.the_row
 network_sync = view_sync inside.the_row _ _ _ _ (recorded_sync inside.the_field.row _ _ inside.the_type.to_one network_fields)

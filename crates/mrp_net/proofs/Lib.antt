@@ -21,6 +21,7 @@ pub mod Ends
 pub mod Growing
 pub mod Awaiting
 pub mod PolicyRows
+pub mod OfPlants
 pub mod Sooner
 pub mod Firms
 pub mod Crossing

@@ -7,9 +7,8 @@ use Rattle.mrp_cal.specs.Calendar.{CalendarTerms}
 use Rattle.mrp_netting.specs.PlanRows.{PlanRows}
 use Rattle.mrp_master_data.specs.Growing.{with_calendar}
 use Rattle.mrp_master_data.specs.Rows.{Vendor}
-use Rattle.mrp_master_data.specs.Table.{Table, IsTable, horizon}
+use Rattle.mrp_master_data.specs.Table.{Table, horizon}
 use Rattle.mrp_net.specs.Plan.{pair_plan, rounds}
-use Rattle.mrp_net.specs.Sums.{supply, vendor_total}
 use Rattle.mrp_net.specs.VendorLaws.{with_vendors, VendorsChangeNoPlan, VendorsChangeNoEdge, VendorsChangeNoLane, VendorsAreSupplied, DaysChangeNoPlan}
 
 -- ---- vendors

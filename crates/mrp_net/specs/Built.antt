@@ -5,10 +5,12 @@ use Rattle.mrp_net.specs.declared.edge.Edge.{Edge}
 use Rattle.mrp_net.specs.declared.build.Edges.{Edges}
 use Rattle.mrp_net.specs.declared.build.Amounts.{Amounts}
 use Rattle.mrp_net.specs.declared.lanes.LaneLists.{LaneLists}
+use Rattle.mrp_net.specs.declared.plants.PlantLists.{PlantLists}
 use Rattle.mrp_net.specs.Edges.{edges}
 use Rattle.mrp_net.specs.Incoming.{IsIncoming}
 use Rattle.mrp_grouping.specs.Groups.{sorted_by}
 use Rattle.mrp_grouping.specs.Starts.{IsGrouped}
+use Rattle.mrp_net.specs.Plants.{ArePlantLists}
 use Rattle.mrp_net.specs.Routes.{AreLaneLists}
 use Rattle.mrp_net.specs.Sums.{demand, demand_total, received, supply}
 use Rattle.mrp_master_data.specs.declared.rows.FirmRow.{FirmRow}
@@ -79,8 +81,9 @@ pub record AreAmounts (N : Table) (a : Amounts) : Type 0 where
   pub usages : AreUsages N a.usages.rows.items a.usages.starts.items
 
 -- the table, and what is built of it
-pub record IsBuilt (N : Table) (e : Edges) (a : Amounts) (l : LaneLists) : Type 0 where
+pub record IsBuilt (N : Table) (e : Edges) (a : Amounts) (l : LaneLists) (p : PlantLists) : Type 0 where
   pub table : IsTable N
   pub edges : AreEdges N e
   pub amounts : AreAmounts N a
   pub lanes : AreLaneLists N l
+  pub plants : ArePlantLists N p

@@ -37,14 +37,13 @@ lanes_of N customer = flat_map (λ supplier. lanes_between N customer supplier) 
 abbrev pub lanes : Table → List Lane
 lanes N = flat_map (λ customer. lanes_of N customer) (range_with_len 0 (length N.plants))
 
--- the lane of a number; a look-up past the end reads a lane of no plants
+-- what a look-up past the lanes reads: a lane of no plants
+abbrev pub no_lane : Lane
+no_lane = record { kind = Despatch; sender = record { 0 = 0 }; receiver = record { 0 = 0 } }
+
+-- the lane of a number
 abbrev pub lane_at : Table → ℕ → Lane
-lane_at N l = slice_index_or (lanes N) l (record {
-  kind = Despatch;
-  sender = record { 0 = 0 };
-  receiver =
-      record { 0 = 0 };
-})
+lane_at N l = slice_index_or (lanes N) l no_lane
 
 -- the plant that takes the items, and the plant that it takes them from
 abbrev pub customer_of : Lane → ℕ

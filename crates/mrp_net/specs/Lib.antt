@@ -7,6 +7,7 @@ pub mod Lanes
 pub mod Names
 pub mod Plan
 pub mod PlanLaws
+pub mod Plants
 pub mod RouteLaws
 pub mod Routes
 pub mod Shares

@@ -1,5 +1,5 @@
 -- Laws of vendors and of days: what they count for, and that no plan changes by them.
-use Rattle.std.specs.Prelude.{◌≡◌, ℕ, ◌+◌, ◌≤◌, List, All}
+use Rattle.std.specs.Prelude.{◌≡◌, ◌+◌, ◌≤◌, List, All}
 use Rattle.mrp_cal.specs.Calendar.{CalendarTerms}
 use Rattle.mrp_master_data.specs.Growing.{with_calendar}
 use Rattle.mrp_master_data.specs.Rows.{Vendor}

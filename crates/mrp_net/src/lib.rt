@@ -17,6 +17,7 @@ mod lane;
 mod lanes;
 pub mod laws;
 mod network;
+mod plants;
 mod policies;
 mod shares;
 mod sums;

@@ -15,6 +15,7 @@ ghost use Rattle.mrp_net.specs.Policies.{policy_of};
 ghost use Rattle.mrp_net.specs.Names.{IsNamed};
 ghost use Rattle.mrp_net.specs.Lanes.{lanes, lane_at, lane_items, figure, opening, shipments, reset, pair_on};
 ghost use Rattle.mrp_net.specs.Lanes.{customer_of, shipped_from, supplier_of};
+ghost use Rattle.mrp_net.specs.Plants.{pairs_of, lanes_to, lanes_from};
 ghost use Rattle.mrp_net.specs.Routes.{route_no, IsLane};
 ghost use Rattle.mrp_net.specs.Sources.{source_no, source_on};
 ghost use Rattle.mrp_net.specs.Texts.{longest_block, longest_text};
@@ -23,6 +24,7 @@ use crate::build::{Amounts, Edges};
 use crate::kept::Kept;
 use crate::lane::{Lane, LaneKind, LaneNo, Shipment};
 use crate::lanes::{LaneLists, source_of};
+use crate::plants::{PlantLists, plant_lists_of};
 use crate::policies::first_policy;
 use crate::terms::PlanningTerms;
 use crate::usages::usages_of;
@@ -49,6 +51,7 @@ pub struct Network {
     edges: Edges,
     amounts: Amounts,
     lanes: LaneLists,
+    plants: PlantLists,
 }
 
 impl Model for Network {
@@ -59,7 +62,7 @@ impl Model for Network {
 
     ghost view = { λ n. n.tables };
 
-    ghost invariant = { λ n. IsBuilt n.tables n.edges n.amounts n.lanes };
+    ghost invariant = { λ n. IsBuilt n.tables n.edges n.amounts n.lanes n.plants };
 }
 
 /// What is built of a table.
@@ -68,25 +71,30 @@ struct Parts {
     edges: Edges,
     amounts: Amounts,
     lanes: LaneLists,
+    plants: PlantLists,
 }
 
 impl Parts {
     ghost use Rattle.mrp_net.specs.Built.{AreAmounts, AreEdges};
     ghost use Rattle.mrp_net.specs.Routes.{AreLaneLists};
+    ghost use Rattle.mrp_net.specs.Plants.{ArePlantLists};
 
-    /// The edges, the sums and the lanes of a table.
+    /// The edges, the sums and the lanes of a table, and what is of each plant.
     fn of(alloc: Global, tables: &Tables) -> Result<Parts, Memory>
         ensures edges { IfOk result (λ p. AreEdges tables.now p.edges) }
         ensures amounts { IfOk result (λ p. AreAmounts tables.now p.amounts) }
         ensures lanes { IfOk result (λ p. AreLaneLists tables.now p.lanes) }
+        ensures plants { IfOk result (λ p. ArePlantLists tables.now p.plants) }
     {
         let edges = build::edges_of(alloc, tables)?;
         let amounts = build::amounts_of(alloc, tables)?;
         let lanes = lanes::lane_lists_of(alloc, tables)?;
+        let plants = plant_lists_of(alloc, tables, lanes.lanes.as_slice())?;
         Ok(Parts {
             edges,
             amounts,
             lanes,
+            plants,
         })
     }
 
@@ -96,6 +104,7 @@ impl Parts {
         requires edges { AreEdges tables self.edges }
         requires amounts { AreAmounts tables self.amounts }
         requires lanes { AreLaneLists tables self.lanes }
+        requires plants { ArePlantLists tables self.plants }
         ensures { result ≡ tables }
     {
         Network {
@@ -103,6 +112,7 @@ impl Parts {
             edges: self.edges,
             amounts: self.amounts,
             lanes: self.lanes,
+            plants: self.plants,
         }
     }
 }
@@ -427,6 +437,40 @@ impl Network {
         ensures rows { All (IsUsageRow self.now) result.now }
     {
         usages_of(self.usages_to(edge.pair), edge.demander)
+    }
+
+    /// The pairs of a plant, in table order: of a number that no plant has, none.
+    pub fn pairs_of(&self, plant: PlantNo) -> &[PairNo]
+        ensures value { result.now ≡ pairs_of self.now plant.0 }
+        ensures pairs { All (λ x. IsPair self.now x.0) result.now }
+    {
+        let _pairs = self.pairs();
+        if plant.0 >= self.plants() {
+            return &[];
+        }
+        self.plants.pairs.get(plant.0)
+    }
+
+    /// The lanes that a plant receives, in lane order: of a number that no plant has, none.
+    pub fn lanes_to(&self, plant: PlantNo) -> &[LaneNo]
+        ensures value { result.now ≡ lanes_to self.now plant.0 }
+        ensures lanes { All (λ l. l.0 < length (lanes self.now)) result.now }
+    {
+        if plant.0 >= self.plants() {
+            return &[];
+        }
+        self.plants.received.get(plant.0)
+    }
+
+    /// The lanes that a plant sends, in lane order: of a number that no plant has, none.
+    pub fn lanes_from(&self, plant: PlantNo) -> &[LaneNo]
+        ensures value { result.now ≡ lanes_from self.now plant.0 }
+        ensures lanes { All (λ l. l.0 < length (lanes self.now)) result.now }
+    {
+        if plant.0 >= self.plants() {
+            return &[];
+        }
+        self.plants.sent.get(plant.0)
     }
 
     /// The number of lanes: two for each customer plant and supplier plant that it takes items from.

@@ -6,6 +6,7 @@ pub mod Pushing
 pub mod Once
 pub mod Seeing
 pub mod OwnEdges
+pub mod OwnNumbers
 pub mod SeeingLanes
 pub mod Ranges
 pub mod Placing

@@ -1,11 +1,10 @@
--- The loops that make a plant's view: what passes a test is pushed, in order.
-use Rattle.std.proofs.Common.{◌≡◌, ◌≢◌, ◌==◌, ℕ, ◌+◌, ◌<◌, ◌≤◌, Bool, true, false, cond, List, [], ◌∷◌, ◌++◌, length, get_or, map, take, refl, sym, ap, subst}
-use Rattle.std.proofs.Common.{◌∙◌, add-one, arith}
-use Rattle.std.specs.List.{Contains, filter, flat_map, range_with_len}
-use Rattle.std.proofs.lemmas.Bool.{eq-eqb, ne_eqb}
+-- The loops that make a plant's view: what is made of each of a list is pushed, in order.
+use Rattle.std.proofs.Common.{◌≡◌, ℕ, ◌+◌, ◌<◌, ◌≤◌, List, [], ◌∷◌, ◌++◌, length, get_or, map, take, refl, sym, ap, subst}
+use Rattle.std.proofs.Common.{◌∙◌}
+use Rattle.std.specs.List.{Contains, flat_map}
 use Rattle.std.proofs.lemmas.Grind.{flat_map-append}
 use Rattle.std.proofs.lemmas.List.{append-nil, map-append, take_all, take_more}
-use Rattle.std.proofs.lemmas.List.Elements.{Contains-get_or, filter-append}
+use Rattle.std.proofs.lemmas.List.Elements.{Contains-get_or}
 use Rattle.mrp_master_data.specs.Table.{Table, horizon}
 use Rattle.mrp_net.specs.declared.lane.Lane.{Lane}
 use Rattle.mrp_net.specs.Lanes.{lane_at, lane_items}
@@ -22,40 +21,6 @@ use Rattle.mrp_net.specs.Sums.{row_of, demand, received_when_due, received_soone
 use Rattle.mrp_net.specs.Usages.{usages_to}
 use Rattle.mrp_plant_view.specs.View.{PlantRows, plant_pairs, plant_edges, plant_amounts, plant_firms, plant_sooner, plant_usages, edges_to, incoming_item}
 use Rattle.mrp_plant_view.specs.View.{incoming_lane, incoming_lanes, outgoing_item, outgoing_lane, outgoing_lanes, plant_rows}
-use Rattle.mrp_grouping.proofs.Grouping.{range-suc}
-
--- one number more of a range
-range_more : {Y : Type 0} (f : ℕ → Y) (p : ℕ → Bool) (k : ℕ) (b : Bool) → p k ≡ b
-    → map f (filter p (range_with_len 0 (k + 1))) ≡ map f (filter p (range_with_len 0 k)) ++ map f (cond b (k ∷ []) [])
-range_more {Y} f p k b h =
-    ap (λ (z : ℕ). map f (filter p (range_with_len 0 z))) (add-one k)
-    ∙ ap (λ (z : List ℕ). map f (filter p z)) (range-suc k)
-    ∙ ap (map f) (filter-append p (range_with_len 0 k) (k ∷ []))
-    ∙ map-append f (filter p (range_with_len 0 k)) (filter p (k ∷ []))
-    ∙ ap (λ (z : Bool). map f (filter p (range_with_len 0 k)) ++ map f (cond z (k ∷ []) [])) h
-
-range_pushed : {Y : Type 0} (f : ℕ → Y) (p : ℕ → Bool) (k : ℕ) (before : List Y) (y : Y) → p k ≡ true → before ≡ map f (filter p (range_with_len 0 k)) → y ≡ f k
-    → before ++ y ∷ [] ≡ map f (filter p (range_with_len 0 (k + 1)))
-range_pushed {Y} f p k before y passes was is =
-    ap (λ (z : List Y). z ++ y ∷ []) was ∙ ap (λ (z : Y). map f (filter p (range_with_len 0 k)) ++ z ∷ []) is ∙ sym (range_more f p k true passes)
-
-range_passed : {Y : Type 0} (f : ℕ → Y) (p : ℕ → Bool) (k : ℕ) (before : List Y) → p k ≡ false → before ≡ map f (filter p (range_with_len 0 k))
-    → before ≡ map f (filter p (range_with_len 0 (k + 1)))
-range_passed f p k before fails was = was ∙ sym (append-nil (map f (filter p (range_with_len 0 k)))) ∙ sym (range_more f p k false fails)
-
--- one that stands at the plant is pushed, and any other is passed
-pub at_plant_pushed : {X Y : Type 0} (f : ℕ → Y) (at : ℕ → X) (plant_of : X → ℕ) (plant k : ℕ) (before after : List Y) (x : X) (y : Y) → x ≡ at k
-    → plant_of x ≡ plant
-    → before ≡ map f (filter (λ j. plant_of (at j) == plant) (range_with_len 0 k)) → after ≡ before ++ y ∷ [] → y ≡ f k
-    → after ≡ map f (filter (λ j. plant_of (at j) == plant) (range_with_len 0 (k + 1)))
-at_plant_pushed f at plant_of plant k before after x y read here was new is =
-    new ∙ range_pushed f (λ j. plant_of (at j) == plant) k before y (eq-eqb (plant_of (at k)) plant (ap plant_of (sym read) ∙ here)) was is
-
-pub at_plant_passed : {X Y : Type 0} (f : ℕ → Y) (at : ℕ → X) (plant_of : X → ℕ) (plant k : ℕ) (before after : List Y) (x : X) → x ≡ at k → plant_of x ≢ plant
-    → before ≡ map f (filter (λ j. plant_of (at j) == plant) (range_with_len 0 k)) → after ≡ before
-    → after ≡ map f (filter (λ j. plant_of (at j) == plant) (range_with_len 0 (k + 1)))
-at_plant_passed f at plant_of plant k before after x read apart was same =
-    same ∙ range_passed f (λ j. plant_of (at j) == plant) k before (ne_eqb (plant_of (at k)) plant (λ e. apart (ap plant_of read ∙ e))) was
 
 pub flat_pushed : {X Y : Type 0} (f : X → List Y) (xs : List X) (i : ℕ) (x : X) (now next : List Y) → i < length xs → x ≡ get_or xs i x
     → now ≡ flat_map f (take i xs) → next ≡ now ++ f x → next ≡ flat_map f (take (i + 1) xs)
@@ -76,9 +41,6 @@ map_pushed {X} {Y} f xs i x now next lt read was new =
 -- and all of them
 pub taken_all : {X Y : Type 0} (f : List X → List Y) (xs : List X) (i : ℕ) (now : List Y) → length xs ≤ i → now ≡ f (take i xs) → now ≡ f xs
 taken_all f xs i now end was = was ∙ ap f (take_all i xs end)
-
-pub ended : (k end count : ℕ) → k ≤ end → end ≤ k → end ≡ count → k ≡ count
-ended k end count within over same = omega (arith, within, over, same)
 
 -- an element of a list that equals another
 pub at_index : {X : Type 0} (xs ys : List X) (i : ℕ) (d : X) → i < length ys → ys ≡ xs → Contains xs (get_or ys i d)

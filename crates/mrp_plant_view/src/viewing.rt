@@ -29,8 +29,8 @@ use std::alloc::Global;
 use std::snapshot::Snapshot;
 
 impl PlantView {
-    /// What a plant sees of the network. It is made in time linear in the plant's rows and in the
-    /// numbers of pairs and lanes (by construction; no clause says so).
+    /// What a plant sees of the network. It is made in time linear in the plant's own pairs, rows and lanes (by
+    /// construction; no clause says so).
     ///
     /// # Errors
     ///
@@ -73,17 +73,16 @@ fn plant_pairs(alloc: Global, network: &Network, plant: PlantNo) -> Result<Vec<P
     ensures pairs { IfOk result (λ v. All (λ p. IsPair network.now p.number.0) v.items) }
     ensures few { IfOk result (λ v. length v.items ≤ length network.now.pairs) }
 {
-    let mut pairs = Vec::new(alloc);
-    for x in 0..network.pairs() {
-        let row = network.pair(PairNo(x));
-        if row.plant.0 == plant.0 {
-            pairs.push(PlantPair {
-                number: PairNo(x),
-                item: row.item,
-                params: row.params(),
-                policy: network.policy(PairNo(x)),
-            })?;
-        }
+    let numbers = network.pairs_of(plant);
+    let mut pairs = Vec::with_capacity(alloc, numbers.len())?;
+    for number in numbers {
+        let row = network.pair(*number);
+        pairs.push(PlantPair {
+            number: *number,
+            item: row.item,
+            params: row.params(),
+            policy: network.policy(*number),
+        })?;
     }
     Ok(pairs)
 }
@@ -209,17 +208,15 @@ fn incoming_lanes(
 ) -> Result<Vec<IncomingLane>, Memory>
     ensures { IfOk result (λ v. v.items ≡ incoming_lanes network.now plant.0) }
 {
-    let mut lanes = Vec::new(alloc);
-    for l in 0..network.lanes() {
-        let lane = network.lane(LaneNo(l));
-        if lane.receiver.0 == plant.0 {
-            let items = incoming_items(alloc, network, LaneNo(l))?;
-            lanes.push(IncomingLane {
-                number: LaneNo(l),
-                kind: lane.kind,
-                items,
-            })?;
-        }
+    let numbers = network.lanes_to(plant);
+    let mut lanes = Vec::with_capacity(alloc, numbers.len())?;
+    for number in numbers {
+        let items = incoming_items(alloc, network, *number)?;
+        lanes.push(IncomingLane {
+            number: *number,
+            kind: network.lane(*number).kind,
+            items,
+        })?;
     }
     Ok(lanes)
 }
@@ -300,17 +297,15 @@ fn outgoing_lanes(
 ) -> Result<Vec<OutgoingLane>, Memory>
     ensures { IfOk result (λ v. v.items ≡ outgoing_lanes network.now plant.0) }
 {
-    let mut lanes = Vec::new(alloc);
-    for l in 0..network.lanes() {
-        let lane = network.lane(LaneNo(l));
-        if lane.sender.0 == plant.0 {
-            let items = outgoing_items(alloc, network, LaneNo(l))?;
-            lanes.push(OutgoingLane {
-                number: LaneNo(l),
-                kind: lane.kind,
-                items,
-            })?;
-        }
+    let numbers = network.lanes_from(plant);
+    let mut lanes = Vec::with_capacity(alloc, numbers.len())?;
+    for number in numbers {
+        let items = outgoing_items(alloc, network, *number)?;
+        lanes.push(OutgoingLane {
+            number: *number,
+            kind: network.lane(*number).kind,
+            items,
+        })?;
     }
     Ok(lanes)
 }

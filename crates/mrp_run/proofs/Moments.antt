@@ -14,7 +14,7 @@ use Rattle.mrp_protocol.specs.State.{State, opening_state, IsFinished, IsReached
 use Rattle.mrp_history.specs.History.{HasRoom, HaveFinished, IsMerged, sent_by, taken_in}
 use Rattle.mrp_history.specs.Stamps.{AreExplained, IsExplained, IsJoined}
 use Rattle.mrp_history.proofs.Explained.{explained_states_merge, finished_states_merge}
-use Rattle.mrp_history.proofs.Owners.{sender_is_there, receiver_is_there, owner_is_there}
+use Rattle.mrp_net.proofs.OfPlants.{sender_is_there, receiver_is_there, owner_is_there}
 use Rattle.mrp_protocol.specs.LocalLaws.{IsPairAt}
 use Rattle.mrp_protocol.proofs.Seeing.{sees_pair}
 use Rattle.mrp_lane.specs.Ends.{End}

@@ -12,7 +12,7 @@ use Rattle.mrp_protocol.specs.State.{State, opening_state}
 use Rattle.mrp_protocol.proofs.Keeping.{opening_is_reached}
 use Rattle.mrp_history.specs.History.{IsPrefix}
 use Rattle.mrp_history.specs.Stamps.{IsJoined}
-use Rattle.mrp_history.proofs.Owners.{sender_is_there, receiver_is_there, owner_is_there}
+use Rattle.mrp_net.proofs.OfPlants.{sender_is_there, receiver_is_there, owner_is_there}
 use Rattle.mrp_history.proofs.Prefixes.{prefix_refl, prefix_trans}
 use Rattle.mrp_lane.specs.Ends.{End, Name}
 use Rattle.mrp_lane.specs.Reconciled.{Carried}

@@ -1,7 +1,7 @@
-use Rattle.std.proofs.Common.{◌≡◌, map}
-use Rattle.std.specs.List.{filter, range_with_len}
-use Rattle.mrp_plant_view.specs.View.{comes_to, incoming_lane}
+use Rattle.std.proofs.Common.{◌≡◌, map, take}
+use Rattle.mrp_plant_view.specs.View.{incoming_lane}
 use Rattle.mrp_plant_view.proofs.viewing.incoming_lanes.Given as goal
 
-abbrev pub invariant-loop-l : goal.invariant-loop-l
-invariant-loop-l l = l.lanes.items ≡ map (incoming_lane l.network) (filter (comes_to l.network l.plant.0) (range_with_len 0 l.l))
+-- the lanes of the numbers before this one
+abbrev pub invariant-loop-number : goal.invariant-loop-number
+invariant-loop-number l = l.lanes.items ≡ map (λ x. incoming_lane l.network x.0) (take l.number-index l.numbers)

@@ -1,36 +1,24 @@
-use Rattle.std.proofs.Common.{◌≡◌, ℕ, map, ap, subst, ◌∙◌}
-use Rattle.std.specs.List.{filter, range_with_len}
-use Rattle.mrp_net.specs.declared.lane.Lane.{Lane}
-use Rattle.mrp_net.specs.Lanes.{lane_at}
-use Rattle.mrp_plant_view.specs.View.{goes_from, outgoing_lane}
-use Rattle.mrp_plant_view.proofs.Pushing.{at_plant_pushed, at_plant_passed, ended, is_outgoing}
+use Rattle.std.proofs.Common.{◌++◌, ◌∷◌, [], ap, ◌∙◌}
+use Rattle.mrp_net.specs.declared.lane.LaneNo.{LaneNo}
+use Rattle.mrp_plant_view.specs.declared.view.OutgoingLane.{OutgoingLane}
+use Rattle.mrp_plant_view.specs.View.{outgoing_lane}
+use Rattle.mrp_plant_view.proofs.OwnNumbers.{made_all, made_pushed, outgoing_are_own}
+use Rattle.mrp_plant_view.proofs.Pushing.{is_outgoing}
 use Rattle.mrp_plant_view.proofs.viewing.outgoing_lanes.Goals as goal
-use Rattle.mrp_plant_view.proofs.viewing.outgoing_lanes.Goals.{then-lane-plant+in_ok-items+in_ok-push, else-lane-plant}
 
-pub loop-l-preserved : goal.loop-l-preserved
-loop-l-preserved c = elim c.if-lane-plant.branch [
-  | then-lane-plant+in_ok-items+in_ok-push w ↦
-      at_plant_pushed (outgoing_lane c.args.network.now) (lane_at c.args.network.now)
-      (λ (z : Lane). z.sender.0) c.args.plant.0 c.loop-l.l _ _ c.lane-lane.result _ c.lane-lane.ensures.value w.if-lane-plant.true c.loop-l.invariant
-      (ap (λ z. z.items) w.lanes-is ∙ w.in_ok-push.ensures.items)
-      (is_outgoing c.args.network.now c.loop-l.l c.lane-lane.result _ c.lane-lane.ensures.value w.in_ok-items.ensures)
-  | else-lane-plant w ↦
-      at_plant_passed (outgoing_lane c.args.network.now) (lane_at c.args.network.now)
-      (λ (z : Lane). z.sender.0) c.args.plant.0 c.loop-l.l _ _ c.lane-lane.result c.lane-lane.ensures.value w.if-lane-plant.false c.loop-l.invariant
-      (ap (λ z. z.items) w.lanes-is)
-]
+pub loop-number-init : goal.loop-number-init
+loop-number-init c = c.in_ok-lanes.ensures.items
 
-pub loop-l-init : goal.loop-l-init
-loop-l-init c = c.new-lanes.ensures.items
-
-pub lane-lane-requires : goal.lane-lane-requires
-lane-lane-requires c = rw c.lanes-l-end.ensures at c.loop-l-test.true
-
-pub outgoing_items-requires : goal.outgoing_items-requires
-outgoing_items-requires c = rw c.lanes-l-end.ensures at c.loop-l-test.true
+pub loop-number-preserved : goal.loop-number-preserved
+loop-number-preserved c =
+    let N = c.args.network.now in
+    made_pushed (λ (l : LaneNo). outgoing_lane N l.0) c.lanes_from-numbers.result.now c.loop-number.number-index _ c.loop-number.lanes.items _ c.loop-number-test.true
+    c.loop-number.invariant
+    (c.in_ok-push.ensures.items ∙ ap (λ (l : OutgoingLane). c.loop-number.lanes.items ++ l ∷ []) (is_outgoing N _ c.lane.result _ c.lane.ensures.value c.in_ok-items.ensures))
 
 pub returns : goal.returns
 returns c =
     let N = c.args.network.now in
-    subst (λ (n : ℕ). c.loop-l.lanes.items ≡ map (outgoing_lane N) (filter (goes_from N c.args.plant.0) (range_with_len 0 n)))
-    (ended _ _ _ c.loop-l.auto.l-end c.loop-l-test.false c.lanes-l-end.ensures) c.loop-l.invariant
+    outgoing_are_own N c.args.plant.0 c.lanes_from-numbers.result.now c.loop-number.lanes.items c.lanes_from-numbers.ensures.value
+    (made_all (λ (l : LaneNo). outgoing_lane N l.0) c.lanes_from-numbers.result.now c.loop-number.number-index c.loop-number.lanes.items c.loop-number-test.false
+    c.loop-number.invariant)

@@ -1,7 +1,7 @@
-use Rattle.std.proofs.Common.{◌≡◌, map}
-use Rattle.std.specs.List.{filter, range_with_len}
-use Rattle.mrp_plant_view.specs.View.{plant_pair, is_of_plant}
+use Rattle.std.proofs.Common.{◌≡◌, map, take}
+use Rattle.mrp_plant_view.specs.View.{plant_pair}
 use Rattle.mrp_plant_view.proofs.viewing.plant_pairs.Given as goal
 
-abbrev pub invariant-loop-x : goal.invariant-loop-x
-invariant-loop-x l = l.pairs.items ≡ map (plant_pair l.network) (filter (is_of_plant l.network l.plant.0) (range_with_len 0 l.x))
+-- the pairs of the numbers before this one
+abbrev pub invariant-loop-number : goal.invariant-loop-number
+invariant-loop-number l = l.pairs.items ≡ map (λ x. plant_pair l.network x.0) (take l.number-index l.numbers)
