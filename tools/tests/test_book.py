@@ -218,7 +218,27 @@ def test_sheets_keep_their_form(desk):
     with open(f"{desk.folder}/firm/receipts.csv", "rb") as file:
         found = file.read().decode("utf-16-le").split("\r\n")
     heads, first = german.decode("utf-16-le").split("\r\n")
-    assert found == [f"{heads};Order;Comes", first, "WORKS;MOTOR;07.12.2026;20;Lumen;A011;14.12.2026", ""]
+    assert found == [f"{heads};Auftrag;Kommt am", first, "WORKS;MOTOR;07.12.2026;20;Lumen;A011;14.12.2026", ""]
+
+
+def test_columns_that_a_sheet_lacks_are_headed_in_its_language(desk):
+    """By how it heads the plant; one that it has in whatever language is filled."""
+    lines = report(desk)
+    for plant, more, wanted in (
+        ("Fabrik", "", ";Auftrag;Kommt am"),
+        ("Usine", "", ";Ordre;Vient le"),
+        ("Centro", "", ";Orden;Llega el"),
+        ("Location", "", ";Order;Comes"),
+        ("Werk", ";Kommt am;Bestellnr.", ""),
+        ("Plant", ";Vient le;Auftragsnr.", ""),
+    ):
+        desk.write("firm/receipts.csv", f"{plant};Item;Due;Quantity{more}\n")
+        desk.write("orders.csv", f"{lines[0]}\n{MOTORS}\n")
+        desk.run("bin/book --number K- --out booked orders.csv firm")
+        with open(f"{desk.folder}/booked/receipts.csv", encoding="utf-8") as file:
+            heads, row = file.read().splitlines()
+        ends = "2026-12-14;K-1" if more else "K-1;2026-12-14"
+        assert (heads, row) == (f"{plant};Item;Due;Quantity{more}{wanted}", f"WORKS;MOTOR;2026-12-07;20;{ends}")
 
 
 def test_sheets_that_are_not_there_yet(desk):
