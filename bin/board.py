@@ -13,7 +13,7 @@ MOST_ROWS, MOST_SEEN, MOST_ORDERS, MOST_LINES = 1000, 100, 4, 20
 # The days of a month: what is released in it is unfolded, and what is late by as much is marked most.
 MONTH = 31
 # When those are needed that aren't within the horizon, by their messages.
-NEVER = {"cancel": "never", "beyond": reports.BEYOND}
+NEVER = {"cancel": "never", "leave": reports.LEAVE, "beyond": reports.BEYOND}
 RULES = {"lot": "lot for lot", "fixed": "lots of {}", "periods": "for {} {}s", "min": "at least {}, by {}"}
 IN_TIME = (
     f'<p id="delays">{reports.LABELS[2]} counts late orders as if they came when they are due{{}}; '
@@ -86,11 +86,7 @@ class Board:
         calendar = mrp.Calendar.of_report(dates) if len(dates) > 1 else None
         self.unit = {1: "day", 7: "week"}.get(calendar.days, "period") if calendar else "period"
         self.month = calendar.period(dates[0] + timedelta(days=MONTH - 1)) + 1 if calendar else 1
-        # (open orders that come later than they are due)
-        self.delays = {}
-        for found in reports.coming_late(self.names, calendar).values() if calendar else ():
-            for pair, rows in found.items():
-                self.delays.setdefault(pair, []).extend(rows)
+        self.delays = outline.delays
         kinds = mrp.Late, mrp.Order, mrp.Hit
         self.late, self.released, self.hit = (grouped(outline.rows[it], "plant", "item") for it in kinds)
         self.messages, self.items = outline.messages, named.Items(outline.names)
@@ -175,7 +171,7 @@ class Board:
         rows = self.outline.rows
         counts = [(len(self.outline.pairs), "pair"), (len(self.dates), self.unit), (len(rows[mrp.Late]), "late order")]
         counts += [(len(rows[mrp.Hit]), "demand"), (len(rows[mrp.Order]), "order")]
-        counts += [(self.messages.counts.total(), "open order"), (self.messages.beyond.total(), "open order")]
+        counts += [(self.messages.moved(), "open order"), (self.messages.count("beyond"), "open order")]
         firm, lacking = sum(map(is_firm, rows[mrp.Order])), sum((it.plant, it.item) in self.outline.lacking.of for it in rows[mrp.Order])
         of_these = f", {firm:,} of them firm" * bool(firm) + f", {lacking:,} of them lacking parts" * bool(lacking)
         ends = ["", "", "", " hit", f" to release{of_these}", " to be moved", " needed beyond the horizon"]
@@ -294,11 +290,11 @@ class Board:
         rows = []
         for it in self.messages.rows():
             comes = self.day(it.date) + self.notes(it.kind, it.plant, it.item, it.period)
-            needed = self.dated(it.needed_date) if it.needed_date else 2 * (NEVER[it.action],)
+            needed = 2 * (NEVER[it.action],) if it.action in NEVER else self.dated(it.needed_date)
             kind = f"in transit from {self.plant(it.supplier)}" if it.supplier else reports.OPEN_ORDERS[it.kind]
             rows.append([f"<b>{it.action}</b>", self.plant(it.plant), self.item(it.plant, it.item), it.quantity, (comes, str(it.date)), needed, kind])
         heads = ["Message", "Plant", "Item", "Quantity", "Comes", "Needed", "Kind"]
-        table = sortable(heads, rows, " stack", self.messages.counts.total() + self.messages.beyond.total()) if rows else ""
+        table = sortable(heads, rows, " stack", self.messages.count()) if rows else ""
         return self.section("moves", "Open orders to expedite, defer, cancel", table, "Each comes when it is needed.")
 
     def deliveries(self):
@@ -400,9 +396,10 @@ class Board:
         for it in messages:
             needed = f", needed {self.day(it.needed_date)}" if it.needed_date else ""
             order = self.open_order(it)
-            lines.append(f"{order}, {reports.BEYOND}" if it.action == "beyond" else f"{it.action} {order}{needed}")
-        more = self.messages.counts[pair] + self.messages.beyond[pair] - len(messages)
-        lines += [f"and {reports.counted(more, 'open order')} more{' to be moved' * (not self.messages.beyond[pair])}"] if more else []
+            left = {"beyond": f"{order}, {reports.BEYOND}", "leave": f"leave {order}, {reports.LEAVE}"}
+            lines.append(left.get(it.action, f"{it.action} {order}{needed}"))
+        more, stay = self.messages.count(pair=pair) - len(messages), self.messages.count("leave", "beyond", pair=pair)
+        lines += [f"and {reports.counted(more, 'open order')} more{' to be moved' * (not stay)}"] if more else []
         return "<br>".join(lines)
 
     def heads(self):

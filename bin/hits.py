@@ -35,15 +35,17 @@ def hits(table, names):
     return firm_of(table, report("plan", table), names).worst_first()
 
 
-def firm_of(table, plan, names):
-    """Returns the Firm of the table at a path, and of the lines of its plan."""
+def firm_of(table, plan, names, orders=None, places=None):
+    """Returns the Firm of the table at a path, and of the lines of its plan; `places` is for reports.runs. For the lines of its orders the
+    program is asked where they aren't given.
+    """
     policies, delays = reports.Policies(table), {}
     if names.comes:
         delays = reports.coming_late(names, policies.calendar)
-    orders = Orders(report("orders", table), delays.get("firm", {}))
+    orders = Orders(orders or report("orders", table), delays.get("firm", {}))
     with mrp.open_table(table) as lines:
         firm = Firm(lines, orders, policies, delays.get("receipt", {}))
-    firm.take_plan(plan)
+    firm.late = firm.take_plan(plan, places)
     return firm
 
 
@@ -52,29 +54,44 @@ class Orders:
     order is late where it comes later than it is due. And the pairs that have late ones, the figures of the firm orders of each
     pair alone, and the lines of firm orders and of planned ones that are released now."""
 
-    COLUMNS = "plant", "item", "due", "quantity", "release", "late"
-    READ = staticmethod(mrp.columns(mrp.Order, *COLUMNS))
-    READ_FIRM = staticmethod(mrp.columns(reports.FirmOrder, *COLUMNS))
+    # (in the order of the columns)
+    READ = staticmethod(mrp.columns_of_rows(mrp.Order, "plant", "item", "quantity", "release", "due", "late"))
+    READ_FIRM = staticmethod(mrp.columns(reports.FirmOrder, "plant", "item", "due", "quantity", "release"))
 
     def __init__(self, lines, delays):
         """Takes the lines of the report, and the firm orders of each pair that come late."""
         self.of, self.late, self.firm, self.shown = {}, set(), {}, []
-        left = {pair: {} for pair in delays}
+        self.delays = {pair: {} for pair in delays}
         for pair, rows in delays.items():
             for it in rows:
-                left[pair].setdefault((it.period, it.quantity), []).append(it.by)
-        for number, line in enumerate(lines, 1):
-            is_firm = line.startswith(b"firm,")
-            plant, item, *texts = (self.READ_FIRM if is_firm else self.READ)(line.decode(), number)
-            due, quantity, release, late = map(int, texts)
-            if is_firm:
-                late = (left.get((plant, item), {}).get((due, quantity)) or [0]).pop()
-                self.firm.setdefault((plant, item), []).append((due, quantity, release, late))
-            self.of.setdefault((plant, item), array("q")).extend((due, quantity, release, late))
-            if is_firm or release == 0:
-                self.shown.append(line)
-            if late:
-                self.late.add((plant, item))
+                self.delays[pair].setdefault((it.period, it.quantity), []).append(it.by)
+        for run in reports.runs(lines, reports.ORDER_ROWS):
+            if run.lines[0].startswith(b"firm,"):
+                self.take_firm(run.lines[0], run.number)
+            else:
+                self.take(run)
+
+    def take(self, run):
+        """Takes over the planned orders of a pair."""
+        plants, items, quantities, releases, dues, lates = self.READ(run.lines, run.number)
+        pair, figures = (plants[0], items[0]), array("q", bytes(32 * len(run.lines)))
+        for place, texts in enumerate((dues, quantities, releases, lates)):
+            figures[place::4] = array("q", map(int, texts))
+        self.of.setdefault(pair, array("q")).extend(figures)
+        self.shown += [line for line, it in zip(run.lines, releases) if it == "0"]
+        if any(figures[3::4]):
+            self.late.add(pair)
+
+    def take_firm(self, line, number):
+        """Takes over a firm order."""
+        *pair, due, quantity, release = self.READ_FIRM(line.decode(), number)
+        pair, due, quantity, release = (*pair,), int(due), int(quantity), int(release)
+        late = (self.delays.get(pair, {}).get((due, quantity)) or [0]).pop()
+        self.firm.setdefault(pair, []).append((due, quantity, release, late))
+        self.of.setdefault(pair, array("q")).extend((due, quantity, release, late))
+        self.shown.append(line)
+        if late:
+            self.late.add(pair)
 
     def rows(self, pair):
         figures = iter(self.of.get(pair, ()))
@@ -138,7 +155,8 @@ class Takes:
 class Firm(Takes):
     """What a table says of its pairs, their orders, and their plan as far as their requirements can wait for a late order.
 
-    `taken` has of what goes into a pair what can wait, each with the periods, as bits, in which a release takes of it.
+    `taken` has of what goes into a pair what can wait, each with the periods, as bits, in which a release takes of it. `late` has the
+    rows of late orders as the plan has them.
     """
 
     def __init__(self, lines, orders, policies, delays):
@@ -173,35 +191,39 @@ class Firm(Takes):
 
     PLAN = staticmethod(mrp.columns_of_rows(mrp.Plan, "period", "gross", "incoming", "release"))
 
-    def take_plan(self, lines):
-        """Takes over the plan rows, and passes over what can't wait."""
-        for run in reports.runs(lines):
-            if not run.lines[0].startswith(b"late,"):
+    def take_plan(self, lines, places=None):
+        """Takes over the plan rows, and passes over what can't wait. Returns the rows of late orders; `places` is for reports.runs."""
+        late = []
+        for run in reports.runs(lines, places=places):
+            if run.lines[0].startswith(b"late,"):
+                late.append(reports.Line(run.lines[0].decode(), run.number))
+            else:
                 self.take_run(run)
+        return late
 
     def take_run(self, run):
         """Takes over the plan rows of a pair, up to the period from which on nothing waits."""
         pair = reports.names_of_pair(run.lines[0].decode(), run.number)
         if not self.ends[pair]:
             return
-        lines = [it.decode() for it in run.lines[: self.ends[pair]]]
-        periods, gross, incoming, releases = (array("q", map(int, it)) for it in self.PLAN(lines, run.number))
+        found = self.PLAN(run.lines[: self.ends[pair]], run.number)
+        periods, gross, incoming, releases = (array("q", map(int, it)) for it in found)
         if [*periods] != [*range(len(self.gross[pair]))]:
             raise reports.Refused(f"row {run.number}: the periods of a pair aren't those of the table")
         self.gross[pair], self.incoming[pair] = gross, incoming
         self.demand[pair] = array("q", map(operator.add, self.demand[pair], gross))
-        for period, release in enumerate(releases if self.taken[pair] else ()):
+        parts = [(it, self.ends[it], self.takes[pair][it], self.demand[it]) for it in self.taken[pair]]
+        for period, release in enumerate(releases if parts else ()):
             if release:
-                self.take_release(pair, period, release)
+                self.take_release(self.taken[pair], parts, period, release)
 
-    def take_release(self, pair, period, release):
+    @staticmethod
+    def take_release(taken, parts, period, release):
         """Takes over what a release takes of what can wait, which is no demand of customers there."""
-        taken = self.taken[pair]
-        for it in taken:
-            asks = self.takes[pair][it].asks(period, release)
-            if asks and period < self.ends[it]:
+        for it, end, takes, demand in parts:
+            if period < end and (asks := takes.asks(period, release)):
                 taken[it] |= 1 << period
-                self.demand[it][period] -= asks
+                demand[period] -= asks
 
     def worst_first(self):
         """Returns the demands that wait, the worst first, then by period, then in table order."""
@@ -267,7 +289,8 @@ class Firm(Takes):
         late = sorted(self.orders.late - {(it.by_plant, it.by_item) for it in hits}, key=self.places.get)[:MOST_OTHERS]
         behind, found = self.behind({pair: 1 << place for place, pair in enumerate(late)}), {}
         for it in hits if late else ():
-            found.setdefault(behind[it.plant, it.item][it.period], []).append(it)
+            if (it.plant, it.item) in behind:
+                found.setdefault(behind[it.plant, it.item][it.period], []).append(it)
         others = {it: [] for it in late}
         for bits, same in found.items():
             while bits:
@@ -276,10 +299,10 @@ class Firm(Takes):
         return others
 
     def behind(self, late):
-        """Returns which of the late pairs, as bits, the requirements of each pair wait for, by period."""
+        """Returns which of the late pairs, as bits, the requirements of each pair wait for, by period; of those that wait for none nothing."""
         behind = {}
         for pair in self.order if late else ():
-            if self.ends[pair]:
+            if self.ends[pair] and (pair in late or not behind.keys().isdisjoint(self.taken[pair])):
                 behind[pair] = self.behind_pair(pair, late, behind)
         return behind
 
@@ -292,7 +315,7 @@ class Firm(Takes):
             if due < self.ends[pair]:
                 bits = late.get(pair, 0) if by else 0
                 for it, periods in self.taken[pair].items():
-                    bits |= behind[it][release] if periods >> release & 1 else 0
+                    bits |= behind[it][release] if periods >> release & 1 and it in behind else 0
                 comes = due + by + self.held(pair, release, self.waiting)[0]
                 for period in range(due + cover if due else 0, min(comes, len(found))):
                     found[period] |= bits if waits[period] else 0
@@ -300,5 +323,10 @@ class Firm(Takes):
 
     def held(self, pair, release, waits):
         """Returns how long a release of a pair waits at worst for what it takes, and the place of the pair whose late order makes it so."""
-        taken = [waits[it] for it, periods in self.taken[pair].items() if periods >> release & 1]
-        return max(((periods[release], places[release]) for periods, places in taken), key=lambda it: (it[0], -it[1]), default=(0, 0))
+        longest, first = 0, 0
+        for it, taken in self.taken[pair].items():
+            if taken >> release & 1:
+                periods, places = waits[it]
+                if periods[release] > longest or periods[release] == longest and places[release] < first:
+                    longest, first = periods[release], places[release]
+        return longest, first

@@ -1,5 +1,6 @@
 """The reports of mrp as the tools for planners read them, and how all tools speak. What a row is python/mrp.py says."""
 import argparse
+import concurrent.futures
 import contextlib
 import csv
 import difflib
@@ -225,6 +226,33 @@ def coming_late(names, calendar):
     return found
 
 
+# What is said of an open order that is to be left as it is, because what the plan counts before it comes later.
+LEAVE = "an open order that is due by then comes late"
+
+
+def coming_late_of(names, calendar):
+    """Returns the open orders of each pair that really come later than they are due, of all kinds together."""
+    found = {}
+    for rows in coming_late(names, calendar).values():
+        for pair, late in rows.items():
+            found.setdefault(pair, []).extend(late)
+    return found
+
+
+def advised(message, late):
+    """Returns what to do with an open order by its message and the orders of its pair that come late: one to defer or to cancel is to
+    be left where another one that is due by then isn't there yet when it comes, or where it comes late itself and no sooner than it is needed.
+    """
+    if message.action not in ("defer", "cancel"):
+        return message.action
+    own = next((it for it in late if (it.period, it.quantity) == (message.period, message.quantity)), None)
+    comes = message.period + (own.by if own else 0)
+    if own and message.needed is not None and message.needed <= comes:
+        return "leave"
+    is_ahead = any(it.period <= message.period and comes < it.period + it.by for it in late if it is not own)
+    return "leave" if is_ahead else message.action
+
+
 # The names of columns, as --header writes them above a report.
 HEADERS = {mrp.header(it).encode() for it in mrp.REPORTS.values()}
 PLAN = mrp.REPORT_FORMS["plan"]
@@ -240,6 +268,15 @@ def record_of(lines, number):
         raise Refused(f"row {number}: the periods of a pair don't count from 0")
     figures = plan.gross, plan.incoming, plan.order, plan.release, plan.available
     return Record(plan.plant[0], plan.item[0], plan.date, *figures)
+
+
+def records(file, places, pairs):
+    """Yields the records of some pairs, whose rows are found in a file by where they stand."""
+    for plant, item in pairs:
+        at, number = places[f"plan,{plant},{item},".encode()]
+        file.seek(at)
+        run = next(runs(file))
+        yield record_of(run.lines, number + run.count - 1)
 
 
 def day(dates, period):
@@ -265,7 +302,7 @@ class Run(NamedTuple):
 
 
 # How many fields are alike in the rows of a pair, by the first letters of a row, and how many rows of a run are kept.
-PLAN_ROWS, ADVICE_ROWS, SCHEDULE_ROWS = {b"plan,": 3}, {b"advic": 5}, {b"sched": 5}
+PLAN_ROWS, ORDER_ROWS, ADVICE_ROWS, SCHEDULE_ROWS = {b"plan,": 3}, {b"order": 3}, {b"advic": 5}, {b"sched": 5}
 MOST_ALIKE = 1000
 
 
@@ -276,12 +313,13 @@ def front_of(line, alike):
     return b",".join(fields[:size]) + b"," if 0 < size < len(fields) else b""
 
 
-def runs(file, more=()):
+def runs(file, more=(), places=None):
     """Yields the lines of a report as a Run each: those of a pair's plan, of some other kinds those that begin alike, and each other line.
 
-    The file gives bytes and is read once. Most pairs have as many rows as the first one: so many are taken at once.
+    The file gives bytes and is read once. Most pairs have as many rows as the first one: so many are taken at once. `places` gets of
+    each pair, by how its rows begin, at which byte of the lines they stand, and the number of the first.
     """
-    alike, lines, number, periods = {**PLAN_ROWS, **dict(more)}, iter(file), 1, 0
+    alike, lines, number, periods, at = {**PLAN_ROWS, **dict(more)}, iter(file), 1, 0, 0
     line = next(lines, b"")
     while line:
         front, rows = front_of(line, alike), [line]
@@ -292,33 +330,41 @@ def runs(file, more=()):
                 rows += taken
             else:
                 lines, periods = itertools.chain(taken, lines), -1
-        count, line = rest_of_run(lines, front, rows)
+        count, passed, line = rest_of_run(lines, front, rows)
         periods = count if is_plan and not periods else periods
+        if places is not None:
+            places.update({front: (at, number)} if is_plan else ())
+            at += sum(map(len, rows)) + passed
         yield Run(rows, number, count)
         number += count
 
 
 def rest_of_run(lines, front, rows):
-    """Adds to the rows of a run the lines that begin like it, as far as they are kept. Returns how many it has, and the next line."""
-    count = len(rows)
+    """Adds to the rows of a run the lines that begin like it, as far as they are kept. Returns how many it has, the bytes of those that
+    aren't kept, and the next line.
+    """
+    count, passed = len(rows), 0
     for line in lines:
         if not front or not line.startswith(front):
-            return count, line
+            return count, passed, line
         count += 1
         if count <= MOST_ALIKE:
             rows.append(line)
-    return count, b""
+        else:
+            passed += len(line)
+    return count, passed, b""
 
 
-def parts(file, wanted=lambda plant, item: True, unread=(), alike=()):
+def parts(file, wanted=lambda plant, item: True, unread=(), alike=(), places=None):
     """Yields the parts of a report in its order: a Record for each pair that is wanted, a pair of names for each other
     one, and each other row, as a Line where it begins with words of which many rows may stand unread, and as a part of
     a Run where its kind is one of those in which rows may begin alike.
 
-    The file gives bytes and is read once; plan rows of pairs that aren't wanted, and rows of names, are passed over.
+    The file gives bytes and is read once; plan rows of pairs that aren't wanted, and rows of names, are passed over. `places` gets
+    where plan rows stand, as runs has it.
     """
     run = None
-    for run in runs(file, alike):
+    for run in runs(file, alike, places):
         line, number = run.lines[0], run.number
         if line.startswith(b"plan,"):
             pair = names_of_pair(line.decode(errors="replace"), number)
@@ -555,6 +601,41 @@ def ask(words, table, file):
     with open(table, "rb") as rows:
         if subprocess.run([program(), *words.split()], stdin=rows, stdout=file, check=False).returncode:
             sys.exit(1)
+
+
+class Answers:
+    """Reports of the table at a path, that the program makes side by side, as many at once as there are processors, each in a file of a folder.
+
+    It is a context, that ends once the program does.
+    """
+
+    # (each takes as much memory as the program)
+    MOST = 4
+
+    def __init__(self, asked, table, folder):
+        self.pool = concurrent.futures.ThreadPoolExecutor(min(self.MOST, len(os.sched_getaffinity(0))))
+        self.path, self.table = f"{folder}/{{}}.csv".format, table
+        self.found = {words: self.pool.submit(self.ask, words) for words in asked}
+
+    def __enter__(self):
+        return self
+
+    def __exit__(self, *_):
+        self.pool.shutdown(cancel_futures=True)
+
+    def ask(self, words):
+        """Has the program write a report, and returns what it says and its status."""
+        with open(self.table, "rb") as rows, open(self.path(words), "wb") as file:
+            done = subprocess.run([program(), *words.split()], stdin=rows, stdout=file, stderr=subprocess.PIPE, check=False)
+        return done.stderr, done.returncode
+
+    def open(self, words):
+        """Returns a report, once it is there, as a file to be closed. Where it is refused the tool says what the program said, and ends."""
+        said, status = self.found[words].result()
+        sys.stderr.write(said.decode(errors="replace"))
+        if status:
+            sys.exit(1)
+        return open(self.path(words), "rb")
 
 
 def run(main):

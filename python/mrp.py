@@ -699,15 +699,16 @@ def columns(kind, *names):
 
 
 def columns_of_rows(kind, *names):
-    """Returns a function that reads some columns, at least two, of a report's rows that follow each other: of these lines, and the
-    number of the first, a list of texts for each column, in the order of the kind's. This takes less than a line at a time."""
+    """Returns a function that reads some columns, at least two, of a report's rows that follow each other: of these lines, as bytes, and
+    the number of the first, a list of texts for each column, in the order of the kind's. This takes less than a line at a time."""
     form = REPORT_FORMS[WORDS[kind]]
     match, find = form.matcher(names), re.compile(f"^{form.pattern(names)}", re.MULTILINE).findall
 
     def read(lines, number):
-        found = find("".join(lines))
+        found = find(b"".join(lines).decode(errors="replace"))
         for place, line in enumerate(lines if len(found) != len(lines) else ()):
-            match(line) or refuse(line, number + place)
+            text = line.decode(errors="replace")
+            match(text) or refuse(text, number + place)
         return [*zip(*found)]
 
     return read

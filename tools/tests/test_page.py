@@ -491,3 +491,65 @@ def test_page_has_open_orders_that_come_late(room):
     room.run("$MRP plan < table.csv > plan.csv")
     text = room.run("bin/page --names names.csv < plan.csv")
     assert listed(text, "late") == [["P1", "WHEEL", "2 weeks", "open order of 20 due 14 Dec W51, 2 weeks"], ["P1", "BIKE", "1 week", "open order of 5 due 14 Dec W51, 1 week"]]
+
+
+# Open orders of which some come later than they are due.
+LEFT = """\
+run,2026-11-30,7,8,,,,
+plant,A,,,,,,
+pair,A,CASTING,buy,lot,6,10,0
+pair,A,KEY,buy,lot,1,0,0
+pair,A,LID,buy,lot,1,0,0
+demand,A,CASTING,2,20,,,
+demand,A,CASTING,6,25,,,
+demand,A,CASTING,7,40,,,
+demand,A,KEY,3,5,,,
+demand,A,KEY,7,6,,,
+demand,A,LID,5,7,,,
+demand,A,LID,7,8,,,
+receipt,A,CASTING,0,40,,,
+receipt,A,CASTING,4,25,,,
+receipt,A,KEY,1,5,,,
+receipt,A,KEY,4,6,,,
+receipt,A,LID,2,7,,,
+receipt,A,LID,3,8,,,
+"""
+LEFT_NAMES = """\
+row,plant,item,period,date,quantity,name,description,note,comes
+receipt,A,CASTING,0,2026-11-30,40,,,"Order 7, Comes 2027-01-11",2027-01-11
+receipt,A,CASTING,4,2026-12-28,25,,,Order 3,
+receipt,A,KEY,4,2026-12-28,6,,,,2027-01-11
+receipt,A,LID,2,2026-12-14,7,,,,2026-12-21
+"""
+
+
+def test_orders_that_stand_in_for_late_ones_are_left(room, program):
+    """By hand. CASTING: 10 on hand and the 40 of period 0 last until 50 < 85 in period 7, so the 25 of period 4 are to be deferred until
+    then; but the 40 come in period 6 alone, and are needed in 2. KEY: the 5 of period 1 are needed in 3, and nothing that is late is due
+    by then; the 6 of 4 come in 6 and are needed in 7. LID: the 7 are there in 3 with the 8.
+    """
+    room.write("table.csv", LEFT)
+    room.write("names.csv", LEFT_NAMES)
+    text = room.run("bin/page --names names.csv < table.csv")
+    Tags(text)
+    found = [(it[0], it[2], it[3], it[5]) for it in listed(text, "moves")]
+    late = "an open order that is due by then comes late"
+    assert found == [
+        ("defer", "KEY", "5", "21 Dec W52"),
+        ("defer", "KEY", "6", "18 Jan W03"),
+        ("defer", "LID", "7", "4 Jan W01"),
+        ("defer", "LID", "8", "18 Jan W03"),
+        ("leave", "CASTING", "40", late),
+        ("leave", "CASTING", "25", late),
+    ]
+    assert "4 open orders to be moved" in text
+    assert f"<br>leave 25 of <time datetime=\"2026-12-28\">28 Dec <small>W53</small></time>, {late}</p>" in text
+    assert len(re.findall("<b>defer</b>", room.run("bin/page < table.csv"))) == 6
+    room.run("$MRP plan < table.csv > reports; $MRP advice --reach < table.csv >> reports")
+    assert [(it[0], it[2], it[3], it[5]) for it in listed(room.run("bin/page --names names.csv < reports"), "moves")] == found
+    lines = room.run("bin/why --names names.csv A CASTING 1 < table.csv").splitlines()
+    assert lines[lines.index("Open orders") + 1 :] == [
+        f"  40 in period 0 (2026-11-30), receipt: leave, {late}",
+        f"  25 in period 4 (2026-12-28), receipt: leave, {late}",
+    ]
+    assert "receipt: defer to period 7 (2027-01-18)" in room.run("bin/why A CASTING 1 < table.csv")

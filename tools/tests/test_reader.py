@@ -380,9 +380,11 @@ def test_names_of_sheets_are_read(tmp_path):
 
 def test_columns_of_rows_that_follow_each_other_are_read_at_once():
     """As a line at a time; the first line that is no row is refused with its number, also where a row stands within it."""
-    row = "plan,A,X,{},2026-01-05,{},0,3,4,5\n".format
+    def row(period, gross):
+        return f"plan,A,X,{period},2026-01-05,{gross},0,3,4,5\n".encode()
+
     read = mrp.columns_of_rows(mrp.Plan, "period", "gross")
-    assert read([row(0, 7), row(1, 8).replace("\n", "\r\n")], 1) == [("0", "1"), ("7", "8")]
-    for bad in (row(1, "07"), "x" + row(1, 8), row(1, 8) * 2, row(1, 8)[:-1] + "x\n"):
+    assert read([row(0, 7), row(1, 8).replace(b"\n", b"\r\n")], 1) == [("0", "1"), ("7", "8")]
+    for bad in (row(1, "07"), b"x" + row(1, 8), row(1, 8) * 2, row(1, 8)[:-1] + b"x\n", b"\xff" + row(1, 8)):
         with pytest.raises(mrp.Refused, match="row 6 is no row of a report"):
             read([row(0, 7), bad, row(2, 8)], 5)

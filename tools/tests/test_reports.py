@@ -3,6 +3,7 @@ import datetime
 import itertools
 import os
 import random
+import unittest.mock
 
 import cases
 import mrp
@@ -111,3 +112,32 @@ def test_rows_that_begin_alike_are_taken_at_once():
     lines = [b"advice,defer,ship,A,X,0\n"] * (reports.MOST_ALIKE + 5) + [b"late,A,X,0,1,1\n"]
     first, last = reports.runs(lines, reports.ADVICE_ROWS)
     assert (len(first.lines), first.count, last.number) == (reports.MOST_ALIKE, reports.MOST_ALIKE + 5, reports.MOST_ALIKE + 6)
+
+
+def test_records_are_found_where_they_stand(tmp_path):
+    """In any order, as they are read from the first line on: behind rows of other kinds, of which not all are kept, and where pairs have more or less rows."""
+    plan = "plan,A,{},{},2026-01-{:02},{},0,3,4,5\n".format
+    pairs = [("X", 2), ("XX", 2), ("Y", 3), ("Z", 1)]
+    rows = [[plan(name, period, 5 + 7 * period, period) for period in range(count)] for name, count in pairs]
+    between = [["advice,defer,receipt,A,X,,0,2026-01-05,1,1,2026-01-12\n"] * (reports.MOST_ALIKE + 7), ["late,A,X,0,3,1\n"], [], []]
+    (tmp_path / "report").write_text("".join(itertools.chain(*itertools.chain(*zip(between, rows)))), encoding="utf-8")
+    places, names = {}, [("A", it) for it in ("Z", "X", "Y", "XX")]
+    with open(tmp_path / "report", "rb") as file:
+        found = [it for it in reports.parts(file, alike=reports.ADVICE_ROWS, places=places) if isinstance(it, reports.Record)]
+        assert [it.item for it in found] == ["X", "XX", "Y", "Z"]
+        wanted = {(it.plant, it.item): it for it in found}
+        assert [*reports.records(file, places, names)] == [wanted[it] for it in names]
+
+
+def test_reports_are_made_side_by_side(room, capfd):
+    """Each into a file of its own, as often as there are processors at once; what the program says where it refuses is told once."""
+    room.write("table.csv", "the table\n")
+    room.write("words/made", '#!/bin/sh\nread -r line\necho "$* of $line"\n[ "$1" != no ] || { echo "mrp: refused" >&2; exit 1; }\n')
+    asked, made = ("plan", "advice --reach", "no", "schedule"), {"MRP": f"{room.folder}/words/made"}
+    with unittest.mock.patch.dict(os.environ, made), reports.Answers(asked, f"{room.folder}/table.csv", room.folder) as answers:
+        for it in ("schedule", "plan", "advice --reach"):
+            with answers.open(it) as file:
+                assert file.read().decode() == f"{it} of the table\n"
+        with pytest.raises(SystemExit) as end:
+            answers.open("no")
+    assert (end.value.code, capfd.readouterr().err) == (1, "mrp: refused\n")
