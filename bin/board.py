@@ -1,7 +1,7 @@
 """The parts of the page that bin/page writes: lists of what is to be done, and records, as HTML."""
 import functools
 import html
-from datetime import timedelta
+from datetime import date, timedelta
 
 import lacks
 import named
@@ -26,6 +26,9 @@ COMES = "<p>Open orders that the sheets say come later than they are due (Comes)
 EXPEDITE = "<p>An item that has no late order here has receipts that the plan counts sooner than they come: they are to be expedited.</p>"
 # What is overdue in the sheets.
 OVERDUE = {"demand": "demand", "receipt": "receipt", "firm": "firm order", "ship": "in transit"}
+
+# The orders of which the page says how they changed, with the head of the list and of the column that says whose they are.
+CHANGED = ("demand", "Customers' orders", "Customer"), ("open", "Open orders", "From")
 
 
 def is_firm(order):
@@ -143,6 +146,63 @@ class Board:
         if not content and self.outline.facts is None and name != "late":
             return ""
         return f'<section id="{name}">\n<h2>{title}</h2>\n{content or f"<p>{empty}</p>"}\n</section>'
+
+    # What is beside this plan.
+
+    def changed(self, desk):
+        """Returns what changed since an earlier Monday: customers' orders first, then open orders, then what is planned; or nothing."""
+        if not desk.since:
+            return ""
+        lists = [self.orders_changed(kind, *heads, desk.since.changes[kind]) for kind, *heads in CHANGED]
+        if planned := [it for it in desk.planned.items() if self.outline.asked(*it[0])]:
+            rows = [[self.plant(plant), self.item(plant, item), folded(self.changes(found))] for (plant, item), found in planned]
+            head = f"<summary>Planned orders of {reports.counted(len(rows), 'item')}, now or late</summary>"
+            lists.append(f'<details>{head}{sortable(["Plant", "Item", "Change"], rows, " stack")}</details>')
+        content = f'<div class="lists">{"".join(lists)}</div>' if any(lists) else "<p>Nothing.</p>"
+        more = [(desk.later, "pair", "planned later on otherwise: <code>bin/compare</code> has them")]
+        more += [(desk.since.done, "order", "due before this plan begins and gone: taken as done")]
+        more += [(desk.since.behind, "order", "behind the end of that plan, which may have been there already")]
+        content += "".join(f"<p>{reports.counted(count, word)} {said}.</p>" for count, word, said in more if count)
+        first = desk.since.last.first
+        return self.section("changed", f"Changed since {first.day} {first:%B} {first.year}", content, "")
+
+    def orders_changed(self, kind, title, who, found):
+        """Returns a list of orders that came, went or changed, or nothing."""
+        known = {it: self.names.own(*it) for it in self.outline.pairs}
+        codes, rows = dict(zip(known.values(), known)), []
+        for it in found:
+            order, was = it.order, it.was if it.now else None
+            plant, item = order.pair if it.now else codes.get(order.own, order.own)
+            if self.outline.asked(plant, item):
+                before = [self.day(was.day)] if was and was.day != order.day else []
+                before += [f"{was.quantity:,}"] if was and was.quantity != order.quantity else []
+                texts = [html.escape(order.who), html.escape(order.number), self.plant(plant), self.item(plant, item), f"<b>{it.word}</b>"]
+                rows.append([*texts, order.quantity, self.dated(order.day), (", ".join(before), str(was.day) if was else "")])
+        heads = [who, "Order", "Plant", "Item", "Change", "Quantity", "Due", "Was"]
+        return f"<div><h3>{title}</h3>{sortable(heads, rows, ' stack')}</div>" if rows else ""
+
+    def changes(self, found):
+        """Returns the changes of a pair's planned orders as lines."""
+        lines = [f"{self.day(date.fromordinal(it.day))} {html.escape(it.text)}" for it in found]
+        return [f"{len(lines)} changes, the first {lines[0]}", *lines] if len(lines) > 1 else lines
+
+    def short(self, desk):
+        """Returns the demands of this period that aren't there, where a desk asks for changes; or nothing."""
+        found = [it for it in self.outline.lacking.demands if self.outline.asked(it.plant, it.item)] if desk.since else []
+        rows = [[self.plant(it.plant), self.item(it.plant, it.item), it.short, it.quantity, self.notes("demand", it.plant, it.item, 0)[4:]] for it in found]
+        heads = ["Plant", "Item", "Short", "Of", "Wanted by"]
+        return self.section("shortages", "Short now", sortable(heads, rows, " stack"), "") if rows else ""
+
+    def sending(self, desk):
+        """Returns the releases to send, or nothing."""
+        rows = []
+        for it in desk.releases:
+            if it.date != self.dates[0]:
+                raise reports.Refused(f"the release of {it.supplier} is of {it.date}, and the plan begins on {self.dates[0]}")
+            first = self.dated(it.despatch) if it.despatch else ("", "")
+            rows.append([html.escape(it.supplier), it.number, it.items, it.calls, first, it.backlog, it.late])
+        heads = ["Supplier", "Release", "Items", "Calls", "First despatch", "Backlog", "Late"]
+        return self.section("sending", "Releases to send", sortable(heads, rows, " stack"), "") if rows else ""
 
     # The lists.
 

@@ -46,6 +46,9 @@ FINISH += " faellig echeance datedecheance fin datedefin fechafin fechadefin fec
 WANTED = {"Plant": PLANT, "Item": ITEM, "Due": NEEDED, "Quantity": f"orderquantity openquantity bedarfsmenge bestellmenge offenemenge {PIECES}"}
 # When an open order really comes, where that isn't when it is due.
 COMES = "comeson kommt kommtam vient vientle llega llegael"
+# How the number of an open order is headed.
+ORDER = "order productionorder manufacturingorder workorder purchaseorder po auftrag auftrags fertigungsauftrag"
+ORDER += " fertigungsauftrags bestell bestellung ordre ordredefabrication commande pedido orden ordendecompra"
 # How lead times are headed in front of their unit, and the days of each unit, or what stands for days on which somebody works.
 LEAD = "lead leadtime transit transittime vorlauf vorlaufzeit wiederbeschaffungszeit lieferzeit planlieferzeit durchlaufzeit"
 LEAD += " delai delaidelivraison delaidapprovisionnement plazo plazodeentrega tiempodeentrega"

@@ -8,15 +8,17 @@ MOST = 100
 
 
 class Lacks:
-    """The shortages of each pair's orders that are released in this period, of all of them together."""
+    """The shortages of each pair's orders that are released in this period, of all of them together, and those of demands."""
 
     def __init__(self):
-        self.of = {}
+        self.of, self.demands = {}, []
 
     def take(self, row):
         """Takes over a row of `mrp shortages`. A demand is no order."""
         if row.source != "demand":
             self.add((row.by_plant, row.by_item), [row])
+        else:
+            self.demands.append(row)
 
     def add(self, pair, rows):
         found = dict.fromkeys([*self.of.get(pair, ()), *rows])

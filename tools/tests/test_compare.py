@@ -3,7 +3,8 @@ import itertools
 import random
 
 import oracle
-from support import module_of, plan_rows
+import plans
+from support import plan_rows
 
 
 def test_compare_says_what_changed(room):
@@ -71,18 +72,17 @@ A N
 
 def test_compare_pairs_as_no_other_way_does_better(room):
     """By all ways in which a few orders can be paired; and all of 104 periods at once."""
-    tool, chance = module_of("compare", "bin"), random.Random(1)
-    plans = tool.Comparison.__new__(tool.Comparison)
-    plans.reach, plans.at, plans.first, plans.last = 2, int, 2, 8
+    chance, both = random.Random(1), plans.Comparison.__new__(plans.Comparison)
+    both.reach, both.at, both.first, both.last = 2, int, 2, 8
     for _ in range(300):
         old, new = (
             [
-                tool.Order(day, chance.choice((5, 10, 20)), 0)
+                plans.Order(day, chance.choice((5, 10, 20)), 0)
                 for day in sorted(chance.sample(range(10), chance.randint(0, 5)))
             ]
             for _ in "12"
         )
-        found = plans.partners(old, new)
+        found = both.partners(old, new)
         assert ([it for it, _ in found if it], [it for _, it in found if it]) == (old, new)
         ways = [
             [*zip(one, other)]
@@ -263,6 +263,5 @@ def test_compare_knows_the_end_behind_a_closed_week(room):
     table = "run,2026-12-07,7,4,,,,\nplant,A,,,,,,\npair,A,X,buy,lot,0,0,0\ndemand,A,X,3,{},,,\nday,3,2027-01-04,,,,,\n"
     for name, quantity in (("old", 5), ("new", 6)):
         room.write(f"{name}.csv", oracle.Oracle(table.format(quantity).encode()).answer("plan").out.decode())
-    tool = module_of("compare", "bin")
-    assert str(tool.date.fromordinal(tool.Plan(f"{room.folder}/old.csv").end())) == "2027-01-11"
+    assert str(plans.date.fromordinal(plans.Plan(f"{room.folder}/old.csv").end())) == "2027-01-11"
     assert "  2027-01-04  grew    from 5 to 6\n" in room.run("bin/compare old.csv new.csv")
