@@ -214,6 +214,17 @@ UNCLEAR = {
     "Forward consumption": (FORWARD, "in which unit? Head it Forward consumption (periods)"),
 }
 
+# How the columns with a unit are headed in front of it.
+FRONTS = {**TIMES, "Scrap %": SCRAP, "Backward consumption": BACKWARD, "Forward consumption": FORWARD}
+
+
+def known_headings():
+    """Yields each sheet and column with what else it may be headed, and whether a unit is to stand behind that."""
+    for sheet, columns in {**SHEETS, **{it: ADVICE_SHEETS[it] for it in ADVICE_SHEETS if it not in SHEETS}}.items():
+        for column, others in columns.items():
+            words = (FRONTS.get(column) or others).split()
+            yield sheet, column, [*dict.fromkeys(words)], column in FRONTS
+
 
 class Slip(Exception):
     """A cell can't be taken. The text says why."""

@@ -323,6 +323,49 @@ def test_what_may_not_be_meant_of_call_offs(tmp_path, change, told):
     assert sheets(tmp_path, found, "--strict") == (1, "", told + STRICT)
 
 
+@pytest.mark.parametrize(
+    "demands, told",
+    [
+        ("Plant,Item,Due,Quantity\nP1,BIKE,2026-01-26,10\nP1,BIKE,2026-01-26,10\n", ["2 Ann 4", "2 Bob 8"]),
+        ("Plant,Item,Due,Quantity,Customer\nP1,BIKE,2026-01-26,10,Cy\nP1,BIKE,2026-01-26,10,BOB\n", ["3 Bob 8"]),
+        ("Plant,Item,Due,Quantity,Kunde\nP1,BIKE,2026-01-26,10,Cy\nP1,BIKE,2026-01-26,10,\n", ["3 Ann 4", "3 Bob 8"]),
+        ("Plant,Item,Due,Quantity,Customer\nP1,BIKE,2026-01-26,10,Cy\nP1,BIKE,2026-01-26,0,Ann\nP1,WHEEL,2026-01-26,1,Ann\n", []),
+    ],
+)
+def test_what_is_called_for_and_wanted_too(tmp_path, demands, told):
+    """Of one item by one customer, or by nobody who is named: it counts twice, and is told once for each customer."""
+    found = {**CALLS, "demands.csv": demands}
+    lines = [it for it in sheets(tmp_path, found)[2].splitlines() if "twice" in it]
+    places = (it.split() for it in told)
+    text = "demands.csv row {}: P1 BIKE is called for by {} too (calls.csv row {}); what stands in both counts twice"
+    assert lines == [text.format(*it) for it in places]
+    assert ("twice" in sheets(tmp_path, found, "--strict")[2]) == bool(told)
+    found["calls.csv"] = None
+    assert "twice" not in sheets(tmp_path, {name: it for name, it in found.items() if it})[2]
+
+
+@pytest.mark.parametrize(
+    "receipts, firm, told",
+    [
+        ("Order,Plant,Item,Due,Quantity\n7,P1,BIKE,2026-01-12,3\n", "Order", 2),
+        ("Plant,Item,Due,Quantity,Bestellnr.\nP1,BIKE,2026-01-12,3,6\nP1,BIKE,2026-01-12,3,7\n", "Auftrag", 3),
+        ("Order,Plant,Item,Due,Quantity\n7,P1,WHEEL,2026-01-12,3\n8,P1,BIKE,2026-01-12,3\n", "Order", None),
+        ("Order,Plant,Item,Due,Quantity,Advice\n7,P1,BIKE,2026-01-12,3,L4\n", "Order", None),
+        ("Order,Plant,Item,Due,Quantity,Advice\n7,P1,BIKE,2026-01-12,3,\n", "Order", 2),
+        ("Remark,Plant,Item,Due,Quantity\n7,P1,BIKE,2026-01-12,3\n", "Order", None),
+        ("Order,Plant,Item,Due,Quantity\n7,P1,BIKE,2026-01-12,3\n", "Remark", None),
+        ("Order,Plant,Item,Due,Quantity\n,P1,BIKE,2026-01-12,3\n", "Order", None),
+    ],
+)
+def test_one_number_in_two_sheets(tmp_path, receipts, firm, told):
+    """Of one item, and not under way."""
+    found = {**BICYCLE, "receipts.csv": receipts, "firm_orders.csv": f"{firm},Plant,Item,Start,Due,Quantity\n7,P1,BIKE,2026-01-05,2026-01-12,3\n"}
+    lines = [it for it in sheets(tmp_path, found)[2].splitlines() if "twice" in it]
+    line = f"firm_orders.csv row 2: order 7 of P1 BIKE stands in receipts.csv row {told} too, and counts twice"
+    assert lines == ([f"{line}; it belongs here as long as its parts aren't issued"] if told else [])
+    assert ("twice" in sheets(tmp_path, found, "--strict")[2]) == bool(told)
+
+
 def test_sheets_of_call_offs_have_other_headings(tmp_path):
     """The column of where figures start again may be missing; one that is like it may not."""
     wanted = sheets(tmp_path, CALLS, "--names", "names.csv")

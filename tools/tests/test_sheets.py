@@ -13,6 +13,7 @@ import unicodedata
 from fractions import Fraction
 
 import firms
+import headed
 import reports
 from support import answered, module_of, Tags, TOP
 
@@ -767,3 +768,21 @@ WORKS 100/250-A (Pump, 2.5 kW): 14 released in period 1
     17 required in period 2 (above)
 """
     assert room.run("bin/why --names names.csv WORKS 100/250-A 1 < table.csv") == wanted
+
+
+def test_all_headings_are_listed(room):
+    """Each stands for its column alone: in a sheet with it, and the other columns by their own names, the column is found."""
+    lines = room.run("bin/sheets --headings").splitlines()
+    assert "items.csv, Plant: site, location, facility, works, warehouse, werk, standort, fabrik, usine, etablissement, planta, centro, fabrica" in lines
+    assert len(lines) == len({*lines}) == sum(map(len, headed.SHEETS.values())) + sum(len(headed.ADVICE_SHEETS[it]) for it in ("advices.csv", "booked.csv"))
+    for line in lines:
+        names, _, others = line.partition(": ")
+        name, column = names.split(", ")
+        columns = headed.SHEETS.get(name) or headed.ADVICE_SHEETS[name]
+        unit = {"Scrap %": " %"}.get(column, " (periods)") if line.endswith("unit") else ""
+        for it in others.removesuffix(", each with its unit").split(", "):
+            heads = [it + unit if own == column else f"{own}{' (weeks)' * (own == 'Lead')}" for own in columns if own == column or own not in headed.OPTIONAL]
+            sheet = headed.Sheet(room.folder, name, headed.Slips(), columns)
+            sheet.open(",".join(heads).encode())
+            assert sheet.slips.lines() == []
+            assert sheet.heading(column) == it + unit, (line, it)
