@@ -7,7 +7,7 @@ from support import Tags, TOP
 def test_install_puts_and_removes(room):
     room.stand_in("own", "own")
     *paths, last = room.run("MRP=own bin/install here").splitlines()
-    assert (len(paths), last) == (44, "here/bin is not on the path")
+    assert (len(paths), last) == (46, "here/bin is not on the path")
     assert room.run("here/bin/mrp") == "own\n"
     assert ".TH MRP 1" in room.run("cat here/share/man/man1/mrp.1")
     said = room.run("bin/install --remove here")
