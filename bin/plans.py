@@ -27,12 +27,9 @@ class Plan:
     def __init__(self, path):
         self.dates, self.orders, self.incoming, self.usage, self.late = [], {}, {}, {}, {}
         with open(path, "rb") as file:
-            for part in reports.parts(file):
-                if isinstance(part, reports.Record):
-                    pair = part.plant, part.item
-                    self.dates = self.dates or part.dates
-                    self.orders[pair], self.incoming[pair] = array("q", part.order), array("q", part.incoming)
-                    self.usage[pair] = sum(part.gross)
+            for part in reports.parts(file, runs_of_plan=True):
+                if isinstance(part, reports.Run):
+                    self.take(part)
                 elif isinstance(part, mrp.Late):
                     self.late[part.plant, part.item, part.period] = part.by
         if not self.dates:
@@ -40,6 +37,18 @@ class Plan:
         self.calendar = mrp.Calendar.of_report(self.dates)
         self.days = [it.toordinal() for it in self.dates]
         self.places, self.length = {day: place for place, day in enumerate(self.days)}, self.calendar.days
+
+    READ = staticmethod(mrp.columns_of_rows(mrp.Plan, "period", "gross", "incoming", "order"))
+
+    def take(self, run):
+        """Takes over the plan rows of a pair."""
+        pair = reports.names_of_pair(run.lines[0].decode(errors="replace"), run.number)
+        self.dates = self.dates or reports.record_of(run.lines, run.number + run.count - 1).dates
+        periods, gross, *others = self.READ(run.lines, run.number)
+        if [*periods] != [*map(str, range(run.count))]:
+            reports.record_of(run.lines, run.number + run.count - 1)
+        self.usage[pair] = sum(map(int, gross))
+        self.incoming[pair], self.orders[pair] = (array("q", map(int, it)) for it in others)
 
     def lateness(self):
         """Returns how many orders are late, and the most periods that one is."""

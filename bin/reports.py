@@ -355,18 +355,20 @@ def rest_of_run(lines, front, rows):
     return count, passed, b""
 
 
-def parts(file, wanted=lambda plant, item: True, unread=(), alike=(), places=None):
+def parts(file, wanted=lambda plant, item: True, unread=(), alike=(), places=None, runs_of_plan=False):
     """Yields the parts of a report in its order: a Record for each pair that is wanted, a pair of names for each other
     one, and each other row, as a Line where it begins with words of which many rows may stand unread, and as a part of
     a Run where its kind is one of those in which rows may begin alike.
 
     The file gives bytes and is read once; plan rows of pairs that aren't wanted, and rows of names, are passed over. `places` gets
-    where plan rows stand, as runs has it.
+    where plan rows stand, as runs has it; where runs of the plan are asked for there is one in the place of each Record.
     """
     run = None
     for run in runs(file, alike, places):
         line, number = run.lines[0], run.number
-        if line.startswith(b"plan,"):
+        if line.startswith(b"plan,") and runs_of_plan:
+            yield run
+        elif line.startswith(b"plan,"):
             pair = names_of_pair(line.decode(errors="replace"), number)
             yield record_of(run.lines, number + len(run.lines) - 1) if wanted(*pair) else pair
         elif line[:5] in alike:
@@ -629,10 +631,12 @@ class Answers:
             done = subprocess.run([program(), *words.split()], stdin=rows, stdout=file, stderr=subprocess.PIPE, check=False)
         return done.stderr, done.returncode
 
-    def open(self, words):
-        """Returns a report, once it is there, as a file to be closed. Where it is refused the tool says what the program said, and ends."""
+    def open(self, words, name=""):
+        """Returns a report, once it is there, as a file to be closed. Where it is refused the tool says what the program said, behind the
+        name of the table where it isn't the one that was handed in, and ends.
+        """
         said, status = self.found[words].result()
-        sys.stderr.write(said.decode(errors="replace"))
+        sys.stderr.write(f"{name}: " * bool(name and said) + said.decode(errors="replace"))
         if status:
             sys.exit(1)
         return open(self.path(words), "rb")

@@ -4,6 +4,7 @@ An order is a demand, or an open order: a receipt, a firm order or a shipment. W
 that number for the same item at the same plant; of several such rows the first is the first. One without a number is an order of the
 same day, else one of as many pieces that is at most two periods away, of the same customer or supplier. What is left came or went.
 """
+import functools
 import itertools
 from collections import Counter
 from datetime import date
@@ -66,7 +67,7 @@ class Monday:
     """The orders of the table at a path, with what its names say of them; without names they have neither numbers nor customers."""
 
     def __init__(self, path, names):
-        self.table, self.names = reports.Table(path), names
+        self.table, self.names, self.pairs = reports.Table(path), names, {}
         self.calendar, run = self.table.calendar, self.table.run
         self.first, self.end = run.first, self.calendar.first_day(run.periods)
 
@@ -90,14 +91,17 @@ class Monday:
     def unnoted(self):
         """Yields the orders of the table's rows, each on the first day of its period."""
         words = {kind: word for word, kind in KINDS.items()}
+        first_day = functools.cache(self.calendar.first_day)
         for row in self.table.rows(*words):
             period = row.due if isinstance(row, mrp.Firm) else row.period
             pair = (row.plant, row.item) if isinstance(row, mrp.Demand) else row.pair
-            yield Order(self.calendar.first_day(period), row.quantity, "", "", words[type(row)], *self.both(pair))
+            yield Order(first_day(period), row.quantity, "", "", words[type(row)], *self.both(pair))
 
     def both(self, pair):
         """Returns the names of a pair in the table and in the sheets."""
-        return pair, self.names.own(*pair)
+        if pair not in self.pairs:
+            self.pairs[pair] = pair, self.names.own(*pair)
+        return self.pairs[pair]
 
 
 class Since:
@@ -115,10 +119,12 @@ class Since:
             for it in monday.orders():
                 kind = "demand" if it.kind == "demand" else "open"
                 found.setdefault((kind, it.own), ([], []))[place].append(it)
-        for (kind, _), (old, new) in found.items():
-            self.changes[kind] += filter(None, itertools.starmap(self.change, self.partners(old, new)))
+        while found:
+            (kind, _), both = found.popitem()
+            left = without_same(*both, slice(4))
+            self.changes[kind] += filter(None, itertools.starmap(self.change, self.partners(*left)))
         for it in self.changes.values():
-            it.sort(key=lambda it: (it.order.who.casefold() or "\uffff", it.order.day, it.order.own, it.order.number))
+            it.sort(key=lambda it: (it.order.who.casefold() or "\uffff", it.order.day, it.order.own, it.order.number, it.word))
 
     def partners(self, old, new):
         """Yields the orders of an item two by two, or one beside None."""
@@ -161,17 +167,17 @@ def grouped(orders, key):
     return itertools.groupby(sorted(orders, key=lambda it: (key(it), it[:2])), key)
 
 
-def without_same(old, new):
-    """Returns what is left of two lists without orders of the same day and as many pieces in both."""
-    same = Counter(it[:2] for it in old) & Counter(it[:2] for it in new)
-    return [[*without(it, Counter(same))] for it in (old, new)]
+def without_same(old, new, fields=slice(2)):
+    """Returns what is left of two lists without orders that are in both, by their first fields: day and pieces, or number and customer too."""
+    same = Counter(it[fields] for it in old) & Counter(it[fields] for it in new)
+    return [[*without(it, Counter(same), fields)] for it in (old, new)]
 
 
-def without(orders, counts):
-    """Yields the orders, but for as many of each day and number of pieces as are counted."""
+def without(orders, counts, fields):
+    """Yields the orders, but for as many as are counted by their first fields."""
     for it in orders:
-        if counts[it[:2]]:
-            counts[it[:2]] -= 1
+        if counts[it[fields]]:
+            counts[it[fields]] -= 1
         else:
             yield it
 

@@ -326,14 +326,14 @@ def test_what_may_not_be_meant_of_call_offs(tmp_path, change, told):
 @pytest.mark.parametrize(
     "demands, told",
     [
-        ("Plant,Item,Due,Quantity\nP1,BIKE,2026-01-26,10\nP1,BIKE,2026-01-26,10\n", ["2 Ann 4", "2 Bob 8"]),
-        ("Plant,Item,Due,Quantity,Customer\nP1,BIKE,2026-01-26,10,Cy\nP1,BIKE,2026-01-26,10,BOB\n", ["3 Bob 8"]),
-        ("Plant,Item,Due,Quantity,Kunde\nP1,BIKE,2026-01-26,10,Cy\nP1,BIKE,2026-01-26,10,\n", ["3 Ann 4", "3 Bob 8"]),
+        ("Plant,Item,Due,Quantity\nP1,BIKE,2026-01-26,10\nP1,BIKE,2026-01-26,10\n", []),
+        ("Plant,Item,Due,Quantity,Customer\nP1,BIKE,2026-01-26,10,Cy\nP1,BIKE,2026-01-26,10,BOB\nP1,BIKE,2026-01-26,1,Bob\n", ["3 Bob 8"]),
+        ("Plant,Item,Due,Quantity,Kunde\nP1,BIKE,2026-01-26,10,Ann\nP1,BIKE,2026-01-26,10,\nP1,BIKE,2026-01-26,1,Bob\n", ["2 Ann 4", "4 Bob 8"]),
         ("Plant,Item,Due,Quantity,Customer\nP1,BIKE,2026-01-26,10,Cy\nP1,BIKE,2026-01-26,0,Ann\nP1,WHEEL,2026-01-26,1,Ann\n", []),
     ],
 )
 def test_what_is_called_for_and_wanted_too(tmp_path, demands, told):
-    """Of one item by one customer, or by nobody who is named: it counts twice, and is told once for each customer."""
+    """Of one item by one customer who is named: it counts twice, and is told once for each."""
     found = {**CALLS, "demands.csv": demands}
     lines = [it for it in sheets(tmp_path, found)[2].splitlines() if "twice" in it]
     places = (it.split() for it in told)

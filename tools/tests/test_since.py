@@ -201,6 +201,9 @@ def test_bad_words_and_files(mondays):
         assert said in found, words
         assert "Traceback" not in found
         assert len(found.splitlines()) == 1, found
+    mondays.run("sed '/^pair,A,MOTOR/s/,buy,/,make,/; /^bill/d' old.csv > none.csv; echo 'bill,A,PUMP,PUMP,1,,,' >> none.csv")
+    found = mondays.run("bin/page --out page.html --last none.csv < new.csv", status=1)
+    assert re.fullmatch(r"none\.csv: mrp: row \d+: .*\n", found), found
     assert "page.html" not in mondays.run("ls")
 
 
