@@ -4,6 +4,7 @@ An order is a demand, or an open order: a receipt, a firm order or a shipment. W
 that number for the same item at the same plant; of several such rows the first is the first. One without a number is an order of the
 same day, else one of as many pieces that is at most two periods away, of the same customer or supplier. What is left came or went.
 """
+import csv
 import functools
 import itertools
 from collections import Counter
@@ -203,14 +204,16 @@ class Release(NamedTuple):
     late: int
 
 
-def release(path, rows):
-    """Returns a release from the rows of its file, by the names of their columns."""
+def release(path):
+    """Returns a release from its file."""
     try:
+        with open(path, encoding="utf-8", newline="") as file:
+            rows = [*csv.DictReader(file)]
         calls = [it for it in rows if it["Despatch"]]
         heads = {(it["Customer"], it["Item"]): int(it["Backlog"]) for it in rows}
         days = [mrp.day_of(it["Despatch"]) for it in calls]
         number, day = int(rows[0]["Release"]), mrp.day_of(rows[0]["Date"])
         sums = sum(heads.values()), sum(int(it["Late"]) for it in calls)
         return Release(rows[0]["Supplier"], number, day, len(heads), len(calls), min(days, default=None), *sums)
-    except (KeyError, IndexError, TypeError, ValueError, reports.Refused) as fault:
+    except (KeyError, IndexError, TypeError, ValueError, csv.Error, reports.Refused) as fault:
         raise reports.Refused(f"{path} is no release of bin/releases") from fault

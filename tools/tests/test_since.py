@@ -184,14 +184,18 @@ def test_releases_to_send(mondays):
     for bad in ("", f"{COLUMNS}\n", f"{COLUMNS}\nx,2026-12-07,L,A,B,0,,,\n", "Release,Date\n1,2026-12-07\n"):
         mondays.write("out/LUMEN.csv", bad)
         assert mondays.run("bin/page --releases out < new.csv", status=1) == "bin/page: out/LUMEN.csv is no release of bin/releases\n"
+    mondays.run("printf '\\377\\n' > out/LUMEN.csv")
+    assert mondays.run("bin/page --releases out < new.csv", status=1) == "bin/page: out/LUMEN.csv is no release of bin/releases\n"
     assert "none" in mondays.run("bin/page --releases none < new.csv", status=1)
 
 
 def test_bad_words_and_files(mondays):
+    mondays.write("empty", "")
     for words, status, said in (
         ("--last new.csv < old.csv", 1, "new.csv begins on 2026-12-07, and this plan on 2026-11-30: --last wants an earlier one"),
         ("--last none.csv < new.csv", 1, "No such file"),
-        ("--last old.names < new.csv", 1, "no kind of row is 'row'"),
+        ("--last old.names < new.csv", 1, "old.names: mrp: row 1: FieldCount"),
+        ("--last empty < new.csv", 1, "empty: mrp: row 0: Empty"),
         ("--last old.csv < examples/bicycle.plan.csv", 1, "--last wants a table, and this is a report"),
         ("--last old.csv --moved -1 < new.csv", 2, "'-1' is no number of days"),
         ("--last old.csv --moved x < new.csv", 2, "'x' is no number of days"),
