@@ -148,6 +148,8 @@ def test_tables_without_names_are_compared_by_days(mondays):
     pieces are told as they are there."""
     text = mondays.run("bin/page --last old.csv < new.csv")
     rows = [it[4:] for it in listed(text, "changed") if len(it) == 8]
+    for words in ("--names new.names", "--last-names old.names"):
+        assert [it[4:] for it in listed(mondays.run(f"bin/page {words} --last old.csv < new.csv"), "changed") if len(it) == 8] == rows
     assert rows == [
         ["came", "2", "7 Dec W50", ""],
         ["came", "3", "14 Dec W51", ""],
