@@ -36,13 +36,15 @@ def test_damaged_advices_are_refused_or_written_whole(tmp_path):
     assert min(told) > 4
 
 
-def test_damaged_sheets_of_the_tutorial(tmp_path):
+def test_damaged_sheets_of_the_week(tmp_path):
     """A table, or none and slips."""
     sheets = {}
     for folder in ("export", "written"):
         for path in glob.glob(f"{TOP}/examples/conveyors/{folder}/*"):
             with open(path, encoding="utf-8") as file:
                 sheets[os.path.basename(path)] = file.read()
+    # (advices have what is on its way)
+    del sheets["shipments.csv"]
     told = [0, 0]
     for seed in range(SEEDS // 2):
         chance = random.Random(seed)
