@@ -299,7 +299,7 @@ def postgresql(room):
 def sections():
     """Returns the sections of the pages with recipes, by page and head: the commands of each, and what they print."""
     found = {}
-    for page in ("cookbook", "cumulative", "integrate", "limits", "sheets"):
+    for page in ("cookbook", "cumulative", "integrate", "limits", "night", "sheets"):
         with open(f"{TOP}/docs/{page}.md", encoding="utf-8") as file:
             parts = file.read().split("\n## ")[1:]
         for it in parts:

@@ -1,4 +1,4 @@
-"""The queries of examples/erp/, and the run at night of docs/integrate.md."""
+"""The queries of examples/erp/, and the run at night of docs/night.md."""
 import shutil
 
 import mrp

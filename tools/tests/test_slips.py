@@ -1,4 +1,4 @@
-"""What leads planners into a wrong act is told: by bin/sheets, bin/counts, bin/renew and the nights of docs/integrate.md.
+"""What leads planners into a wrong act is told: by bin/sheets, bin/counts, bin/renew and the nights of docs/night.md.
 
 The program is the one that MRP names, or the proved one where it is built of the sources; without, the nights are skipped.
 """
@@ -558,8 +558,8 @@ def test_counts_refuses_bad_words(tmp_path):
 
 
 def night(folder, section):
-    """Writes night.sh as a section of docs/integrate.md has it into a folder that looks like the repository, and returns what runs it."""
-    with open(f"{TOP}/docs/integrate.md", encoding="utf-8") as file:
+    """Writes night.sh as a section of docs/night.md has it into a folder that looks like the repository, and returns what runs it."""
+    with open(f"{TOP}/docs/night.md", encoding="utf-8") as file:
         part = file.read().split(f"\n## {section}\n")[1].split("\n## ")[0]
     (folder / "night.sh").write_text(re.search("(?ms)^cat > night.sh <<'END'\n(.*?)^END\n", part)[1])
     for it in ("bin", "examples"):
