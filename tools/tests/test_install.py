@@ -1,13 +1,34 @@
 """bin/install."""
 import os
+import re
 
 from support import Tags, TOP
+
+# What isn't put there: the program is the proved one, and these two are for who has the sources.
+NOT_INSTALLED = "mrp", "install", "release", "shell.sh"
+
+
+def test_each_file_is_installed_and_in_the_man_page(room):
+    """Every file of bin/ is put there, and each tool has its part of the man page, with the words that its help begins with."""
+    room.stand_in("own", "own")
+    room.run("MRP=own bin/install here")
+    names = {it for it in os.listdir(f"{TOP}/bin") if os.path.isfile(f"{TOP}/bin/{it}")} - {*NOT_INSTALLED}
+    assert names <= {*os.listdir(f"{room.folder}/here/share/mrp")}
+    tools = {it for it in names if os.access(f"{TOP}/bin/{it}", os.X_OK)}
+    assert {f"mrp-{it}" for it in tools} == {*os.listdir(f"{room.folder}/here/bin")} - {"mrp"}
+    page = room.run("cat here/share/man/man1/mrp.1")
+    part = page.partition(".SH TOOLS\n")[2].partition("\n.SH ")[0].replace("\\-", "-")
+    usages = dict(re.findall(r"^\.TP\n\\fBmrp-(\w+)\\fR (.+)\n(?=[A-Z])", part, re.MULTILINE))
+    assert {*usages} == tools
+    for tool, usage in usages.items():
+        assert room.run(f"here/bin/mrp-{tool} --help").startswith(f"usage: mrp-{tool} {usage}\n")
+        assert room.run(f"cat here/share/man/man1/mrp-{tool}.1") == page
 
 
 def test_install_puts_and_removes(room):
     room.stand_in("own", "own")
     *paths, last = room.run("MRP=own bin/install here").splitlines()
-    assert (len(paths), last) == (46, "here/bin is not on the path")
+    assert (len(paths), last) == (57, "here/bin is not on the path")
     assert room.run("here/bin/mrp") == "own\n"
     assert ".TH MRP 1" in room.run("cat here/share/man/man1/mrp.1")
     said = room.run("bin/install --remove here")

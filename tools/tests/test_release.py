@@ -107,6 +107,11 @@ def test_release_holds_what_it_says(room):
         == ""
     )
     assert room.run("zcat root/usr/share/man/man1/mrp.1.gz") == room.run("cat new/share/man/man1/mrp.1")
+    pages = sorted(f"{it}.1" for it in tools)
+    assert room.run("ls new/share/man/man1").split() == pages
+    assert room.run("ls root/usr/share/man/man1").split() == [f"{it}.gz" for it in pages]
+    for it in pages:
+        assert room.run(f"zcat root/usr/share/man/man1/{it}.gz") == room.run(f"cat new/share/man/man1/{it}")
     assert (
         room.run("MRP=./own MRP_LIBRARY=none/libmrp.so tree/bin/release --unproved two", status=1)
         == "bin/release: none has no library for C\n"
