@@ -3,6 +3,7 @@
 The program is the one that MRP names, or the proved one where it is built of the sources; without, the nights are skipped.
 """
 import datetime
+import fcntl
 import hashlib
 import os
 import re
@@ -671,6 +672,32 @@ def test_a_night_goes_by_the_last_good_one(tmp_path):
     assert runs() == (1, "", f"receipt: 1 row before, none now\n{AS_IT_WAS}")
     subprocess.run("bin/counts --accept counts.csv < table.new", **shell)
     assert runs() == (0, "", "")
+
+
+def test_a_night_leaves_reports_behind_the_step_that_fails(tmp_path):
+    """As the page has it: nothing changes while the last night is at work; a report that can't be written and those behind it stay,
+    those before it are new; run again, all are.
+    """
+    runs = night(tmp_path, "From sheets")
+    shutil.copytree(f"{TOP}/examples/sheets", tmp_path / "sheets")
+    assert runs() == (0, "", NEW)
+    old = files(tmp_path)
+    demands = tmp_path / "sheets" / "demands.csv"
+    demands.write_text(re.sub(r",(\d+)$", r",9\1", demands.read_text(), flags=re.MULTILINE))
+    with open(tmp_path / "night.lock", "w", encoding="utf-8") as lock:
+        fcntl.flock(lock, fcntl.LOCK_EX)
+        assert (runs(), files(tmp_path)) == ((1, "", "night.sh: the last run is still at work\n"), old)
+    kept = (tmp_path / "schedule.csv").rename(tmp_path / "kept.csv")
+    (tmp_path / "schedule.csv").mkdir()
+    status, _, said = runs()
+    assert (status, said.count("\n"), said.startswith("bin/renew: ")) == (1, 1, True)
+    (tmp_path / "schedule.csv").rmdir()
+    kept.rename(tmp_path / "schedule.csv")
+    now = files(tmp_path)
+    assert {it for it in old if now[it] != old[it]} == {"plan", "cums", "orders"}
+    assert runs() == (0, "", "")
+    now = files(tmp_path)
+    assert {it for it in old if now[it] != old[it]} >= {"table", "plan", "orders", "schedule", "names"}
 
 
 def test_renew_says_in_a_line_that_it_has_no_table(tmp_path):
