@@ -28,7 +28,9 @@ def test_each_file_is_installed_and_in_the_man_page(room):
 def test_install_puts_and_removes(room):
     room.stand_in("own", "own")
     *paths, last = room.run("MRP=own bin/install here").splitlines()
-    assert (len(paths), last) == (57, "here/bin is not on the path")
+    assert last == "here/bin is not on the path"
+    assert len(paths) > 50
+    assert sorted(paths) == sorted(room.run("find here -type f -o -type l").split())
     assert room.run("here/bin/mrp") == "own\n"
     assert ".TH MRP 1" in room.run("cat here/share/man/man1/mrp.1")
     said = room.run("bin/install --remove here")
