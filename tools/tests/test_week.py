@@ -65,6 +65,10 @@ def test_two_mondays_from_export_to_releases(desk):
         text = desk.run(f"cat {week}/page.html")
         Tags(text)
         assert len(listed(text, "overdue")) == overdue
+        assert {it[0] for it in listed(text, "sending")} == {"1000", "2000", "L-KLG", "L-SEM"}
+    # (one order more of each of two customers, and one that has grown; those that were due and are gone have left)
+    changed = re.search('<section id="changed">(.*?)</section>', text, re.DOTALL)[1]
+    assert {*re.findall(r"\b5\d{4}\b", changed)} == {"50740", "51880", "51890"}
     found = files(desk)
     desk.run("rm -r kw49 kw50")
     for command, _ in steps():
