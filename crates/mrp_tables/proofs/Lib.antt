@@ -1,8 +1,11 @@
 pub mod Taken
 pub mod Adding
 pub mod AmountFacts
+pub mod Apart
 pub mod Arrivals
 pub mod Asked
+pub mod BlockFacts
+pub mod BulkFacts
 pub mod DayFacts
 pub mod EndFacts
 pub mod Finding
@@ -10,9 +13,14 @@ pub mod Found
 pub mod Keys
 pub mod Known
 pub mod NewPair
+pub mod NotedFacts
+pub mod PieceFacts
+pub mod PlainFacts
+pub mod SourceFacts
 pub mod Starting
 pub mod StepCount
 pub mod TurnCount
 pub mod VendorFacts
+pub mod ThreadFacts
 pub mod Waiting
 pub mod Words

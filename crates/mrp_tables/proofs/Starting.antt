@@ -122,7 +122,8 @@ follows_open next last follows =
     let parts = and_parts (ltb 0 (kind_place next) && leb (kind_place last) (kind_place next)) (ltb (kind_place last) (kind_place kind.End)) follows in
     grind (arith, nat_tests)
 
-tells_fault : {A B : Type 0} (e : TableFaultKind) (part : Result A TableFaultKind) (read : Result B TableFaultKind) → TellsFault part e
+-- a fault of a part is one of the whole
+pub tells_fault : {A B : Type 0} (e : TableFaultKind) (part : Result A TableFaultKind) (read : Result B TableFaultKind) → TellsFault part e
     → (part ≡ Err e → read ≡ Err e) → TellsFault read e
 tells_fault fault.Memory part read h f = tt
 tells_fault _ part read h f = f h

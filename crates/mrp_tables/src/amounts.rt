@@ -155,7 +155,7 @@ impl Draft {
     }
 
     /// What a demand row says.
-    fn demand_of(&self, row: &StringRecord) -> Result<DemandRow, TableFaultKind>
+    pub(crate) fn demand_of(&self, row: &StringRecord) -> Result<DemandRow, TableFaultKind>
         requires draft { IsDraft self.now }
         ensures exact { result ≡ demand_of self.now.lists (fields_of row.now) }
         ensures row { IfOk result (IsDemandRow self.now.lists) }
@@ -184,7 +184,7 @@ impl Draft {
     }
 
     /// What a receipt row says.
-    fn receipt_of(&self, row: &StringRecord) -> Result<ReceiptRow, TableFaultKind>
+    pub(crate) fn receipt_of(&self, row: &StringRecord) -> Result<ReceiptRow, TableFaultKind>
         requires draft { IsDraft self.now }
         ensures exact { result ≡ receipt_of self.now.lists (fields_of row.now) }
         ensures row { IfOk result (IsReceiptRow self.now.lists) }

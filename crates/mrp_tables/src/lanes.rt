@@ -126,7 +126,7 @@ impl Draft {
 
     /// What a ship row says, with the place of its source.
     #[tactic(auto, unfolding(mrp_validation::specs::Grammar::ship_of))]
-    fn ship_of(&self, row: &StringRecord) -> Result<(ShipRow, usize), TableFaultKind>
+    pub(crate) fn ship_of(&self, row: &StringRecord) -> Result<(ShipRow, usize), TableFaultKind>
         requires draft { IsDraft self.now }
         ensures exact { seen (λ s. s.0) result ≡ ship_of self.now.lists (fields_of row.now) }
         ensures row { IfOk result (λ s. IsShipRow self.now.lists s.0) }

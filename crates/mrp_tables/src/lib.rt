@@ -11,6 +11,8 @@
 #![tactic(auto)]
 
 mod amounts;
+mod blocks;
+mod bulk;
 mod days;
 mod draft;
 mod ends;
@@ -19,11 +21,14 @@ mod lanes;
 mod name_key;
 mod names;
 mod pairs;
+mod pieces;
 mod policies;
 mod reading;
+mod source;
 mod spelled;
 mod spelling;
 mod steps;
+mod threads;
 mod usages;
 mod vendors;
 
@@ -32,3 +37,4 @@ pub use mrp_qty::MAX_TURNS;
 pub use mrp_validation::{TableFault, TableFaultKind};
 pub use reading::{read_tables, read_tables_as, read_tables_uncounted};
 pub use steps::Steps;
+pub use threads::{read_tables_by_blocks, read_tables_by_threads};

@@ -149,7 +149,7 @@ fn read_rows<R: Read, L: Ledger>(
 
 /// The table of all rows read, where each pair that a pair is taken from has a row, and where it ends with an `end` row
 /// if it has to be whole.
-fn accept(reading: Reading, draft: Draft) -> Result<Tables, TableFault>
+pub(crate) fn accept(reading: Reading, draft: Draft) -> Result<Tables, TableFault>
     requires draft { IsDraft draft }
     requires kept { IsDraftKept draft }
     ensures exact { result ≡ go_on (waiting draft.lists) (uncut reading) }
@@ -186,7 +186,7 @@ fn is_cut(reading: Reading, draft: &Draft) -> bool
 }
 
 /// What the first row makes.
-fn first_draft(alloc: Global, row: &StringRecord) -> Result<Draft, TableFault>
+pub(crate) fn first_draft(alloc: Global, row: &StringRecord) -> Result<Draft, TableFault>
     requires text { AllText (fields_of row.now) }
     ensures exact { TellsFirstAt result (fields_of row.now) }
     ensures kept { IfOk result IsDraftKept }
@@ -233,7 +233,7 @@ fn read_rest<R: Read, L: Ledger>(
 }
 
 /// Reads the row of that number into the draft, if there is one.
-fn read_next<R: Read>(
+pub(crate) fn read_next<R: Read>(
     alloc: Global,
     rows: &mut Reader<R>,
     row: &mut StringRecord,
@@ -254,6 +254,7 @@ fn read_next<R: Read>(
     ensures kept { OnOk result (IsDraftKept draft.new) }
     ensures rows { IfOk result (λ found. found ≡ true → draft.new.rows ≡ draft.old.rows + 1) }
     ensures ended { IfOk result (λ found. found ≡ false → draft.new.rows ≡ draft.old.rows) }
+    ensures same { IfOk result (λ found. found ≡ false → draft.new ≡ draft.old) }
 {
     if !next_row(rows, row, number)? {
         return Ok(false);
@@ -263,7 +264,7 @@ fn read_next<R: Read>(
 }
 
 /// A fault with the row that has it.
-fn at_row<T: Drop>(row: u64, answer: Result<T, TableFaultKind>) -> Result<T, TableFault>
+pub(crate) fn at_row<T: Drop>(row: u64, answer: Result<T, TableFaultKind>) -> Result<T, TableFault>
     ensures same { MatchResult answer (λ value. result ≡ Ok value)
         (λ kind. result ≡ Err (record { row = row; kind = kind })) }
 {
@@ -274,7 +275,7 @@ fn at_row<T: Drop>(row: u64, answer: Result<T, TableFaultKind>) -> Result<T, Tab
 }
 
 /// Reads the next row, if there is one.
-fn next_row<R: Read>(
+pub(crate) fn next_row<R: Read>(
     rows: &mut Reader<R>,
     row: &mut StringRecord,
     number: u64,

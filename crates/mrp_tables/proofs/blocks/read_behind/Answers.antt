@@ -1,0 +1,13 @@
+use Rattle.mrp_tables.specs.Pieces.{rows_of_bytes}
+use Rattle.mrp_tables.specs.Sources.{left_of}
+use Rattle.mrp_tables.proofs.BlockFacts.{tells_rest}
+use Rattle.mrp_validation.proofs.KeepingSteps.{handed_on}
+use Rattle.mrp_tables.proofs.blocks.read_behind.Goals as goal
+
+pub returns-in_err-read_blocks-clause-exact : goal.returns-in_err-read_blocks-clause-exact
+returns-in_err-read_blocks-clause-exact g c = rw (handed_on c.from_residual.result _ c.from_residual.ensures.1) c.in_err-read_blocks.ensures.exact
+
+pub returns-clause-exact : goal.returns-clause-exact
+returns-clause-exact g c =
+    tells_rest (rows_of_bytes (left_of g.R.Read.remaining c.args.source.now)) (rows_of_bytes (left_of g.R.Read.remaining c.read_blocks.new.source))
+    c.args.draft.now c.read_blocks.new.draft c.read_left.new.draft c.read_left.result c.in_ok-read_blocks.ensures.exact c.read_left.ensures.exact

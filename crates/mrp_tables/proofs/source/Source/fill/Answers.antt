@@ -1,0 +1,12 @@
+use Rattle.std.proofs.Common.{arith}
+use Rattle.mrp_tables.proofs.SourceFacts.{consumed_on, filled_within}
+use Rattle.mrp_tables.proofs.source.Source.fill.Goals as goal
+
+pub bytes-preserved : goal.bytes-preserved
+bytes-preserved g c = record {
+  within = filled_within c.bytes.room c.read.new.buf c.bytes.used _ c.in-Ok.count c.bytes.invariant.within (omega arith) c.in-Ok.ensures.bound.0;
+  taken =
+      consumed_on _ _ _ c.bytes.room c.read.new.buf c.bytes.used _ c.in-Ok.count c.bytes.invariant.within (omega arith)
+      c.in-Ok.ensures.bound.0
+      c.bytes.invariant.taken c.in-Ok.ensures.bytes.0;
+}

@@ -1,0 +1,294 @@
+//! A table read by blocks, which are cut into pieces and read side by side.
+//!
+//! The first rows, up to the bills, are read on the calling thread, a piece at a time. Behind them threads read a piece
+//! each, beside the table as it stands, and the calling thread takes what they noted in order. From the first piece
+//! that isn't good the one loop reads the rest, so faults, their rows and what waits for the last row are its own.
+
+ghost use Rattle.std.specs.Prelude.{◌≡◌, ◌≤◌, ◌<◌, ◌+◌, drop, IfOk, OnOk, length};
+ghost use Rattle.std.specs.Io.KnownBytes.{Consumes, prepend_known};
+ghost use Rattle.mrp_validation.specs.Left.{GivesAll, rows_left};
+ghost use Rattle.mrp_tables.specs.Drafts.{IsDraftKept};
+ghost use Rattle.mrp_tables.specs.Lists.{IsDraft};
+ghost use Rattle.mrp_tables.specs.Pieces.{AreGood, IsPlain, TellsPieces, TellsRead, TellsThem, none_left_of, rows_in};
+ghost use Rattle.mrp_tables.specs.Pieces.{rows_of_bytes, texts_of};
+ghost use Rattle.mrp_tables.specs.Sources.{left_of};
+
+use crate::draft::Draft;
+use crate::pieces::{LINE_FEED, Piece, is_plain, rows_of};
+use crate::reading::read_next;
+use crate::source::Source;
+use csv::{Reader, StringRecord};
+use mrp_qty::MAX_TURNS;
+use mrp_validation::{Kind, TableFault, TableFaultKind, may_follow};
+use std::alloc::{AllocError, Global};
+use std::io::Read;
+use std::thread::{Threads, for_each_mut};
+
+/// Reads the rows left of a reader, behind those of the draft.
+pub(crate) fn read_on<R: Read>(
+    alloc: Global,
+    rows: &mut Reader<R>,
+    row: &mut StringRecord,
+    draft: &mut Draft,
+) -> Result<(), TableFault>
+    requires gives { GivesAll rows.old }
+    requires draft { IsDraft draft.old }
+    requires kept { IsDraftKept draft.old }
+    ensures exact { TellsRead (rows_left R.remaining rows.old) (none_left_of (rows_left R.remaining rows.old))
+        draft.old draft.new result }
+    ensures draft { OnOk result (IsDraft draft.new) }
+    ensures kept { OnOk result (IsDraftKept draft.new) }
+{
+    for number in draft.rows + 1..MAX_TURNS + 1 {
+        if !read_next(alloc, rows, row, draft, number)? {
+            return Ok(());
+        }
+    }
+    unreachable!()
+}
+
+/// Reads the rows of a plain text, behind those of the draft.
+fn read_text(alloc: Global, text: &[u8], draft: &mut Draft) -> Result<(), TableFault>
+    requires plain { IsPlain text.now }
+    requires draft { IsDraft draft.old }
+    requires kept { IsDraftKept draft.old }
+    ensures exact { TellsThem (rows_in text.now) draft.old draft.new result }
+    ensures draft { OnOk result (IsDraft draft.new) }
+    ensures kept { OnOk result (IsDraftKept draft.new) }
+{
+    let mut rows = rows_of(alloc, text);
+    let mut row = StringRecord::new(alloc);
+    read_on(alloc, &mut rows, &mut row, draft)
+}
+
+/// Reads all that is left of a source, behind the rows of the draft.
+fn read_left<R: Read>(
+    alloc: Global,
+    source: &mut Source<R>,
+    draft: &mut Draft,
+) -> Result<(), TableFault>
+    requires draft { IsDraft draft.old }
+    requires kept { IsDraftKept draft.old }
+    ensures exact { TellsRead (rows_of_bytes (left_of R.remaining source.old))
+        (none_left_of (rows_of_bytes (left_of R.remaining source.old))) draft.old draft.new result }
+    ensures draft { OnOk result (IsDraft draft.new) }
+    ensures kept { OnOk result (IsDraftKept draft.new) }
+{
+    // A line feed is no row, and behind it no bytes are taken for a byte order mark.
+    match source.give_back(&[LINE_FEED]) {
+        Ok(()) => {}
+        Err(_) => return Err(no_memory(draft)),
+    }
+    let mut rows = rows_of(alloc, source);
+    let mut row = StringRecord::new(alloc);
+    read_on(alloc, &mut rows, &mut row, draft)
+}
+
+/// That memory was refused behind the rows of the draft.
+pub(crate) fn no_memory(draft: &Draft) -> TableFault
+    requires draft { IsDraft draft.now }
+    ensures { result ≡ record { row = draft.now.rows + 1; kind = TableFaultKind.Memory } }
+{
+    TableFault {
+        row: draft.rows + 1,
+        kind: TableFaultKind::Memory,
+    }
+}
+
+/// Fills pieces with the bytes left of a source, about so many bytes to a piece.
+fn fill_pieces<R: Read>(
+    source: &mut Source<R>,
+    pieces: &mut [Piece],
+    size: usize,
+) -> Result<(), AllocError>
+    ensures taken { OnOk result (Consumes (left_of R.remaining source.old) (left_of R.remaining source.new)
+        (texts_of pieces.new)) }
+{
+    for k in 0..pieces.len() {
+        pieces[k].fill(source, size)?;
+    }
+    Ok(())
+}
+
+/// Reads pieces side by side, each beside the table of the draft.
+fn read_pieces<T: Threads + Sync>(rt: &T, alloc: Global, pieces: &mut [Piece], draft: &Draft)
+    requires draft { IsDraft draft.now }
+    requires some { 0 < length pieces.old }
+    ensures texts { texts_of pieces.new ≡ texts_of pieces.old }
+    ensures good { AreGood draft.now.lists pieces.new }
+{
+    let count = pieces.len();
+    for_each_mut(
+        rt,
+        pieces,
+        count,
+        &|_, piece: &mut Piece| { piece.read(alloc, draft) },
+    );
+}
+
+/// Takes what the pieces say into the table, in order, up to the first that isn't good, and answers its place.
+fn take_pieces(pieces: &[Piece], draft: &mut Draft) -> Result<usize, TableFault>
+    requires draft { IsDraft draft.old }
+    requires kept { IsDraftKept draft.old }
+    requires good { AreGood draft.old.lists pieces.now }
+    ensures within { IfOk result (λ taken. taken ≤ length pieces.now) }
+    ensures exact { TellsPieces pieces.now draft.old draft.new result }
+    ensures draft { OnOk result (IsDraft draft.new) }
+    ensures kept { OnOk result (IsDraftKept draft.new) }
+{
+    for k in 0..pieces.len() {
+        let piece = &pieces[k];
+        if !piece.is_good() {
+            return Ok(k);
+        }
+        piece.take_into(draft)?;
+    }
+    Ok(pieces.len())
+}
+
+/// Gives back the pieces from that place on.
+fn give_back<R: Read>(
+    source: &mut Source<R>,
+    pieces: &[Piece],
+    taken: usize,
+) -> Result<(), AllocError>
+    requires within { taken ≤ length pieces.now }
+    ensures given { OnOk result (left_of R.remaining source.new
+        ≡ prepend_known (texts_of (drop taken pieces.now)) (left_of R.remaining source.old)) }
+{
+    let mut place = pieces.len();
+    'places: while place > taken {
+        place -= 1;
+        source.give_back(pieces[place].text())?;
+    }
+    Ok(())
+}
+
+/// Reads a block side by side, and says whether all of it was good.
+fn read_block<T: Threads + Sync, R: Read>(
+    rt: &T,
+    alloc: Global,
+    source: &mut Source<R>,
+    pieces: &mut [Piece],
+    size: usize,
+    draft: &mut Draft,
+) -> Result<bool, TableFault>
+    requires draft { IsDraft draft.old }
+    requires kept { IsDraftKept draft.old }
+    requires some { 0 < length pieces.old }
+    ensures exact { TellsRead (rows_of_bytes (left_of R.remaining source.old))
+        (rows_of_bytes (left_of R.remaining source.new)) draft.old draft.new result }
+    ensures draft { OnOk result (IsDraft draft.new) }
+    ensures kept { OnOk result (IsDraftKept draft.new) }
+{
+    match fill_pieces(source, pieces, size) {
+        Ok(()) => {}
+        Err(_) => return Err(no_memory(draft)),
+    }
+    read_pieces(rt, alloc, pieces, draft);
+    let taken = take_pieces(pieces, draft)?;
+    match give_back(source, pieces, taken) {
+        Ok(()) => Ok(taken == pieces.len()),
+        Err(_) => Err(no_memory(draft)),
+    }
+}
+
+/// Reads one piece on this thread, and says whether it was plain.
+fn read_piece<R: Read>(
+    alloc: Global,
+    source: &mut Source<R>,
+    piece: &mut Piece,
+    size: usize,
+    draft: &mut Draft,
+) -> Result<bool, TableFault>
+    requires draft { IsDraft draft.old }
+    requires kept { IsDraftKept draft.old }
+    ensures exact { TellsRead (rows_of_bytes (left_of R.remaining source.old))
+        (rows_of_bytes (left_of R.remaining source.new)) draft.old draft.new result }
+    ensures draft { OnOk result (IsDraft draft.new) }
+    ensures kept { OnOk result (IsDraftKept draft.new) }
+{
+    match piece.fill(source, size) {
+        Ok(_) => {}
+        Err(_) => return Err(no_memory(draft)),
+    }
+    let text = piece.text();
+    if is_plain(text) {
+        read_text(alloc, text, draft)?;
+        return Ok(true);
+    }
+    match source.give_back(text) {
+        Ok(()) => Ok(false),
+        Err(_) => Err(no_memory(draft)),
+    }
+}
+
+/// Reads a piece, or behind the bills a block, and says whether all of it was plain.
+fn read_some<T: Threads + Sync, R: Read>(
+    rt: &T,
+    alloc: Global,
+    source: &mut Source<R>,
+    pieces: &mut [Piece],
+    size: usize,
+    draft: &mut Draft,
+) -> Result<bool, TableFault>
+    requires draft { IsDraft draft.old }
+    requires kept { IsDraftKept draft.old }
+    requires some { 0 < length pieces.old }
+    ensures exact { TellsRead (rows_of_bytes (left_of R.remaining source.old))
+        (rows_of_bytes (left_of R.remaining source.new)) draft.old draft.new result }
+    ensures draft { OnOk result (IsDraft draft.new) }
+    ensures kept { OnOk result (IsDraftKept draft.new) }
+{
+    if may_follow(Kind::Bill, draft.last) {
+        read_piece(alloc, source, &mut pieces[0], size, draft)
+    } else {
+        read_block(rt, alloc, source, pieces, size, draft)
+    }
+}
+
+/// Reads blocks as long as they are good.
+fn read_blocks<T: Threads + Sync, R: Read>(
+    rt: &T,
+    alloc: Global,
+    source: &mut Source<R>,
+    pieces: &mut [Piece],
+    size: usize,
+    draft: &mut Draft,
+) -> Result<(), TableFault>
+    requires draft { IsDraft draft.old }
+    requires kept { IsDraftKept draft.old }
+    requires some { 0 < length pieces.old }
+    ensures exact { TellsRead (rows_of_bytes (left_of R.remaining source.old))
+        (rows_of_bytes (left_of R.remaining source.new)) draft.old draft.new result }
+    ensures draft { OnOk result (IsDraft draft.new) }
+    ensures kept { OnOk result (IsDraftKept draft.new) }
+{
+    'turns: for _ in 0..MAX_TURNS {
+        if !read_some(rt, alloc, source, pieces, size, draft)? {
+            return Ok(());
+        }
+    }
+    Ok(())
+}
+
+/// Reads the rows behind those of the draft: blocks as long as they are good, then the rest by the one loop.
+pub(crate) fn read_behind<T: Threads + Sync, R: Read>(
+    rt: &T,
+    alloc: Global,
+    source: &mut Source<R>,
+    pieces: &mut [Piece],
+    size: usize,
+    draft: &mut Draft,
+) -> Result<(), TableFault>
+    requires draft { IsDraft draft.old }
+    requires kept { IsDraftKept draft.old }
+    requires some { 0 < length pieces.old }
+    ensures exact { TellsRead (rows_of_bytes (left_of R.remaining source.old))
+        (none_left_of (rows_of_bytes (left_of R.remaining source.old))) draft.old draft.new result }
+    ensures draft { OnOk result (IsDraft draft.new) }
+    ensures kept { OnOk result (IsDraftKept draft.new) }
+{
+    read_blocks(rt, alloc, source, pieces, size, draft)?;
+    read_left(alloc, source, draft)
+}
