@@ -2,6 +2,7 @@
 import contextlib
 import csv
 import datetime
+import functools
 import importlib.machinery
 import importlib.util
 import io
@@ -12,6 +13,7 @@ import sys
 from collections import Counter
 
 import crates
+import headed
 import hits
 import mrp
 import reports
@@ -20,7 +22,6 @@ from world import WEEK, Order
 PERIODS = 16
 HORIZONS = 2, 6, 12
 ITEM_HEADS = "Plant,Item,Supply,Lot rule,Lead (weeks),Safety stock,Fence (periods),Sooner (periods),Cover (periods),Least,Multiple,On hand"
-REPORTS = "cums", "shortages", "check --reach"
 
 
 def script(name):
@@ -31,25 +32,25 @@ def script(name):
     return module
 
 
-SCRIPTS = {name: script(name) for name in ("sheets", "advices", "book")}
+SCRIPTS = {name: script(name) for name in ("sheets", "advices", "book", "releases")}
 
 
 class Ended(Exception):
     """A script ended with another status than 0, and said why."""
 
 
-def run(name, *words):
-    """Runs a script in this process, and returns what it says."""
-    said, before = io.StringIO(), sys.argv
+def run(name, *words, table=os.devnull):
+    """Runs a script in this process, with a table on standard input, and returns what it says."""
+    said, before = io.StringIO(), (sys.argv, sys.stdin)
     sys.argv = [f"bin/{name}", *map(str, words)]
     out = io.TextIOWrapper(io.BytesIO(), encoding="utf-8")
     try:
-        with contextlib.redirect_stderr(said), contextlib.redirect_stdout(out):
+        with contextlib.redirect_stderr(said), contextlib.redirect_stdout(out), open(table, encoding="utf-8") as sys.stdin:
             SCRIPTS[name].main()
     except (reports.Refused, OSError, SystemExit) as why:
         raise Ended(f"bin/{name}: {said.getvalue()}{why}") from None
     finally:
-        sys.argv = before
+        sys.argv, sys.stdin = before
     return said.getvalue()
 
 
@@ -60,16 +61,53 @@ def table_of(folder, room, chosen):
     return f"{room}/table.csv"
 
 
-SCRIPTS["book"].table_of = table_of
-
-
-def report(words, table):
-    """Returns a report of the program, as it is written."""
-    with open(table, "rb") as rows:
-        done = subprocess.run([reports.program(), *words.split()], stdin=rows, capture_output=True, check=False)
+@functools.lru_cache(64)
+def answer(words, rows):
+    """Returns a report of the program, as it is written: of the rows of one table each report is asked for once."""
+    done = subprocess.run([reports.program(), *words.split()], input=rows, capture_output=True, check=False)
     if done.returncode:
         raise Ended(f"mrp {words}: {done.stderr.decode()}")
     return done.stdout
+
+
+def report(words, rows):
+    """Returns a report of the rows of a table. Of one whose columns have names these are asked for too."""
+    word = words.removesuffix(" --header")
+    if word not in mrp.REPORTS:
+        return answer(word, rows)
+    text = answer(f"{word} --header", rows)
+    return text if words != word else text[text.index(b"\n") + 1 :]
+
+
+def ask(words, table, file):
+    """Writes a report into a file, as bin/reports.py has the program do it."""
+    file.write(report(words, reports.kept_bytes(table)))
+
+
+SCRIPTS["book"].table_of = table_of
+# (of the same headings this is asked again and again)
+headed.key = functools.lru_cache(None)(headed.key)
+reports.ask, hits.report = ask, lambda words, table: report(words, reports.kept_bytes(table)).splitlines(keepends=True)
+
+
+class Reports:
+    """The reports of a table as it is now, each read when it is wanted first."""
+
+    def __init__(self, table):
+        self.rows, self.read = reports.kept_bytes(table), {}
+
+    def __getitem__(self, words):
+        if words not in self.read:
+            self.read[words] = [*mrp.rows_of(report(words, self.rows))]
+        return self.read[words]
+
+    def figures(self, column):
+        """Returns a column of the plan of each pair."""
+        found = {}
+        for it in self["plan"]:
+            if isinstance(it, mrp.Plan):
+                found.setdefault((it.plant, it.item), []).append(getattr(it, column))
+        return found
 
 
 class Desk:
@@ -137,16 +175,15 @@ class Desk:
         self.received = []
         self.figures = {name: reports.kept_bytes(self.path(name)) for name in ("cums.csv", "vendors.csv")}
 
-    def plan(self, *more):
-        """Makes the table, its plan, orders and messages, and other reports that are named, with what late orders hit."""
+    def plan(self):
+        """Makes the table. Its reports are made when they are read."""
         self.table = self.path("table.csv")
         words = "--today", self.firm.monday, "--names", self.path("names.csv"), "--out", self.table, self.week
-        self.told = run("sheets", *words).splitlines()
-        texts = {name: report(name, self.table) for name in ("plan", "orders", "advice --reach", *more)}
-        self.reports = {name: [*mrp.rows_of(text)] for name, text in texts.items()}
-        if more:
-            lines = io.BytesIO(texts["plan"])
-            self.hits = hits.firm_of(self.table, lines, mrp.Names(self.path("names.csv"))).worst_first()
+        self.told, self.reports = run("sheets", *words).splitlines(), Reports(self.table)
+
+    def hits(self):
+        """Returns the demands that late orders hit."""
+        return hits.hits(self.table, mrp.Names(self.path("names.csv")))
 
     def obey(self):
         """Moves purchases as messages within reach say. One that is needed sooner comes next week at the earliest."""
@@ -210,12 +247,8 @@ class Desk:
         """Sends the releases, and returns up to which figure each supplier is to ship before next Monday."""
         before = f"{self.folder}/{self.firm.monday - WEEK}.out"
         last = ["--last", before] if os.path.isdir(before) else []
-        words = [f"{crates.TOP}/bin/releases", "--sheets", self.week, *last, "--names", self.path("names.csv"), "--out", f"{self.week}.out"]
-        with open(self.table, "rb") as rows:
-            done = subprocess.run([sys.executable, *words], stdin=rows, capture_output=True, text=True, check=False)
-        if done.returncode:
-            raise Ended(f"bin/releases: {done.stderr}")
-        self.said += done.stderr.splitlines()
+        words = "--sheets", self.week, *last, "--names", self.path("names.csv"), "--out", f"{self.week}.out"
+        self.said += run("releases", *words, table=self.table).splitlines()
         self.released = {}
         for name in sorted(os.listdir(f"{self.week}.out")):
             with open(f"{self.week}.out/{name}", encoding="utf-8", newline="") as file:
@@ -228,14 +261,6 @@ class Desk:
         """Returns up to which figure a release calls for an item before a day: at least what is shipped by it."""
         opening = sum(int(rows[0][it]) for it in ("Closed", "Received", "In transit"))
         return max([opening, *(int(it["With closed years"]) for it in rows if it["Despatch"] and it["Despatch"] < end)])
-
-    def gross(self, table=None):
-        """Returns the gross requirements of each pair: of the table of this Monday, or of another one."""
-        found = {}
-        for it in mrp.rows_of(report("plan", table)) if table else self.reports["plan"]:
-            if isinstance(it, mrp.Plan):
-                found.setdefault((it.plant, it.item), []).append(it.gross)
-        return found
 
     def sums(self, *kinds):
         """Returns the pieces of each pair in rows of the table."""

@@ -4,6 +4,7 @@ from collections import Counter
 
 import mrp
 import reports
+from desk import Reports
 from trouble import CLEARED
 from world import WEEK
 
@@ -30,12 +31,14 @@ class Judge:
     def tell(self, what):
         self.found.append(f"seed {self.seed}, {self.firm.monday}: {what}")
 
-    def monday(self, placed, gross):
-        """Judges what a Monday brought: what was booked, by what was required before, and all else."""
-        planned, now = {(*it[:2], it.due) for it in self.desk.reports["orders"] if isinstance(it, mrp.Order)}, self.desk.gross()
-        for it in placed:
+    def monday(self, placed, before):
+        """Judges what a Monday brought: what was booked, by the reports before, and all else."""
+        planned = {(*it[:2], it.due) for it in self.desk.reports["orders"] if isinstance(it, mrp.Order)}
+        again = [it for it in placed if (*it[:2], it.due) in planned]
+        now, gross = [it.figures("gross") for it in (self.desk.reports, before)] if again else [{}, {}]
+        for it in again:
             # (a late order whose releases are frozen is booked with a sooner start, and then what goes into it is wanted sooner)
-            if (*it[:2], it.due) in planned and now[it[:2]] == gross[it[:2]]:
+            if now[it[:2]] == gross[it[:2]]:
                 self.tell(f"{it} was booked, and is planned again")
         self.figures()
         self.releases()
@@ -143,14 +146,14 @@ class Judge:
         path = f"{self.desk.week}/longer.csv"
         with open(path, "wb") as file:
             file.write(bytes(mrp.Table(longer)))
-        found = self.desk.gross(path)
+        found = Reports(path).figures("gross")
         for pair, whole in wholes.items():
             if found[pair][:whole] != gross[pair][:whole]:
                 self.tell(f"{pair}: {gross[pair]} were required, whole up to {whole}, and with later demands {found[pair]}")
 
     def name(self):
         """Keeps what this Monday's reports name, and what the plan is for the next one."""
-        for it in self.desk.hits:
+        for it in self.desk.hits():
             self.named.setdefault((it.plant, it.item, it.date), self.firm.monday)
         for it in self.desk.reports["check --reach"]:
             last = self.firm.monday + (-1 if it.period is None else it.period) * WEEK
@@ -169,7 +172,7 @@ class Judge:
             it.is_named |= it.kind == "late" and any(it.number in line and " late " in line for line in self.desk.told)
         rows = [*reports.Table(self.desk.table).rows(*ROWS)]
         wholes = {(it.plant, it.item): 0 if it.period is None else it.period + 1 for it in self.desk.reports["check --reach"]}
-        self.before = rows, wholes, self.desk.gross()
+        self.before = rows, wholes, self.desk.reports.figures("gross")
 
     def is_overdue(self, pair):
         """Tells whether bin/sheets lists an open order of a pair that is overdue."""
