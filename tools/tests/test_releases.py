@@ -47,13 +47,13 @@ LATER = {
     "booked.csv": "Advice,From,To,Item,Quantity,Date\nL-2,Lumen,WORKS,MOTOR,40,2026-12-28\nL-3,Lumen,WORKS,MOTOR,30,2027-01-05\n",
 }
 HEADS = "Release,Date,Supplier,Customer,Item,Supplier item,Description,Last advice,Advice quantity,Advice date,Received,In transit,Started,Closed,\
-Starts again,Backlog,Firm figure,Fab figure,Raw figure,Whole until,Despatch,Delivery,Quantity,Cumulative,Counts since,With closed years,Late,\
+Closed in transit,Starts again,Backlog,Firm figure,Fab figure,Raw figure,Whole until,Despatch,Delivery,Quantity,Cumulative,Counts since,With closed years,Late,\
 Authorisation\n"
 # By hand. 10 less 30: 20 are wanted now and come in a week. With the 40 and the 15 that are firm there are 55 for the 50, so 15 are wanted
 # for the 20 in period 3, and 10 in period 4. So 35 leave now, 15 in period 2, where figures start again at 555, and 10 in period 3.
 # Orders of period 3 are the last ones that nothing behind the plan changes.
-MOTOR = "1,2026-12-21,Lumen,WORKS,MOTOR,,,L-1,20,2026-12-15,480,40,2026-01-05,1900,2027-01-04,0,2455,2470,2480,2027-01-17,"
-SEAL = "Lumen,WORKS,SEAL,,,,,,7,0,,0,,0,7,7,7,"
+MOTOR = "1,2026-12-21,Lumen,WORKS,MOTOR,,,L-1,20,2026-12-15,480,40,2026-01-05,1900,0,2027-01-04,0,2455,2470,2480,2027-01-17,"
+SEAL = "Lumen,WORKS,SEAL,,,,,,7,0,,0,0,,0,7,7,7,"
 WRITTEN = HEADS + "".join(
     (
         f"{MOTOR}2026-12-21,2026-12-28,20,540,2026-01-05,2440,20,firm\n",
@@ -67,7 +67,7 @@ WRITTEN = HEADS + "".join(
 # 2472 then. Material may be bought for 2480, as it was.
 WRITTEN_LATER = HEADS + "".join(
     (
-        "2,2027-01-11,Lumen,WORKS,MOTOR,,,L-3,30,2027-01-05,0,12,2027-01-04,2450,,8,2472,2472,2480,2027-02-07,"
+        "2,2027-01-11,Lumen,WORKS,MOTOR,,,L-3,30,2027-01-05,0,12,2027-01-04,2450,0,,8,2472,2472,2480,2027-02-07,"
         "2027-01-11,2027-01-18,10,22,2027-01-04,2472,0,firm\n",
         f"2,2027-01-11,{SEAL}2027-02-07,,,,,,,,\n",
     )
@@ -206,6 +206,58 @@ def test_how_releases_go_on(room):
     # (as the last release said when they would)
     vendors = LATER["vendors.csv"].replace("2027-01-04", "")
     assert rows(room, "--last first --out out", NEXT, vendors=vendors)[0]["Closed"] == "2450"
+
+
+# A week later: L-4 is booked, and L-5 is heard of, which left with 5 before figures started again.
+AFTER = NEXT.replace("2027-01-11", "2027-01-18").replace("receipt,WORKS,MOTOR,0,12,,,\n", "").replace("Lumen,WORKS,MOTOR,0,12", "Lumen,WORKS,MOTOR,12,0")
+AFTER_SHEETS = {
+    "firm": FIRM.format("2027-01-18"),
+    "vendors": LATER["vendors.csv"].replace("MOTOR,0,12", "MOTOR,12,0"),
+    "booked": "Advice,From,To,Item,Quantity,Date\nL-4,Lumen,WORKS,MOTOR,12,2027-01-12\n",
+}
+HEARD, TOLD = "L-5,Lumen,WORKS,MOTOR,5,555,2026-12-30,2027-01-20\n", "L-4,Lumen,WORKS,MOTOR,12,12,2027-01-06,2027-01-12\n"
+
+
+def closed(room, words, table, **changes):
+    """Returns what is closed by the release of motors, of that on its way, and the backlog; and has it be the last one."""
+    got = rows(room, f"{words} --out out", table, **changes)[0]
+    room.run("rm -rf last && mv out last")
+    return [int(got[it]) for it in ("Closed", "Closed in transit", "Backlog")]
+
+
+def test_advices_of_a_closed_year_that_are_heard_of_later(room):
+    """Their pieces are closed too, once; and so is what was booked of them. By hand: 2472 were called for by then, and 12 have left since."""
+    closed(room, "", FIRST)
+    assert closed(room, "--last last", NEXT) == [2450, 0, 8]
+    head = LATER["advices.csv"].partition("\n")[0] + "\n"
+    assert closed(room, "--last last", AFTER, **AFTER_SHEETS, advices=head + HEARD + TOLD + HEARD) == [2455, 5, 5]
+    table, week = AFTER.replace("2027-01-18", "2027-01-25"), {**AFTER_SHEETS, "firm": FIRM.format("2027-01-25")}
+    room.run("cp -r last third")
+    for pieces, found in ((5, 2455), (4, 2454), (6, 2456)):
+        booked = f"Advice,From,To,Item,Quantity,Date\nL-5,Lumen,WORKS,MOTOR,{pieces},2027-01-20\n"
+        assert closed(room, "--last third", table, **{**week, "booked": booked}, advices=head + HEARD)[:2] == [found, 0]
+
+
+def test_what_is_on_its_way_when_a_year_is_closed(room):
+    """It is closed once, be it booked later or not."""
+    closed(room, "", FIRST)
+    booked = LATER["booked.csv"].rpartition("L-3")[0]
+    assert closed(room, "--last last", NEXT, booked=booked) == [2450, 30, 8]
+    room.run("cp -r last second")
+    advices = LATER["advices.csv"].replace("L-2,Lumen,WORKS,MOTOR,40,520,2026-12-17,2026-12-28\n", "")
+    assert closed(room, "--last second", AFTER, **AFTER_SHEETS, advices=advices)[:2] == [2450, 30]
+    booked = AFTER_SHEETS["booked"] + "L-3,Lumen,WORKS,MOTOR,30,2027-01-12\n"
+    assert closed(room, "--last second", AFTER, **{**AFTER_SHEETS, "booked": booked}, advices=advices)[:2] == [2450, 0]
+
+
+def test_what_is_shipped_ahead_is_told(room):
+    """2470 were called for by then, and 2450 and 30 have left."""
+    releases(room, "--out out")
+    room.run("mv out first")
+    advices = LATER["advices.csv"].replace("L-4,Lumen,WORKS,MOTOR,12,12", "L-4,Lumen,WORKS,MOTOR,30,30")
+    said, found = releases(room, "--last first --out out", NEXT.replace("12,,", "30,,"), advices=advices)
+    assert said == "Lumen WORKS MOTOR: 10 more are shipped than was called for before 2027-01-11\n"
+    assert ",2450,0,,0," in found["Lumen.csv"]
 
 
 def test_what_may_not_be_meant(room):
