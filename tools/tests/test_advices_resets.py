@@ -94,6 +94,20 @@ def test_what_left_before_and_is_counted_as_shipped(tmp_path):
         assert advices(tmp_path, **changes)[:2] == (0, "")
 
 
+def test_what_left_before_and_stands_twice(tmp_path):
+    """It is one receipt, and told; of two rows of one advice each is one."""
+    advice = MISCOUNTED["advices"].partition("\n")[2]
+    changes = {**MISCOUNTED, "advices": MISCOUNTED["advices"] + advice.replace("L-9", "L-8") + advice}
+    status, said, files = advices(tmp_path, **changes)
+    assert (status, said) == (0, "advices.csv row 4: Lumen WORKS MOTOR: L-9 stands twice, in rows 2 and 4; it is counted once\n")
+    assert files["receipts.csv"] == rows(
+        "Plant,Item,Due,Quantity,Advice,Vendor", "WORKS,MOTOR,2027-01-05,10,L-9,Lumen", "WORKS,MOTOR,2027-01-05,10,L-8,Lumen"
+    )
+    two = MISCOUNTED["advices"] + "L-9,Lumen,WORKS,MOTOR,5,515,2026-12-29,2027-01-05\n"
+    status, said, files = advices(tmp_path, **{**MISCOUNTED, "advices": two})
+    assert (status, said, files["receipts.csv"].count("L-9")) == (0, "", 2)
+
+
 def test_other_columns_of_figures_stay(tmp_path):
     """Behind those that are set, row by row: horizons and notes of an item, wherever they stand. A row that is new has nothing there."""
     changes = {
