@@ -354,7 +354,8 @@ def test_calls_of_a_plant_stay_by_the_second_planner():
 
 def test_orders_start_behind_frozen_releases(desk):
     """By hand. Releases of the works' pumps are frozen for two weeks: with a lead time of one the 4 of period 2 are released in period 2
-    and come a week late. Booked they start then, and what the plan has of them stays; due sooner they start when they are due.
+    and come a week late. Booked they start then, and what the plan has of them stays; due sooner they start when they are due, and come
+    a lead time later.
     """
     desk.run("sed -i '1s/$/,Frozen releases (weeks)/; 2s/$/,2/; 3,$s/$/,/' firm/items.csv")
     before = report(desk)
@@ -369,4 +370,4 @@ def test_orders_start_behind_frozen_releases(desk):
     desk.run("cp examples/sheets/firm_orders.csv firm")
     rows(desk, frozen.replace("2,2026-12-14,1", "2,2026-12-09,1"))
     desk.run("bin/book orders.csv firm")
-    assert read(desk, "firm_orders.csv").splitlines()[2] == "FA-21,WORKS,100/250-A,2026-12-07,2026-12-09,4,2026-12-21"
+    assert read(desk, "firm_orders.csv").splitlines()[2] == "FA-21,WORKS,100/250-A,2026-12-07,2026-12-09,4,2026-12-14"
