@@ -114,8 +114,8 @@ class Desk:
     """The planner's folder of each Monday, in a folder for all."""
 
     def __init__(self, folder, firm):
-        self.folder, self.firm, self.table, self.week = folder, firm, None, None
-        self.figures, self.said, self.received = {}, [], []
+        self.folder, self.firm, self.table, self.week, self.last = folder, firm, None, None, []
+        self.figures, self.said, self.received, self.orders_made = {}, [], [], 0
 
     def path(self, name):
         return f"{self.week}/{name}"
@@ -130,17 +130,44 @@ class Desk:
         firm, self.said = self.firm, []
         self.week = f"{self.folder}/{firm.monday}"
         os.mkdir(self.week)
-        self.write("firm.csv", "First day,Days,Periods,Firm (weeks),Fab (weeks),Raw (weeks)", [(firm.monday, 7, PERIODS, *HORIZONS)])
+        self.write_firm()
         self.write("items.csv", ITEM_HEADS, [(*it[:11], firm.stock[it.key]) for it in firm.pairs.values()])
         bills = [(*pair, *it) for pair, parts in firm.bills.items() for it in parts.items()]
         self.write("bills.csv", "Plant,Parent,Component,Per", bills)
-        self.write("demands.csv", "Order,Plant,Item,Due,Quantity", [(it.number, *it.pair, it.due, it.quantity) for it in firm.demands])
-        starts = [(it.number, *it.pair, it.start, it.due, it.quantity, it.comes) for it in firm.starts.values()]
-        self.write("firm_orders.csv", "Order,Plant,Item,Start,Due,Quantity,Comes", starts)
+        self.write_demands()
+        self.write_starts()
         orders = [(it.number, *it.pair, it.due, it.quantity, it.comes) for it in self.orders()]
         self.write("receipts.csv", "Order,Plant,Item,Due,Quantity,Comes", orders)
         self.write("resets.csv", "From,To,Item,Date", [(*names, day) for names, day in firm.resets.items() if self.is_plant(names)])
         self.write_figures()
+
+    def write_firm(self):
+        """Writes the calendar, and when nobody works."""
+        heads, row, spans = "First day,Days,Periods,Firm (weeks),Fab (weeks),Raw (weeks)", [self.firm.monday, 7, PERIODS, *HORIZONS], self.firm.closed
+        if spans:
+            heads, row = f"{heads},Closed on", [*row, "Sat Sun"]
+            self.write("closed.csv", "Date,Until", spans)
+        if self.firm.window:
+            heads, row = f"{heads},Backward consumption (periods),Forward consumption (periods)", [*row, *self.firm.window]
+            first = self.firm.monday - 4 * WEEK
+            forecasts = [(*self.firm.forecast, day, pieces) for day, pieces in self.firm.forecasts.items() if day >= first]
+            self.write("forecasts.csv", "Plant,Item,Due,Quantity", forecasts)
+        self.write("firm.csv", heads, [row])
+
+    def write_demands(self):
+        """Writes what customers want: orders, and figures. What is left of calls of closed years is an order."""
+        customers = self.firm.customers
+        orders = (it for it in self.firm.demands if it.pair not in customers or it.due < customers[it.pair].started)
+        self.write("demands.csv", "Order,Plant,Item,Due,Quantity", [(it.number, *it.pair, it.due, it.quantity) for it in orders])
+        if customers:
+            calls = [(it.name, *it.pair, *row) for it in customers.values() for row in it.rows()]
+            self.write("calls.csv", "Customer,Plant,Item,Date,Cumulative,Starts again", calls)
+            self.write("shipped.csv", "Customer,Plant,Item,Cumulative", [(it.name, *it.pair, it.shipped()) for it in customers.values()])
+
+    def write_starts(self):
+        """Writes the orders that aren't started yet."""
+        starts = [(it.number, *it.pair, it.start, it.due, it.quantity, it.comes) for it in self.firm.starts.values()]
+        self.write("firm_orders.csv", "Order,Plant,Item,Start,Due,Quantity,Comes", starts)
 
     def orders(self):
         return [*self.firm.purchases.values(), *self.firm.production.values()]
@@ -180,27 +207,35 @@ class Desk:
         self.table = self.path("table.csv")
         words = "--today", self.firm.monday, "--names", self.path("names.csv"), "--out", self.table, self.week
         self.told, self.reports = run("sheets", *words).splitlines(), Reports(self.table)
+        self.calendar, self.names = reports.Table(self.table).calendar, mrp.Names(self.path("names.csv"))
+        self.late = reports.coming_late(self.names, self.calendar)
 
     def hits(self):
         """Returns the demands that late orders hit."""
-        return hits.hits(self.table, mrp.Names(self.path("names.csv")))
+        return hits.hits(self.table, self.names)
 
     def obey(self):
-        """Moves purchases as messages within reach say. One that is needed sooner comes next week at the earliest."""
-        calendar, changed = reports.Table(self.table).calendar, False
-        for it in self.reports["advice --reach"]:
-            same = (o for o in self.firm.purchases.values() if o.pair == (it.plant, it.item) and o.quantity == it.quantity)
-            order = next((o for o in same if max(0, calendar.period(o.due)) == it.period and o.comes == o.due), None)
-            if it.kind != "receipt" or not order or it.action not in ("expedite", "defer"):
-                continue
-            day = max(calendar.first_day(it.needed), self.firm.monday + WEEK)
-            if it.action == "defer" or day < order.due:
-                order.due = order.comes = day
-                changed = True
-        if changed:
-            rows = [(it.number, *it.pair, it.due, it.quantity, it.comes) for it in self.orders()]
-            self.rewrite(rows)
+        """Moves orders as messages within reach say."""
+        if any([self.move(it) for it in self.reports["advice --reach"] if it.action in ("expedite", "defer")]):
+            self.write_starts()
+            self.rewrite([(it.number, *it.pair, it.due, it.quantity, it.comes) for it in self.orders()])
             self.plan()
+
+    def move(self, message):
+        """Moves an order that is bought, or that is made and isn't started, and returns whether it moves. It can't come before next week, nor
+        a lead time after it starts.
+        """
+        firm, it, first_day = self.firm, message, self.calendar.first_day
+        pair = firm.pairs[it.plant, it.item]
+        orders = {"receipt": firm.purchases, "firm": firm.starts if pair.supply == "make" else {}}.get(it.kind, {})
+        same = (o for o in orders.values() if o.pair == pair.key and o.quantity == it.quantity and o.comes == o.due)
+        order = next((o for o in same if max(0, self.calendar.period(o.due)) == it.period and (not o.start or o.start >= firm.monday)), None)
+        period = max(it.needed, pair.lead if it.kind == "firm" else 1)
+        if not order or it.action == "expedite" and period >= it.period:
+            return False
+        order.due = order.comes = first_day(period)
+        order.start = order.start and first_day(period - pair.lead)
+        return True
 
     def rewrite(self, rows):
         """Writes the orders of the planner again, and keeps what is on its way by advices."""
@@ -221,22 +256,24 @@ class Desk:
         return found
 
     def order(self):
-        """Books orders, and returns them. The firm has them by their numbers then."""
+        """Books orders, and returns them. The firm has them by their numbers then, which go on from the last ones."""
         kept = self.kept()
         if not kept:
             return []
         with open(self.path("kept.txt"), "w", encoding="utf-8") as file:
             file.writelines(f"{it}\n" for it in (mrp.header(mrp.Order), *map(mrp.line_of, kept)))
-        run("book", "--number", "FA-", self.path("kept.txt"), self.week)
+        run("book", "--number", f"FA-{self.orders_made + 1}", self.path("kept.txt"), self.week)
         for name, found in (("firm_orders.csv", self.firm.starts), ("receipts.csv", self.firm.purchases)):
             with open(self.path(name), encoding="utf-8", newline="") as file:
                 for row in csv.DictReader(file):
                     self.take(row, found)
+        self.orders_made += len(kept)
         return kept
 
     def take(self, row, orders):
         """Takes a row that is new as an order."""
-        if row["Order"] and row["Order"] not in {*self.firm.purchases, *self.firm.starts, *self.firm.production}:
+        front, _, number = row["Order"].partition("-")
+        if front == "FA" and int(number) > self.orders_made:
             days = [datetime.date.fromisoformat(it) if it else None for it in (row.get("Start"), row["Due"], row.get("Comes"))]
             start, due, comes = days
             pair, quantity = (row["Plant"], row["Item"]), int(row["Quantity"])
@@ -245,17 +282,14 @@ class Desk:
 
     def release(self):
         """Sends the releases, and returns up to which figure each supplier is to ship before next Monday."""
-        before = f"{self.folder}/{self.firm.monday - WEEK}.out"
-        last = ["--last", before] if os.path.isdir(before) else []
-        words = "--sheets", self.week, *last, "--names", self.path("names.csv"), "--out", f"{self.week}.out"
+        words = "--sheets", self.week, *self.last, "--names", self.path("names.csv"), "--out", f"{self.week}.out"
         self.said += run("releases", *words, table=self.table).splitlines()
-        self.released = {}
+        self.released, self.last = {}, ["--last", f"{self.week}.out"]
         for name in sorted(os.listdir(f"{self.week}.out")):
             with open(f"{self.week}.out/{name}", encoding="utf-8", newline="") as file:
                 for row in csv.DictReader(file):
                     self.released.setdefault((row["Supplier"], row["Customer"], row["Item"]), []).append(row)
-        end = str(self.firm.monday + WEEK)
-        return {names: self.called(rows, end) for names, rows in self.released.items()}
+        return {names: self.called(rows, str(self.firm.end)) for names, rows in self.released.items()}
 
     def called(self, rows, end):
         """Returns up to which figure a release calls for an item before a day: at least what is shipped by it."""

@@ -5,23 +5,32 @@ from collections import Counter
 import mrp
 import reports
 from desk import Reports
-from trouble import CLEARED
-from world import WEEK
+from trouble import HARMLESS
 
 # The rows of a table, but for its end.
 ROWS = mrp.KINDS[:-1]
+# How a year moves the pieces of a pair: what comes to be there or on order, and what goes.
+COMES, GOES = ("placed", "counted", "over"), ("cancelled", "issued", "lost")
+# The sheets whose overdue rows are orders, and not demands.
+ORDERS = "receipts.csv", "shipments.csv", "firm_orders.csv"
+# So many weeks behind the lead times of a pair and of all below it an event may still be felt.
+FELT = 3
 
 
 class Judge:
     """Judges a firm by its planner's desk, and keeps what is found to be wrong."""
 
     def __init__(self, seed, firm, desk, trouble):
-        self.seed, self.firm, self.desk, self.trouble, self.found = seed, firm, desk, trouble, []
-        self.begin, self.first = {it: firm.stock[it] for it in firm.pairs}, firm.monday
+        self.seed, self.firm, self.desk, self.trouble, self.found, self.mondays = seed, firm, desk, trouble, [], 0
+        self.begin = {it: (firm.stock[it], firm.open(it)) for it in firm.pairs}
         # (the demands that are named as late and those whose week is whole, with the first Monday; those that were missed; what lacks and isn't named yet; what mrp shortages names)
         self.named, self.known, self.missed, self.lacked, self.short = {}, {}, set(), set(), set()
         # (up to which figure suppliers were called for, the pieces of calls by pair, the last go-aheads, and the last plan)
         self.called, self.asked, self.marks, self.before = {}, Counter(), {}, None
+        self.below, self.weeks = {it: firm.below(it) for it in firm.pairs}, {}
+        for pair in sorted(firm.pairs, key=lambda it: len(self.below[it])):
+            under = [self.weeks[it] for it in self.below[pair] if it in self.weeks]
+            self.weeks[pair] = firm.pairs[pair].lead + max(under, default=0)
 
     @property
     def events(self):
@@ -33,6 +42,7 @@ class Judge:
 
     def monday(self, placed, before):
         """Judges what a Monday brought: what was booked, by the reports before, and all else."""
+        self.mondays += 1
         planned = {(*it[:2], it.due) for it in self.desk.reports["orders"] if isinstance(it, mrp.Order)}
         again = [it for it in placed if (*it[:2], it.due) in planned]
         now, gross = [it.figures("gross") for it in (self.desk.reports, before)] if again else [{}, {}]
@@ -51,34 +61,36 @@ class Judge:
         lanes = {(it.sender, it.receiver, it.item): it for it in self.desk.reports["cums"] if it.kind == "despatch"}
         for names, lane in self.firm.lanes.items():
             row = self.desk.released[names][0]
-            closed, received, way = (int(row[it]) for it in ("Closed", "Received", "In transit"))
+            closed, received, way, older = (int(row[it]) for it in ("Closed", "Received", "In transit", "Closed in transit"))
             missing = self.trouble.missing(names)
             if closed + received + way + missing != lane.total:
                 self.tell(f"{names}: {closed} + {received} + {way} by the release, and {lane.total} were shipped")
-            older = [it for it in self.firm.under_way if it.names == names and it.despatched < lane.started]
+            left = [it for it in self.firm.under_way if it.names == names and str(it.despatched) < row["Started"]]
+            if sum(it.quantity for it in {id(it): it for it in self.trouble.advised(left)}.values()) != older:
+                self.tell(f"{names}: {older} are under way from before by the release, and by the supplier {left}")
             is_reset = self.firm.resets.get(names) in (None, lane.started) or self.firm.monday < self.firm.resets[names]
-            if not older and is_reset and received + way + missing != lane.figure():
+            if not left and is_reset and received + way + missing != lane.figure():
                 self.tell(f"{names}: {received} + {way} are in force by the release, and {lane.figure()} by the supplier")
             if names in lanes and lanes[names].shipped != received + way:
                 self.tell(f"{names}: {lanes[names].shipped} by mrp cums, {received} + {way} by the release")
             behind = max(0, self.called.get(names, 0) - closed - received - way)
             if int(row["Backlog"]) != behind:
                 self.tell(f"{names}: a backlog of {row['Backlog']}, and of what was called for {behind} aren't shipped")
-            if int(row["Release"]) != (self.firm.monday - self.first).days // 7 + 1:
+            if int(row["Release"]) != self.mondays:
                 self.tell(f"{names}: release {row['Release']}")
 
     def releases(self):
         """Calls are those of the plan, one after the other, and go-aheads never fall."""
-        calendar = reports.Table(self.desk.table).calendar
+        calendar = self.desk.calendar
         reach = {(it.plant, it.item): it.release for it in self.desk.reports["check --reach"]}
+        firm = {it.pair for it in self.firm.starts.values()}
         for names, rows in self.desk.released.items():
             figure = sum(int(rows[0][it]) for it in ("Closed", "Received", "In transit"))
             for it in rows[: len(rows) * bool(rows[0]["Despatch"])]:
                 figure += int(it["Quantity"])
-                due = datetime.date.fromisoformat(it["Despatch"]) + self.firm.pairs[names[1:]].lead * WEEK
+                due = calendar.first_day(calendar.period(it["Despatch"]) + self.firm.pairs[names[1:]].lead)
                 # (a firm order comes when the sheets say so)
-                is_firm = any(order.pair == names[1:] for order in self.firm.starts.values())
-                if int(it["With closed years"]) != figure or it["Delivery"] not in (str(due), "") and not is_firm:
+                if int(it["With closed years"]) != figure or it["Delivery"] not in (str(due), "") and names[1:] not in firm:
                     self.tell(f"{names}: the call {', '.join(it.values())}")
             self.asked[names[1:]] += figure - sum(int(rows[0][it]) for it in ("Closed", "Received", "In transit"))
             marks = [int(rows[0][f"{it} figure"]) for it in ("Firm", "Fab", "Raw")]
@@ -136,72 +148,121 @@ class Judge:
                     self.tell(f"{it.plant} {it.item}: {it.release} released in {it.period}, where releases are frozen")
 
     def whole(self):
-        """What was whole last Monday stays as it was when later rows alone are added."""
+        """What was whole last Monday stays as it was when later rows alone are added: requirements, and releases."""
         if not self.before:
             return
-        rows, wholes, gross = self.before
+        rows, wholes, figures = self.before
         end = rows[0].periods
         later = [it._replace(period=end) for it in reports.Table(self.desk.table).rows(mrp.Demand) if it.period == end - 1]
         longer = sorted([rows[0]._replace(periods=end + 1), *rows[1:], *later], key=lambda it: ROWS.index(type(it)))
         path = f"{self.desk.week}/longer.csv"
         with open(path, "wb") as file:
             file.write(bytes(mrp.Table(longer)))
-        found = Reports(path).figures("gross")
-        for pair, whole in wholes.items():
-            if found[pair][:whole] != gross[pair][:whole]:
-                self.tell(f"{pair}: {gross[pair]} were required, whole up to {whole}, and with later demands {found[pair]}")
+        found = Reports(path)
+        for place, column in enumerate(("gross", "release")):
+            for pair, now in found.figures(column).items():
+                whole, was = wholes[pair][place], figures[place][pair]
+                if now[:whole] != was[:whole]:
+                    self.tell(f"{pair}: {column} was {was}, whole up to {whole}, and is {now} with later demands")
+
+    def keep(self):
+        """Keeps the plan and how far it is whole for the next Monday, and of which demands it is known by when they have to be named."""
+        wholes, calendar = {}, self.desk.calendar
+        for it in self.desk.reports["check --reach"]:
+            wholes[it.plant, it.item] = [0 if last is None else last + 1 for last in (it.period, it.release)]
+        named = {(it.plant, it.item, it.period) for it in self.desk.hits()}
+        for it in self.firm.demands:
+            period = max(0, calendar.period(it.due))
+            if period < wholes[it.pair][0]:
+                self.known.setdefault(it.number, self.firm.monday)
+            if (*it.pair, period) in named:
+                self.named.setdefault(it.number, self.firm.monday)
+        plan = self.desk.reports
+        self.before = [*reports.Table(self.desk.table).rows(*ROWS)], wholes, [plan.figures(it) for it in ("gross", "release")]
 
     def name(self):
-        """Keeps what this Monday's reports name, and what the plan is for the next one."""
-        for it in self.desk.hits():
-            self.named.setdefault((it.plant, it.item, it.date), self.firm.monday)
-        for it in self.desk.reports["check --reach"]:
-            last = self.firm.monday + (-1 if it.period is None else it.period) * WEEK
-            for demand in self.firm.demands:
-                if demand.pair == (it.plant, it.item) and demand.due < last + WEEK:
-                    self.known.setdefault(demand.number, self.firm.monday)
-        short = {(it.plant, it.item) for it in self.desk.reports["shortages"]}
+        """Judges whether what lacked last week is named, and keeps what this Monday's reports name."""
+        self.keep()
+        self.short = {(it.plant, it.item) for it in self.desk.reports["shortages"]}
+        late = {(it.plant, it.item) for it in self.desk.reports["plan"] if isinstance(it, mrp.Late)}
+        sooner = {(it.plant, it.item) for it in self.desk.reports["advice --reach"] if it.action == "expedite"}
         behind = {(names[0], names[2]) for names, rows in self.desk.released.items() if int(rows[0]["Backlog"])}
+        named = self.short | late | sooner | behind
         for pair in self.lacked:
-            if pair not in short and pair not in behind and not self.is_overdue(pair):
+            if not self.below[pair] & named and not any(map(self.is_overdue, self.below[pair])) and not self.is_explained(pair):
                 self.tell(f"{pair} lacked last week, and nothing names it")
-        self.short = short
         for it in self.events:
-            row = self.desk.released[it.names][0] if it.names else None
-            it.is_named |= it.kind in ("little", "lost") and int(row["Backlog"]) > 0
-            it.is_named |= it.kind == "late" and any(it.number in line and " late " in line for line in self.desk.told)
-        rows = [*reports.Table(self.desk.table).rows(*ROWS)]
-        wholes = {(it.plant, it.item): 0 if it.period is None else it.period + 1 for it in self.desk.reports["check --reach"]}
-        self.before = rows, wholes, self.desk.reports.figures("gross")
+            it.is_named |= self.is_named(it) or not it.is_told and it.seen <= self.firm.monday <= self.firm.after(it.seen, 1) and it.pair in named
+            if it.is_told and not it.is_named and self.firm.monday >= self.firm.after(it.seen, 1):
+                self.tell(f"{it} was named by nothing")
+                it.is_named = True
+
+    def is_named(self, event):
+        """Tells whether a release, bin/sheets or bin/advices names what went wrong. What figures tell is named as it is cleared."""
+        it, names = event, " ".join(event.names)
+        if it.seen > self.firm.monday:
+            return False
+        if it.kind in ("little", "lost", "tardy"):
+            return int(self.desk.released[it.names][0]["Backlog"]) > 0
+        if it.kind == "late":
+            return any(it.number in line and " late" in line for line in self.desk.told)
+        text = {"much": f"{names}: {it.quantity} more are shipped", "twice": f"{it.number} stands twice"}.get(it.kind)
+        return bool(text) and any(text in line for line in self.desk.said)
 
     def is_overdue(self, pair):
-        """Tells whether bin/sheets lists an open order of a pair that is overdue."""
-        return any(f" of {' '.join(pair)}, " in line and " late" in line for line in self.desk.told)
+        """Tells whether bin/sheets lists an open order of a pair that is overdue, or has kept that one comes later than it is due."""
+        if any(pair in found for found in self.desk.late.values()):
+            return True
+        return any(line.startswith(ORDERS) and f" of {' '.join(pair)}, " in line and " late" in line for line in self.desk.told)
+
+    def is_explained(self, pair):
+        """Tells whether a pair lacked by what went wrong last week: what was counted otherwise is named itself; of what was scrapped, or missing in
+        stock, bin/sheets lists what waits for it.
+        """
+        found = [it for it in self.events if it.seen == self.firm.monday and it.pair in self.below[pair]]
+        late = any(f" of {' '.join(it)}, " in line and " late" in line for it in self.below if pair in self.below[it] for line in self.desk.told)
+        return any(it.is_named if it.is_told else late for it in found)
+
+    def is_felt(self, pair):
+        """Tells whether something that went wrong may make a pair lack now: of what goes into it, or into what it shares parts with."""
+        found = (it for it in self.events if it.kind not in HARMLESS and self.below[it.pair] & self.below[pair])
+        return any(self.firm.monday <= self.firm.after(it.seen, FELT + self.weeks[pair] + self.weeks[it.pair]) for it in found)
 
     def week(self):
         """Judges a week: nothing lacks and no demand is missed that nothing names, and stock is what was there, came and went."""
         self.lacked = {it for it in self.firm.lacked if it not in self.short and not self.is_overdue(it)}
-        if not self.events and self.lacked:
-            self.tell(f"{self.lacked} lacked, and mrp shortages didn't say so")
+        for pair in self.lacked:
+            if not self.is_felt(pair):
+                self.tell(f"{pair} lacked, and mrp shortages didn't say so")
         for it in self.firm.demands:
-            monday = it.due - datetime.timedelta(days=it.due.weekday())
             if it.due < self.firm.monday and it.number not in self.missed:
                 self.missed.add(it.number)
-                named, known = self.named.get((*it.pair, monday)), self.known.get(it.number)
-                if self.events and not named:
-                    self.lacked.add(it.pair)
-                elif not self.events and (not named or known and known < named):
-                    self.tell(f"{it.pair}: {it.quantity} of {it.number} for {it.due} are missed, known on {known}, and named on {named}")
-        for pair, stock in self.begin.items():
-            why = {it: self.firm.moved[pair, it] for it in ("received", "issued", "counted", "placed", "lost")}
-            moved = why["received"] + why["issued"] + why["counted"]
-            if stock + moved != self.firm.stock[pair] or self.firm.stock[pair] < 0:
-                self.tell(f"{pair}: {stock} + {moved} aren't {self.firm.stock[pair]}")
-            if why["placed"] - why["received"] - why["lost"] != self.firm.open(pair):
-                self.tell(f"{pair}: {why} don't leave {self.firm.open(pair)} open")
+                self.miss(it)
+        for pair in self.firm.pairs:
+            self.conserved(pair)
+
+    def miss(self, demand):
+        """Judges a demand that was missed: it was named on the Monday on which it could be known, or when something went wrong."""
+        it, named, known = demand, self.named.get(demand.number), self.known.get(demand.number)
+        if named and (not known or named <= known):
+            return
+        if not self.is_felt(it.pair):
+            self.tell(f"{it.pair}: {it.quantity} of {it.number} for {it.due} are missed, known on {known}, and named on {named}")
+        elif not named:
+            self.lacked.add(it.pair)
+
+    def conserved(self, pair):
+        """What was there and on order, and came to be, is what went, is there and is on order; and so of stock alone."""
+        stock, orders = self.begin[pair]
+        why = {it: self.firm.moved[pair, it] for it in (*COMES, *GOES, "received")}
+        came = stock + orders + sum(why[it] for it in COMES) + why["issued"] - why["cancelled"] - why["lost"]
+        if came != self.firm.stock[pair] + self.firm.open(pair):
+            self.tell(f"{pair}: {stock} and {orders} on order, by {why}, don't leave {self.firm.stock[pair]} and {self.firm.open(pair)} on order")
+        if stock + why["received"] + why["issued"] + why["counted"] != self.firm.stock[pair] or self.firm.stock[pair] < 0:
+            self.tell(f"{pair}: {stock}, by {why}, aren't {self.firm.stock[pair]}")
 
     def end(self):
         """Judges whether all that went wrong was named."""
         for it in self.events:
-            if it.kind in (*CLEARED, "late", "little") and not it.is_named:
+            if it.is_told and not it.is_named:
                 self.tell(f"{it} was named by nothing")

@@ -6,14 +6,17 @@ import world
 from world import WEEK
 
 # What can go wrong in a week. Each comes to pass with the first thing that it can happen to.
-KINDS = "little", "much", "late", "twice", "lost", "miscounted", "scrap", "count"
-# What makes figures differ, until the planner has cleared it.
-CLEARED = "twice", "lost", "miscounted"
+KINDS = "little", "much", "late", "twice", "lost", "tardy", "miscounted", "scrap", "count", "cancelled", "rush"
+# What has to be named for itself, and not only where something is short by it.
+TOLD = "little", "much", "late", "twice", "lost", "tardy", "miscounted"
+# What doesn't make pieces come later, or be fewer.
+HARMLESS = "much", "twice", "tardy"
 
 
 @dataclass
 class Event:
-    """Something that went wrong: its kind, the Monday before, the item, the number of an advice or order, and the pieces."""
+    """Something that went wrong: its kind, the Monday before, the item, the number of an advice or order, the pieces, the lane, when these left,
+    and on which Monday it can be seen first."""
 
     kind: str
     monday: datetime.date
@@ -21,34 +24,52 @@ class Event:
     number: str
     quantity: int
     names: tuple = ()
+    left: object = None
+    seen: object = None
     is_named: bool = False
+
+    @property
+    def is_told(self):
+        return self.kind in TOLD
 
 
 class Trouble(world.NoTrouble):
     """A firm in which some weeks go wrong, up to a last Monday.
 
-    Where figures start again, no advice is lost in the weeks before, and nothing is counted otherwise that left before and comes since:
-    these are differences of figures that count no more, which bin/advices doesn't tell.
+    In the weeks before figures start again no advice is lost: nothing tells the difference of figures that count no more.
     """
 
     def __init__(self, chance, often, last, reset):
         self.chance, self.often, self.last, self.reset = chance, often, last, reset
-        self.monday, self.kind, self.events, self.lost, self.unheard, self.twice = None, None, [], {}, set(), set()
+        self.firm, self.kind, self.events, self.lost, self.unheard, self.twice, self.tardy = None, None, [], {}, set(), set(), set()
 
     def begin(self, firm):
         """Begins a week, and says what may go wrong in it."""
-        self.monday = firm.monday
+        self.firm = firm
+        for number in self.tardy:
+            self.hear(number)
+        self.tardy = set()
         may = firm.monday <= self.last and self.chance.random() < self.often
         self.kind = self.chance.choice(KINDS) if may else None
+        order = next((it for it in firm.purchases.values() if it.comes >= firm.end), None)
+        if order and self.is_now("cancelled"):
+            self.happens(order.pair, order.number, order.quantity)
+            firm.cancel(order, firm.purchases)
 
     def is_now(self, kind):
         """Tells whether something goes wrong now."""
         return self.kind == kind and self.chance.random() < 0.5
 
-    def happens(self, pair, number, quantity, names=()):
+    def happens(self, pair, number, quantity, names=(), left=None, seen=None):
         """Keeps what went wrong. Nothing else does in that week."""
-        self.events.append(Event(self.kind, self.monday, pair, number, quantity, names))
+        self.events.append(Event(self.kind, self.firm.monday, pair, number, quantity, names, left, seen or self.firm.end))
         self.kind = None
+
+    def rush(self, firm):
+        wanted = [it for it in firm.pairs if it[0] == "DEPOT"]
+        if self.is_now("rush"):
+            pair, pieces = self.chance.choice(wanted), self.chance.randint(1, 20)
+            self.happens(pair, firm.want(pair, firm.after(firm.monday, 2), pieces).number, pieces)
 
     def shipped(self, firm, names, quantity):
         if quantity > 1 and self.is_now("little"):
@@ -62,25 +83,34 @@ class Trouble(world.NoTrouble):
 
     def under_way(self, consignment):
         it = consignment
+        what = it.names[1:], it.number, it.quantity, it.names, it.despatched
         if self.is_now("late"):
-            it.comes = it.arrives + WEEK
-            self.happens(it.names[1:], it.number, it.quantity, it.names)
+            it.comes = self.firm.after(it.arrives, 1)
+            monday = it.arrives - datetime.timedelta(days=it.arrives.weekday())
+            self.happens(*what, self.firm.after(monday, 1))
         elif self.is_now("twice"):
             self.twice.add(it.number)
-            self.happens(it.names[1:], it.number, it.quantity, it.names)
-        elif not self.reset - 5 * WEEK <= self.monday < self.reset and self.is_now("lost"):
-            self.lost[it.number] = it
-            self.unheard.add(it.number)
-            self.happens(it.names[1:], it.number, it.quantity, it.names)
+            self.happens(*what)
+        elif self.firm.pairs[it.names[1:]].lead > 1 and self.is_now("tardy"):
+            self.tardy.add(it.number)
+            self.lose(it)
+            self.happens(*what)
+        elif not self.reset - 5 * WEEK <= self.firm.monday < self.reset and self.is_now("lost"):
+            self.lose(it)
+            self.happens(*what)
         return it
+
+    def lose(self, consignment):
+        """Has the planner not hear of an advice."""
+        self.lost[consignment.number] = consignment
+        self.unheard.add(consignment.number)
 
     def counted(self, consignment):
         it = consignment
         # (what is booked is known, with its advice or without)
         self.lost.pop(it.number, None)
-        is_old = it.despatched < self.reset <= self.monday + WEEK
-        if it.quantity > 1 and it.number not in self.unheard and not is_old and self.is_now("miscounted"):
-            self.happens(it.names[1:], it.number, 1, it.names)
+        if it.quantity > 1 and it.number not in self.unheard and self.is_now("miscounted"):
+            self.happens(it.names[1:], it.number, 1, it.names, it.despatched)
             return it.quantity - 1
         return it.quantity
 

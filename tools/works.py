@@ -2,9 +2,15 @@
 import datetime
 from collections import Counter
 
-from world import Firm, Lane, Pair
+from world import Customer, Firm, Lane, Order, Pair, WEEK
 
 BEGAN = datetime.date(2026, 1, 5)
+# How nobody works over the turn of a year and at Easter, and when customers' figures may start again.
+EASTER = (datetime.date(2027, 3, 26), datetime.date(2027, 3, 29))
+SHUTDOWNS = (), ((datetime.date(2026, 12, 24), datetime.date(2027, 1, 1)), EASTER), ((datetime.date(2026, 12, 19), datetime.date(2027, 1, 3)),)
+RESTARTS = datetime.date(2027, 1, 1), datetime.date(2027, 1, 4), datetime.date(2027, 1, 6)
+# How many periods back and forward orders consume forecasts.
+WINDOWS = (0, 0), (1, 0), (2, 1)
 # The products, from where the depot takes each, and the castings; vendors deliver all other parts.
 PRODUCTS = {"P-1": ("WORKS",), "P-2": ("WORKS",), "P-3": ("WORKS",), "P-4": ("WORKS", "FOUNDRY")}
 CASTINGS = "C-1", "C-2"
@@ -20,6 +26,15 @@ def small(chance, first, reset):
         Pair("WORKS", "SEAL", "buy", "lot", 3, vendor="V-SEALS"),
     ]
     return firm_of(chance, pairs, {("WORKS", "PUMP"): {"MOTOR": 1, "SEAL": 2}}, first, reset)
+
+
+def sold(chance, firm):
+    """Adds that nobody works at times, that a customer calls for an item by figures, and that another item is forecast."""
+    firm.closed = chance.choice(SHUTDOWNS)
+    items = chance.sample([it for it in firm.pairs if it[0] == "DEPOT"], 2)
+    firm.customers = {items[0]: Customer("ACME", items[0], BEGAN, chance.randint(0, 9000), chance.choice(RESTARTS))}
+    firm.window, firm.forecast = chance.choice(WINDOWS), items[1]
+    return firm
 
 
 def large(chance, first, reset):
@@ -48,7 +63,7 @@ def large(chance, first, reset):
         lead = chance.randint(1, 3)
         fence = lead + 1 if chance.random() < 0.2 else 0
         pairs.append(Pair(plant, item, "buy", rule(chance), lead, chance.choice((0, 5)), fence, cover=chance.choice((0, 0, 1)), vendor=f"V-{place + 1}"))
-    return firm_of(chance, pairs, bills, first, reset)
+    return sold(chance, firm_of(chance, pairs, bills, first, reset))
 
 
 def rule(chance):
@@ -65,4 +80,9 @@ def firm_of(chance, pairs, bills, first, reset):
         closed = chance.randint(0, 9000)
         lanes[it] = Lane(it, closed + chance.randint(0, 900), closed, BEGAN)
     stock = Counter({it.key: chance.randint(60, 120) for it in pairs})
-    return Firm({it.key: it for it in pairs}, bills, stock, lanes, first, dict.fromkeys(names, reset))
+    firm = Firm({it.key: it for it in pairs}, bills, stock, lanes, first, dict.fromkeys(names, reset))
+    for it in pairs:
+        if it.sooner:
+            number = firm.number("P-")
+            firm.purchases[number] = Order(number, it.key, chance.randint(10, 60), None, first + WEEK, first + WEEK)
+    return firm
