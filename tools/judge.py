@@ -13,8 +13,6 @@ ROWS = mrp.KINDS[:-1]
 COMES, GOES = ("placed", "counted", "over"), ("cancelled", "issued", "lost")
 # The sheets whose overdue rows are orders, and not demands.
 ORDERS = "receipts.csv", "shipments.csv", "firm_orders.csv"
-# So many weeks behind the lead times of a pair and of all below it an event may still be felt.
-FELT = 3
 
 
 class Judge:
@@ -27,10 +25,8 @@ class Judge:
         self.named, self.known, self.missed, self.lacked, self.short = {}, {}, set(), set(), set()
         # (up to which figure suppliers were called for, the pieces of calls by pair, the last go-aheads, and the last plan)
         self.called, self.asked, self.marks, self.before = {}, Counter(), {}, None
-        self.below, self.weeks = {it: firm.below(it) for it in firm.pairs}, {}
-        for pair in sorted(firm.pairs, key=lambda it: len(self.below[it])):
-            under = [self.weeks[it] for it in self.below[pair] if it in self.weeks]
-            self.weeks[pair] = firm.pairs[pair].lead + max(under, default=0)
+        # (what goes into each pair, and what lacked in the week before a Monday)
+        self.below, self.lacking = {it: firm.below(it) for it in firm.pairs}, {}
 
     @property
     def events(self):
@@ -223,16 +219,19 @@ class Judge:
         late = any(f" of {' '.join(it)}, " in line and " late" in line for it in self.below if pair in self.below[it] for line in self.desk.told)
         return any(it.is_named if it.is_told else late for it in found)
 
-    def is_felt(self, pair):
-        """Tells whether something that went wrong may make a pair lack now: of what goes into it, or into what it shares parts with."""
-        found = (it for it in self.events if it.kind not in HARMLESS and self.below[it.pair] & self.below[pair])
-        return any(self.firm.monday <= self.firm.after(it.seen, FELT + self.weeks[pair] + self.weeks[it.pair]) for it in found)
+    def is_felt(self, pair, monday, lacking=()):
+        """Tells whether something could first be seen on a Monday that may make a pair lack: what went wrong, or lacked, of what goes into it or
+        into what it shares parts with.
+        """
+        found = [it.pair for it in self.events if it.kind not in HARMLESS and it.seen == monday]
+        return any(self.below[it] & self.below[pair] for it in (*found, *lacking))
 
     def week(self):
         """Judges a week: nothing lacks and no demand is missed that nothing names, and stock is what was there, came and went."""
         self.lacked = {it for it in self.firm.lacked if it not in self.short and not self.is_overdue(it)}
+        self.lacking[self.firm.monday] = {*self.firm.lacked} - self.lacked
         for pair in self.lacked:
-            if not self.is_felt(pair):
+            if not self.is_felt(pair, self.firm.monday):
                 self.tell(f"{pair} lacked, and mrp shortages didn't say so")
         for it in self.firm.demands:
             if it.due < self.firm.monday and it.number not in self.missed:
@@ -242,14 +241,14 @@ class Judge:
             self.conserved(pair)
 
     def miss(self, demand):
-        """Judges a demand that was missed: it was named on the Monday on which it could be known, or when something went wrong."""
+        """Judges a demand that was missed: it was named on the Monday on which it could be known, or on which what went wrong could be seen.
+        What goes wrong in that very week is named on the next Monday.
+        """
         it, named, known = demand, self.named.get(demand.number), self.known.get(demand.number)
-        if named and (not known or named <= known):
-            return
-        if not self.is_felt(it.pair):
-            self.tell(f"{it.pair}: {it.quantity} of {it.number} for {it.due} are missed, known on {known}, and named on {named}")
-        elif not named:
+        if not named and self.is_felt(it.pair, self.firm.monday):
             self.lacked.add(it.pair)
+        elif not named or known and known < named and not self.is_felt(it.pair, named, self.lacking.get(named, ())):
+            self.tell(f"{it.pair}: {it.quantity} of {it.number} for {it.due} are missed, known on {known}, and named on {named}")
 
     def conserved(self, pair):
         """What was there and on order, and came to be, is what went, is there and is on order; and so of stock alone."""

@@ -69,7 +69,7 @@ class Trouble(world.NoTrouble):
         wanted = [it for it in firm.pairs if it[0] == "DEPOT"]
         if self.is_now("rush"):
             pair, pieces = self.chance.choice(wanted), self.chance.randint(1, 20)
-            self.happens(pair, firm.want(pair, firm.after(firm.monday, 2), pieces).number, pieces)
+            self.happens(pair, firm.want(pair, firm.after(firm.monday, 2), pieces).number, pieces, seen=firm.monday)
 
     def shipped(self, firm, names, quantity):
         if quantity > 1 and self.is_now("little"):
