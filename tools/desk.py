@@ -101,6 +101,10 @@ class Reports:
             self.read[words] = [*mrp.rows_of(report(words, self.rows))]
         return self.read[words]
 
+    def table(self, *kinds):
+        """Returns the rows of some kinds in the table."""
+        return mrp.table_rows(self.rows.decode().splitlines(), *kinds)
+
     def figures(self, column):
         """Returns a column of the plan of each pair."""
         found = {}
@@ -299,6 +303,6 @@ class Desk:
     def sums(self, *kinds):
         """Returns the pieces of each pair in rows of the table."""
         found = Counter()
-        for it in reports.Table(self.table).rows(*kinds):
+        for it in self.reports.table(*kinds):
             found[it.pair] += it.quantity
         return found

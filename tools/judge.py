@@ -3,7 +3,6 @@ import datetime
 from collections import Counter
 
 import mrp
-import reports
 from desk import Reports
 from trouble import HARMLESS
 
@@ -49,7 +48,8 @@ class Judge:
         self.figures()
         self.releases()
         self.orders()
-        self.sooner()
+        self.sooner(before)
+        self.sooner(self.desk.reports)
         self.frozen()
 
     def figures(self):
@@ -116,16 +116,13 @@ class Judge:
             if sums[pair] + lost != self.firm.open(pair):
                 self.tell(f"{pair}: {sums[pair]} are open in the table, and {self.firm.open(pair)} in the firm")
 
-    def sooner(self):
-        """An order is planned only where no receipt is left that may count sooner."""
-        receipts = {}
-        for it in reports.Table(self.desk.table).rows(mrp.Receipt):
-            receipts.setdefault(it.pair, Counter())[it.period] += it.quantity
-        others = {}
-        for it in reports.Table(self.desk.table).rows(mrp.Ship, mrp.Firm):
-            others.setdefault(it.pair, Counter())[it.due if isinstance(it, mrp.Firm) else it.period] += it.quantity
-        had = Counter()
-        for it in self.desk.reports["plan"]:
+    def sooner(self, found):
+        """An order is planned, and so placed, only where no receipt is left that may count sooner."""
+        receipts, others, had = {}, {}, Counter()
+        for it in found.table(mrp.Receipt, mrp.Ship, mrp.Firm):
+            rows, period = (receipts, it.period) if isinstance(it, mrp.Receipt) else (others, it.due if isinstance(it, mrp.Firm) else it.period)
+            rows.setdefault(it.pair, Counter())[period] += it.quantity
+        for it in found["plan"]:
             if isinstance(it, mrp.Plan):
                 pair = it.plant, it.item
                 had[pair] += it.incoming - others.get(pair, Counter())[it.period]
@@ -136,7 +133,7 @@ class Judge:
     def frozen(self):
         """In the weeks in which the planner alone starts orders releases are the firm ones."""
         starts = Counter()
-        for it in reports.Table(self.desk.table).rows(mrp.Firm):
+        for it in self.desk.reports.table(mrp.Firm):
             starts[(*it.pair, it.start)] += it.quantity
         for it in self.desk.reports["plan"]:
             if isinstance(it, mrp.Plan) and it.period < self.firm.pairs[it.plant, it.item].frozen:
@@ -149,7 +146,7 @@ class Judge:
             return
         rows, wholes, figures = self.before
         end = rows[0].periods
-        later = [it._replace(period=end) for it in reports.Table(self.desk.table).rows(mrp.Demand) if it.period == end - 1]
+        later = [it._replace(period=end) for it in self.desk.reports.table(mrp.Demand) if it.period == end - 1]
         longer = sorted([rows[0]._replace(periods=end + 1), *rows[1:], *later], key=lambda it: ROWS.index(type(it)))
         path = f"{self.desk.week}/longer.csv"
         with open(path, "wb") as file:
@@ -174,7 +171,7 @@ class Judge:
             if (*it.pair, period) in named:
                 self.named.setdefault(it.number, self.firm.monday)
         plan = self.desk.reports
-        self.before = [*reports.Table(self.desk.table).rows(*ROWS)], wholes, [plan.figures(it) for it in ("gross", "release")]
+        self.before = [*plan.table(*ROWS)], wholes, [plan.figures(it) for it in ("gross", "release")]
 
     def name(self):
         """Judges whether what lacked last week is named, and keeps what this Monday's reports name."""

@@ -151,12 +151,12 @@ def test_an_order_beside_a_receipt_is_found(firm):
     rows = []
     while not rows:
         firm.monday()
-        rows = [it for it in year.reports.Table(firm.desk.table).rows(year.desk.mrp.Receipt) if it.period]
+        rows = [it for it in firm.desk.reports.table(year.desk.mrp.Receipt) if it.period]
     pair, plan = rows[0].pair, firm.desk.reports["plan"]
     first = next(place for place, it in enumerate(plan) if (it.plant, it.item) == pair)
     plan[first] = plan[first]._replace(order=1)
     firm.firm.pairs[pair] = firm.firm.pairs[pair]._replace(sooner=104)
-    firm.judge.sooner()
+    firm.judge.sooner(firm.desk.reports)
     assert lines(firm)[0].startswith(f"{pair}: an order in 0, and of ")
 
 
