@@ -8,7 +8,6 @@ import importlib.util
 import io
 import os
 import shutil
-import subprocess
 import sys
 from collections import Counter
 
@@ -62,21 +61,20 @@ def table_of(folder, room, chosen):
 
 
 @functools.lru_cache(64)
-def answer(words, rows):
-    """Returns a report of the program, as it is written: of the rows of one table each report is asked for once."""
-    done = subprocess.run([reports.program(), *words.split()], input=rows, capture_output=True, check=False)
-    if done.returncode:
-        raise Ended(f"mrp {words}: {done.stderr.decode()}")
-    return done.stdout
+def answer(word, rows):
+    """Returns a report as it is written, by the library where there is one: of the rows of one table each report is asked for once."""
+    name, *options = word.split()
+    status, text = (mrp.library() or mrp.program()).ask(name, rows, reach=bool(options))
+    if status:
+        raise Ended(f"mrp {word}: {text.decode()}")
+    return text
 
 
 def report(words, rows):
-    """Returns a report of the rows of a table. Of one whose columns have names these are asked for too."""
+    """Returns a report of the rows of a table, with the names of columns above it where they are asked for."""
     word = words.removesuffix(" --header")
-    if word not in mrp.REPORTS:
-        return answer(word, rows)
-    text = answer(f"{word} --header", rows)
-    return text if words != word else text[text.index(b"\n") + 1 :]
+    front = "" if word == words else f"{mrp.header(mrp.REPORTS[word])}\n"
+    return front.encode() + answer(word, rows)
 
 
 def ask(words, table, file):
