@@ -45,8 +45,8 @@ def named(room, words):
 
 
 def test_a_year_of_mondays(room):
-    """Figures start again, and much goes wrong."""
-    assert {"lost", "twice", "miscounted", "tardy", "little", "scrap"} <= named(room, "--firm small --seed 4 --trouble 60").keys()
+    """Much goes wrong, of each kind that has to be told. Figures start again, and of an advice from before that day is heard behind it."""
+    assert {*year.trouble.TOLD} <= named(room, "--firm small --seed 4 --trouble 100").keys()
 
 
 def test_a_year_of_three_plants_and_twenty_vendors(room):
