@@ -20,7 +20,8 @@ class Judge:
     def __init__(self, seed, firm, desk, trouble):
         self.seed, self.firm, self.desk, self.trouble, self.found, self.mondays = seed, firm, desk, trouble, [], 0
         self.begin = {it: (firm.stock[it], firm.open(it)) for it in firm.pairs}
-        # (the demands that are named as late and those whose week is whole, with the first Monday; those that were missed; what lacks and isn't named yet; what mrp shortages names)
+        # (the demands that are named as late and those whose week is whole, with the first Monday; those that were missed; what lacks and isn't
+        # named yet; what mrp shortages names)
         self.named, self.known, self.missed, self.lacked, self.short = {}, {}, set(), set(), set()
         # (up to which figure suppliers were called for, the pieces of calls by pair, the last go-aheads, and the last plan)
         self.called, self.asked, self.marks, self.before = {}, Counter(), {}, None
