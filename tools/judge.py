@@ -20,11 +20,11 @@ class Judge:
     def __init__(self, seed, firm, desk, trouble):
         self.seed, self.firm, self.desk, self.trouble, self.found, self.mondays = seed, firm, desk, trouble, [], 0
         self.begin = {it: (firm.stock[it], firm.open(it)) for it in firm.pairs}
-        # (the demands that are named as late and those whose week is whole, with the first Monday; those that were missed; what lacks and isn't
-        # named yet; what mrp shortages names)
+        # (the demands that are named as late, with the Mondays since which and until which they are; those whose week is whole, with the first
+        # Monday; those that were missed; what lacks and isn't named yet; what mrp shortages names)
         self.named, self.known, self.missed, self.lacked, self.short = {}, {}, set(), set(), set()
         # (up to which figure suppliers were called for, the pieces of calls by pair, the last go-aheads, and the last plan)
-        self.called, self.asked, self.marks, self.before = {}, Counter(), {}, None
+        self.called, self.asked, self.marks, self.before, self.now = {}, Counter(), {}, None, None
         # (what goes into each pair, and what lacked in the week before a Monday)
         self.below, self.lacking = {it: firm.below(it) for it in firm.pairs}, {}
 
@@ -170,8 +170,9 @@ class Judge:
             if period < wholes[it.pair][0]:
                 self.known.setdefault(it.number, self.firm.monday)
             if (*it.pair, period) in named:
-                self.named.setdefault(it.number, self.firm.monday)
-        plan = self.desk.reports
+                since, until = self.named.get(it.number, (None, None))
+                self.named[it.number] = since if until and until == self.now else self.firm.monday, self.firm.monday
+        plan, self.now = self.desk.reports, self.firm.monday
         self.before = [*plan.table(*ROWS)], wholes, [plan.figures(it) for it in ("gross", "release")]
 
     def name(self):
@@ -242,7 +243,8 @@ class Judge:
         """Judges a demand that was missed: it was named on the Monday on which it could be known, or on which what went wrong could be seen.
         What goes wrong in that very week is named on the next Monday.
         """
-        it, named, known = demand, self.named.get(demand.number), self.known.get(demand.number)
+        it, (named, until), known = demand, self.named.get(demand.number, (None, None)), self.known.get(demand.number)
+        named = named if until == self.now else None
         if not named and self.is_felt(it.pair, self.firm.monday):
             self.lacked.add(it.pair)
         elif not named or known and known < named and not self.is_felt(it.pair, named, self.lacking.get(named, ())):

@@ -9,8 +9,8 @@ from world import WEEK
 KINDS = "little", "much", "late", "twice", "lost", "tardy", "miscounted", "scrap", "count", "cancelled", "rush"
 # What has to be named for itself, and not only where something is short by it.
 TOLD = "little", "much", "late", "twice", "lost", "tardy", "miscounted"
-# What doesn't make pieces come later, or be fewer.
-HARMLESS = "much", "twice", "tardy"
+# What doesn't make pieces come later, or be fewer, nor look so.
+HARMLESS = "much", "twice"
 
 
 @dataclass
