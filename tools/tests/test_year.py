@@ -132,6 +132,18 @@ def test_a_demand_that_nothing_named_is_found(firm, monkeypatch, is_named):
     assert wanted.number in firm.judge.missed
 
 
+def test_a_demand_that_is_named_no_more_is_found(firm, monkeypatch):
+    """On the Monday of its week it has to be named still."""
+    monday = firm.firm.monday
+    wanted = firm.firm.want(PUMP, monday + WEEK, 500)
+    assert told(firm) == []
+    assert firm.judge.named[wanted.number] == (monday, monday)
+    monkeypatch.setattr(firm.desk, "hits", lambda: [])
+    missed = f"{PUMP}: {{}} of {wanted.number} for {monday + WEEK} are missed, known on {monday}, and named on None"
+    firm.monday()
+    assert missed.format(wanted.quantity) in lines(firm)
+
+
 def test_an_order_that_is_planned_again_is_found(firm):
     order = next(it for it in firm.desk.reports["orders"] if type(it) is year.desk.mrp.Order)
     firm.judge.monday([order], firm.desk.reports)
