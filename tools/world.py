@@ -258,12 +258,15 @@ class Firm:
             self.cancel(order, self.starts)
             return
         needs = {(order.pair[0], part): per * order.quantity for part, per in self.bills.get(order.pair, {}).items()}
+        lead = self.pairs[order.pair].lead
         if lacking := [it for it, pieces in needs.items() if self.stock[it] < pieces]:
             self.lacked.update(lacking)
+            # (it can't start before next week, and the sheets say when it comes then)
+            order.comes = max(order.comes, self.after(self.end, lead))
             return
         for it, pieces in needs.items():
             self.move(it, -pieces, "issued")
-        order.comes = max(order.comes, self.after(self.monday, self.pairs[order.pair].lead))
+        order.comes = max(order.comes, self.after(self.monday, lead))
         self.production[order.number] = self.starts.pop(order.number)
 
     def cancel(self, order, orders):
