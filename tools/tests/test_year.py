@@ -64,6 +64,18 @@ def test_weeks_in_which_nobody_works():
     assert firm.after(datetime.date(2027, 3, 16), 2) == datetime.date(2027, 3, 30)
 
 
+def test_an_order_that_lacks_parts_comes_later():
+    """By hand: pumps take a week, and can't start before the next one."""
+    firm = year.works.small(year.random.Random(1), year.FIRST, year.RESETS[0])
+    order = year.world.Order("FA-1", ("WORKS", "PUMP"), 5, year.FIRST, year.FIRST + WEEK, year.FIRST + WEEK)
+    firm.starts, firm.stock["WORKS", "MOTOR"] = {"FA-1": order}, 4
+    firm.start(order)
+    assert ({*firm.starts}, firm.lacked, order.comes) == ({"FA-1"}, {("WORKS", "MOTOR")}, year.FIRST + 2 * WEEK)
+    firm.stock["WORKS", "MOTOR"], order.comes = 5, year.FIRST
+    firm.start(order)
+    assert ({*firm.starts}, {*firm.production}, order.comes) == (set(), {"FA-1"}, year.FIRST + WEEK)
+
+
 def test_figures_of_a_customer():
     """By hand. 7 and 5 of 100 are called for, of which 9 are shipped; then figures start again, with 4 and 2 on one day."""
     first, reset = datetime.date(2026, 12, 28), datetime.date(2027, 1, 6)
