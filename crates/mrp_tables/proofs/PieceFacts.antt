@@ -60,7 +60,7 @@ module _ (rows : List (List (List ℕ))) (old d : Draft) (b : BulkRow) (said : L
       → ReadsOn (Some (rows ++ more)) (Some (first.row ∷ (first.after ++ more))) (old.rows + 1) (draft_state old) (d.rows + 1)
       (draft_state d)
   goes_here more = subst (λ (l : List (List (List ℕ))). ReadsOn (Some (rows ++ more)) (Some (l ++ more)) (old.rows + 1) (draft_state old) (d.rows + 1)
-    (draft_state d))
+      (draft_state d))
       first.rest_is (so.goes more)
 
   pub taken_one : (e : Draft) → bulk_after (draft_state d) b ≡ Ok (draft_state e) → e.rows ≡ d.rows + 1 → TakenSo rows old e said
