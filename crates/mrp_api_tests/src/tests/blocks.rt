@@ -141,7 +141,7 @@ impl Read for Failing<'_> {
 }
 
 /// Such a reader of the table.
-fn failing(step: usize, left: usize) -> Failing<'static> {
+fn failing_at(step: usize, left: usize) -> Failing<'static> {
     Failing {
         text: TABLE.as_bytes(),
         step,
@@ -152,8 +152,8 @@ fn failing(step: usize, left: usize) -> Failing<'static> {
 
 /// Whether a reader that fails is told at the same row, or as having none left.
 fn fails_alike<T: Threads + Sync>(rt: &T, alloc: Global, step: usize, left: usize) -> bool {
-    let whole = read_tables_uncounted(alloc, READ_ALL, failing(step, left));
-    let pieces = read_tables_by_blocks(rt, alloc, READ_ALL, failing(step, left), 200, 3);
+    let whole = read_tables_uncounted(alloc, READ_ALL, failing_at(step, left));
+    let pieces = read_tables_by_blocks(rt, alloc, READ_ALL, failing_at(step, left), 200, 3);
     same_answer(&whole, &pieces)
 }
 
