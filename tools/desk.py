@@ -18,6 +18,8 @@ import mrp
 import reports
 from world import WEEK, Order
 
+# The rows of a table, but for its end.
+ROWS = mrp.KINDS[:-1]
 PERIODS = 16
 HORIZONS = 2, 6, 12
 ITEM_HEADS = "Plant,Item,Supply,Lot rule,Lead (weeks),Safety stock,Fence (periods),Sooner (periods),Cover (periods),Least,Multiple,On hand"
@@ -86,6 +88,13 @@ SCRIPTS["book"].table_of = table_of
 # (of the same headings this is asked again and again)
 headed.key = functools.lru_cache(None)(headed.key)
 reports.ask, hits.report = ask, lambda words, table: report(words, reports.kept_bytes(table)).splitlines(keepends=True)
+
+
+def write(path, rows):
+    """Writes a table of rows, each kind in its place, and returns its path."""
+    with open(path, "wb") as file:
+        file.write(bytes(mrp.Table(sorted(rows, key=lambda it: ROWS.index(type(it))))))
+    return path
 
 
 class Reports:
@@ -215,6 +224,14 @@ class Desk:
     def hits(self):
         """Returns the demands that late orders hit."""
         return hits.hits(self.table, self.names)
+
+    def is_hit_beside(self, monday, demand, other):
+        """Tells whether late orders hit a demand by the table of a Monday, with another row of demand beside its own."""
+        room = f"{self.folder}/{monday}"
+        found = [*Reports(f"{room}/table.csv").table(*ROWS), other]
+        table, names = write(f"{room}/beside.csv", found), mrp.Names(f"{room}/names.csv")
+        period = max(0, reports.Table(table).calendar.period(demand.due))
+        return any((it.plant, it.item, it.period) == (*demand.pair, period) for it in hits.hits(table, names))
 
     def obey(self):
         """Moves orders as messages within reach say."""

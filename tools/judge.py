@@ -3,11 +3,9 @@ import datetime
 from collections import Counter
 
 import mrp
-from desk import Reports
+from desk import ROWS, Reports, write
 from trouble import HARMLESS
 
-# The rows of a table, but for its end.
-ROWS = mrp.KINDS[:-1]
 # How a year moves the pieces of a pair: what comes to be there or on order, and what goes.
 COMES, GOES = ("placed", "counted", "over"), ("cancelled", "issued", "lost")
 # The sheets whose overdue rows are orders, and not demands.
@@ -25,8 +23,8 @@ class Judge:
         self.named, self.known, self.missed, self.lacked, self.short = {}, {}, set(), set(), set()
         # (up to which figure suppliers were called for, the pieces of calls by pair, the last go-aheads, and the last plan)
         self.called, self.asked, self.marks, self.before, self.now = {}, Counter(), {}, None, None
-        # (what goes into each pair, and what lacked in the week before a Monday)
-        self.below, self.lacking = {it: firm.below(it) for it in firm.pairs}, {}
+        # (what goes into each pair, what lacked in the week before a Monday, and what was forecast for that week and not ordered)
+        self.below, self.lacking, self.unordered = {it: firm.below(it) for it in firm.pairs}, {}, {}
 
     @property
     def events(self):
@@ -148,11 +146,8 @@ class Judge:
         rows, wholes, figures = self.before
         end = rows[0].periods
         later = [it._replace(period=end) for it in self.desk.reports.table(mrp.Demand) if it.period == end - 1]
-        longer = sorted([rows[0]._replace(periods=end + 1), *rows[1:], *later], key=lambda it: ROWS.index(type(it)))
-        path = f"{self.desk.week}/longer.csv"
-        with open(path, "wb") as file:
-            file.write(bytes(mrp.Table(longer)))
-        found = Reports(path)
+        longer = [rows[0]._replace(periods=end + 1), *rows[1:], *later]
+        found = Reports(write(f"{self.desk.week}/longer.csv", longer))
         for place, column in enumerate(("gross", "release")):
             for pair, now in found.figures(column).items():
                 whole, was = wholes[pair][place], figures[place][pair]
@@ -173,7 +168,14 @@ class Judge:
                 since, until = self.named.get(it.number, (None, None))
                 self.named[it.number] = since if until and until == self.now else self.firm.monday, self.firm.monday
         plan, self.now = self.desk.reports, self.firm.monday
+        self.unordered[self.firm.end] = self.left_of_forecast()
         self.before = [*plan.table(*ROWS)], wholes, [plan.figures(it) for it in ("gross", "release")]
+
+    def left_of_forecast(self):
+        """Returns how many pieces are forecast for this week and not ordered: next Monday they are wanted no more."""
+        pair, firm = self.firm.forecast, self.firm
+        ordered = sum(it.quantity for it in firm.demands if it.pair == pair and it.due < firm.end)
+        return self.desk.reports.figures("gross")[pair][0] - ordered if pair else 0
 
     def name(self):
         """Judges whether what lacked last week is named, and keeps what this Monday's reports name."""
@@ -225,6 +227,13 @@ class Judge:
         found = [it.pair for it in self.events if it.kind not in HARMLESS and it.seen == monday]
         return any(self.below[it] & self.below[pair] for it in (*found, *lacking))
 
+    def is_by_forecast(self, demand, monday):
+        """Tells whether a demand was first named on a Monday because what was forecast for the week before wasn't ordered: by a lot rule that counts
+        periods other orders then begin later, and are larger. Were those pieces wanted still, nothing would name it on that Monday.
+        """
+        pieces = self.unordered.get(monday, 0)
+        return pieces > 0 and not self.desk.is_hit_beside(monday, demand, mrp.Demand(*self.firm.forecast, 0, pieces))
+
     def week(self):
         """Judges a week: nothing lacks and no demand is missed that nothing names, and stock is what was there, came and went."""
         self.lacked = {it for it in self.firm.lacked if it not in self.short and not self.is_overdue(it)}
@@ -240,15 +249,19 @@ class Judge:
             self.conserved(pair)
 
     def miss(self, demand):
-        """Judges a demand that was missed: it was named on the Monday on which it could be known, or on which what went wrong could be seen.
-        What goes wrong in that very week is named on the next Monday.
+        """Judges a demand that was missed: it was named on the Monday on which it could be known, or on which what went wrong could be seen, or
+        what was forecast and not ordered. What goes wrong in that very week is named on the next Monday.
         """
         it, (named, until), known = demand, self.named.get(demand.number, (None, None)), self.known.get(demand.number)
         named = named if until == self.now else None
         if not named and self.is_felt(it.pair, self.firm.monday):
             self.lacked.add(it.pair)
-        elif not named or known and known < named and not self.is_felt(it.pair, named, self.lacking.get(named, ())):
+        elif not named or known and known < named and not self.is_explained_on(named, it):
             self.tell(f"{it.pair}: {it.quantity} of {it.number} for {it.due} are missed, known on {known}, and named on {named}")
+
+    def is_explained_on(self, monday, demand):
+        """Tells whether it could be seen on a Monday, and not before, that a demand is missed."""
+        return self.is_felt(demand.pair, monday, self.lacking.get(monday, ())) or self.is_by_forecast(demand, monday)
 
     def conserved(self, pair):
         """What was there and on order, and came to be, is what went, is there and is on order; and so of stock alone."""

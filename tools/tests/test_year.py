@@ -156,6 +156,39 @@ def test_a_demand_that_is_named_no_more_is_found(firm, monkeypatch):
     assert missed.format(wanted.quantity) in lines(firm)
 
 
+@pytest.mark.parametrize("pieces, is_found", [(2, False), (0, True), (3, True)])
+def test_a_demand_that_is_missed_for_a_forecast_that_nobody_ordered(firm, tmp_path, pieces, is_found):
+    """By hand: 10 bikes are there, and orders for them are for two periods. They last until period 2; the next 6 want 6 wheels in period 2, where 3
+    are there and more come in 3. With 2 bikes less orders are for 3 in period 2 and 5 in 4, and wheels come in time; with 3 less they are for 3 in
+    period 1 and 6 in 3 again.
+    """
+    judge, monday = firm.judge, firm.judge.now + WEEK
+    mrp, bike, wheel = year.desk.mrp, ("P1", "BIKE"), ("P1", "WHEEL")
+    rows = [mrp.Run(monday, 7, 8), mrp.Plant("P1"), mrp.Pair(*bike, "make", "periods:2", 1, 10, 0), mrp.Pair(*wheel, "buy", "lot", 3, 3, 0)]
+    rows += [mrp.Bill(*bike, "WHEEL", 1), *(mrp.Demand(*bike, period, wanted) for period, wanted in ((1, 8), (2, 2), (3, 1), (4, 5)))]
+    room = tmp_path / str(monday)
+    room.mkdir()
+    year.desk.write(room / "table.csv", rows)
+    (room / "names.csv").write_text(f"{','.join(mrp.Names.COLUMNS)}\n")
+    demand = year.world.Demand("A-0", bike, monday + 3 * WEEK + DAY, 1, 1)
+    firm.firm.forecast, judge.unordered[monday], judge.now = bike, pieces, monday + WEEK
+    judge.named["A-0"], judge.known["A-0"] = (monday, judge.now), monday - WEEK
+    judge.miss(demand)
+    said = f"{bike}: 1 of A-0 for {demand.due} are missed, known on {monday - WEEK}, and named on {monday}"
+    assert lines(firm) == [said] * is_found
+
+
+def test_what_is_left_of_a_forecast(firm):
+    """Of what is forecast for a week 2 more than is ordered."""
+    monday = firm.firm.monday
+    firm.firm.want(PUMP, monday + DAY, 3)
+    ordered = sum(it.quantity for it in firm.firm.demands if it.pair == PUMP and monday <= it.due < monday + WEEK)
+    firm.firm.forecast, firm.firm.window, firm.firm.forecasts = PUMP, (0, 0), {monday: ordered + 2}
+    firm.monday()
+    assert firm.judge.unordered[monday] == 0
+    assert firm.judge.unordered[monday + WEEK] == 2
+
+
 def test_an_order_that_is_planned_again_is_found(firm):
     order = next(it for it in firm.desk.reports["orders"] if type(it) is year.desk.mrp.Order)
     firm.judge.monday([order], firm.desk.reports)
