@@ -2,9 +2,58 @@
 
 What is made without lead time and fence, as a phantom, is there by its orders that are due now. What these lack is lacked by those
 that take it.
+
+A receipt that is due in this period and of which names.csv says that it comes later (Comes) isn't there.
 """
-# Of a pair so many shortages are kept.
-MOST = 100
+import hits
+import reports
+import mrp
+
+# Of a pair so many shortages are kept, and of so many pairs the program is asked for each what asks for it.
+MOST, FEW = 100, 10
+
+
+def late_now(names, calendar):
+    """Returns how many pieces of each pair are due in this period by receipts that come later."""
+    late = reports.coming_late(names, calendar).get("receipt", {})
+    found = {pair: sum(it.quantity for it in rows if it.period == 0) for pair, rows in late.items()}
+    return {pair: quantity for pair, quantity in found.items() if quantity}
+
+
+def without_late(shortages, policies, late, orders):
+    """Yields the rows of `mrp shortages`, for the pairs of late_now as they are without the pieces that come later. It takes the policies
+    of the table, and what has the orders of a pair as pass_up does.
+    """
+    if not late:
+        yield from shortages
+        return
+    there, places = {pair: -quantity for pair, quantity in late.items()}, {}
+    for row in policies.rows(mrp.Pair, mrp.Receipt, mrp.Ship):
+        if isinstance(row, mrp.Pair):
+            places[pair := row[:2]] = len(places)
+            is_phantom = pair in there and row.supply == "make" and policies.earliest(row) == 0
+            made = sum(quantity for due, quantity, *_ in orders(pair) if due == 0) if is_phantom else 0
+            there[pair] = there.get(pair, 0) + row.on_hand + made
+        elif row.period == 0:
+            there[row.pair] += row.quantity
+    found = [it for it in shortages if it[:2] not in late]
+    for pair, row in terms(policies.path, late):
+        if row.quantity > there[pair]:
+            found.append(mrp.Shortage(*pair, row.source, *row[-5:-3], row.quantity, row.quantity - max(0, there[pair])))
+        there[pair] -= row.quantity
+    # (in table order, as the report has them)
+    yield from sorted(found, key=lambda it: places[it[:2]])
+
+
+def terms(table, pairs):
+    """Yields what asks for some pairs in this period by the table at a path, each with its pair."""
+    if len(pairs) <= FEW:
+        found = ((pair, line) for pair in pairs for line in hits.report(f"peg {' '.join(pair)} 0", table))
+    else:
+        asked = {",".join((*pair, "0")).encode(): pair for pair in pairs}
+        lines = ((asked.get(line.split(b",", 1)[1].rsplit(b",", 6)[0]), line) for line in hits.report("pegs", table))
+        found = (it for it in lines if it[0])
+    yield from ((pair, mrp.report_row(line.decode(), number)) for number, (pair, line) in enumerate(found, 1))
 
 
 class Lacks:

@@ -1,10 +1,12 @@
 """What orders lack, as bin/page and bin/orders say it: bin/lacks.py."""
+import csv
 import io
 
 import hits
 import lacks
 import mrp
 import reports
+from support import listed
 from test_oracle import policy_of, rows_of, some_firms
 
 # By hand. The 10 pumps and the 5 fans, of which 2 are firm, take 15 sets, of which 3 are there. The 12 others are made at once, of
@@ -104,6 +106,59 @@ firm,A,SET,0,1,5,,
     found.pass_up(takes, reports.Policies(), lambda pair: orders.get(pair, ()))
     assert [*found.of] == [("A", "SET"), ("A", "PUMP")]
     assert found.lines(("A", "PUMP"), lambda own, plant, item: item) == ["RING 5 of 5 for SET"]
+
+
+# By hand. Of the 15 sets 3 are there, 2 are due and 10 are made, of 40 rings, of which 20 are there and 40 are due. Of 10 motors 6 are there,
+# one is in transit, 2 are due, and one B ships. What is due now comes later.
+COMING = """\
+receipt,A,RING,0,40,,,
+receipt,A,MOTOR,0,2,,,
+receipt,A,SET,0,2,,,
+ship,B,A,MOTOR,0,1,,
+firm,"""
+COMES = """\
+row,plant,item,period,date,quantity,name,description,note,comes
+receipt,A,RING,0,2026-01-05,40,,,,2026-01-12
+receipt,A,MOTOR,0,2026-01-05,2,,,,2026-01-12
+receipt,A,SET,0,2026-01-05,2,,,,2026-01-12
+"""
+
+
+def test_receipts_that_come_later_are_not_there(room, program):
+    """By hand: the 10 pumps find 7 motors, and the 5 fans behind them 3 of 13 sets; 20 of 40 rings are missing for these. On the day on which
+    they are due all but a motor is there.
+    """
+    room.write("table.csv", LACKING.replace("firm,", COMING))
+    room.write("names.csv", COMES)
+
+    def lacking(more):
+        rows = csv.DictReader(room.run(f"bin/orders {more} < table.csv").splitlines())
+        return {it["item"]: it["lacks"] for it in rows if it["lacks"]}
+
+    assert lacking("") == {"PUMP": "MOTOR 1 of 10"}
+    rings = "RING 20 of 40"
+    wanted = {"PUMP": f"MOTOR 3 of 10; {rings} for SET", "FAN": f"SET 2 of 5; {rings} for SET", "SET": rings}
+    assert lacking("--names names.csv") == wanted
+    text = room.run("bin/page --names names.csv < table.csv")
+    assert {it[0]: it[4] for it in listed(text, "release") if "lacks" in it[4]}.keys() == wanted.keys()
+    # (on the day itself, or earlier)
+    room.run("sed -i 's/2026-01-12$/2026-01-11/' names.csv")
+    assert lacking("--names names.csv") == {"PUMP": "MOTOR 1 of 10"}
+
+
+def test_many_receipts_that_come_later(room, program, monkeypatch):
+    """Of many pairs one report says what asks for them."""
+    room.write("table.csv", LACKING.replace("firm,", COMING))
+    room.write("names.csv", COMES)
+    monkeypatch.setenv("MRP", program)
+    policies, names, found = reports.Policies(f"{room.folder}/table.csv"), mrp.Names(f"{room.folder}/names.csv"), []
+    late = lacks.late_now(names, policies.calendar)
+    for few in (3, 2):
+        monkeypatch.setattr(lacks, "FEW", few)
+        found.append([*lacks.without_late([], policies, late, lambda pair: [(0, 10, 0)] if pair[1] == "SET" else [])])
+    wanted = [("RING", "SET", 40, 20), ("MOTOR", "PUMP", 10, 3), ("SET", "FAN", 5, 2)]
+    for rows in found:
+        assert sorted((it.item, it.by_item, it.quantity, it.short) for it in rows) == sorted(wanted)
 
 
 def test_many_shortages_are_cut():

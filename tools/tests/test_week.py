@@ -114,6 +114,24 @@ def test_the_second_monday_goes_on_from_the_first(desk):
     assert files(desk) == kept
 
 
+def test_what_is_bought_is_not_there_once_it_is_booked(desk):
+    """What orders lack is the same before purchases are booked and after, for these come later."""
+    desk.needs_program()
+    done = [it for command, _ in steps()[:3] for it in command.splitlines()]
+    last = max(place for place, it in enumerate(done) if it.startswith("sh book.sh"))
+    assert "buy" in done[last]
+
+    def lacking():
+        rows = csv.DictReader(desk.run("cat kw49/orders.csv").splitlines())
+        return {(it["plant"], it["item"]): it["lacks"] for it in rows if it["lacks"]}
+
+    desk.run("\n".join(done[:last]))
+    before = lacking()
+    desk.run("\n".join(done[last:]))
+    assert before["2000", "GEH-40"] == "GUSS-40 28 of 40"
+    assert lacking() == before
+
+
 def test_what_the_planner_writes_is_in_the_table(desk):
     """By hand: a closed fortnight, a share of a litre with scrap, a bill that changes, frozen releases, a firm order, figures of a
     vendor and of a customer.
