@@ -204,7 +204,7 @@ def test_slips_are_told_at_once(tmp_path):
         ],
     )
     assert advices(tmp_path, items=None)[:2] == (1, "items.csv: it is missing\nbin/advices: 1 slip; nothing is written\n")
-    told = "receipts.csv row 3, Item: advices.csv has 88140; delete the row\nbin/advices: 1 slip; nothing is written\n"
+    told = "receipts.csv row 3, Advice: advices.csv has 88140; delete the row\nbin/advices: 1 slip; nothing is written\n"
     assert advices(tmp_path, receipts=WRITTEN["receipts.csv"]) == (1, told, {})
 
 
@@ -443,3 +443,24 @@ def test_a_lost_or_doubled_advice_is_not_let_through(tmp_path, monkeypatch, caps
         damaged = firms.damaged(chance, found[name].encode()).decode("utf-8", "ignore")
         in_process(tmp_path, monkeypatch, capsys, {**found, name: damaged})
     assert tried > 10
+
+
+def test_what_is_booked_since_stays(tmp_path):
+    """By hand: of three orders in the folder one is in the sheet, and one without a number; what is on its way may be written again."""
+    status, _, _ = advices(tmp_path)
+    again = "bin/advices", "--out", "out", "in"
+    assert (status, run(tmp_path, *again)) == (0, (0, "", ""))
+    receipts = tmp_path / "out/receipts.csv"
+    more = "FOUNDRY,IRON,P-13,2026-12-16,200,,\nFOUNDRY,SAND,,2026-12-16,5,,\n"
+    receipts.write_text(WRITTEN["receipts.csv"] + more)
+    (tmp_path / "out/cums.csv").write_text("")
+    said = "bin/advices: out/receipts.csv has 2 orders that would be gone, as P-13; nothing is written. "
+    assert run(tmp_path, *again) == (1, "", said + "Copy them into the sheet that is read, or give --again\n")
+    assert (receipts.read_text(), (tmp_path / "out/cums.csv").read_text()) == (WRITTEN["receipts.csv"] + more, "")
+    # (another day, and a column more, are the same order; a sheet with semicolons is read too)
+    heads, *rows = WRITTEN["receipts.csv"].replace("2026-12-09", "2026-12-14").splitlines()
+    receipts.write_text("\n".join([f"{heads},Comes", *(f"{it}," for it in rows), ""]).replace(",", ";"))
+    assert run(tmp_path, *again) == (0, "", "")
+    receipts.write_text(WRITTEN["receipts.csv"] + more)
+    assert run(tmp_path, *again, "--again") == (0, "", "")
+    assert {it.name: it.read_text() for it in tmp_path.glob("out/*")} == WRITTEN
