@@ -191,8 +191,10 @@ def test_what_there_is_not_to_book(desk):
         "orders.csv: no planned order to book; nothing is written",
     ]
     rows(desk, MOTORS)
-    why = "bin/book: receipts.csv has no number to go on from: say --number PREFIX; nothing is written\n"
-    assert desk.run("bin/book orders.csv firm", status=1) == why
+    why = "bin/book: {}: say how numbers begin, as --number PO-1001; nothing is written\n"
+    desk.run("cp -r firm without && rm -f without/receipts.csv")
+    assert desk.run("bin/book orders.csv firm", status=1) == why.format("receipts.csv has no number to go on from")
+    assert desk.run("bin/book orders.csv without", status=1) == why.format("there is no receipts.csv yet")
     assert "No such file" in desk.run("bin/book none.csv firm", status=1)
     desk.run("sed -i s/MOTOR,1/MOTR,1/ firm/bills.csv")
     assert desk.run("bin/book --number P- orders.csv firm", status=1).splitlines() == [
