@@ -180,6 +180,6 @@ def test_the_files_are_small_and_known(desk):
     sizes = {os.path.relpath(it, TOP): os.path.getsize(it) for it in glob.glob(f"{TOP}/examples/conveyors/*/*")}
     assert sum(sizes.values()) < 50_000
     first_monday(desk)
-    # (bin/advices and bin/releases read these two)
-    assert [it for it in desk.run("cat said").splitlines() if "not read" in it] == ["not read, for no sheet has this name: advices.csv, booked.csv"]
+    # (advices.csv and booked.csv are there, which bin/advices and bin/releases read)
+    assert "not read" not in desk.run("ls kw49/sheets/advices.csv kw49/sheets/booked.csv && cat said")
     assert mrp.Names(f"{desk.folder}/names.csv").own("1000", "MOTOR-0_75") == ("1000", "MOTOR-0,75")
