@@ -1,6 +1,7 @@
 """bin/releases: the material release of each supplier, how it goes on from the last one, and what is refused."""
 import csv
 import os
+import re
 
 import pytest
 from support import TOP
@@ -89,6 +90,9 @@ def releases(room, words, table=FIRST, status=0, **changes):
     write(room, "sheets", {**(SHEETS if table.startswith(FIRST[:14]) else LATER), **{f"{name}.csv": text for name, text in changes.items()}})
     room.write("table.csv", table)
     said = room.run(f"MRP=words/judged bin/releases --sheets sheets {words} 2>&1 < table.csv", status)
+    if status == 0 and "--last" not in words:
+        first, said = said.split("\n", 1)
+        assert re.fullmatch("no --last: release [1-9][0-9]* is the first of each supplier", first)
     return said, {it: room.run(f"cat out/{it}") for it in room.run("ls out 2> /dev/null || true").split()}
 
 

@@ -164,7 +164,9 @@ def test_tables_without_names_are_compared_by_days(mondays):
 
 
 def test_the_same_monday_has_no_changes(mondays):
-    text = mondays.run("bin/page --names new.names --last new.csv --last-names new.names < new.csv")
+    text = mondays.run("bin/page --names new.names --last new.csv --last-names new.names < new.csv 2> told")
+    told = "new.csv begins on 2026-12-07 as this plan does: what changed is told since a plan of this Monday\n"
+    assert mondays.run("cat told") == told
     assert re.search('<section id="changed">\n<h2>Changed since 7 December 2026</h2>\n<p>Nothing.</p>\n</section>', text)
 
 
