@@ -230,11 +230,12 @@ class Board:
         """Returns how many there are of what the page is about."""
         rows = self.outline.rows
         counts = [(len(self.outline.pairs), "pair"), (len(self.dates), self.unit), (len(rows[mrp.Late]), "late order")]
+        counts.append((sum(len(late) for pair, late in self.delays.items() if self.outline.asked(*pair)), "open order"))
         counts += [(len(rows[mrp.Hit]), "demand"), (len(rows[mrp.Order]), "order")]
         counts += [(self.messages.moved(), "open order"), (self.messages.count("beyond"), "open order")]
         firm, lacking = sum(map(is_firm, rows[mrp.Order])), sum((it.plant, it.item) in self.outline.lacking.of for it in rows[mrp.Order])
         of_these = f", {firm:,} of them firm" * bool(firm) + f", {lacking:,} of them lacking parts" * bool(lacking)
-        ends = ["", "", "", " hit", f" to release{of_these}", " to be moved", " needed beyond the horizon"]
+        ends = ["", "", "", " late", " hit", f" to release{of_these}", " to be moved", " needed beyond the horizon"]
         return ", ".join(reports.counted(*it) + end for it, end in zip(counts, ends) if it[0] or not end)
 
     def vendor(self, order):

@@ -483,6 +483,8 @@ def test_page_has_open_orders_that_come_late(room):
         ["P1", "BIKE", "1 week", "open order of 5 due 14 Dec W51, 1 week", "1", "5 P1 BIKE of 14 Dec W51, 1 week5 of 2026-12-14: Order 46"],
     ]
     assert "Open orders that the sheets say come later than they are due (Comes) stand here too." in text
+    assert "2 pairs, 6 weeks, 0 late orders, 2 open orders late, 2 demands hit, " in text
+    assert "0 late orders, 1 open order late, " in room.run("bin/page --item WHEEL --names names.csv < table.csv")
     cells = [re.findall("<td[^>]*>(-?[0-9]*)<", it) for it in re.findall("Available with delays</th>(.*?)</tr>", text)]
     assert cells == [["0", "0", "-5", "0", "0", "0"], ["10", "0", "-20", "-20", "1", "1"]]
     assert '<small>2&nbsp;weeks late</small>' in text
