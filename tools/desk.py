@@ -87,7 +87,18 @@ def ask(words, table, file):
 SCRIPTS["book"].table_of = table_of
 # (of the same headings this is asked again and again)
 headed.key = functools.lru_cache(None)(headed.key)
-reports.ask, hits.report = ask, lambda words, table: report(words, reports.kept_bytes(table)).splitlines(keepends=True)
+# (what asks for one pair is asked of the program)
+of_program = hits.report
+
+
+def lines(words, table):
+    """Returns the lines of a report, as bin/hits.py has the program write them."""
+    if words.startswith("peg "):
+        return of_program(words, table)
+    return report(words, reports.kept_bytes(table)).splitlines(keepends=True)
+
+
+reports.ask, hits.report = ask, lines
 
 
 def write(path, rows):
