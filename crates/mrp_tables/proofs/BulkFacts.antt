@@ -1,15 +1,16 @@
--- What a demand, a receipt or a shipment says of one table, it says of each that has the same pairs, lanes and periods.
-use Rattle.std.proofs.Common.{◌≡◌, ℕ, Bool, true, false, List, length, nat_lt, Result, Ok, Err, refl, sym, ap, ◌∙◌, subst}
+-- What a bill, a demand, a receipt or a shipment says of one table, it says of each that has the same pairs, lanes and periods.
+use Rattle.std.proofs.Common.{◌≡◌, ℕ, Bool, true, false, not, List, length, nat_lt, Some, Result, Ok, Err, refl, sym, ap, ◌∙◌, subst}
 use Rattle.csv.specs.Records.{AllText}
-use Rattle.mrp_qty.specs.declared.limits.TheConstants.{MOST_OF_A_KIND}
-use Rattle.mrp_master_data.specs.Growing.{with_demand, with_receipt, with_ship}
+use Rattle.mrp_qty.specs.declared.limits.TheConstants.{MOST_BILLS, MOST_OF_A_KIND}
+use Rattle.mrp_master_data.specs.Growing.{with_bill, with_demand, with_receipt, with_ship}
 use Rattle.mrp_master_data.specs.Table.{horizon, Table}
 use Rattle.mrp_master_data.specs.declared.numbers.PairNo.{PairNo}
+use Rattle.mrp_master_data.specs.declared.rows.BillRow.{BillRow}
 use Rattle.mrp_master_data.specs.declared.rows.DemandRow.{DemandRow}
 use Rattle.mrp_master_data.specs.declared.rows.ReceiptRow.{ReceiptRow}
 use Rattle.mrp_master_data.specs.declared.rows.ShipRow.{ShipRow}
-use Rattle.mrp_validation.specs.Grammar.{◌>>=◌, amount_row, check, demand_made, demand_of, known_lane, known_pair, LaneTerms, may_follow, receipt_made}
-use Rattle.mrp_validation.specs.Grammar.{receipt_of, row_kind, ship_of, ship_terms, TellsFault}
+use Rattle.mrp_validation.specs.Grammar.{◌>>=◌, amount_row, check, demand_made, demand_of, has_bill, known_lane, known_pair, LaneTerms, may_follow}
+use Rattle.mrp_validation.specs.Grammar.{receipt_made, receipt_of, row_kind, ship_of, ship_terms, TellsFault}
 use Rattle.mrp_validation.specs.Reading.{kind_of_row, row_after, row_of_kind}
 use Rattle.mrp_validation.specs.declared.fault.TableFaultKind.{TableFaultKind}
 use Rattle.mrp_validation.specs.declared.fault.TableFaultKind.TheVariants as fault
@@ -21,6 +22,7 @@ use Rattle.mrp_tables.specs.Bulk.{bulk_after, IsBulk, KeepsNames, kind_of_bulk, 
 use Rattle.mrp_tables.specs.Amounts.{known_amount}
 use Rattle.mrp_validation.proofs.KeepingSteps.{after, after_check, same_Ok}
 use Rattle.mrp_tables.proofs.AmountFacts.{amount_made}
+use Rattle.mrp_tables.proofs.BillFacts.{bill_says}
 use Rattle.mrp_tables.proofs.Starting.{tells_fault, text_kind}
 
 -- ---- a step of taking
@@ -53,20 +55,28 @@ pub keeps_itself : (N : Table) → KeepsNames N N
 keeps_itself N = refl
 
 pub keeps_on : (N M P : Table) → KeepsNames N M → KeepsNames M P → KeepsNames N P
-keeps_on N M P first then = then ∙ ap (λ (T : Table). record T { demands = P.demands; receipts = P.receipts; ships = P.ships }) first
+keeps_on N M P first then = then ∙ ap (λ (T : Table). record T { bills = P.bills; demands = P.demands; receipts = P.receipts; ships = P.ships }) first
 
-is_bulk-of : (N : Table) (ds : List DemandRow) (rs : List ReceiptRow) (ss : List ShipRow) (b : BulkRow) → IsBulk N b
-    → IsBulk (record N { demands = ds; receipts = rs; ships = ss }) b
-is_bulk-of N ds rs ss (bulk.Demand d) is = record { pair = is.pair; period = is.period; some = is.some; quantity = is.quantity }
-is_bulk-of N ds rs ss (bulk.Receipt r) is = record { pair = is.pair; period = is.period; some = is.some; quantity = is.quantity }
-is_bulk-of N ds rs ss (bulk.Ship s place) is =
+is_bulk-of : (N : Table) (bs : List BillRow) (ds : List DemandRow) (rs : List ReceiptRow) (ss : List ShipRow) (b : BulkRow) → IsBulk N b
+    → IsBulk (record N { bills = bs; demands = ds; receipts = rs; ships = ss }) b
+is_bulk-of N bs ds rs ss (bulk.Bill b) is = record { parent = is.parent; component = is.component; some = is.some; few = is.few }
+is_bulk-of N bs ds rs ss (bulk.Demand d) is = record { pair = is.pair; period = is.period; some = is.some; quantity = is.quantity }
+is_bulk-of N bs ds rs ss (bulk.Receipt r) is = record { pair = is.pair; period = is.period; some = is.some; quantity = is.quantity }
+is_bulk-of N bs ds rs ss (bulk.Ship s place) is =
     (record { from = is.0.from; pair = is.0.pair; period = is.0.period; some = is.0.some; quantity = is.0.quantity }, is.1)
 
 pub is_bulk-kept : (N M : Table) (b : BulkRow) → KeepsNames N M → IsBulk N b → IsBulk M b
-is_bulk-kept N M b kept is = subst (λ (T : Table). IsBulk T b) (sym kept) (is_bulk-of N M.demands M.receipts M.ships b is)
+is_bulk-kept N M b kept is = subst (λ (T : Table). IsBulk T b) (sym kept) (is_bulk-of N M.bills M.demands M.receipts M.ships b is)
 
 -- what is taken keeps them
 with-kept : (M P : Table) (b : BulkRow) → with_bulk M b ≡ Ok P → KeepsNames M P
+with-kept M P (bulk.Bill b) made =
+    by (not (has_bill M (Some b.parent.0) (Some b.component.0))) (nat_lt (length M.bills) MOST_BILLS) made
+  where
+    by : (first room : Bool) → (check first fault.Repeated >>= λ u. check room fault.TooMany >>= λ u. Ok (with_bill M b)) ≡ Ok P → KeepsNames M P
+    by true true made = subst (KeepsNames M) (same_Ok _ P made) refl
+    by true false made = absurd (cc)
+    by false room made = absurd (cc)
 with-kept M P (bulk.Demand d) made = by (nat_lt (length M.demands) MOST_OF_A_KIND) made
   where
     by : (room : Bool) → (check room fault.TooMany >>= λ u. Ok (with_demand M d)) ≡ Ok P → KeepsNames M P
@@ -92,15 +102,15 @@ taken-kept s t b made =
 
 -- ---- so a row says the same of both
 
-amount-same : (N : Table) (ds : List DemandRow) (rs : List ReceiptRow) (ss : List ShipRow) (row : List (List ℕ))
-    → known_amount (record N { demands = ds; receipts = rs; ships = ss }) row ≡ known_amount N row
+amount-same : (N : Table) (bs : List BillRow) (ds : List DemandRow) (rs : List ReceiptRow) (ss : List ShipRow) (row : List (List ℕ))
+    → known_amount (record N { bills = bs; demands = ds; receipts = rs; ships = ss }) row ≡ known_amount N row
 unfolding known_amount known_pair
-amount-same N ds rs ss row = refl
+amount-same N bs ds rs ss row = refl
 
-lane-same : (N : Table) (ds : List DemandRow) (rs : List ReceiptRow) (ss : List ShipRow) (t : LaneTerms)
-    → known_lane (record N { demands = ds; receipts = rs; ships = ss }) t ≡ known_lane N t
+lane-same : (N : Table) (bs : List BillRow) (ds : List DemandRow) (rs : List ReceiptRow) (ss : List ShipRow) (t : LaneTerms)
+    → known_lane (record N { bills = bs; demands = ds; receipts = rs; ships = ss }) t ≡ known_lane N t
 unfolding known_lane
-lane-same N ds rs ss t = refl
+lane-same N bs ds rs ss t = refl
 
 -- what is made of an amount where there may be no room
 amount-room : {A : Type 0} (N M : Table) (row : List (List ℕ)) (room more : Bool) (made : PairNo → ℕ → ℕ → A) (x : A) → KeepsNames N M
@@ -108,26 +118,27 @@ amount-room : {A : Type 0} (N M : Table) (row : List (List ℕ)) (room more : Bo
 amount-room {A} N M row room more made x kept is =
     let said = after (known_amount N row) _ x (sym (amount_made N row room made) ∙ is) in
     let last = after_check room fault.TooMany _ x said.2 in
-    let same = ap (λ (T : Table). known_amount T row) kept ∙ amount-same N M.demands M.receipts M.ships row ∙ said.1 in
+    let same = ap (λ (T : Table). known_amount T row) kept ∙ amount-same N M.bills M.demands M.receipts M.ships row ∙ said.1 in
     amount_made M row more made
     ∙ ap (λ (r : Result (PairNo × ℕ × ℕ) TableFaultKind). let s : Result A TableFaultKind = r >>= λ a. check more fault.TooMany >>= λ u. Ok
     (made a.0 a.1 a.2) in s) same
     ∙ ap (λ (y : A). let s : Result A TableFaultKind = check more fault.TooMany >>= λ u. Ok y in s) (same_Ok _ x last.1)
 
-ship-room-of : (N : Table) (ds : List DemandRow) (rs : List ReceiptRow) (ss : List ShipRow) (row : List (List ℕ)) (x : ShipRow) → ship_of N row ≡ Ok x
-    → ship_of (record N { demands = ds; receipts = rs; ships = ss }) row ≡ (check (nat_lt (length ss) MOST_OF_A_KIND) fault.TooMany >>= λ u. Ok x)
+ship-room-of : (N : Table) (bs : List BillRow) (ds : List DemandRow) (rs : List ReceiptRow) (ss : List ShipRow) (row : List (List ℕ)) (x : ShipRow)
+    → ship_of N row ≡ Ok x
+    → ship_of (record N { bills = bs; demands = ds; receipts = rs; ships = ss }) row ≡ (check (nat_lt (length ss) MOST_OF_A_KIND) fault.TooMany >>= λ u. Ok x)
 unfolding ship_of
-ship-room-of N ds rs ss row x is =
+ship-room-of N bs ds rs ss row x is =
     let terms = after (ship_terms row (horizon N)) _ x is in
     let lane = after (known_lane N terms.0.0) _ x terms.2 in
     let last = after_check (nat_lt (length N.ships) MOST_OF_A_KIND) fault.TooMany _ x lane.2 in
-    rw (terms.1, lane-same N ds rs ss terms.0.0, lane.1)
+    rw (terms.1, lane-same N bs ds rs ss terms.0.0, lane.1)
     (ap (λ (y : ShipRow). let s : Result ShipRow TableFaultKind = check (nat_lt (length ss) MOST_OF_A_KIND) fault.TooMany >>= λ u. Ok y in s)
     (same_Ok _ x last.1))
 
 ship-room : (N M : Table) (row : List (List ℕ)) (x : ShipRow) → KeepsNames N M → ship_of N row ≡ Ok x
     → ship_of M row ≡ (check (nat_lt (length M.ships) MOST_OF_A_KIND) fault.TooMany >>= λ u. Ok x)
-ship-room N M row x kept is = ap (λ (T : Table). ship_of T row) kept ∙ ship-room-of N M.demands M.receipts M.ships row x is
+ship-room N M row x kept is = ap (λ (T : Table). ship_of T row) kept ∙ ship-room-of N M.bills M.demands M.receipts M.ships row x is
 
 -- a row of a kind, after others
 after-kind : (s : Table × Kind) (row : List (List ℕ)) (k : Kind) (made : Result Table TableFaultKind) → kind_of_row row ≡ Ok k → row_of_kind k s.0 row ≡ made
@@ -144,6 +155,8 @@ then_with false x with = refl
 
 pub says-after : (N : Table) (s : Table × Kind) (row : List (List ℕ)) (b : BulkRow) → KeepsNames N s.0 → Says N row b → row_after s row ≡ bulk_after s b
 unfolding bulk_after row_of_kind demand_of receipt_of
+says-after N s row (bulk.Bill b) kept says =
+    after-kind s row kind.Bill (with_bulk s.0 (bulk.Bill b)) says.0 (bill_says N s.0 row b kept says.1)
 says-after N s row (bulk.Demand d) kept says =
     let M = s.0 in
     after-kind s row kind.Demand (with_bulk M (bulk.Demand d)) says.0

@@ -4,6 +4,7 @@ pub mod AmountFacts
 pub mod Apart
 pub mod Arrivals
 pub mod Asked
+pub mod BillFacts
 pub mod BlockFacts
 pub mod BulkFacts
 pub mod DayFacts

@@ -34,7 +34,7 @@ pub record IsPlain (text : List ℕ) : Type 0 where
 abbrev pub rows_in : List ℕ → List (List (List ℕ))
 rows_in text = records default_config text
 
--- each row of the piece is a demand, a receipt or a shipment of the table, and says what was noted
+-- each row of the piece is a bill, a demand, a receipt or a shipment of the table, and says what was noted
 pub record IsGood (N : Table) (p : Piece) : Type 0 where
   pub plain : IsPlain p.text.items
   pub says : SayAll N (rows_in p.text.items) p.said.items

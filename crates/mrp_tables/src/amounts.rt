@@ -4,9 +4,18 @@
 use crate::draft::{BillKey, Draft};
 use crate::spelled::{spelled_amount, spelled_bill};
 use csv::StringRecord;
-use mrp_master_data::{BillRow, DemandRow, MOST_BILLS, MOST_OF_A_KIND, PairNo, ReceiptRow, Supply};
+use mrp_master_data::{BillRow, DemandRow, MOST_OF_A_KIND, PairNo, ReceiptRow, Supply};
 use mrp_qty::Qty;
 use mrp_validation::{TableFaultKind, field};
+
+/// The pairs that a bill row names, if they are there, and so many pieces of its component that go into one of its
+/// parent.
+#[derive(Clone, Copy)]
+struct NamedBill {
+    parent: Option<PairNo>,
+    component: Option<PairNo>,
+    per: u64,
+}
 
 /// What a demand or a receipt row says of a pair that is there: a period, counted from 0, and so many pieces.
 #[derive(Clone, Copy)]
@@ -17,86 +26,85 @@ struct KnownAmount {
 }
 
 impl Draft {
-    ghost use Rattle.std.specs.Prelude.{◌≡◌, ◌≤◌, ◌<◌, length, option_map, Some, false, OnOk, IfOk};
+    ghost use Rattle.std.specs.Prelude.{◌≡◌, ◌≤◌, ◌<◌, length, option_map, OnOk, IfOk};
     ghost use Rattle.csv.specs.Records.{fields_of};
-    ghost use Rattle.mrp_qty.specs.declared.limits.TheConstants.{MOST_BILLS, MOST_IN_ROW, MOST_OF_A_KIND};
+    ghost use Rattle.mrp_qty.specs.declared.limits.TheConstants.{MOST_IN_ROW, MOST_OF_A_KIND};
     ghost use Rattle.mrp_qty.specs.declared.limits.TheConstants.{MOST_PER};
-    ghost use Rattle.mrp_validation.specs.Grammar.{bill_fits, bill_of, bill_row, demand_of, demand_row, has_bill};
-    ghost use Rattle.mrp_validation.specs.Grammar.{is_made, receipt_of, receipt_row, seen, TellsMade};
-    ghost use Rattle.mrp_tables.specs.Amounts.{known_amount};
+    ghost use Rattle.mrp_validation.specs.Grammar.{bill_fits, bill_of, bill_row, bill_terms, demand_of, demand_row};
+    ghost use Rattle.mrp_validation.specs.Grammar.{has_bill, is_made, receipt_of, receipt_row, seen, TellsMade};
+    ghost use Rattle.mrp_tables.specs.Amounts.{known_amount, without_bills};
     ghost use Rattle.mrp_tables.specs.Spelled.{terms_of_bill};
     ghost use Rattle.mrp_master_data.specs.Table.{IsBillRow, IsDemandRow, IsReceiptRow};
     ghost use Rattle.mrp_tables.specs.Keys.{Knows};
     ghost use Rattle.mrp_tables.specs.Lists.{AddsRow, FindsParts, IsDraft};
     ghost use Rattle.mrp_master_data.specs.Table.{IsRead, horizon};
 
-    /// Adds a bill row.
+    /// Adds a bill row. One that is repeated is told before what its pairs are.
     pub(crate) fn add_bill(&mut self, row: &StringRecord) -> Result<(), TableFaultKind>
         requires draft { IsDraft self.old }
         ensures exact { TellsMade result (bill_row self.old.lists (fields_of row.now)) self.new.lists }
         ensures adds { OnOk result (AddsRow self.old self.new) }
     {
-        let bill = self.bill_of(row)?;
-        let key = BillKey {
-            parent: bill.parent,
-            component: bill.component,
-        };
-        if !self.bill_keys.insert(key)? {
-            unreachable!();
+        let named = self.named_bill(row)?;
+        match self.bill_fits(row, named) {
+            Ok(bill) => self.take_bill(bill),
+            Err(fault) => {
+                if self.has_bill(named.parent, named.component) {
+                    return Err(TableFaultKind::Repeated);
+                }
+                Err(fault)
+            }
         }
-        self.lists.add_bill(bill)?;
-        Ok(())
     }
 
-    /// What a bill row says.
-    fn bill_of(&self, row: &StringRecord) -> Result<BillRow, TableFaultKind>
+    /// What a bill row says, whatever bill rows there are.
+    pub(crate) fn bill_of(&self, row: &StringRecord) -> Result<BillRow, TableFaultKind>
         requires draft { IsDraft self.now }
-        ensures exact { result ≡ bill_of self.now.lists (fields_of row.now) }
+        ensures exact { result ≡ bill_of (without_bills self.now.lists) (fields_of row.now) }
         ensures row { IfOk result (IsBillRow self.now.lists) }
-        ensures fresh { IfOk result (λ b. has_bill self.now.lists (Some b.parent.0) (Some b.component.0) ≡ false) }
-        ensures room { OnOk result (length self.now.lists.bills < MOST_BILLS) }
+    {
+        let named = self.named_bill(row)?;
+        self.bill_fits(row, named)
+    }
+
+    /// The pairs that a bill row names, and its number.
+    fn named_bill(&self, row: &StringRecord) -> Result<NamedBill, TableFaultKind>
+        requires draft { IsDraft self.now }
+        ensures exact { seen (λ b. terms_of_bill (fields_of row.now) b.per) result ≡ bill_terms (fields_of row.now) }
+        ensures found { IfOk result (λ b. FindsParts self.now.lists (fields_of row.now) b.parent b.component) }
+        ensures per { IfOk result (λ b. (1 ≤ b.per) × (b.per ≤ MOST_PER)) }
     {
         let parent = self.find_pair(field(row, 1), field(row, 2));
         let component = self.find_pair(field(row, 1), field(row, 3));
         let per = spelled_bill(row, parent.is_some() && component.is_some())?;
-        self.bill_fits(row, parent, component, per)
+        Ok(NamedBill {
+            parent,
+            component,
+            per,
+        })
     }
 
-    /// The bill row of these pairs, if they are there, where it fits the rows before it.
-    #[tactic(auto, unfolding(mrp_validation::specs::Grammar::bill_fits))]
-    fn bill_fits(
-        &self,
-        row: &StringRecord,
-        parent: Option<PairNo>,
-        component: Option<PairNo>,
-        per: u64,
-    ) -> Result<BillRow, TableFaultKind>
+    /// The bill row of these pairs, where they are there and the parent is made, whatever bill rows there are.
+    fn bill_fits(&self, row: &StringRecord, named: NamedBill) -> Result<BillRow, TableFaultKind>
         requires draft { IsDraft self.now }
-        requires found { FindsParts self.now.lists (fields_of row.now) parent component }
-        requires per { (1 ≤ per) × (per ≤ MOST_PER) }
-        ensures exact { result ≡ bill_fits self.now.lists (terms_of_bill (fields_of row.now) per) }
+        requires found { FindsParts self.now.lists (fields_of row.now) named.parent named.component }
+        requires per { (1 ≤ named.per) × (named.per ≤ MOST_PER) }
+        ensures exact { result
+            ≡ bill_fits (without_bills self.now.lists) (terms_of_bill (fields_of row.now) named.per) }
         ensures row { IfOk result (IsBillRow self.now.lists) }
-        ensures fresh { IfOk result (λ b. has_bill self.now.lists (Some b.parent.0) (Some b.component.0) ≡ false) }
-        ensures room { OnOk result (length self.now.lists.bills < MOST_BILLS) }
     {
-        if self.has_bill(parent, component) {
-            return Err(TableFaultKind::Repeated);
-        }
-        if !self.has_plant_of(parent, field(row, 1)) {
+        if !self.has_plant_of(named.parent, field(row, 1)) {
             return Err(TableFaultKind::UnknownPlant);
         }
-        let parent = parent.ok_or(TableFaultKind::UnknownPair)?;
-        let component = component.ok_or(TableFaultKind::UnknownPair)?;
+        let parent = named.parent.ok_or(TableFaultKind::UnknownPair)?;
+        let component = named.component.ok_or(TableFaultKind::UnknownPair)?;
         if !self.is_made(parent) {
             return Err(TableFaultKind::NotMade);
-        }
-        if self.lists.bills().len() >= MOST_BILLS {
-            return Err(TableFaultKind::TooMany);
         }
         Ok(BillRow {
             parent,
             component,
-            per,
+            per: named.per,
         })
     }
 

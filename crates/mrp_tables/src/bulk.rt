@@ -1,18 +1,20 @@
-//! Demands, receipts and shipments: most rows of a table, which look at pairs and lanes alone and not at one another.
-//! So they may be read in any order, and what they say is taken into the table in theirs.
+//! Bills, demands, receipts and shipments: most rows of a table. What they say is of pairs and lanes alone and not of
+//! one another, so they may be read in any order. They are taken into the table in theirs, where a bill row may be a
+//! second one of its pairs.
 
 ghost use Rattle.std.specs.Prelude.{◌≡◌};
 ghost use Rattle.mrp_tables.specs.Bulk.{kind_of_bulk};
 
-use crate::draft::Draft;
+use crate::draft::{BillKey, Draft};
 use crate::spelled::row_kind;
 use csv::StringRecord;
-use mrp_master_data::{DemandRow, MOST_OF_A_KIND, ReceiptRow, ShipRow};
+use mrp_master_data::{BillRow, DemandRow, MOST_BILLS, MOST_OF_A_KIND, ReceiptRow, ShipRow};
 use mrp_validation::{Kind, TableFaultKind, may_follow};
 
-/// What a demand, a receipt or a shipment says; of a shipment with the place of its source.
+/// What a bill, a demand, a receipt or a shipment says; of a shipment with the place of its source.
 #[derive(Clone, Copy)]
 pub(crate) enum BulkRow {
+    Bill(BillRow),
     Demand(DemandRow),
     Receipt(ReceiptRow),
     Ship(ShipRow, usize),
@@ -24,6 +26,7 @@ impl BulkRow {
         ensures { result ≡ kind_of_bulk self.now }
     {
         match self {
+            BulkRow::Bill(_) => Kind::Bill,
             BulkRow::Demand(_) => Kind::Demand,
             BulkRow::Receipt(_) => Kind::Receipt,
             BulkRow::Ship(_, _) => Kind::Ship,
@@ -35,14 +38,14 @@ impl Draft {
     ghost use Rattle.std.specs.Prelude.{◌≡◌, ◌+◌, ◌<◌, false, Some, IfOk, OnOk};
     ghost use Rattle.csv.specs.Records.{AllText, fields_of};
     ghost use Rattle.mrp_qty.specs.declared.limits.TheConstants.{MAX_TURNS};
-    ghost use Rattle.mrp_master_data.specs.Table.{IsDemandRow, IsReceiptRow, IsShipRow};
+    ghost use Rattle.mrp_master_data.specs.Table.{IsBillRow, IsDemandRow, IsReceiptRow, IsShipRow};
     ghost use Rattle.mrp_validation.specs.Grammar.{TellsMade};
     ghost use Rattle.mrp_tables.specs.Bulk.{IsBulk, Says, TellsAfter, bulk_after, with_bulk};
     ghost use Rattle.mrp_tables.specs.Drafts.{IsDraftKept, draft_state};
     ghost use Rattle.mrp_tables.specs.Lists.{AddsRow, IsDraft, source_at};
     ghost use Rattle.mrp_tables.specs.declared.bulk.BulkRow.TheVariants as bulk;
 
-    /// What a row says, where it is a demand, a receipt or a shipment that has no fault of its own.
+    /// What a row says, where it is a bill, a demand, a receipt or a shipment that has no fault of its own.
     pub(crate) fn bulk_of(&self, row: &StringRecord) -> Result<BulkRow, TableFaultKind>
         requires draft { IsDraft self.now }
         requires text { AllText (fields_of row.now) }
@@ -50,6 +53,7 @@ impl Draft {
         ensures is { IfOk result (IsBulk self.now.lists) }
     {
         match row_kind(row)? {
+            Kind::Bill => Ok(BulkRow::Bill(self.bill_of(row)?)),
             Kind::Demand => Ok(BulkRow::Demand(self.demand_of(row)?)),
             Kind::Receipt => Ok(BulkRow::Receipt(self.receipt_of(row)?)),
             Kind::Ship => {
@@ -88,10 +92,32 @@ impl Draft {
         ensures adds { OnOk result (AddsRow self.old self.new) }
     {
         match row {
+            BulkRow::Bill(bill) => self.take_bill(bill),
             BulkRow::Demand(demand) => self.take_demand(demand),
             BulkRow::Receipt(receipt) => self.take_receipt(receipt),
             BulkRow::Ship(ship, place) => self.take_ship(ship, place),
         }
+    }
+
+    /// Takes a bill row, where it is the first of its pairs.
+    pub(crate) fn take_bill(&mut self, bill: BillRow) -> Result<(), TableFaultKind>
+        requires draft { IsDraft self.old }
+        requires row { IsBillRow self.old.lists bill }
+        ensures exact { TellsMade result (with_bulk self.old.lists (bulk.Bill bill)) self.new.lists }
+        ensures adds { OnOk result (AddsRow self.old self.new) }
+    {
+        let key = BillKey {
+            parent: bill.parent,
+            component: bill.component,
+        };
+        if !self.bill_keys.insert(key)? {
+            return Err(TableFaultKind::Repeated);
+        }
+        if self.lists.bills().len() >= MOST_BILLS {
+            return Err(TableFaultKind::TooMany);
+        }
+        self.lists.add_bill(bill)?;
+        Ok(())
     }
 
     /// Takes a demand.

@@ -1,5 +1,5 @@
-//! A piece of a table's text: what its rows say, read by a csv reader of its own, where each of them is a demand, a
-//! receipt or a shipment without a fault. What isn't so plain is read again by the one loop.
+//! A piece of a table's text: what its rows say, read by a csv reader of its own, where each of them is a bill, a
+//! demand, a receipt or a shipment without a fault. What isn't so plain is read again by the one loop.
 
 ghost use Rattle.std.specs.Prelude.{◌≡◌, ◌≤◌, [], false, true, IfOk, OnOk, length, option_map};
 ghost use Rattle.csv.specs.Reading.{strip_bom};
@@ -84,7 +84,7 @@ impl Piece {
         Ok(used == size)
     }
 
-    /// Reads its rows beside a table, where they are plain demands, receipts and shipments.
+    /// Reads its rows beside a table, where they are plain bills, demands, receipts and shipments.
     pub(crate) fn read(&mut self, alloc: Global, draft: &Draft)
         requires draft { IsDraft draft.now }
         ensures text { self.new.text ≡ self.old.text }

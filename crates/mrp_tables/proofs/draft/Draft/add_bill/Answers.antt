@@ -1,32 +1,29 @@
-use borrow.Author.Rules.{rules}
-use Rattle.std.proofs.Common.{◌∙◌, ap, sym, not, true≢false, arith}
-use Rattle.std.proofs.lemmas.Grind.{common_steps}
-use Rattle.mrp_tables.proofs.Keys.{any_bill}
+use Rattle.std.proofs.Common.{true, false, sym}
+use Rattle.csv.specs.Records.{fields_of}
+use Rattle.mrp_tables.specs.Spelled.{terms_of_bill}
+use Rattle.mrp_tables.proofs.BillFacts.{has_found, row_refused, row_repeated, row_says}
+use Rattle.mrp_tables.proofs.Starting.{told}
 use Rattle.mrp_tables.proofs.draft.Draft.add_bill.Goals as goal
 
-pub unreachable-requires : goal.unreachable-requires
-unreachable-requires c =
-    let b = c.in_ok-bill.bill in
-    let fresh = any_bill b.parent b.component _ _ c.requires.draft.holds.bill_keys ∙ c.in_ok-bill.ensures.fresh in
-    absurd (true≢false (ap not (sym fresh) ∙ sym c.in_ok-insert.ensures.added ∙ c.if-not-branch.true))
+pub returns-in-Ok-clause-exact : goal.returns-in-Ok-clause-exact
+returns-in-Ok-clause-exact c =
+    let row = fields_of c.args.row.now in
+    let terms = terms_of_bill row c.in_ok-named.named.per in
+    rw (row_says c.args.self.now.lists row terms (sym c.in_ok-named.ensures.exact) c.in-Ok.bill (sym c.in-Ok.ensures.exact))
+    c.take_bill.ensures.exact
 
-pub returns-in_err-bill-clause-exact : goal.returns-in_err-bill-clause-exact
-returns-in_err-bill-clause-exact c = search rules
+pub returns-then-has_bill-clause-exact : goal.returns-then-has_bill-clause-exact
+returns-then-has_bill-clause-exact c =
+    let N = c.args.self.now.lists in
+    let row = fields_of c.args.row.now in
+    let named = c.in_ok-named.named in
+    row_repeated N row (terms_of_bill row named.per) (sym c.in_ok-named.ensures.exact)
+    (has_found N row named.parent named.component named.per true c.in_ok-named.ensures.found (sym c.if-has_bill.ensures.exact))
 
-pub returns-in_err-bill-clause-adds : goal.returns-in_err-bill-clause-adds
-returns-in_err-bill-clause-adds c = search rules
-
-pub returns-in_err-insert-clause-exact : goal.returns-in_err-insert-clause-exact
-returns-in_err-insert-clause-exact c = search rules
-
-pub returns-in_err-insert-clause-adds : goal.returns-in_err-insert-clause-adds
-returns-in_err-insert-clause-adds c = search rules
-
-pub returns-in_err-add_bill-clause-exact : goal.returns-in_err-add_bill-clause-exact
-returns-in_err-add_bill-clause-exact c = search rules
-
-pub returns-in_err-add_bill-clause-adds : goal.returns-in_err-add_bill-clause-adds
-returns-in_err-add_bill-clause-adds c = search rules
-
-pub returns-clause-adds : goal.returns-clause-adds
-returns-clause-adds c = grind (arith, common_steps)
+pub returns-else-has_bill-clause-exact : goal.returns-else-has_bill-clause-exact
+returns-else-has_bill-clause-exact c =
+    let N = c.args.self.now.lists in
+    let row = fields_of c.args.row.now in
+    let named = c.in_ok-named.named in
+    told c.in-Err.fault _ (row_refused N row (terms_of_bill row named.per) (sym c.in_ok-named.ensures.exact) c.in-Err.fault
+    (has_found N row named.parent named.component named.per false c.in_ok-named.ensures.found (sym c.if-has_bill.ensures.exact)) (sym c.in-Err.ensures.exact))

@@ -20,3 +20,9 @@ returns-in_ok-ship-in-Ship-clause-says c = (
   is_kind (fields_of c.args.row.now) _ _ c.requires.text (sym c.row_kind.ensures ∙ c.in_ok-row_kind.was) c.in-Ship.is,
   sym c.in_ok-ship-in-Ship.ensures.exact,
 )
+
+pub returns-in_ok-bill_of-in-Bill-clause-says : goal.returns-in_ok-bill_of-in-Bill-clause-says
+returns-in_ok-bill_of-in-Bill-clause-says c = (
+  is_kind (fields_of c.args.row.now) _ _ c.requires.text (sym c.row_kind.ensures ∙ c.in_ok-row_kind.was) c.in-Bill.is,
+  sym c.in_ok-bill_of-in-Bill.ensures.exact,
+)

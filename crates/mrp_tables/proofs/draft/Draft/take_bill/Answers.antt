@@ -1,0 +1,34 @@
+use Rattle.std.proofs.Common.{◌<◌, ◌≤◌, ◌∙◌, true, false, List, length, Ok, ap, sym, subst}
+use Rattle.mrp_qty.specs.declared.limits.TheConstants.{MOST_BILLS}
+use Rattle.mrp_master_data.specs.Table.{Table}
+use Rattle.mrp_master_data.specs.declared.rows.BillRow.{BillRow}
+use Rattle.mrp_tables.proofs.AmountFacts.{has_none, has_some}
+use Rattle.mrp_tables.proofs.BillFacts.{is_first, is_second}
+use Rattle.mrp_tables.proofs.Keys.{any_bill}
+use Rattle.mrp_tables.proofs.Known.{turned}
+use Rattle.mrp_tables.proofs.draft.Draft.take_bill.Goals as goal
+
+pub returns-then-not-branch-clause-exact : goal.returns-then-not-branch-clause-exact
+returns-then-not-branch-clause-exact c =
+    let b = c.args.bill in
+    is_second c.args.self.now.lists b
+    (sym (any_bill b.parent b.component _ _ c.requires.draft.holds.bill_keys) ∙ turned _ _ false c.in_ok-insert.ensures.added c.if-not-branch.true)
+
+pub returns-then-bills-ge-MOST_BILLS-clause-exact : goal.returns-then-bills-ge-MOST_BILLS-clause-exact
+returns-then-bills-ge-MOST_BILLS-clause-exact c =
+    let N = c.args.self.now.lists in
+    let b = c.args.bill in
+    let many = subst (λ (xs : List BillRow). MOST_BILLS ≤ length xs) c.bills.ensures.value c.if-bills-ge-MOST_BILLS.true in
+    is_first N b false
+    (sym (any_bill b.parent b.component _ _ c.requires.draft.holds.bill_keys) ∙ turned _ _ true c.in_ok-insert.ensures.added c.if-not-branch.false)
+    (has_none (length N.bills) MOST_BILLS many)
+
+pub returns-clause-exact : goal.returns-clause-exact
+returns-clause-exact c =
+    let N = c.args.self.now.lists in
+    let b = c.args.bill in
+    let room = subst (λ (xs : List BillRow). length xs < MOST_BILLS) c.bills.ensures.value c.if-bills-ge-MOST_BILLS.false in
+    is_first N b true
+    (sym (any_bill b.parent b.component _ _ c.requires.draft.holds.bill_keys) ∙ turned _ _ true c.in_ok-insert.ensures.added c.if-not-branch.false)
+    (has_some (length N.bills) MOST_BILLS room)
+    ∙ ap (λ (M : Table). Ok M) (sym c.in_ok-add_bill.ensures.table)
