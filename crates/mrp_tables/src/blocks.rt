@@ -1,6 +1,6 @@
 //! A table read by blocks, which are cut into pieces and read side by side.
 //!
-//! The first rows, up to the bills, are read on the calling thread, a piece at a time. Behind them threads read a piece
+//! The rows up to the last pair are read on the calling thread, a piece at a time. Behind them threads read a piece
 //! each, beside the table as it stands, and the calling thread takes what they noted in order. From the first piece
 //! that isn't good the one loop reads the rest, so faults, their rows and what waits for the last row are its own.
 
@@ -223,7 +223,7 @@ fn read_piece<R: Read>(
     }
 }
 
-/// Reads a piece, or behind the bills a block, and says whether all of it was plain.
+/// Reads a piece, or behind the pairs a block, and says whether all of it was plain.
 fn read_some<T: Threads + Sync, R: Read>(
     rt: &T,
     alloc: Global,
@@ -240,7 +240,7 @@ fn read_some<T: Threads + Sync, R: Read>(
     ensures draft { OnOk result (IsDraft draft.new) }
     ensures kept { OnOk result (IsDraftKept draft.new) }
 {
-    if may_follow(Kind::Bill, draft.last) {
+    if may_follow(Kind::Pair, draft.last) {
         read_piece(alloc, source, &mut pieces[0], size, draft)
     } else {
         read_block(rt, alloc, source, pieces, size, draft)

@@ -36,9 +36,9 @@ const PARTS: usize = 256;
 const MOST_PIECES: usize = 8;
 
 /// Reads a table as [`read_tables_as`](crate::read_tables_as) does, and tells no count of its steps. Where there are
-/// several processors, and text for more than a block, threads read the rows of demands, receipts and shipments side
-/// by side, as many as there are processors and at most eight; where a thread can't be started, the calling one reads
-/// its piece. No clause speaks of time or memory.
+/// several processors, and text for more than a block, threads read the rows of bills, demands, receipts and shipments
+/// side by side, as many as there are processors and at most eight; where a thread can't be started, the calling one
+/// reads its piece. No clause speaks of time or memory.
 ///
 /// # Errors
 ///
