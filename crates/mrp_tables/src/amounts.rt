@@ -39,7 +39,7 @@ impl Draft {
     ghost use Rattle.mrp_tables.specs.Lists.{AddsRow, FindsParts, IsDraft};
     ghost use Rattle.mrp_master_data.specs.Table.{IsRead, horizon};
 
-    /// Adds a bill row. One that is repeated is told before what its pairs are.
+    /// Adds a bill row. That it is a second one of its pairs is told before what those lack.
     pub(crate) fn add_bill(&mut self, row: &StringRecord) -> Result<(), TableFaultKind>
         requires draft { IsDraft self.old }
         ensures exact { TellsMade result (bill_row self.old.lists (fields_of row.now)) self.new.lists }
@@ -67,7 +67,7 @@ impl Draft {
         self.bill_fits(row, named)
     }
 
-    /// The pairs that a bill row names, and its number.
+    /// The pairs that a bill row names, if they are there, and its number.
     fn named_bill(&self, row: &StringRecord) -> Result<NamedBill, TableFaultKind>
         requires draft { IsDraft self.now }
         ensures exact { seen (λ b. terms_of_bill (fields_of row.now) b.per) result ≡ bill_terms (fields_of row.now) }
