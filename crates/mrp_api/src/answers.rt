@@ -8,7 +8,7 @@ ghost use Rattle.mrp_api.specs.Refusals.{RefusesAs};
 ghost use Rattle.mrp_api.specs.Reports.{WritesRows, IsPlanRows};
 
 use crate::fault::{TextFault, status};
-use crate::text::{plan_as, report_text};
+use crate::text::{plan_as, report_by_threads, report_text};
 use mrp_commands::{Choice, Request};
 use mrp_run::{NoGate, Settings};
 use std::alloc::Global;
@@ -16,7 +16,8 @@ use std::io::{Read, Write};
 use std::sync::Wait;
 use std::thread::Threads;
 
-/// Does what is asked: reads a table as the request says and writes the report that its choice asks for.
+/// Does what is asked: reads a table as the request says and writes the report that its choice asks for. Threads read
+/// the table, but for a plan that is made on one thread alone.
 ///
 /// # Errors
 ///
@@ -58,7 +59,8 @@ pub fn answer<T: Threads + Wait + Sync, R: Read + Drop, W: Write>(
                 &NoGate,
             )
         }
-        _ => report_text(alloc, reader, writer, request),
+        Choice::Plan { single: true, .. } => report_text(alloc, reader, writer, request),
+        _ => report_by_threads(rt, alloc, reader, writer, request),
     }
 }
 

@@ -15,9 +15,10 @@ use crate::fault::{PairName, TextFault};
 use mrp_commands::Reading;
 use mrp_loops::{BoundFault, Levels, LoopFault, SizedNet, bound, check};
 use mrp_net::{Network, PairNo};
-use mrp_tables::read_tables_uncounted;
+use mrp_tables::{read_tables_by_threads, read_tables_uncounted};
 use std::alloc::{AllocError, Global};
 use std::io::Read;
+use std::thread::Threads;
 
 /// The network of the table, which is read as is asked.
 pub(crate) fn network_of<R: Read + Drop>(
@@ -30,6 +31,24 @@ pub(crate) fn network_of<R: Read + Drop>(
     ensures refusal { IfErr result (NetworkAnswers reading (R.remaining reader)) }
 {
     let tables = read_tables_uncounted(alloc, reading, reader)?;
+    let network = Network::of(alloc, tables)?;
+    // Every network is that of a table.
+    let _pairs = network.pairs();
+    Ok(network)
+}
+
+/// The network of the table, which threads read as is asked.
+pub(crate) fn network_by_threads<T: Threads + Sync, R: Read + Drop>(
+    rt: &T,
+    alloc: Global,
+    reading: Reading,
+    reader: R,
+) -> Result<Network, TextFault>
+    ensures rows { IfOk result (IsTableOf (R.remaining reader)) }
+    ensures whole { IfOk result (Suits reading) }
+    ensures refusal { IfErr result (NetworkAnswers reading (R.remaining reader)) }
+{
+    let tables = read_tables_by_threads(rt, alloc, reading, reader)?;
     let network = Network::of(alloc, tables)?;
     // Every network is that of a table.
     let _pairs = network.pairs();

@@ -4,7 +4,7 @@
 //! `refusal` what each fault says of the input, `untouched` after which faults nothing is written. The last clause
 //! of a run by threads, `gate`, is for those who give a gate of their own.
 //!
-//! `plan_as` and `report_text` alone hold a network. They let it go by `drop` and not at the end of a scope: what
+//! `plan_as`, `report_text` and `report_by_threads` alone hold a network. They let it go by `drop` and not at the end of a scope: what
 //! lets go each of its lists is then proved once.
 
 ghost use Rattle.std.specs.Prelude.{◌≡◌, ◌≢◌, ◌≤◌, IfErr};
@@ -23,7 +23,7 @@ ghost use Rattle.mrp_api.specs.Gates.{GateExplains};
 ghost use Rattle.mrp_commands.specs.declared.choice.TheConstants.{MOST_CAPACITY};
 
 use crate::fault::TextFault;
-use crate::network::network_of;
+use crate::network::{network_by_threads, network_of};
 use crate::run::write_run;
 use crate::writing::write_report;
 use mrp_commands::{Choice, Heading, MOST_CAPACITY, Reading, Request};
@@ -89,7 +89,7 @@ pub(crate) fn plan_as<T: Threads + Wait + Sync, R: Read + Drop, W: Write, G: Gat
     ensures gate { GateExplains G.turn_open G.turn_shut G.worker_shut settings.workers MOST_TURNS
         (OfTable (R.remaining reader)) result }
 {
-    let network = network_of(alloc, reading, reader)?;
+    let network = network_by_threads(rt, alloc, reading, reader)?;
     let written = write_run(rt, alloc, &network, writer, settings, gate);
     drop(network);
     written
@@ -411,4 +411,27 @@ pub fn report_text<R: Read + Drop, W: Write>(
     let written = write_report(alloc, &network, writer, request.choice);
     drop(network);
     written
+}
+
+/// Reads a table by threads and writes the report that a request asks for, as [`report_text`] does.
+pub(crate) fn report_by_threads<T: Threads + Sync, R: Read + Drop, W: Write>(
+    rt: &T,
+    alloc: Global,
+    reader: R,
+    writer: &mut W,
+    request: Request<'_>,
+) -> Result<(), TextFault>
+    requires alone { IsAlone request.choice }
+    ensures text { Writes (W.contents writer.old) (W.contents writer.new) result
+        (λ text. OfTable (R.remaining reader) (λ N. IsRequested request.entry N text)) }
+    ensures rows { WritesRows W.contents writer.old writer.new result
+        (λ rows. OfTable (R.remaining reader) (λ N. IsPlanRows N rows)) }
+    ensures refusal { IfErr result (RefusesAs request.entry.reading (R.remaining reader)
+        (question_of request.entry.choice)) }
+    ensures untouched { IfErr result (λ fault. IsBeforeReport request.entry.choice fault → writer.new ≡ writer.old) }
+{
+    let network = network_by_threads(rt, alloc, request.reading, reader)?;
+    let told = write_report(alloc, &network, writer, request.choice);
+    drop(network);
+    told
 }

@@ -159,7 +159,7 @@ refused_here a old e is = refused_there a a old old e is (goes_nowhere a (old.ro
 
 pub texts_more : (pieces : List Piece) (p : Piece) → texts_of (pieces ++ p ∷ []) ≡ texts_of pieces ++ p.text.items
 texts_more [] p = append-nil p.text.items
-texts_more (q ∷ pieces) p = ap (λ (t : List ℕ). q.text.items ++ t) (texts_more pieces p) ∙ sym (append_assoc q.text.items (texts_of pieces) p.text.items)
+texts_more (q ∷ pieces) p = ap (λ (t : List ℕ). q.text.items ++ t) (texts_more pieces p) ∙ sym (append_assoc (q.text.items) (texts_of pieces) (p.text.items))
 
 -- the next piece was filled
 pub texts_filled : (pieces : List Piece) (k : ℕ) (p : Piece) → k < length pieces
@@ -235,7 +235,7 @@ module _ (pieces : List Piece) (k : ℕ) (p : Piece) (within : k < length pieces
   next_read r tells tail =
       tells_then (Some (rows_in (texts_of pieces ++ tail))) (Some (rows_in ((p.text.items ++ texts_of (drop (k + 1) pieces)) ++ tail)))
       (Some (rows_in (texts_of (drop (k + 1) pieces) ++ tail))) old d new (goes_here tail) r
-      (tells_piece p.text.items (texts_of (drop (k + 1) pieces)) tail d new r plain tells)
+      (tells_piece (p.text.items) (texts_of (drop (k + 1) pieces)) tail d new r plain tells)
 
 -- ---- a block
 
@@ -272,7 +272,21 @@ block_fault (Some xs) (Some ys) texts pieces old new e filled same tells =
     let front : texts_of pieces ++ ys ≡ xs = ap (λ (t : List ℕ). t ++ ys) same ∙ sym filled in
     subst (λ (t : List ℕ). Faulty (Some (rows_in t)) old e) front (tells ys)
 
+-- what was taken of the bytes left was read in front of the others
+pub front_read : {A : Type 0} (before mid after : Option (List ℕ)) (text : List ℕ) (old new : Draft) (r : Result A TableFault) → Consumes before mid text
+    → TellsRead (rows_of_bytes (prepend_known text mid)) (rows_of_bytes after) old new r → TellsRead (rows_of_bytes before) (rows_of_bytes after) old new r
+front_read None mid after text old new (Ok x) taken tells = tt
+front_read None mid after text old new (Err e) taken tells = nothing e.kind
+front_read (Some xs) None after text old new r taken tells = absurd taken
+front_read {A} (Some xs) (Some ys) after text old new r taken tells =
+    subst (λ (t : List ℕ). TellsRead {A = A} (Some (rows_in t)) (rows_of_bytes after) old new r) (sym taken) tells
+
 -- ---- a piece that is read alone
+
+pub text_alone : (pieces : List Piece) (d : Piece) → length pieces ≡ 1 → texts_of pieces ≡ (get_or pieces 0 d).text.items
+text_alone [] d one = absurd (omega (arith, one))
+text_alone (q ∷ []) d one = append-nil q.text.items
+text_alone (q ∷ r ∷ pieces) d one = absurd (omega (arith, one))
 
 pub piece_taken : {A : Type 0} (before after : Option (List ℕ)) (text : List ℕ) (old new : Draft) (r : Result A TableFault) → Consumes before after text
     → IsPlain text → TellsThem (rows_in text) old new r → TellsRead (rows_of_bytes before) (rows_of_bytes after) old new r

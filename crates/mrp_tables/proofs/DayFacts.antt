@@ -1,5 +1,5 @@
 -- A first day that is given is one row more.
-use Rattle.std.proofs.Common.{◌≡◌, ℕ, ◌+◌, List, length, Result, Ok, ap, ◌∙◌}
+use Rattle.std.proofs.Common.{◌≡◌, ℕ, ◌+◌, List, length, Ok, ap, ◌∙◌}
 use Rattle.std.proofs.lemmas.List.{length_push}
 use Rattle.mrp_cal.proofs.BegunFacts.{begun-is}
 use Rattle.mrp_cal.specs.Begins.{begins}

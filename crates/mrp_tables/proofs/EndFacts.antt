@@ -4,7 +4,7 @@ use Rattle.mrp_master_data.specs.Growing.{with_end}
 use Rattle.mrp_master_data.specs.Table.{Table}
 use Rattle.mrp_master_data.specs.Turns.{row_count}
 use Rattle.mrp_validation.specs.declared.fault.TableFaultKind.{TableFaultKind}
-use Rattle.mrp_validation.specs.Grammar.{◌>>=◌, end_in_row, end_row, field, ranged}
+use Rattle.mrp_validation.specs.Grammar.{end_in_row, end_row, field, ranged}
 
 pub end_counts : (N : Table) → N.ended ≡ false → row_count (with_end N) ≡ row_count N + 1
 end_counts N endless = rw endless (omega arith)

@@ -27,6 +27,20 @@ pub consumes_none : (known : Option (List ℕ)) → Consumes known known []
 consumes_none None = tt
 consumes_none (Some xs) = refl
 
+pub consumes_kept : (old mid new : Option (List ℕ)) (bs : List ℕ) → Keeps old mid → Consumes mid new bs → Consumes old new bs
+consumes_kept None mid new bs kept taken = tt
+consumes_kept (Some xs) None new bs kept taken = absurd kept
+consumes_kept (Some xs) (Some ys) new bs kept taken = subst (λ (o : List ℕ). Consumes (Some o) new bs) kept taken
+
+pub filled_kept : {A E : Type 0} (r : Result A E) (old mid new : Option (List ℕ)) (bs : List ℕ) → Keeps old mid → OnOk r (Consumes mid new bs)
+    → OnOk r (Consumes old new bs)
+filled_kept (Ok x) old mid new bs kept taken = consumes_kept old mid new bs kept taken
+filled_kept (Err e) old mid new bs kept taken = tt
+
+pub consumes_front : (bs : List ℕ) (known : Option (List ℕ)) → Consumes (prepend_known bs known) known bs
+consumes_front bs None = tt
+consumes_front bs (Some xs) = refl
+
 -- the bytes so far, and those that were read behind them
 pub filled_on : (xs ys : List ℕ) (used k n : ℕ) → used ≤ length xs → used + length ys ≡ length xs → n ≤ length ys
     → take (used + n) (put_mid used k xs ys) ≡ take used xs ++ take n ys

@@ -135,6 +135,15 @@ keeps_beginning None mid after (Err e) kept tells = tt
 keeps_beginning (Some xs) None after r kept tells = absurd kept
 keeps_beginning (Some xs) (Some ys) after r kept tells = subst (λ (t : List ℕ). TellsBeginning (Some t) after r) kept tells
 
+-- what was taken of the bytes left was read in front of the others
+pub begun_front : (before mid after : Option (List ℕ)) (text : List ℕ) (r : Result (Option Draft) TableFault) → Consumes before mid text
+    → TellsBeginning (prepend_known text mid) after r → TellsBeginning before after r
+begun_front None mid after text (Ok None) taken tells = tt
+begun_front None mid after text (Ok (Some d)) taken tells = tt
+begun_front None mid after text (Err e) taken tells = tt
+begun_front (Some xs) None after text r taken tells = absurd taken
+begun_front (Some xs) (Some ys) after text r taken tells = subst (λ (t : List ℕ). TellsBeginning (Some t) after r) (sym taken) tells
+
 pub beginning_none : (before mid after : Option (List ℕ)) (text : List ℕ) (r : Result (Option Draft) TableFault) → Consumes before mid text
     → OnOk r (after ≡ prepend_known text mid) → IfOk r (λ begun. begun ≡ None) → IfErr r (λ e. e ≡ record { row = 1; kind = fault.Memory })
     → TellsBeginning before after r

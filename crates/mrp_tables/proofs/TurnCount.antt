@@ -1,5 +1,5 @@
 -- How many rows a table may have.
-use Rattle.std.proofs.Common.{ℕ, ◌≤◌, Bool, true, false, if◌then◌else◌, length, arith}
+use Rattle.std.proofs.Common.{◌≤◌, Bool, true, false, if◌then◌else◌, length, arith}
 use Rattle.mrp_cal.proofs.BegunFacts.{begun-few}
 use Rattle.mrp_tables.specs.declared.draft.Draft.{Draft}
 use Rattle.mrp_tables.specs.Lists.{IsDraft}

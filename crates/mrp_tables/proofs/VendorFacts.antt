@@ -1,5 +1,5 @@
 -- What a vendor row says of its pair: none that the rows so far allow, or that pair.
-use Rattle.std.proofs.Common.{◌≡◌, ℕ, List, Bool, true, false, not, Option, is_some, option_map, Result, Ok, Err, ok_or, refl, ap, sym, ◌∙◌}
+use Rattle.std.proofs.Common.{◌≡◌, ℕ, true, false, not, Option, is_some, option_map, Result, Ok, Err, ok_or, refl, ap, sym, ◌∙◌}
 use Rattle.mrp_master_data.specs.declared.numbers.PairNo.{PairNo}
 use Rattle.mrp_master_data.specs.declared.numbers.PlantNo.{PlantNo}
 use Rattle.mrp_master_data.specs.Names.{has_plant, pair_named, plant_no}

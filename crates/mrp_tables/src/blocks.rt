@@ -1,10 +1,11 @@
 //! A table read by blocks, which are cut into pieces and read side by side.
 //!
 //! The rows up to the last pair are read on the calling thread, a piece at a time. Behind them threads read a piece
-//! each, beside the table as it stands, and the calling thread takes what they noted in order. From the first piece
-//! that isn't good the one loop reads the rest, so faults, their rows and what waits for the last row are its own.
+//! each, beside the table as it stands, and the calling thread takes what they noted in order. A piece has what a read
+//! gives, so a row is looked at as soon as it came. From the first piece that isn't good the one loop reads the rest, so
+//! faults, their rows and what waits for the last row are its own.
 
-ghost use Rattle.std.specs.Prelude.{◌≡◌, ◌≤◌, ◌<◌, ◌+◌, drop, IfOk, OnOk, length};
+ghost use Rattle.std.specs.Prelude.{◌≡◌, ◌≤◌, ◌<◌, ◌+◌, take, drop, IfOk, OnOk, length};
 ghost use Rattle.std.specs.Io.KnownBytes.{Consumes, prepend_known};
 ghost use Rattle.mrp_validation.specs.Left.{GivesAll, rows_left};
 ghost use Rattle.mrp_tables.specs.Drafts.{IsDraftKept};
@@ -14,9 +15,9 @@ ghost use Rattle.mrp_tables.specs.Pieces.{rows_of_bytes, texts_of};
 ghost use Rattle.mrp_tables.specs.Sources.{left_of};
 
 use crate::draft::Draft;
-use crate::pieces::{LINE_FEED, Piece, is_plain, rows_of};
+use crate::pieces::{Piece, is_plain, rows_of};
 use crate::reading::read_next;
-use crate::source::Source;
+use crate::source::{LINE_FEED, Source};
 use csv::{Reader, StringRecord};
 use mrp_qty::MAX_TURNS;
 use mrp_validation::{Kind, TableFault, TableFaultKind, may_follow};
@@ -95,19 +96,40 @@ pub(crate) fn no_memory(draft: &Draft) -> TableFault
     }
 }
 
-/// Fills pieces with the bytes left of a source, about so many bytes to a piece.
+/// How many of the pieces are filled at once: one up to the last pair, and behind it all.
+fn at_once(draft: &Draft, count: usize) -> usize
+    requires some { 0 < count }
+    ensures some { 0 < result }
+    ensures within { result ≤ count }
+{
+    if may_follow(Kind::Pair, draft.last) {
+        1
+    } else {
+        count
+    }
+}
+
+/// Fills at most so many pieces with the bytes left of a source, about so many bytes to a piece, up to the first that has
+/// room left, and says how many.
 fn fill_pieces<R: Read>(
     source: &mut Source<R>,
     pieces: &mut [Piece],
+    most: usize,
     size: usize,
-) -> Result<(), AllocError>
-    ensures taken { OnOk result (Consumes (left_of R.remaining source.old) (left_of R.remaining source.new)
-        (texts_of pieces.new)) }
+) -> Result<usize, AllocError>
+    requires some { 0 < most }
+    requires most { most ≤ length pieces.old }
+    ensures some { IfOk result (λ filled. 0 < filled) }
+    ensures within { IfOk result (λ filled. filled ≤ length pieces.new) }
+    ensures taken { IfOk result (λ filled. Consumes (left_of R.remaining source.old) (left_of R.remaining source.new)
+        (texts_of (take filled pieces.new))) }
 {
-    for k in 0..pieces.len() {
-        pieces[k].fill(source, size)?;
+    for k in 0..most {
+        if !pieces[k].fill(source, size)? {
+            return Ok(k + 1);
+        }
     }
-    Ok(())
+    Ok(most)
 }
 
 /// Reads pieces side by side, each beside the table of the draft.
@@ -164,27 +186,23 @@ fn give_back<R: Read>(
     Ok(())
 }
 
-/// Reads a block side by side, and says whether all of it was good.
+/// Reads pieces that were taken of a source side by side, and says whether all of them were good. What isn't good is
+/// given back.
 fn read_block<T: Threads + Sync, R: Read>(
     rt: &T,
     alloc: Global,
     source: &mut Source<R>,
     pieces: &mut [Piece],
-    size: usize,
     draft: &mut Draft,
 ) -> Result<bool, TableFault>
     requires draft { IsDraft draft.old }
     requires kept { IsDraftKept draft.old }
     requires some { 0 < length pieces.old }
-    ensures exact { TellsRead (rows_of_bytes (left_of R.remaining source.old))
+    ensures exact { TellsRead (rows_of_bytes (prepend_known (texts_of pieces.old) (left_of R.remaining source.old)))
         (rows_of_bytes (left_of R.remaining source.new)) draft.old draft.new result }
     ensures draft { OnOk result (IsDraft draft.new) }
     ensures kept { OnOk result (IsDraftKept draft.new) }
 {
-    match fill_pieces(source, pieces, size) {
-        Ok(()) => {}
-        Err(_) => return Err(no_memory(draft)),
-    }
     read_pieces(rt, alloc, pieces, draft);
     let taken = take_pieces(pieces, draft)?;
     match give_back(source, pieces, taken) {
@@ -193,26 +211,20 @@ fn read_block<T: Threads + Sync, R: Read>(
     }
 }
 
-/// Reads one piece on this thread, and says whether it was plain.
+/// Reads a text that was taken of a source on this thread, and says whether it was plain. Else it is given back.
 fn read_piece<R: Read>(
     alloc: Global,
     source: &mut Source<R>,
-    piece: &mut Piece,
-    size: usize,
+    text: &[u8],
     draft: &mut Draft,
 ) -> Result<bool, TableFault>
     requires draft { IsDraft draft.old }
     requires kept { IsDraftKept draft.old }
-    ensures exact { TellsRead (rows_of_bytes (left_of R.remaining source.old))
+    ensures exact { TellsRead (rows_of_bytes (prepend_known text.now (left_of R.remaining source.old)))
         (rows_of_bytes (left_of R.remaining source.new)) draft.old draft.new result }
     ensures draft { OnOk result (IsDraft draft.new) }
     ensures kept { OnOk result (IsDraftKept draft.new) }
 {
-    match piece.fill(source, size) {
-        Ok(_) => {}
-        Err(_) => return Err(no_memory(draft)),
-    }
-    let text = piece.text();
     if is_plain(text) {
         read_text(alloc, text, draft)?;
         return Ok(true);
@@ -223,7 +235,32 @@ fn read_piece<R: Read>(
     }
 }
 
-/// Reads a piece, or behind the pairs a block, and says whether all of it was plain.
+/// Reads pieces that were taken of a source, and says whether there was nothing to give back. Where there is but one, no
+/// thread is started for it.
+fn read_filled<T: Threads + Sync, R: Read>(
+    rt: &T,
+    alloc: Global,
+    source: &mut Source<R>,
+    pieces: &mut [Piece],
+    draft: &mut Draft,
+) -> Result<bool, TableFault>
+    requires draft { IsDraft draft.old }
+    requires kept { IsDraftKept draft.old }
+    requires some { 0 < length pieces.old }
+    ensures exact { TellsRead (rows_of_bytes (prepend_known (texts_of pieces.old) (left_of R.remaining source.old)))
+        (rows_of_bytes (left_of R.remaining source.new)) draft.old draft.new result }
+    ensures draft { OnOk result (IsDraft draft.new) }
+    ensures kept { OnOk result (IsDraftKept draft.new) }
+{
+    if pieces.len() == 1 {
+        read_piece(alloc, source, pieces[0].text(), draft)
+    } else {
+        read_block(rt, alloc, source, pieces, draft)
+    }
+}
+
+/// Reads what comes of a source, up to the last pair a piece and behind them a block, and says whether there was nothing to
+/// give back.
 fn read_some<T: Threads + Sync, R: Read>(
     rt: &T,
     alloc: Global,
@@ -240,10 +277,10 @@ fn read_some<T: Threads + Sync, R: Read>(
     ensures draft { OnOk result (IsDraft draft.new) }
     ensures kept { OnOk result (IsDraftKept draft.new) }
 {
-    if may_follow(Kind::Pair, draft.last) {
-        read_piece(alloc, source, &mut pieces[0], size, draft)
-    } else {
-        read_block(rt, alloc, source, pieces, size, draft)
+    let most = at_once(draft, pieces.len());
+    match fill_pieces(source, pieces, most, size) {
+        Ok(filled) => read_filled(rt, alloc, source, &mut pieces[..filled], draft),
+        Err(_) => Err(no_memory(draft)),
     }
 }
 

@@ -11,14 +11,12 @@ ghost use Rattle.mrp_tables.specs.Pieces.{IsPlain, TellsSaid, rows_in};
 use crate::bulk::BulkRow;
 use crate::draft::Draft;
 use crate::reading::{at_row, next_row};
-use crate::source::Source;
+use crate::source::{LINE_FEED, Source};
 use csv::{Reader, ReaderBuilder, StringRecord};
 use mrp_qty::MAX_TURNS;
 use mrp_validation::TableFault;
 use std::alloc::{AllocError, Global};
 use std::io::Read;
-
-pub(crate) const LINE_FEED: u8 = 10;
 
 const QUOTE: u8 = 34;
 
@@ -66,8 +64,8 @@ impl Piece {
         self.is_good
     }
 
-    /// Takes about so many bytes of a text, those to the last line feed among them, and says whether the text has as
-    /// many.
+    /// Takes at most so many bytes of a text, up to the last line feed of those that come, and says whether there was room
+    /// for no more of them.
     pub(crate) fn fill<R: Read>(
         &mut self,
         source: &mut Source<R>,
@@ -90,9 +88,9 @@ impl Piece {
         ensures text { self.new.text ≡ self.old.text }
         ensures good { self.new.is_good ≡ true → IsGood draft.now.lists self.new }
     {
+        let text = self.text.as_slice();
         self.said.clear();
-        self.is_good = is_plain(self.text.as_slice())
-            && read_said(alloc, draft, self.text.as_slice(), &mut self.said);
+        self.is_good = is_plain(text) && read_said(alloc, draft, text, &mut self.said);
     }
 
     /// Takes what its rows said into the table, in their order.

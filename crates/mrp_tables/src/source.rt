@@ -5,6 +5,10 @@ ghost use Rattle.std.specs.Prelude.{◌≤◌, length};
 use std::alloc::{AllocError, Global};
 use std::io::{Error, Read, Result as IoResult};
 
+pub(crate) const LINE_FEED: u8 = 10;
+
+const CARRIAGE_RETURN: u8 = 13;
+
 /// The bytes ahead of a reader, and then the reader. Where the reader failed, its error comes behind the bytes ahead.
 #[derive(Drop)]
 pub(crate) struct Source<R> {
@@ -91,16 +95,24 @@ impl<R: Read> Source<R> {
         self.give_back(&byte[..used])
     }
 
-    /// Takes as many bytes as there is room for, fewer where the text ends or the reader fails, and says how many.
+    /// Takes the bytes ahead and what the reader gives until some row ends, but no more than there is room for, and says
+    /// how many bytes. The text may end or the reader fail before.
     pub(crate) fn fill(&mut self, room: &mut [u8]) -> usize
         ensures within { result ≤ length room.old }
         ensures taken { Consumes (left_of R.remaining self.old) (left_of R.remaining self.new) (take result room.new) }
     {
         let mut used = 0;
         'bytes: while used < room.len() {
+            let is_ahead = self.at < self.ahead.len();
             match self.read(&mut room[used..]) {
                 Ok(0) => return used,
-                Ok(count) => used += count,
+                Ok(count) => {
+                    let start = used;
+                    used += count;
+                    if !is_ahead && ends_a_row(&room[start..used]) {
+                        return used;
+                    }
+                }
                 Err(error) => {
                     self.failed = Some(error);
                     return used;
@@ -122,4 +134,9 @@ impl<R: Read> Source<R> {
         self.at = 0;
         Ok(())
     }
+}
+
+/// Whether some row ends in these bytes.
+fn ends_a_row(bytes: &[u8]) -> bool {
+    bytes.contains(&LINE_FEED) || bytes.contains(&CARRIAGE_RETURN)
 }

@@ -1,7 +1,7 @@
 //! A table read by threads, from its first row to its last.
 
 ghost use Rattle.std.specs.Prelude.{◌≡◌, ◌≤◌, ◌<◌, true, Some, None, IfOk, IfErr, IfSome, OnOk, length, option_map};
-ghost use Rattle.std.specs.Io.KnownBytes.{Keeps, prepend_known};
+ghost use Rattle.std.specs.Io.KnownBytes.{Consumes, prepend_known};
 ghost use Rattle.csv.specs.Reading.{strip_bom};
 ghost use Rattle.mrp_validation.specs.Left.{GivesAll, OfLeft, rows_left};
 ghost use Rattle.mrp_validation.specs.Reading.{TellsRowsAs};
@@ -29,16 +29,16 @@ use std::thread::{Threads, available_parallelism};
 /// A block has about so many bytes.
 const BLOCK: usize = 1_048_576;
 
-/// A text shorter than this part of a block is short.
-const PARTS: usize = 256;
+/// A text of which no so many bytes come at once is read on one thread.
+const FIRST: usize = 4096;
 
 /// At most so many pieces are read side by side.
 const MOST_PIECES: usize = 8;
 
 /// Reads a table as [`read_tables_as`](crate::read_tables_as) does, and tells no count of its steps. Where there are
-/// several processors, and text for more than a block, threads read the rows of bills, demands, receipts and shipments
-/// side by side, as many as there are processors and at most eight; where a thread can't be started, the calling one
-/// reads its piece. No clause speaks of time or memory.
+/// several processors, and the text comes by many rows at once, threads read those of bills, demands, receipts and
+/// shipments side by side, as many as there are processors and at most eight; where a thread can't be started, the
+/// calling one reads its piece. A row is looked at as soon as it came. No clause speaks of time or memory.
 ///
 /// # Errors
 ///
@@ -85,7 +85,7 @@ pub fn read_tables_by_blocks<T: Threads + Sync, R: Read + Drop>(
     ensures whole { IfOk result (λ tables. reading.whole ≡ true → tables.ended ≡ true) }
 {
     let mut source = Source::new(alloc, reader);
-    match begin(alloc, &mut source, block) {
+    match begin(alloc, &mut source, block.min(FIRST)) {
         Ok(None) => read_tables_uncounted(alloc, reading, source),
         Ok(Some(draft)) => {
             let read = finish(rt, alloc, reading, &mut source, draft, block / count, count);
@@ -99,74 +99,49 @@ pub fn read_tables_by_blocks<T: Threads + Sync, R: Read + Drop>(
     }
 }
 
-/// Reads the first block on this thread, where it is plain and the text has more. Else the source has what it had. A short
-/// text gets no room for a block.
+/// Reads the first rows, about so many bytes of them, where as many come at once and are plain. Else the source has what
+/// it had.
 fn begin<R: Read>(
     alloc: Global,
     source: &mut Source<R>,
-    block: usize,
+    size: usize,
 ) -> Result<Option<Draft>, TableFault>
     ensures exact { TellsBeginning (left_of R.remaining source.old) (left_of R.remaining source.new) result }
     ensures draft { IfOk result (λ begun. IfSome begun IsDraft) }
     ensures kept { IfOk result (λ begun. IfSome begun IsDraftKept) }
 {
     let mut piece = Piece::new(alloc);
-    match source.look() {
-        Ok(()) => begin_long(alloc, source, &mut piece, block),
+    match fill_first(source, &mut piece, size) {
+        Ok(true) => begin_with(alloc, source, piece.text()),
+        Ok(false) => leave(source, piece.text()),
         Err(_) => Err(no_memory_first()),
     }
 }
 
-/// Reads the first block into a piece, where the text is long.
-fn begin_long<R: Read>(
-    alloc: Global,
-    source: &mut Source<R>,
-    piece: &mut Piece,
-    block: usize,
-) -> Result<Option<Draft>, TableFault>
-    ensures exact { TellsBeginning (left_of R.remaining source.old) (left_of R.remaining source.new) result }
-    ensures draft { IfOk result (λ begun. IfSome begun IsDraft) }
-    ensures kept { IfOk result (λ begun. IfSome begun IsDraftKept) }
-{
-    match is_long(source, piece, block / PARTS) {
-        Ok(true) => begin_with(alloc, source, piece, block),
-        Ok(false) => Ok(None),
-        Err(_) => Err(no_memory_first()),
-    }
-}
-
-/// Whether a text has so many bytes, all of which are left.
-fn is_long<R: Read>(
+/// Fills the first piece, and says whether there was room for no more.
+fn fill_first<R: Read>(
     source: &mut Source<R>,
     piece: &mut Piece,
     size: usize,
 ) -> Result<bool, AllocError>
-    ensures { OnOk result (Keeps (left_of R.remaining source.old) (left_of R.remaining source.new)) }
+    ensures taken { OnOk result (Consumes (left_of R.remaining source.old) (left_of R.remaining source.new)
+        piece.new.text.items) }
 {
-    let is_full = piece.fill(source, size)?;
-    source.give_back(piece.text())?;
-    Ok(is_full)
+    source.look()?;
+    piece.fill(source, size)
 }
 
-/// Reads the first block into a piece, where it is plain and the text has more.
+/// Reads the rows of a text that was taken of a source, where it is plain. Else it is given back.
 fn begin_with<R: Read>(
     alloc: Global,
     source: &mut Source<R>,
-    piece: &mut Piece,
-    block: usize,
+    text: &[u8],
 ) -> Result<Option<Draft>, TableFault>
-    ensures exact { TellsBeginning (left_of R.remaining source.old) (left_of R.remaining source.new) result }
+    ensures exact { TellsBeginning (prepend_known text.now (left_of R.remaining source.old))
+        (left_of R.remaining source.new) result }
     ensures draft { IfOk result (λ begun. IfSome begun IsDraft) }
     ensures kept { IfOk result (λ begun. IfSome begun IsDraftKept) }
 {
-    let is_full = match piece.fill(source, block) {
-        Ok(is_full) => is_full,
-        Err(_) => return Err(no_memory_first()),
-    };
-    let text = piece.text();
-    if !is_full {
-        return leave(source, text);
-    }
     if !is_plain(text) {
         return leave(source, text);
     }

@@ -10,3 +10,9 @@ loop-k-preserved g c =
     subst (Consumes (left_of g.R.Read.remaining c.args.source.now) (left_of g.R.Read.remaining c.fill.new.source))
     (sym (texts_filled c.loop-k.pieces c.loop-k.k c.fill.new.self (omega arith)))
     (consumes_on _ _ _ _ _ c.loop-k.invariant c.in_ok-fill.ensures.taken)
+
+pub returns-then-not-branch-clause-taken : goal.returns-then-not-branch-clause-taken
+returns-then-not-branch-clause-taken g c =
+    subst (Consumes (left_of g.R.Read.remaining c.args.source.now) (left_of g.R.Read.remaining c.fill.new.source))
+    (sym (texts_filled c.loop-k.pieces c.loop-k.k c.fill.new.self (omega arith)))
+    (consumes_on _ _ _ _ _ c.loop-k.invariant c.in_ok-fill.ensures.taken)

@@ -1,9 +1,10 @@
-use Rattle.std.proofs.Common.{◌+◌, List, ℕ, Ok, Err, Result, subst, ap, ◌∙◌}
+use Rattle.std.proofs.Common.{◌+◌, Ok, Err, Result}
 use Rattle.std.specs.Io.KnownBytes.{prepend_known}
 use Rattle.mrp_tables.specs.Drafts.{draft_state}
-use Rattle.mrp_tables.specs.Pieces.{IsPlain, rows_in, rows_of_bytes, TellsThem}
+use Rattle.mrp_tables.specs.Pieces.{rows_of_bytes}
 use Rattle.mrp_tables.specs.Sources.{left_of}
 use Rattle.mrp_tables.proofs.BlockFacts.{given_again, piece_taken, refused_here}
+use Rattle.mrp_tables.proofs.SourceFacts.{consumes_front}
 use Rattle.mrp_validation.specs.declared.fault.TableFault.{TableFault}
 use Rattle.mrp_validation.proofs.KeepingSteps.{handed_on}
 use Rattle.mrp_tables.proofs.blocks.read_piece.Goals as goal
@@ -11,29 +12,22 @@ use Rattle.mrp_tables.proofs.blocks.read_piece.Goals as goal
 pub returns-in_err-read_text-clause-exact : goal.returns-in_err-read_text-clause-exact
 returns-in_err-read_text-clause-exact g c =
     rw (handed_on c.from_residual.result _ c.from_residual.ensures.1)
-    (piece_taken _ _ c.fill.new.self.text.items c.args.draft.now c.read_text.new.draft (let r : Result
-    (Unit {0}) TableFault = Err c.in_err-read_text.field-0.0 in r)
-    c.in-Ok.ensures.taken (subst IsPlain c.text-text.ensures (c.is_plain.ensures c.if-is_plain.true))
-    (subst (λ (t : List ℕ). TellsThem {A = Unit {0}} (rows_in t) c.args.draft.now c.read_text.new.draft (Err c.in_err-read_text.field-0.0)) c.text-text.ensures
-    c.in_err-read_text.ensures.exact))
+    (piece_taken _ _ c.args.text.now c.args.draft.now c.read_text.new.draft (let r : Result (Unit {0}) TableFault = Err c.in_err-read_text.field-0.0 in r)
+    (consumes_front c.args.text.now (left_of g.R.Read.remaining c.args.source.now)) (c.is_plain.ensures c.if-is_plain.true)
+    c.in_err-read_text.ensures.exact)
 
 pub returns-then-is_plain-clause-exact : goal.returns-then-is_plain-clause-exact
 returns-then-is_plain-clause-exact g c =
-    piece_taken _ _ c.fill.new.self.text.items c.args.draft.now c.read_text.new.draft (let r : Result (Unit {0}) TableFault = Ok (tt {0}) in r)
-    c.in-Ok.ensures.taken (subst IsPlain c.text-text.ensures (c.is_plain.ensures c.if-is_plain.true))
-    (subst (λ (t : List ℕ). TellsThem {A = Unit {0}} (rows_in t) c.args.draft.now c.read_text.new.draft (Ok (tt {0}))) c.text-text.ensures
-    c.in_ok-read_text.ensures.exact)
+    piece_taken _ _ c.args.text.now c.args.draft.now c.read_text.new.draft (let r : Result (Unit {0}) TableFault = Ok (tt {0}) in r)
+    (consumes_front c.args.text.now (left_of g.R.Read.remaining c.args.source.now)) (c.is_plain.ensures c.if-is_plain.true)
+    c.in_ok-read_text.ensures.exact
+
+pub returns-in-Ok-clause-exact : goal.returns-in-Ok-clause-exact
+returns-in-Ok-clause-exact g c =
+    given_again _ (left_of g.R.Read.remaining c.args.source.now)
+    (left_of g.R.Read.remaining c.give_back.new.self) c.args.text.now (consumes_front c.args.text.now (left_of g.R.Read.remaining c.args.source.now))
+    c.in-Ok.ensures.given (c.args.draft.now.rows + 1) (draft_state c.args.draft.now)
 
 pub returns-in-Err-clause-exact : goal.returns-in-Err-clause-exact
-returns-in-Err-clause-exact g c = refused_here (rows_of_bytes (left_of g.R.Read.remaining c.args.source.now)) c.args.draft.now _ c.no_memory.ensures
-
-pub returns-in-Ok-give_back-clause-exact : goal.returns-in-Ok-give_back-clause-exact
-returns-in-Ok-give_back-clause-exact g c =
-    given_again (left_of g.R.Read.remaining c.args.source.now) (left_of g.R.Read.remaining c.fill.new.source)
-    (left_of g.R.Read.remaining c.give_back.new.self) c.fill.new.self.text.items c.in-Ok.ensures.taken
-    (c.in-Ok-give_back.ensures.given ∙ ap (λ (t : List ℕ). prepend_known t (left_of g.R.Read.remaining c.fill.new.source)) c.text-text.ensures)
-    (c.args.draft.now.rows + 1) (draft_state c.args.draft.now)
-
-pub returns-in-Err-give_back-clause-exact : goal.returns-in-Err-give_back-clause-exact
-returns-in-Err-give_back-clause-exact g c =
-    refused_here (rows_of_bytes (left_of g.R.Read.remaining c.args.source.now)) c.args.draft.now _ c.no_memory-in-Err-give_back.ensures
+returns-in-Err-clause-exact g c =
+    refused_here (rows_of_bytes (prepend_known c.args.text.now (left_of g.R.Read.remaining c.args.source.now))) c.args.draft.now _ c.no_memory.ensures

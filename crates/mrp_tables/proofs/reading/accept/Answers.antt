@@ -1,4 +1,4 @@
-use Rattle.std.proofs.Common.{◌≡◌, ◌∙◌, ◌<◌, ◌≤◌, ◌+◌, ap, get_or, length, List, ℕ, refl, sym, arith}
+use Rattle.std.proofs.Common.{◌≡◌, ◌<◌, ◌≤◌, ◌+◌, ap, get_or, length, List, ℕ, refl, sym, arith}
 use Rattle.std.proofs.lemmas.List.Quantifiers.{position-Some}
 use Rattle.mrp_master_data.specs.Growing.{lacks_pair}
 use Rattle.mrp_master_data.specs.declared.rows.SourceRow.{SourceRow}

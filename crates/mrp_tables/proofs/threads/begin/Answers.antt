@@ -1,12 +1,20 @@
+use Rattle.std.proofs.Common.{subst, sym}
+use Rattle.std.specs.Io.KnownBytes.{Consumes}
 use Rattle.mrp_tables.specs.Sources.{left_of}
-use Rattle.mrp_tables.proofs.ThreadFacts.{beginning_refused, keeps_beginning}
+use Rattle.mrp_tables.proofs.ThreadFacts.{beginning_none, begun_front}
 use Rattle.mrp_tables.proofs.threads.begin.Goals as goal
 
-pub returns-in-Ok-clause-exact : goal.returns-in-Ok-clause-exact
-returns-in-Ok-clause-exact g c =
-    keeps_beginning (left_of g.R.Read.remaining c.args.source.now) (left_of g.R.Read.remaining c.look.new.self)
-    (left_of g.R.Read.remaining c.begin_long.new.source) c.begin_long.result c.in-Ok.ensures c.begin_long.ensures.exact
+pub returns-in-Ok-true-clause-exact : goal.returns-in-Ok-true-clause-exact
+returns-in-Ok-true-clause-exact g c =
+    begun_front (left_of g.R.Read.remaining c.args.source.now) (left_of g.R.Read.remaining c.fill_first.new.source)
+    (left_of g.R.Read.remaining c.begin_with.new.source) c.text.result.now c.begin_with.result
+    (subst (Consumes (left_of g.R.Read.remaining c.args.source.now) (left_of g.R.Read.remaining c.fill_first.new.source)) (sym c.text.ensures)
+    c.in-Ok-true.ensures.taken)
+    c.begin_with.ensures.exact
 
-pub returns-clause-exact : goal.returns-clause-exact
-returns-clause-exact g c =
-    beginning_refused (left_of g.R.Read.remaining c.args.source.now) (left_of g.R.Read.remaining c.look.new.self) _ c.no_memory_first.ensures
+pub returns-in-Ok-false-clause-exact : goal.returns-in-Ok-false-clause-exact
+returns-in-Ok-false-clause-exact g c =
+    beginning_none _ _ _ c.text-in-Ok-false.result.now c.leave.result
+    (subst (Consumes (left_of g.R.Read.remaining c.args.source.now) (left_of g.R.Read.remaining c.fill_first.new.source)) (sym c.text-in-Ok-false.ensures)
+    c.in-Ok-false.ensures.taken)
+    c.leave.ensures.given c.leave.ensures.none c.leave.ensures.fault
