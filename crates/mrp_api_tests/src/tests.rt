@@ -1,6 +1,7 @@
 //! Calls that no command makes: what fits and the texts of records, on cases that were worked by hand, and the text
 //! functions at their edges.
 
+mod blocks;
 mod endings;
 mod fitting;
 mod gates;
