@@ -27,7 +27,7 @@ use std::mem;
 use std::thread::{Threads, available_parallelism};
 
 /// A block has about so many bytes.
-const BLOCK: usize = 1_048_576;
+const BLOCK: usize = 4_194_304;
 
 /// A text of which no so many bytes come at once is read on one thread.
 const FIRST: usize = 4096;
