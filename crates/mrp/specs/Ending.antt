@@ -1,4 +1,5 @@
--- With which status the program ends, and what it reports, where the words are refused or ask for help or the version.
+-- The program `mrp`: with which status it ends, and what it reports, where its arguments are refused
+-- or ask for help or the version.
 use Rattle.std.specs.Prelude.{ℕ, Option, Some, None, Result, Ok, Err}
 use Rattle.mrp_command_line.specs.declared.meaning.Meaning.{Meaning}
 use Rattle.mrp_command_line.specs.declared.meaning.Meaning.TheVariants as means

@@ -1,1 +1,2 @@
+-- The program `mrp`: how it ends.
 pub mod Ending

@@ -1,4 +1,4 @@
-//! `mrp` plans the material of all plants of a firm at once.
+//! The program: `mrp` plans the material of all plants of a firm at once.
 //!
 //! The program is thin: words in, one call of the library `mrp_api`, a status out.
 //!

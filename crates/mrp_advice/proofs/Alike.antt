@@ -1,4 +1,4 @@
--- Open orders that are needed alike in the first periods of two data of a pair.
+-- Advice: open orders that are needed alike in the first periods of two data of a pair.
 use Rattle.std.proofs.Common.{◌≡◌, ℕ, zero, suc, ◌+◌, ◌-◌, ◌<◌, ◌≤◌, nat_lt, Bool, true, false, cond, List, length, take, refl, sym, ap, subst, ◌∙◌, arith}
 use Rattle.std.proofs.Common.{⊎_elim, le-ltb}
 use Rattle.std.specs.Prelude.{Option, Some}

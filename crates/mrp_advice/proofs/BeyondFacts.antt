@@ -1,4 +1,4 @@
--- What is said of the order of a message, where the plan is whole in its first periods alone.
+-- Advice: what is said of an open order, where the plan is whole in its first periods alone.
 use Rattle.std.proofs.Common.{ℕ, nat_lt}
 use Rattle.std.specs.Prelude.{Option, Some, None, IfSome, option_map}
 use Rattle.std.proofs.lemmas.Bool.{cond_both}

@@ -1,4 +1,5 @@
--- Of open orders of a sort those before one that are needed in some period, and those that come by a period.
+-- Advice to cancel: of open orders of a sort those before one that are needed in some period,
+-- and those that come by a period.
 use Rattle.std.proofs.Common.{◌≡◌, ◌∙◌, ℕ, zero, suc, ◌+◌, ◌<◌, ◌≤◌, ◌⊎◌, ◌&&◌, Bool, true, false, cond, min, inl, inr, List, length, take}
 use Rattle.std.proofs.Common.{refl, sym, ap, arith, add-one}
 use Rattle.std.specs.Prelude.{Option, Some, None, is_some}

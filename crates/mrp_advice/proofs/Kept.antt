@@ -1,4 +1,4 @@
--- Without the open orders that are to be cancelled a pair's planned orders are the same.
+-- Advice: without the open orders that it says to cancel a pair's planned orders are the same.
 use Rattle.std.proofs.Common.{◌≡◌, ◌∙◌, ℕ, suc, ◌+◌, ◌<◌, ◌≤◌, ◌⊎◌, ◌&&◌, Bool, true, false, cond, min, inl, inr, List, length, map, take, sum}
 use Rattle.std.proofs.Common.{sym, ap, arith}
 use Rattle.std.specs.Prelude.{Some}

@@ -1,4 +1,4 @@
--- What periods lack beside open orders, and when these are needed by it.
+-- Advice: what periods lack beside open orders, and when these are needed by it.
 use Rattle.std.proofs.Common.{◌≡◌, ◌∙◌, ℕ, zero, suc, ◌+◌, ◌-◌, Bool, true, false, nat_lt, min, max, inl, inr, List, length, take, sum, slice_index}
 use Rattle.std.proofs.Common.{refl, sym, ap, subst, arith, add-one}
 use Rattle.std.specs.List.{find, range_with_len}

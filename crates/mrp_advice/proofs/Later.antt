@@ -1,4 +1,4 @@
--- A last period leaves the messages for later open orders out, and no others.
+-- Advice: a last period leaves the exception messages for later open orders out, and no others.
 use Rattle.std.proofs.Common.{◌≡◌, ◌∙◌, ℕ, zero, suc, ◌+◌, ◌<◌, leb, ltb, Bool, not, List, ◌++◌, All, length, sym, subst, refl, arith}
 use Rattle.std.specs.Prelude.{Option, Some, None, IfSome, filter_map}
 use Rattle.std.specs.List.{cons_option, filter, range_with_len}

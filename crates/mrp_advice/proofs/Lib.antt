@@ -1,3 +1,4 @@
+-- Advice, the exception messages for open orders, proofs.
 pub mod Finding
 pub mod Needing
 pub mod Coming

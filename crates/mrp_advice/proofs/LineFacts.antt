@@ -1,4 +1,4 @@
--- The rows of a pair's messages, open order by open order.
+-- Advice: the rows of a pair's exception messages, open order by open order.
 use Rattle.std.proofs.Common.{◌≡◌, ◌∙◌, ℕ, zero, suc, ◌+◌, ◌<◌, ◌≤◌, nat_lt, Bool, true, false, cond, List, [], ◌∷◌, ◌++◌, length, take, slice_index}
 use Rattle.std.proofs.Common.{refl, sym, ap, subst, arith, add-one, append_assoc}
 use Rattle.std.specs.Prelude.{Option, Some, None, IfSome, filter_map}

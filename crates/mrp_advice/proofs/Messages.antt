@@ -1,4 +1,4 @@
--- Messages for open orders that are needed in the same periods.
+-- Advice: exception messages for open orders that are needed in the same periods.
 use Rattle.std.proofs.Common.{◌≡◌, ◌∙◌, ℕ, List, [], ◌∷◌, length, refl, ap}
 use Rattle.std.specs.Prelude.{Option, filter_map}
 use Rattle.std.specs.List.{cons_option, filter, range_with_len}

@@ -1,4 +1,5 @@
--- Of a pair whose receipts count when they come: timely orders suffice, and what is needed never moves back.
+-- Advice: open orders that messages expedite or defer, of a pair whose receipts count when they come. Timely orders
+-- suffice, and what is needed never moves back.
 use Rattle.std.proofs.Common.{◌≡◌, ℕ, zero, suc, ◌+◌, ◌-◌, ◌<◌, ◌≤◌, ◌⊎◌, Bool, true, false, cond, List, length, take, inl, inr, refl, ap, arith, add-one}
 use Rattle.std.specs.List.{range_with_len, sum_by}
 use Rattle.std.proofs.lemmas.Bool.{cases_Bool, cond-true, lt-ltb, ltb-false, ltb-true}

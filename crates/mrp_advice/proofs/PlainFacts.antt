@@ -1,4 +1,5 @@
--- Where receipts count when they come and there are no periods of cover, an open order is needed by the balance alone.
+-- Advice: where receipts count when they come and there are no periods of cover, an open order
+-- is needed by the balance alone.
 use Rattle.std.proofs.Common.{◌≡◌, ◌∙◌, ℕ, suc, ◌+◌, true, false, nat_lt, List, [], ◌∷◌, length, take, sum, refl, sym, ap, arith}
 use Rattle.std.proofs.lemmas.Bool.{and_left, le-ltb}
 use Rattle.std.proofs.lemmas.List.Sums.{sum_by-cons}

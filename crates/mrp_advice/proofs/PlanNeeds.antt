@@ -1,4 +1,5 @@
--- Open orders are needed exactly as the plan needs them, and receipts are counted sooner exactly if they are needed then.
+-- Advice: open orders are needed, by their exception messages, exactly as the plan needs them, and receipts are
+-- counted sooner exactly if they are needed then.
 use Rattle.std.proofs.Common.{◌≡◌, ◌∙◌, ℕ, suc, ◌+◌, ◌-◌, ◌<◌, ◌≤◌, ◌==◌, Bool, true, false, cond, nat_lt, inl, inr, List, length, take}
 use Rattle.std.proofs.Common.{sym, ap, arith}
 use Rattle.std.specs.Prelude.{Option, Some, None}

@@ -1,5 +1,5 @@
--- Open orders are what the plan has as incoming: in each period where receipts count when they come, and elsewhere over
--- all periods.
+-- Advice: open orders are what the plan has as incoming, in each period where receipts count when they come,
+-- and elsewhere over all periods.
 use Rattle.std.proofs.Common.{◌≡◌, ℕ, zero, suc, ◌≤◌, List, length, sum, slice_index, refl, ap, arith}
 use Rattle.std.proofs.lemmas.List.FromFn.{length-map-range_with_len}
 use Rattle.mrp_netting.specs.PlanRows.{PlanRows}

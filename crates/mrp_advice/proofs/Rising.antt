@@ -1,4 +1,4 @@
--- The open orders of a pair by rising period.
+-- Advice: the open orders of a pair by rising period.
 use Rattle.std.proofs.Common.{◌≡◌, ◌∙◌, ℕ, true, false, cond, min, refl, zero, suc, ◌+◌, ◌-◌, ◌<◌, ◌≤◌, ◌==◌, ◌&&◌, Bool, inl, inr, List, [], ◌∷◌}
 use Rattle.std.proofs.Common.{◌++◌, length, take, sym, ap, subst, arith, append_assoc}
 use Rattle.std.specs.Prelude.{Some}

@@ -1,4 +1,5 @@
--- The first period that lacks more than some pieces, from a period to which they last.
+-- Advice: when the open orders of a pair run out, which is the first period that lacks more than some pieces,
+-- from a period to which they last.
 use Rattle.std.proofs.Common.{◌≡◌, ℕ, ◌<◌, ◌≤◌, nat_lt, List, length, slice_index, sym, arith}
 use Rattle.std.specs.Prelude.{Some, None}
 use Rattle.std.proofs.lemmas.Bool.{le-ltb, lt-ltb}

@@ -1,4 +1,4 @@
--- The report is the rows of its sheet, and csv reads it back.
+-- Advice: the report of exception messages is the rows of its sheet, and csv reads it back.
 use Rattle.std.proofs.Common.{◌≡◌, ℕ, List, All, refl, arith}
 use Rattle.std.specs.Prelude.{Option}
 use Rattle.std.specs.List.{flat_map}

@@ -1,5 +1,5 @@
--- Open orders of both sorts: timely orders suffice, what is needed never moves back in a sort, and receipts that the
--- plan counts sooner are expedited.
+-- Advice: open orders of both sorts. Timely orders suffice, what is needed never moves back in a sort, and receipts
+-- that the plan counts sooner are expedited.
 use Rattle.std.proofs.Common.{◌≡◌, ◌∙◌, ℕ, zero, suc, ◌+◌, ◌-◌, ◌<◌, ◌≤◌, ◌==◌, ◌⊎◌, Bool, true, false, cond, nat_lt, inl, inr, List, length, take, sum}
 use Rattle.std.proofs.Common.{refl, sym, ap, arith, add-one}
 use Rattle.std.specs.Prelude.{Option, Some, None}

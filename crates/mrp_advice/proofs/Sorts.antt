@@ -1,4 +1,4 @@
--- Open orders of both sorts, and what each sort adds up to.
+-- Advice: open orders of both sorts, and what each sort adds up to.
 use Rattle.std.proofs.Common.{◌≡◌, ◌∙◌, ℕ, ◌+◌, ◌<◌, ◌≤◌, ◌==◌, ◌&&◌, ◌⊎◌, Bool, true, false, not, cond, nat_lt, inl, inr, List, [], ◌∷◌, ◌++◌, length}
 use Rattle.std.proofs.Common.{take, sum}
 use Rattle.std.proofs.Common.{slice_index, refl, sym, arith}

@@ -1,4 +1,4 @@
--- What a table that goes on has of the open orders of the table before, and of their messages.
+-- Advice: what a table that goes on has of the open orders of the table before, and of their exception messages.
 use Rattle.std.proofs.Common.{◌≡◌, ◌≢◌, ℕ, zero, suc, ◌+◌, ◌-◌, ◌<◌, ◌≤◌, ◌==◌, ◌&&◌, ◌⊎◌, nat_lt, Bool, true, false, cond, List, [], ◌∷◌, ◌++◌, length, map, take, inl, inr, ⊎_elim}
 use Rattle.std.proofs.Common.{refl, sym, ap, subst, ◌∙◌, arith, eqb-true, get_or, length-append, zero-add, slice_index}
 use Rattle.std.specs.Prelude.{Option, Some, None, Contains, filter_map}

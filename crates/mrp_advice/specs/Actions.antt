@@ -1,4 +1,4 @@
--- What a message says of an open order that is needed in some period, or in none.
+-- Advice: what an exception message says of an open order that is needed in some period, or in none.
 use Rattle.std.specs.Prelude.{ℕ, ◌==◌, nat_lt, if◌then◌else◌, Option, Some, None, option_map}
 use Rattle.mrp_advice.specs.declared.advice.Action.{Action}
 use Rattle.mrp_advice.specs.declared.advice.Action.TheVariants.{Expedite, Defer, Cancel}

@@ -1,4 +1,4 @@
--- Exception messages for the open orders of a pair.
+-- Advice: the exception messages for the open orders of a pair.
 use Rattle.std.specs.Prelude.{ℕ, List, length, filter, filter_map, Option}
 use Rattle.std.specs.List.{range_with_len}
 use Rattle.mrp_netting.specs.PlanRows.{PlanRows}

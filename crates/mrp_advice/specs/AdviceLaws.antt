@@ -1,4 +1,4 @@
--- Laws of open orders, of when they are needed, and of the report of their messages.
+-- Advice: laws of open orders, of when they are needed, and of the report of their exception messages.
 use Rattle.std.specs.Prelude.{◌≡◌, ℕ, ◌+◌, ◌<◌, ◌≤◌, ◌↔◌, nat_lt, true, false, if◌then◌else◌, List, ◌++◌, length, filter}
 use Rattle.std.specs.Prelude.{map, sum, sum_by, slice_index, take, All, IsPermutation, Option, Some, None, is_some}
 use Rattle.std.specs.List.{flat_map, range_with_len}

@@ -1,4 +1,4 @@
--- The rows of one pair's messages, open order by open order.
+-- Advice: the rows of one pair's exception messages, open order by open order.
 use Rattle.std.specs.Prelude.{◌≡◌, ℕ, ◌<◌, ◌≤◌, if◌then◌else◌, List, [], length, sum_by, All, Option, Some, None}
 use Rattle.std.specs.Prelude.{IfSome}
 use Rattle.std.specs.List.{flat_map}

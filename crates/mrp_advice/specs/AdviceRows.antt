@@ -1,4 +1,4 @@
--- The report of exception messages for open orders.
+-- Advice: the report of exception messages for open orders.
 use Rattle.std.specs.Prelude.{ℕ, List, [], ◌∷◌, ◌++◌, decimal, codes as text_bytes, Option}
 use Rattle.std.specs.List.{flat_map}
 use Rattle.mrp_netting.specs.PlanRows.{PlanRows}

@@ -1,4 +1,4 @@
--- The report as a sheet: what a reader of comma-separated values has to find in it.
+-- Advice: the report of exception messages as a sheet, and what a reader of comma-separated values has to find in it.
 use Rattle.std.specs.Prelude.{ℕ, List, ◌++◌, map, Option}
 use Rattle.std.specs.List.{flat_map}
 use Rattle.mrp_netting.specs.PlanRows.{PlanRows}

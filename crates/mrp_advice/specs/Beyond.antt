@@ -1,4 +1,4 @@
--- Messages where a plan is whole in its first periods alone: behind these, what is wanted behind the horizon may change
+-- Advice where a plan is whole in its first periods alone: behind these, what is wanted behind the horizon may change
 -- when an order is needed, or whether it is.
 use Rattle.std.specs.Prelude.{ℕ, nat_lt, Bool, false, if◌then◌else◌, List, slice_index, Option, Some, None, option_map}
 use Rattle.std.specs.Borrow.{Bor}

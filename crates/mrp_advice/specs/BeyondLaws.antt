@@ -1,4 +1,4 @@
--- Laws of messages where the whole periods are given: whatever a table that goes on wants behind the horizon, it has the
+-- Advice where the whole periods are given, laws: whatever a table that goes on wants behind the horizon, it has the
 -- same messages, but for orders of which it isn't known yet when they are needed.
 use Rattle.std.specs.Prelude.{◌≡◌, ◌≢◌, ℕ, ◌<◌, true, false, List, length, slice_index, All, Contains, Option, Some, None}
 use Rattle.mrp_netting.specs.PlanRows.{PlanRows}

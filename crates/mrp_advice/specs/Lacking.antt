@@ -1,4 +1,5 @@
--- What periods lack beside open orders, and how long the open orders of a sort last while they are gone through.
+-- Advice: what periods lack beside open orders, and how long the open orders of a sort
+-- last while they are gone through.
 use Rattle.std.specs.Prelude.{◌≡◌, ℕ, ◌+◌, ◌-◌, ◌<◌, ◌≤◌, suc, nat_lt, Bool, true, false, List, length, sum, take}
 use Rattle.std.specs.Prelude.{slice_index, Option}
 use Rattle.std.specs.List.{find, range_with_len}

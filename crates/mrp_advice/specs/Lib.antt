@@ -1,3 +1,4 @@
+-- Advice: exception messages for open orders, and when these are needed.
 pub mod OpenOrders
 pub mod Needed
 pub mod PlainNeeds

@@ -1,7 +1,8 @@
--- When an open order is needed: in the first period in which what the pair has before it is less than what is asked.
--- Receipts that may be counted sooner than they come go by themselves, and so do the other open orders: before one of
--- a sort are had those of its sort that come before it. Of the other sort are had before a receipt those that come by
--- the period, and before another order as many as are short of the receipts that may be counted by then.
+-- Advice: when an open order is needed, by which it has an exception message or none: in the first period in which
+-- what the pair has before it is less than what is asked. Receipts that may be counted sooner than they come go by
+-- themselves, and so do the other open orders: before one of a sort are had those of its sort that come before it. Of
+-- the other sort are had before a receipt those that come by the period, and before another order as many as are short
+-- of the receipts that may be counted by then.
 use Rattle.std.specs.Prelude.{ℕ, ◌+◌, suc, ◌&&◌, nat_le, nat_lt, Bool, true, false, if◌then◌else◌, min, List, length}
 use Rattle.std.specs.Prelude.{take, sum, sum_by, Option, Some, None}
 use Rattle.std.specs.List.{find, range_with_len}

@@ -1,5 +1,5 @@
--- The open orders of a pair: the receipts and the shipments of the table, which are still to come in, and its firm
--- planned orders.
+-- Advice: the open orders of a pair that it is for, which are the receipts and the shipments of the table, still to
+-- come in, and its firm planned orders.
 use Rattle.std.specs.Prelude.{ℕ, ◌==◌, ◌&&◌, nat_le, Bool, true, false, List, ◌++◌, map, filter, slice_index_or, Option}
 use Rattle.std.specs.Prelude.{Some, None}
 use Rattle.std.specs.List.{flat_map, range_with_len}

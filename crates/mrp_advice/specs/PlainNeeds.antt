@@ -1,4 +1,4 @@
--- When an open order of a pair without a policy is needed.
+-- Advice: when an open order of a pair without a policy is needed.
 use Rattle.std.specs.Prelude.{ℕ, ◌+◌, Bool, nat_lt, List, length, take, sum, sum_by, Option}
 use Rattle.std.specs.List.{find, range_with_len}
 use Rattle.mrp_master_data.specs.declared.rows.PairRow.{PairRow}

@@ -1,4 +1,4 @@
--- Open orders that were gone through by hand, and the periods in which they are needed.
+-- Advice: open orders that were gone through by hand, and the periods in which they are needed.
 use Rattle.std.specs.Prelude.{◌≡◌, ℕ, List, [], ◌∷◌, length, map, Option, Some, None}
 use Rattle.std.specs.List.{range_with_len}
 use Rattle.mrp_netting.specs.PlanningData.{PairData, no_policy}

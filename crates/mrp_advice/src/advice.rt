@@ -1,4 +1,4 @@
-//! What a message says of an open order.
+//! Advice: what an exception message says of an open order, to expedite, defer or cancel it.
 
 ghost use Rattle.std.specs.Prelude.{◌≡◌};
 ghost use Rattle.mrp_advice.specs.Actions.{action_for, advice_for};

@@ -1,5 +1,5 @@
-//! Laws of open orders, of when they are needed, and of the report of their messages. Each is the contract of
-//! a function that does nothing.
+//! Advice: laws of open orders, of when they are needed, and of the report of their exception messages. Each is the
+//! contract of a function that does nothing.
 
 ghost use Rattle.mrp_advice.specs.AdviceLaws.{AdviceIsReadBack, AllAreAdvised, CancelledOrdersChangeNothing};
 ghost use Rattle.mrp_advice.specs.AdviceLaws.{CountedSoonerIsExpedited, ExpeditedIsCountedSooner};

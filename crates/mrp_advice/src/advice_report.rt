@@ -1,4 +1,4 @@
-//! The advice rows: each open order that isn't due in the period in which it is needed.
+//! Advice: its rows, an exception message for each open order that isn't due in the period in which it is needed.
 
 ghost use Rattle.std.specs.Prelude.{◌≡◌, ◌+◌, ◌≤◌, ◌++◌, Err, OnOk, IfOk, IfErr, IfSome, if◌then◌else◌, length};
 ghost use Rattle.mrp_qty.specs.declared.quantity.TheConstants.{MOST};

@@ -1,4 +1,4 @@
-//! Messages where a plan is whole in its first periods alone.
+//! Advice where a plan is whole in its first periods alone.
 
 ghost use Rattle.std.specs.Prelude.{◌≡◌, IfSome, length};
 ghost use Rattle.mrp_master_data.specs.Table.{IsPair};

@@ -1,4 +1,4 @@
-//! Laws of messages where the whole periods are given. Each is the contract of a function that does nothing.
+//! Advice where the whole periods are given, laws. Each is the contract of a function that does nothing.
 
 ghost use Rattle.mrp_advice.specs.BeyondLaws.{MessagesStay, NeedsStay, OthersAreNotNeeded};
 

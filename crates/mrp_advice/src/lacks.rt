@@ -1,4 +1,4 @@
-//! What the periods of a pair lack beside its open orders.
+//! Advice: what the periods of a pair lack beside its open orders.
 
 ghost use Rattle.std.specs.Prelude.{◌≡◌, ℕ, ◌+◌, ◌<◌, ◌≤◌, true, false, IfOk, length, slice_index, sum, take};
 ghost use Rattle.mrp_qty.specs.declared.quantity.TheConstants.{MOST};

@@ -1,4 +1,5 @@
-//! Exception messages for open orders, firm planned orders among them: which to expedite, to defer and to cancel.
+//! Advice, the exception messages for open orders, firm planned orders among them: which to
+//! expedite, to defer and to cancel.
 //!
 //! A message changes no plan: the plan takes each open order in the period that its row says, but for receipts
 //! that the policy of their pair lets it count sooner. A row of the report ends with a line feed, and the names of

@@ -1,4 +1,4 @@
-//! Open orders: what is to come in, firm planned orders among it.
+//! Advice: the open orders that exception messages are for, what is to come in, firm planned orders among it.
 
 ghost use Rattle.std.specs.Prelude.{◌≡◌};
 ghost use Rattle.mrp_advice.specs.Needed.{may_come_sooner};

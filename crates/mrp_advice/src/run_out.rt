@@ -1,4 +1,4 @@
-//! When the open orders of a pair are needed, one after the other.
+//! Advice: when the open orders of a pair are needed, one after the other.
 
 ghost use Rattle.std.specs.Prelude.{◌≡◌, ◌+◌, ◌≤◌, if◌then◌else◌};
 ghost use Rattle.mrp_qty.specs.declared.quantity.TheConstants.{MOST};

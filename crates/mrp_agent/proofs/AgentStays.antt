@@ -1,4 +1,4 @@
--- What an agent shows depends on its own lanes and pairs alone.
+-- The agent: what it shows depends on its own lanes and pairs alone.
 use Rattle.std.proofs.Common.{◌≡◌, ℕ, ◌+◌, ◌-◌, ◌<◌, true, List, [], ◌∷◌, ◌++◌, length, get_or, map, refl, sym, ap, ◌∙◌, subst, All}
 use Rattle.std.specs.List.{flat_map, range_with_len}
 use Rattle.std.proofs.lemmas.List.Elements.{All-filter, All-contains, All-head, All-tail}

@@ -1,4 +1,4 @@
--- What one record more of a lane brings, and what sums over the lanes become by it.
+-- The agent: what it adds up with one record more of a lane, and what sums over its lanes become by it.
 use Rattle.std.proofs.Common.{◌≡◌, ℕ, zero, suc, ◌+◌, ◌<◌, ◌≤◌, ◌==◌, eqb, cond, Bool, false, ◌||◌, List, [], ◌∷◌, ◌++◌, inl, inr, length, get_or, refl, ap}
 use Rattle.std.proofs.Common.{◌∙◌, arith, append-nil}
 use Rattle.std.specs.List.{count_by, sum_by, list_any, filter_map}

@@ -1,4 +1,4 @@
--- What the releases of a pair's parents ask of it, whatever each of them asks.
+-- The agent: in its draft, what the releases of a pair's parents ask, whatever each of them asks.
 use Rattle.std.proofs.Common.{◌≡◌, ℕ, ◌+◌, ◌<◌, ◌≤◌, List, length, map, sum, sum_by, slice_index, get_or, take, refl, ap, ◌∙◌, arith}
 use Rattle.std.specs.List.{All, range_with_len}
 use Rattle.std.proofs.lemmas.List.Elements.{All-from_get_or}

@@ -1,4 +1,4 @@
--- What an agent's method of booking knows.
+-- The agent: what its method of booking knows.
 use Rattle.std.proofs.Common.{◌≡◌, ℕ, ◌<◌, Bool, Some, IfSome, List, [], ◌∷◌, ◌++◌, length, get_or, set, sym, ap, ◌∙◌, subst, arith}
 use Rattle.std.proofs.lemmas.List.{get_or_default, get_or_read}
 use Rattle.mrp_master_data.specs.declared.numbers.ItemNo.{ItemNo}

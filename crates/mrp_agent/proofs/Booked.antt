@@ -1,4 +1,4 @@
--- What an agent shows after a record was booked.
+-- The agent: what it shows after a record was booked.
 use Rattle.std.proofs.Common.{◌≡◌, ℕ, ◌+◌, ◌-◌, ◌*◌, ◌<◌, eqb, Bool, true, false, cond, Option, Some, None, IfSome, List, [], ◌∷◌, ◌++◌, inl, inr, length}
 use Rattle.std.proofs.Common.{get_or, map, refl, sym, ap, ◌∙◌, subst, arith}
 use Rattle.std.specs.List.{Contains, fold, sum_by, filter_map, list_any, range_with_len}

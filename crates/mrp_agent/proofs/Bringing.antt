@@ -1,4 +1,4 @@
--- What an agent knows of a record that it books.
+-- The agent: what it knows of a record that it books.
 use Rattle.std.proofs.Common.{◌≡◌, ℕ, suc, ◌+◌, ◌*◌, ◌<◌, ◌==◌, eqb, Bool, true, false, Option, Some, None, List, [], ◌∷◌, inl, inr, length, get_or, set, map}
 use Rattle.std.proofs.Common.{position, refl, sym, ap, ◌∙◌, subst, arith}
 use Rattle.std.specs.Prelude.{IsSomeAnd}

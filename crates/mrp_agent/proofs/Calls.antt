@@ -1,4 +1,4 @@
--- What an agent's methods of sending know.
+-- The agent: what its methods of sending know.
 use Rattle.std.proofs.Common.{◌≡◌, ℕ, ◌-◌, ◌<◌, ◌≤◌, Option, Some, None, option_map, IfSome, IfNone, List}
 use Rattle.std.proofs.Common.{length, get_or, set, refl, sym, ap, ◌∙◌, subst, arith, rules}
 use Rattle.std.specs.List.{Contains}

@@ -1,4 +1,4 @@
--- An agent may go to another thread, and threads may share one.
+-- The agent may go to another thread, and threads may share one.
 use denote.Param.Send.{IsSend, IsSync, recorded_send, recorded_sync, struct_send, struct_sync, view_send, view_sync}
 use denote.Struct.Declared.{shape}
 use Rattle.mrp_plant_view.proofs.Crossing.{frame_send, frame_sync}

@@ -1,4 +1,4 @@
--- What an agent drafts for a pair for which nothing is missing is the network's plan of it.
+-- The agent: what it drafts for a pair for which nothing is missing is the network's plan of it.
 use Rattle.std.proofs.Common.{◌≡◌, ℕ, ◌+◌, ◌<◌, ◌≤◌, ◌==◌, List, length, get_or, sum, slice_index, refl, sym, ap, ◌∙◌, subst, arith}
 use Rattle.std.specs.List.{Contains, filter, range_with_len}
 use Rattle.std.proofs.lemmas.Bool.{eqb-true}

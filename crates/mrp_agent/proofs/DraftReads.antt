@@ -1,4 +1,4 @@
--- What a call reads of an agent to draft a pair, and what is drafted from that.
+-- The agent: what a call reads of it to draft a pair, and what is drafted from that.
 use Rattle.std.proofs.Common.{◌≡◌, ℕ, List, [], length, slice_index_or, sym, ap, ◌∙◌, subst, arith}
 use Rattle.std.specs.List.{All}
 use Rattle.mrp_netting.specs.PlanRows.{PlanRows}

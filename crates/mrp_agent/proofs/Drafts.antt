@@ -1,4 +1,4 @@
--- What an agent drafts from is what its state says.
+-- The agent: what it drafts from is what its state says.
 use Rattle.std.proofs.Common.{◌≡◌, ℕ, zero, suc, ◌+◌, ◌-◌, ◌*◌, ◌<◌, ◌≤◌, ◌==◌, eqb, cond, if◌then◌else◌, Bool, true, false, List, [], ◌∷◌, inl, inr, length}
 use Rattle.std.proofs.Common.{get_or, map, sum_by, slice_index, slice_range, take, drop, refl, sym, ap, ◌∙◌, subst, arith}
 use Rattle.std.specs.List.{All, filter, range_with_len}

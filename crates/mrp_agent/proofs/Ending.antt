@@ -1,4 +1,4 @@
--- How many blocks are open after a record: one fewer of a pair after its item's end, and else as many.
+-- The agent: how many blocks it awaits after a record, one fewer of a pair after its item's end, and else as many.
 use Rattle.std.proofs.Common.{◌≡◌, ℕ, ◌+◌, ◌<◌, ◌==◌, eqb, cond, Bool, true, false, ◌&&◌, ◌||◌, not, Option, Some, IfSome, List, [], ◌∷◌, ◌++◌, inl, inr}
 use Rattle.std.proofs.Common.{length, get_or, position, refl, sym, ap, ◌∙◌, subst, arith, rules}
 use Rattle.std.specs.List.{count_by, sum_by, flat_map}

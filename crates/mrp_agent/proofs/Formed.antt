@@ -1,4 +1,4 @@
--- What is legal on a lane that comes in is in the form by which its receiver books it.
+-- The agent: what is legal on a lane that comes in is in the form by which the agent books it.
 use Rattle.std.proofs.Common.{◌≡◌, ℕ, Bool, List, sym, ap, ◌∙◌, subst}
 use Rattle.mrp_master_data.specs.Table.{Table, horizon}
 use Rattle.mrp_net.specs.Lanes.{lane_at}

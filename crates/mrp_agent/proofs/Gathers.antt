@@ -1,4 +1,4 @@
--- How the plans of all plants are gathered.
+-- The agents of all plants: how their plans are gathered.
 use Rattle.std.proofs.Common.{◌≡◌, ◌⊎◌, inl, inr, ℕ, ◌+◌, ◌-◌, ◌<◌, ◌==◌, Bool, cond, List, [], ◌∷◌, ◌++◌, length, get_or, set, take, drop, map, reverse}
 use Rattle.std.proofs.Common.{Option, None, Some, Vec, Global, refl, sym, ap, subst, ◌∙◌, arith, append_assoc, append-nil, length-append, add-one}
 use Rattle.std.specs.List.{range_with_len, filter}

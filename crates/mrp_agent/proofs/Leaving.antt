@@ -1,4 +1,4 @@
--- What an agent has left to send is what is left of its goods.
+-- The agent: what it has left to send is what is left of its goods.
 use Rattle.std.proofs.Common.{◌≡◌, ℕ, zero, suc, ◌+◌, ◌-◌, ◌<◌, ◌≤◌, ◌==◌, eqb, Bool, true, Option, Some, None, option_map, List, [], ◌∷◌, inl, inr, length}
 use Rattle.std.proofs.Common.{get_or, map, drop, refl, sym, ap, ◌∙◌, subst, arith, add-one}
 use Rattle.std.specs.List.{Contains, count_by, filter, find, position_or_len, range_with_len, slice_get}

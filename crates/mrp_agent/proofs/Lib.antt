@@ -1,3 +1,4 @@
+-- The agent of one plant, proofs.
 pub mod AgentStays
 pub mod Arriving
 pub mod Asked

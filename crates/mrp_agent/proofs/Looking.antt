@@ -1,4 +1,4 @@
--- Places that are looked for.
+-- The agent: places that it looks for among its lanes and pairs.
 use Rattle.std.proofs.Common.{◌≡◌, ℕ, zero, suc, ◌+◌, ◌<◌, ◌≤◌, ltb, Bool, true, false, cond, Some, None, List, [], ◌∷◌, inl, inr, length, get_or, position}
 use Rattle.std.proofs.Common.{unwrap_or, refl, sym, ap, ◌∙◌, arith}
 use Rattle.std.specs.List.{Contains, count_by, position_or_len}

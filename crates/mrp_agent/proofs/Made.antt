@@ -1,4 +1,4 @@
--- What an agent is made of.
+-- The agent: what it is made of.
 use Rattle.std.proofs.Common.{◌≡◌, ℕ, zero, suc, ◌+◌, ◌<◌, ◌≤◌, ◌==◌, eqb, cond, Bool, true, false, List, [], ◌∷◌, ◌++◌, inl, inr, length, get_or, map, take}
 use Rattle.std.proofs.Common.{refl, sym, ap, ◌∙◌, subst, arith, rules, append_assoc}
 use Rattle.std.specs.List.{All, AllByRecursion, IsDistinct, count_by, flat_map, list_any}

@@ -1,4 +1,4 @@
--- A pair is counted as planned.
+-- The agent: it counts a pair as planned, and what it keeps true by that.
 use Rattle.std.proofs.Common.{◌≡◌, ℕ, ◌+◌, ◌<◌, ◌≤◌, ◌==◌, ◌&&◌, nat_lt, if◌then◌else◌, Bool, true, false, [], ◌∷◌, ◌++◌, Option, Some, None, List, length}
 use Rattle.std.proofs.Common.{get_or, map, slice_index, slice_range, slice_get, refl, sym, ap, ◌∙◌, subst, arith}
 use Rattle.std.specs.List.{All, filter, fold}

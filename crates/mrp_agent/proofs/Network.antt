@@ -1,4 +1,4 @@
--- An agent's plans are those of the network, and what it sends is what the network's lanes carry.
+-- The agent: its plans are those of the network, and what it sends is what the network's lanes carry.
 use Rattle.std.proofs.Common.{◌≡◌, ℕ, ◌<◌, length, sym, subst}
 use Rattle.std.specs.List.{All, Contains}
 use Rattle.mrp_master_data.specs.Table.{Table}

@@ -1,4 +1,4 @@
--- Nothing is missing for a pair that can be planned, and its draft is the plan by what has come.
+-- The agent: nothing is missing for a pair that it can plan, and its draft is the plan by what has come.
 use Rattle.std.proofs.Common.{◌≡◌, ℕ, ◌+◌, ◌<◌, ◌≤◌, ◌==◌, if◌then◌else◌, Bool, true, false, List, length, get_or, map, refl, sym, ap, ◌∙◌, subst, arith}
 use Rattle.std.specs.List.{All, Contains, count_by}
 use Rattle.std.proofs.lemmas.Bool.{eq-eqb, eqb-true}

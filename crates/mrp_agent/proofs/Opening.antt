@@ -1,4 +1,4 @@
--- What an agent shows at first: nothing has come, nothing was sent, and no pair is planned.
+-- The agent: what it shows at first. Nothing has come, nothing was sent, and no pair is planned.
 use Rattle.std.proofs.Common.{◌≡◌, ℕ, zero, suc, ◌+◌, ◌<◌, ◌≤◌, ◌^◌, ◌==◌, ◌&&◌, eqb, cond, not, Bool, false, List, [], ◌∷◌, ◌↔◌, inl, inr, length, get_or, map}
 use Rattle.std.proofs.Common.{replicate, refl, sym, ap, ◌∙◌, subst, arith}
 use Rattle.std.specs.List.{All, Contains, count_by, flat_map, sum_by}

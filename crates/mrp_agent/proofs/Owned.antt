@@ -1,4 +1,4 @@
--- The lanes that a plant sees are its own.
+-- The agent: the lanes that it sees are its plant's own.
 use Rattle.std.proofs.Common.{ℕ, length}
 use Rattle.std.specs.List.{All, filter}
 use Rattle.std.proofs.lemmas.List.Elements.{All-map}

@@ -1,4 +1,4 @@
--- The places of the plant's own pairs.
+-- The agent: the places that it has for its plant's own pairs.
 use Rattle.std.proofs.Common.{◌≡◌, ℕ, ◌<◌, ◌==◌, eqb, Option, Some, IsSome, length, position, rules, sym, ap, ◌∙◌, subst}
 use Rattle.std.proofs.lemmas.Bool.{eq-eqb}
 use Rattle.mrp_master_data.specs.declared.numbers.PairNo.{PairNo}

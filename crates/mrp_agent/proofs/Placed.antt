@@ -1,4 +1,4 @@
--- The lanes of a plant of a network have a place in what it sees.
+-- The agent: the lanes of its plant have a place in what it sees.
 use Rattle.std.proofs.Common.{◌≡◌, ℕ, ◌<◌, ◌==◌, length, refl, sym, ap, ◌∙◌, subst, All, Contains}
 use Rattle.std.specs.List.{filter}
 use Rattle.std.proofs.lemmas.Bool.{eqb-true, eq-eqb}

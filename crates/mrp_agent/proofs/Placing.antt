@@ -1,4 +1,4 @@
--- A pair of the plant stands at a place of an agent.
+-- The agent: a pair of its plant stands at a place of it.
 use Rattle.std.proofs.Common.{◌≡◌, ℕ, ◌<◌, ◌==◌, Option, Some, length, position, sym, subst, arith}
 use Rattle.std.specs.List.{Contains}
 use Rattle.mrp_netting.specs.PlanningBound.{IsWithinData}

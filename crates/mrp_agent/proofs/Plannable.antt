@@ -1,4 +1,4 @@
--- Which of the plant's pairs can be planned, as calls answer it.
+-- The agent: which of its plant's pairs it can plan, as its calls answer it.
 use Rattle.std.proofs.Common.{◌≡◌, ◌↔◌, ℕ, Bool, Option, IfSome, IfNone, List, [], ◌∷◌, sym, subst, arith}
 use Rattle.std.specs.Prelude.{IsTrue}
 use Rattle.std.specs.List.{All, Contains, slice_get}

@@ -1,4 +1,4 @@
--- An agent after one of its pairs is planned.
+-- The agent: after one of its pairs is planned.
 use Rattle.std.proofs.Common.{◌≡◌, ℕ, ◌+◌, ◌<◌, Bool, true, List, length, get_or, set, get_or-set_same, sym, ap, ◌∙◌, arith}
 use Rattle.std.specs.List.{Contains}
 use Rattle.mrp_master_data.specs.declared.numbers.PairNo.{PairNo}

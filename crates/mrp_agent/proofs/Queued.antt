@@ -1,4 +1,4 @@
--- What the cursors of lanes show after a pair is planned.
+-- The agent: what the cursors of its lanes show after it has planned a pair.
 use Rattle.std.proofs.Common.{◌≡◌, ◌↔◌, ℕ, zero, suc, ◌-◌, ◌<◌, eqb, Bool, true, false, Option, Some, None, List, [], ◌∷◌, inl, inr, length, get_or, map}
 use Rattle.std.proofs.Common.{slice_index, refl, sym, ap, ◌∙◌, subst, arith}
 use Rattle.std.specs.List.{Contains}

@@ -1,4 +1,4 @@
--- A pair that is planned is queued on each schedule lane that has its item.
+-- The agent: a pair that it has planned is queued on each schedule lane that has its item.
 use Rattle.std.proofs.Common.{◌≡◌, ℕ, zero, suc, ◌+◌, ◌<◌, ◌≤◌, ◌==◌, eqb, cond, Bool, true, Option, Some, None, List, [], ◌∷◌, ◌++◌, inl, inr, length, get_or}
 use Rattle.std.proofs.Common.{map, set, refl, sym, ap, ◌∙◌, subst, arith, add-one, append_assoc}
 use Rattle.std.specs.List.{All, count_by, filter, flat_map, fold, position_or_len, range_with_len}

@@ -1,4 +1,4 @@
--- What the calls that read an agent say of each history that it shows.
+-- The agent: what the calls that read it say of each history that it shows.
 use Rattle.std.proofs.Common.{◌≡◌, ℕ, zero, suc, ◌<◌, ◌≤◌, ◌==◌, eqb, cond, not, ◌&&◌, Bool, true, false, Option, Some, None, option_map, List, [], ◌∷◌, ◌↔◌}
 use Rattle.std.proofs.Common.{inl, inr, length, get_or, map, position, refl, sym, ap, ◌∙◌, subst, arith}
 use Rattle.std.specs.Prelude.{IsSome, IsTrue, option_and_then}

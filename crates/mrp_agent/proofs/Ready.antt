@@ -1,4 +1,4 @@
--- A pair stands among those that can be planned where its place does.
+-- The agent: a pair stands among those that it can plan where the pair's place does.
 use Rattle.std.proofs.Common.{◌≡◌, ℕ, ◌<◌, ◌==◌, List, length, get_or, map, slice_index, sym, ap, ◌∙◌, subst, arith}
 use Rattle.std.specs.List.{Contains}
 use Rattle.std.proofs.lemmas.Bool.{eq-eqb, eqb-true}

@@ -1,4 +1,4 @@
--- The plans of an agent after one more pair is planned.
+-- The agent: its plans after one more pair is planned.
 use Rattle.std.proofs.Common.{◌≡◌, ℕ, ◌+◌, ◌==◌, eqb, cond, if◌then◌else◌, Bool, true, false, List, [], ◌∷◌, inl, inr, set, sum_by, refl, sym}
 use Rattle.std.proofs.Common.{ap, ◌∙◌, arith}
 use Rattle.std.specs.List.{All, Contains}

@@ -1,4 +1,4 @@
--- The drafts of the pairs that can be planned stay as they are when one of them is planned.
+-- The agent: the drafts of the pairs that it can plan stay as they are when it has planned one of them.
 use Rattle.std.proofs.Common.{◌≡◌, ℕ, ◌+◌, true, false, List, get_or, set, sym, ap, ◌∙◌, subst}
 use Rattle.std.specs.List.{All, Contains}
 use Rattle.std.proofs.lemmas.Bool.{both_ways}

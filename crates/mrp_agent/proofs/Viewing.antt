@@ -1,4 +1,4 @@
--- What a plant of a sized network sees is all that its agent needs to begin.
+-- The agent: what a plant of a sized network sees is all that its agent needs to begin.
 use Rattle.std.proofs.Common.{ℕ, ◌≤◌, get_or}
 use Rattle.std.specs.List.{filter}
 use Rattle.std.proofs.lemmas.List.Elements.{All-map, Contains-get_or}

@@ -1,4 +1,4 @@
--- The pairs that wait for nothing are exactly those that can be planned.
+-- The agent: the pairs that wait for nothing there are exactly those that it can plan.
 use Rattle.std.proofs.Common.{◌≡◌, ◌≢◌, ◌↔◌, ℕ, ◌<◌, eqb, Bool, true, List, length, get_or, map, refl, sym, ap, ◌∙◌, subst, arith}
 use Rattle.std.specs.List.{All, AllPairs, Contains}
 use Rattle.std.proofs.lemmas.Bool.{eq-eqb}

@@ -1,4 +1,4 @@
--- The state of an agent after a record is sent or booked, or a pair's plan is settled.
+-- The agent: its state after a record is sent or booked, or a pair's plan is settled.
 use Rattle.std.specs.Prelude.{◌≡◌, ℕ, ◌+◌, ◌*◌, ◌<◌, nat_lt, if◌then◌else◌, true, List, length}
 use Rattle.std.specs.Prelude.{map, Contains, position, slice_index, slice_index_or, slice_set, ◌==◌, Option, None, Some}
 use Rattle.mrp_netting.specs.PlanRows.{PlanRows}

@@ -1,4 +1,4 @@
--- What the releases of a pair's parents ask of it, by places, and what its plan is drafted from.
+-- The agent: what it drafts the plan of a pair from, which is what the releases of its parents ask of it, by places.
 use Rattle.std.specs.Prelude.{◌≡◌, ℕ, ◌<◌, ◌≤◌, ◌+◌, List, length, map, sum_by, slice_index, slice_index_or, All}
 use Rattle.std.specs.List.{range_with_len}
 use Rattle.std.specs.List.Sorted.{IsNonDecreasingBy}

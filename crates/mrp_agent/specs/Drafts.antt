@@ -1,4 +1,4 @@
--- What an agent drafts for a pair: the plan by the rows that it has.
+-- The agent: what it drafts for a pair, the plan by the rows that it has.
 use Rattle.std.specs.Prelude.{ℕ, ◌+◌, List, map, Contains}
 use Rattle.mrp_netting.specs.PlanRows.{PlanRows}
 use Rattle.mrp_netting.specs.PlanningData.{PairData, planned, one}

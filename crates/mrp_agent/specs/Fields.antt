@@ -1,4 +1,4 @@
--- What the fields of an agent say: the state that its callers see, and the indexes that it keeps with it.
+-- The agent: what its fields say, the state that its callers see, and the indexes that it keeps with it.
 use Rattle.std.specs.Prelude.{length}
 use Rattle.mrp_agent.specs.declared.agent.Agent.TheInside.{Inside}
 use Rattle.mrp_agent.specs.Kept.{Indexes}

@@ -1,4 +1,4 @@
--- The plans that the plants give.
+-- The agents of all plants: the plans that they give, to be gathered.
 use Rattle.std.specs.Prelude.{◌≡◌, ℕ, ◌<◌, List, Vec, length, map, filter, slice_index_or}
 use Rattle.std.specs.Global.{Global}
 use Rattle.std.specs.List.{range_with_len}

@@ -1,4 +1,4 @@
--- Which states of a network an agent shows as one of its plants, and when it works there.
+-- The agent: which states of a network it shows as one of its plants, and when it works there.
 use Rattle.std.specs.Prelude.{◌≡◌, ℕ}
 use Rattle.mrp_master_data.specs.Table.{Table}
 use Rattle.mrp_plant_view.specs.Seen.{IsView}

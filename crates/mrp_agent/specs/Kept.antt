@@ -1,4 +1,4 @@
--- What stays true of an agent, and its indexes.
+-- The agent: what stays true of its fields, and of the indexes that it keeps with them.
 use Rattle.std.specs.Prelude.{◌≡◌, ℕ, ◌*◌, ◌<◌, ◌≤◌, List, length, map, slice_index_or, All}
 use Rattle.std.specs.List.{range_with_len}
 use Rattle.mrp_netting.specs.PlanRows.{PlanRows}

@@ -1,4 +1,4 @@
--- Laws of agents in a network: what they plan is its plan, and what they send is what its lanes carry.
+-- The agent in a network, laws: what agents plan is its plan, and what they send is what its lanes carry.
 use Rattle.std.specs.Prelude.{◌≡◌, ℕ, ◌<◌, true, [], ◌∷◌, ◌++◌, length}
 use Rattle.mrp_netting.specs.PlanningBound.{IsWithinData}
 use Rattle.mrp_master_data.specs.Table.{Table, IsTable}

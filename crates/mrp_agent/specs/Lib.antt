@@ -1,3 +1,4 @@
+-- The agent of one plant, as contracts see it.
 pub mod After
 pub mod Asking
 pub mod Drafts

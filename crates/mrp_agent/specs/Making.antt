@@ -1,4 +1,4 @@
--- What an agent is made of.
+-- The agent: what it is made of.
 use Rattle.std.specs.Prelude.{◌≡◌, ℕ, ◌<◌, ◌^◌, false, List, [], length, map, replicate, slice_index, slice_index_or}
 use Rattle.std.specs.List.{flat_map, range_with_len}
 use Rattle.mrp_net.specs.declared.lane.LaneKind.{LaneKind}

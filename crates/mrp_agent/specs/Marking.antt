@@ -1,4 +1,4 @@
--- The state of an agent after a pair is counted as planned.
+-- The agent: its state after a pair is counted as planned.
 use Rattle.std.specs.Prelude.{◌≡◌, ℕ, slice_index_or}
 use Rattle.mrp_agent.specs.State.{AgentState, no_plant_pair}
 use Rattle.mrp_agent.specs.Shows.{joins_of}

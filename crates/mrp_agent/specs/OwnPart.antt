@@ -1,4 +1,4 @@
--- The part of a state that is a plant's own: its lanes and its pairs.
+-- The agent: the part of a state that is its own, the lanes and the pairs of its plant.
 use Rattle.std.specs.Prelude.{◌≡◌, ℕ, ◌<◌, length}
 use Rattle.mrp_master_data.specs.Table.{Table}
 use Rattle.mrp_net.specs.Lanes.{lanes, lane_at}

@@ -1,4 +1,4 @@
--- Where the pairs of a plant are queued once they are planned, and the cursors of lanes on which they are.
+-- The agent: where it queues the pairs of its plant once they are planned, and the cursors of lanes on which they are.
 use Rattle.std.specs.Prelude.{ℕ, List, [], ◌∷◌, length, slice_index_or, slice_set, Option, None, Some}
 use Rattle.std.specs.List.{flat_map, range_with_len}
 use Rattle.mrp_master_data.specs.declared.numbers.ItemNo.{ItemNo}

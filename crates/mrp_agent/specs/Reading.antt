@@ -1,4 +1,4 @@
--- What the calls that read an agent say of each history that it shows.
+-- The agent: what the calls that read it say of each history that it shows.
 use Rattle.std.specs.Prelude.{◌≡◌, ◌==◌, ℕ, Bool, true, not, List, find, count_by, option_map, option_and_then, Option}
 use Rattle.std.specs.Prelude.{Some, Contains}
 use Rattle.mrp_master_data.specs.declared.numbers.ItemNo.{ItemNo}

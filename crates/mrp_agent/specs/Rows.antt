@@ -1,4 +1,5 @@
--- The rows of the pair at a place: its part of the amounts by pairs and periods, its edges and its usage rows.
+-- The agent: its rows of the pair at a place, which are its part of the amounts by pairs and
+-- periods, its edges and its usage rows.
 use Rattle.std.specs.Prelude.{ℕ, ◌+◌, ◌*◌, ◌==◌, List, [], map, filter, slice_index_or, slice_range}
 use Rattle.mrp_plant_view.specs.View.{PlantRows}
 use Rattle.mrp_agent.specs.declared.edges.ParentEdge.{ParentEdge}

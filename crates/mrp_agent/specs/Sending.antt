@@ -1,4 +1,4 @@
--- What an agent sends next on a lane, by the lane's place.
+-- The agent: what it sends next on a lane, by the lane's place.
 use Rattle.std.specs.Prelude.{ℕ, ◌-◌, ◌+◌, ◌≤◌, List, [], ◌∷◌, ◌++◌, length, map, find, slice_index, slice_get, Option}
 use Rattle.std.specs.Prelude.{None, Some, option_map}
 use Rattle.std.specs.List.{range_with_len}

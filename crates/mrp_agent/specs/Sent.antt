@@ -1,4 +1,4 @@
--- What calls of an agent's sending and booking promise of a lane at a place, for every history that it shows.
+-- The agent: what calls of its sending and booking promise of a lane at a place, for every history that it shows.
 use Rattle.std.specs.Prelude.{◌≡◌, ℕ, Bool, List, [], ◌∷◌, ◌++◌, Some}
 use Rattle.mrp_plant_view.specs.View.{PlantRows}
 use Rattle.mrp_record.specs.declared.record.Record.{Record}

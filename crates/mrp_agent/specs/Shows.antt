@@ -1,5 +1,5 @@
--- Which sent lists, taken lists and planned pairs an agent shows. `sent` and `taken` have the records of
--- each lane by the lane's number, `planned` says which pairs are planned, by the pair's number.
+-- The agent: which sent lists, taken lists and planned pairs it shows. `sent` and `taken` have the records of each
+-- lane by the lane's number, `planned` says which pairs are planned, by the pair's number.
 use Rattle.std.specs.Prelude.{◌≡◌, ◌↔◌, ℕ, ◌+◌, ◌-◌, ◌<◌, ◌^◌, ◌==◌, ◌&&◌, min, Bool, List, length, map, Contains}
 use Rattle.std.specs.List.{flat_map, list_all}
 use Rattle.mrp_net.specs.declared.lane.LaneKind.TheVariants.{Schedule}

@@ -1,5 +1,5 @@
--- What the agent of a plant keeps, by places: a lane has a place among those that come in or among those
--- that go out, and a pair one among the plant's pairs.
+-- The agent of a plant: what it keeps, by places. A lane has a place among those that come in or among those that go
+-- out, and a pair one among the plant's pairs.
 use Rattle.std.specs.Prelude.{ℕ, ◌==◌, false, List, [], slice_index_or, None}
 use Rattle.std.specs.List.{position_or_len}
 use Rattle.mrp_netting.specs.PlanRows.{PlanRows}

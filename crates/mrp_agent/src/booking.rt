@@ -1,4 +1,4 @@
-//! How an agent books a record that has come to it.
+//! The agent of a plant: how it books a record that has come to it.
 
 ghost use Rattle.std.specs.Prelude.{◌≡◌, ◌==◌, ◌*◌, ◌<◌, ◌≤◌, count_by, length, position, IfSome};
 ghost use Rattle.std.specs.List.{position_or_len};

@@ -1,5 +1,5 @@
-//! How the plan of a pair is drafted from what planners say of it, what comes in at its time, the demand from outside and
-//! its parents' plans.
+//! The agent: how it drafts the plan of a pair from what planners say of it, what comes in at its time, the demand
+//! from outside and its parents' plans.
 
 ghost use Rattle.std.specs.Prelude.{◌≡◌, ◌<◌, ◌≤◌, ◌+◌, ◌*◌, ℕ, [], All, length, map, slice_index, slice_index_or};
 ghost use Rattle.std.specs.List.Sorted.{IsNonDecreasingBy};

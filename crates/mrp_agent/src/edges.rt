@@ -1,4 +1,4 @@
-//! The edges of a plant by the places of its pairs, grouped by component.
+//! The agent: the edges among its pairs, by the places of the pairs, grouped by component.
 
 ghost use Rattle.std.specs.Prelude.{◌≡◌, ◌<◌, ◌≤◌, All, IfOk, length, map};
 ghost use Rattle.mrp_agent.specs.Kept.{parent_edge};

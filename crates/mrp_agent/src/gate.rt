@@ -1,4 +1,4 @@
-//! The gate that is asked before each turn of a plant and each work of a worker.
+//! The agent: the gate that is asked before each turn of its plant, and before each work of a worker of it.
 
 ghost use Rattle.std.specs.Prelude.{◌≡◌, ◌≤◌, ℕ, false, true};
 

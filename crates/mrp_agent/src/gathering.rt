@@ -1,4 +1,4 @@
-//! How the plans of all plants are gathered to the plan of the network.
+//! The agents of all plants: how their plans are gathered to the plan of the network.
 ghost use Rattle.std.specs.Prelude.{◌≡◌, ◌+◌, ◌<◌, IfOk, Some, length, reverse};
 ghost use Rattle.mrp_master_data.specs.Table.{IsPair};
 ghost use Rattle.mrp_net.specs.Plan.{plan_of, rows_at};

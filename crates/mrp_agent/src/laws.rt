@@ -1,4 +1,4 @@
-//! Laws of agents in a network. Each is the contract of a function that does nothing.
+//! The agent in a network, laws. Each is the contract of a function that does nothing.
 
 ghost use Rattle.mrp_agent.specs.Laws.{NothingLegalIsLeft, PlannedPairsHaveThePlan, SentIsLegal, SentIsWithin64};
 ghost use Rattle.mrp_agent.specs.Laws.{ViewsCanBePlanned, AgentDraftsAreThePlan, AgentDraftsAreWithin};

@@ -1,4 +1,4 @@
-//! One plant, which plans from its own view and from the records that come to it.
+//! The agent of one plant, which plans from the plant's own view and from the records that come to it.
 //!
 //! An agent is given what its plant sees and nothing else of the network. It books the records of the
 //! lanes that come in, plans a pair once nothing is missing for it, and sends what its plans and its

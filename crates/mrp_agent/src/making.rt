@@ -1,4 +1,4 @@
-//! The rooms that an agent is made of.
+//! The agent: the rooms that it is made of.
 
 ghost use Rattle.std.specs.Prelude.{◌≡◌, ℕ, ◌++◌, ◌<◌, ◌≤◌, ◌^◌, [], false, All, IfOk, length, map, replicate};
 ghost use Rattle.std.specs.List.{flat_map};

@@ -1,4 +1,4 @@
-//! The parts that an agent is made of.
+//! The agent: the parts that it is made of.
 
 ghost use Rattle.std.specs.Prelude.{◌≡◌, IfOk, length, map, replicate};
 ghost use Rattle.std.specs.List.{range_with_len};

@@ -1,4 +1,4 @@
-//! Where an item stands among those of a plant.
+//! The agent: where an item stands among those of its plant.
 
 ghost use Rattle.std.specs.Prelude.{◌≡◌, IfOk, map};
 

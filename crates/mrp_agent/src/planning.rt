@@ -1,4 +1,4 @@
-//! How an agent plans a pair that can be planned.
+//! The agent: how it plans a pair that can be planned.
 
 use crate::Agent;
 use crate::drafting::{pair_rows, planning_terms};

@@ -1,4 +1,4 @@
-//! Where the pairs of a plant are queued once they are planned.
+//! The agent: where it queues the pairs of its plant for sending once they are planned.
 
 ghost use Rattle.std.specs.Prelude.{◌≡◌, ◌++◌, ◌^◌, ◌<◌, IfOk, length};
 ghost use Rattle.mrp_agent.specs.Queues.{item_queues, lane_queues, queue_place, queue_places};

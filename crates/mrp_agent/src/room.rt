@@ -1,4 +1,4 @@
-//! What the plan of a pair is drafted in.
+//! The agent: the room in which it drafts the plan of a pair.
 
 ghost use Rattle.std.specs.Prelude.{◌≡◌, IfOk, length};
 ghost use Rattle.std.specs.Prelude.{All};

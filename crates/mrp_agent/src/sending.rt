@@ -1,4 +1,4 @@
-//! What an agent sends next on a lane, and how it goes on once that is sent.
+//! The agent: what it sends next on a lane, and how it goes on once that is sent.
 
 ghost use Rattle.std.specs.Prelude.{◌≡◌, ◌==◌, ◌<◌, ◌≤◌, count_by, length, position};
 ghost use Rattle.std.specs.List.{position_or_len};

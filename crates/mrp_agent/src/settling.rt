@@ -1,4 +1,4 @@
-//! How an agent keeps a plan that was drafted elsewhere.
+//! The agent: how it keeps a plan that was drafted elsewhere.
 
 ghost use Rattle.std.specs.Prelude.{◌≡◌, ◌<◌, All, fold, length};
 ghost use Rattle.mrp_agent.specs.Queues.{with_queued};

@@ -1,4 +1,4 @@
--- Where nothing is asked of a table, what a fault says of its bytes is the same.
+-- The library: where nothing is asked of a table, what a fault of a text function says of its bytes is the same.
 use Rattle.std.proofs.Common.{◌≡◌, ℕ, false, List, Option, None, Some, Result, Ok, Err, IfErr, option_map}
 use Rattle.csv.specs.Reading.{default_config, records, strip_bom}
 use Rattle.mrp_commands.specs.declared.reading.Reading.{Reading}

@@ -1,4 +1,5 @@
--- The table of bytes cut off, where it ends with its `end` row, is that of all of them.
+-- The library: for texts of a table's bytes, the table of bytes cut off, where it ends with its
+-- `end` row, is that of all of them.
 use Rattle.std.proofs.Common.{◌≡◌, ℕ, ◌==◌, ◌&&◌, Bool, true, false, if◌then◌else◌, List, [], ◌∷◌, ◌++◌, Some, Result, Ok, Err}
 use Rattle.std.proofs.Common.{refl, sym, ◌∙◌, subst}
 use Rattle.std.proofs.lemmas.Bool.{eqb-true}

@@ -1,4 +1,5 @@
--- What a fault of a run says of its gate, and that a gate that is always open is never answered as shut.
+-- The library: what the fault of a text function that runs threads says of its gate, and that a gate that is always
+-- open is never answered as shut.
 use Rattle.std.proofs.Common.{◌≡◌, ℕ, Bool, true, false, length, List, Option, Result, Ok, Err, IfErr, IsErrAnd, ⊎_elim, subst, sym, refl}
 use Rattle.std.proofs.lemmas.Bool.{false≢true}
 use Rattle.mrp_master_data.specs.Table.{Table}

@@ -1,3 +1,4 @@
+-- The library, proofs: of its text functions, from the bytes of a table to a report or a fault.
 pub mod LineFacts
 pub mod LoopNames
 pub mod NameFacts

@@ -1,4 +1,4 @@
--- Pieces of a line that are sent one after the other.
+-- The library: the line of a text function's fault, its pieces, sent one after the other.
 use Rattle.std.proofs.Common.{◌≡◌, ℕ, ◌+◌, ◌<◌, List, ◌++◌, Option, length, take, drop, get_or, subst, sym, ap, ◌∙◌, refl, Result, Ok, Err}
 use Rattle.std.proofs.lemmas.List.{take-append-drop, drop_more}
 use Rattle.std.proofs.lemmas.Grind.{flat_map-append}

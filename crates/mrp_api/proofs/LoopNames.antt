@@ -1,4 +1,4 @@
--- The pairs of a loop are pairs of the table.
+-- The library: for the fault of a text function that names a loop, its pairs are pairs of the table.
 use Rattle.std.proofs.Common.{ℕ, zero, suc, List, [], ◌∷◌, map, All, arith}
 use Rattle.mrp_master_data.specs.Table.{Table, IsTable, IsPair}
 use Rattle.mrp_master_data.specs.declared.numbers.PairNo.{PairNo}

@@ -1,4 +1,4 @@
--- The names of pairs, one after the other.
+-- The library: the names of pairs, one after the other, for the faults of a text function.
 use Rattle.std.proofs.Common.{ℕ, ◌+◌, ◌<◌, List, [], ◌∷◌, ◌++◌, length, map, take, get_or, subst, sym}
 use Rattle.std.proofs.lemmas.List.{map_more}
 use Rattle.mrp_master_data.specs.declared.numbers.PairNo.{PairNo}

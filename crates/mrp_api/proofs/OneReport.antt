@@ -1,5 +1,5 @@
--- The plan of a network that can be planned is one, and so is each report of a text; one that has a report is not refused.
--- A text that is cut off has no other report where its table has to be whole.
+-- The library: bytes of a table have one text of each report, as their plan is one, and those that have a report are
+-- not refused. A text that is cut off has no other report where its table has to be whole.
 use Rattle.std.proofs.Common.{◌≡◌, ℕ, Bool, true, false, List, ◌++◌, Option, Some, None, Ok, Err, refl, sym, ap, ◌∙◌, subst, ⊎_elim, arith}
 use Rattle.std.proofs.lemmas.Bool.{true≢false}
 use Rattle.csv.specs.Reading.{strip_bom, records, default_config}

@@ -1,4 +1,4 @@
--- What was written of a plan where memory was refused.
+-- The library: what a text function has written of a plan where memory was refused.
 use Rattle.std.proofs.Common.{◌≡◌, ◌≢◌, List, ℕ, Option, Result, Ok, Err, IfErr, inl, inr, ⊎_elim, subst, sym, refl}
 use Rattle.std.specs.Io.KnownBytes.{Appends}
 use Rattle.mrp_csv_out.specs.declared.fault.ReportFault.{ReportFault}

@@ -1,4 +1,4 @@
--- What became of a text that was sent, and what its refusals say.
+-- The library: what became of a text that a text function sent, and what its refusals say.
 use Rattle.std.proofs.Common.{◌≡◌, ℕ, List, ◌++◌, Option, None, Some, Result, Ok, Err, IfErr, inl, inr, ⊎_elim, subst, sym, refl}
 use Rattle.std.specs.Io.KnownBytes.{Appends, Keeps}
 use Rattle.mrp_commands.specs.declared.reading.Reading.{Reading}

@@ -1,4 +1,4 @@
--- What is answered to a choice of words.
+-- The library: what it answers to a choice, which report its text is.
 use Rattle.std.specs.Prelude.{◌≢◌, ◌≤◌, ℕ, true, false, List, Result, Ok, Err}
 use Rattle.mrp_master_data.specs.Table.{Table}
 use Rattle.mrp_commands.specs.declared.choice.Choice.{Choice}

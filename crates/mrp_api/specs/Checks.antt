@@ -1,5 +1,5 @@
--- The faults of a text that each step before a report may answer, and those that faults of the loop check and of the
--- bound are.
+-- The library: the faults of a text function that each step before a report may answer, and those that faults of the
+-- loop check and of the bound are.
 use Rattle.std.specs.Prelude.{ℕ, List, map, All, Err, Option, option_map}
 use Rattle.csv.specs.Reading.{strip_bom}
 use Rattle.mrp_commands.specs.declared.reading.Reading.{Reading}

@@ -1,4 +1,4 @@
--- With which status a program ends, and what it reports.
+-- The library: with which status a program that calls it ends, and what is reported then.
 use Rattle.std.specs.Prelude.{◌≡◌, ℕ, List, codes, Option, Some, None, Result, Ok, Err, IfErr}
 use Rattle.std.specs.declared.io.ErrorKind.{ErrorKind}
 use Rattle.std.specs.declared.io.ErrorKind.TheVariants as cause

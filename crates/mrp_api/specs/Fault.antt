@@ -1,4 +1,4 @@
--- What the faults of a text are called, and with which status the program ends.
+-- The library: what the faults of a text function are called, and with which status the program ends.
 use Rattle.std.specs.Prelude.{◌≡◌, ℕ}
 use Rattle.mrp_csv_out.specs.declared.fault.ReportFault.{ReportFault}
 use Rattle.mrp_csv_out.specs.declared.fault.ReportFault.TheVariants as report

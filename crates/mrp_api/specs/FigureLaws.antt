@@ -1,4 +1,5 @@
--- What two reports of one table say of each other: the cumulative figures and the delivery schedules.
+-- The library: what two of its texts of one table say of each other, the report of cumulative figures
+-- and that of delivery schedules.
 use Rattle.std.specs.Prelude.{◌≡◌, ◌+◌, All}
 use Rattle.mrp_master_data.specs.Table.{Table}
 use Rattle.mrp_net.specs.declared.lane.LaneKind.TheVariants.{Schedule}

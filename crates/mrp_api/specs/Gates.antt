@@ -1,4 +1,5 @@
--- What the end of a run by threads says of its gate and of the turns of its plants.
+-- The library: what the fault of a text function says of the gate and of the turns of the
+-- plants that it ran by threads.
 use Rattle.std.specs.Prelude.{◌≡◌, ℕ, ◌<◌, List, length, Some, slice_get, Result, IfErr, OnOk, string_bytes}
 use Rattle.mrp_master_data.specs.Table.{Table}
 use Rattle.mrp_run.specs.Faults.{AllTurned, WasShut, WasSpent}

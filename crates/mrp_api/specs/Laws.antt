@@ -1,4 +1,4 @@
--- What holds of the reports and refusals of one text.
+-- The library: what holds of its text functions' reports and refusals of one table's bytes.
 use Rattle.std.specs.Prelude.{◌≡◌, ◌↔◌, true, List, ◌++◌, ℕ, Some, Ok}
 use Rattle.csv.specs.Reading.{default_config, records, strip_bom}
 use Rattle.mrp_master_data.specs.Table.{Table}

@@ -1,3 +1,4 @@
+-- The library, from the bytes of a table to a report or a fault: what contracts of its text functions cite.
 pub mod Answer
 pub mod Checks
 pub mod Ending

@@ -1,4 +1,4 @@
--- The lines that faults are reported by.
+-- The library: the lines that faults of a text function are reported by.
 use Rattle.std.specs.Prelude.{ℕ, List, [], ◌∷◌, ◌++◌, decimal, codes, string_bytes, Option, Result, MatchResult}
 use Rattle.std.specs.Io.KnownBytes.{Appends}
 use Rattle.mrp_csv_out.specs.Sending.{AppendsPrefix}

@@ -1,4 +1,5 @@
--- What a refusal says of the bytes: the first fault of their rows, or what their table has or lacks.
+-- The library: what a text function's refusal says of the bytes, the first fault of their rows, or
+-- what their table has or lacks.
 use Rattle.std.specs.Prelude.{◌≡◌, ℕ, ◌<◌, ◌≤◌, ◌⊎◌, List, [], ◌∷◌, Option, Some, None, option_map, slice_get, length}
 use Rattle.std.specs.Prelude.{Contains, Err, false, string_bytes}
 use Rattle.csv.specs.Reading.{strip_bom}

@@ -1,4 +1,4 @@
--- The other reports: which text each function writes of the table.
+-- The library: its other reports than the plan's, and which text each text function writes of the table.
 use Rattle.std.specs.Prelude.{◌≡◌, ℕ, ◌<◌, ◌⊎◌, Bool, true, false, List, ◌++◌, Option, Some, None, Contains, Result, Err}
 use Rattle.std.specs.List.{list_any}
 use Rattle.std.specs.Str.{bytes_eq}

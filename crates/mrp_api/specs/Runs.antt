@@ -1,5 +1,5 @@
--- The faults of a text that a run by threads may answer, and the one that a fault of a run is, where there is memory
--- for the name of a plant.
+-- The library: the faults that a text function may answer from a run by threads, and the one that a fault of a run is,
+-- where there is memory for the name of a plant.
 use Rattle.std.specs.Prelude.{◌≡◌, ◌<◌, ◌≤◌, length, Some, slice_get, string_bytes}
 use Rattle.mrp_master_data.specs.Table.{Table}
 use Rattle.mrp_master_data.specs.declared.numbers.PlantNo.{PlantNo}

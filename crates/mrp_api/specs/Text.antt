@@ -1,4 +1,5 @@
--- The table of some bytes, the plan report of it, and what becomes of a text that is written.
+-- The library: what its text functions are about, the table of some bytes, the plan report of it, and what
+-- becomes of a text that is written.
 use Rattle.std.specs.Prelude.{◌≡◌, true, ℕ, ◌⊎◌, List, ◌++◌, Option, option_map, length, Result, Ok, Err}
 use Rattle.std.specs.Io.KnownBytes.{Appends, Keeps}
 use Rattle.csv.specs.Reading.{strip_bom}

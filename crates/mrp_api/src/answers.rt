@@ -1,4 +1,4 @@
-//! What the program does for a choice, and the status with which it ends.
+//! The library's answer to a request: a report of a table or a fault, and the status with which a program ends.
 
 ghost use Rattle.std.specs.Prelude.{◌≡◌, IfErr};
 ghost use Rattle.mrp_commands.specs.Range.{IsInRange};

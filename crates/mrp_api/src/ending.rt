@@ -1,4 +1,4 @@
-//! How a program ends: the status of the process, and the line that it reports.
+//! The library: how a program that calls it ends, the status of the process, and the line that it reports.
 
 ghost use Rattle.std.specs.Prelude.{◌≡◌, Ok};
 ghost use Rattle.std.specs.Result.{result_err};

@@ -1,4 +1,4 @@
-//! Why a text was not written whole, and the status that a program ends with then.
+//! The library: why a text function has not written its report whole, and the status that a program ends with then.
 
 ghost use Rattle.std.specs.Prelude.{◌≡◌};
 ghost use Rattle.mrp_api.specs.Fault.{status_of, table_status_of, IsOfReport};

@@ -1,4 +1,5 @@
-//! The plants of a network with the mailboxes between them, driven until all have planned.
+//! The library: the plan on one thread, for a text function. The plants of a network with the mailboxes between them,
+//! driven until all have planned.
 
 ghost use Rattle.std.specs.Prelude.{◌≡◌, ◌≤◌, IfOk, IfErr};
 ghost use Rattle.mrp_loops.specs.Sized.{IsSized};

@@ -1,4 +1,4 @@
-//! Laws of reports and refusals, each the contract of a function that does nothing.
+//! The library: laws of its text functions' reports and refusals, each the contract of a function that does nothing.
 
 ghost use Rattle.mrp_api.specs.Laws.{BytesMakeOneTable, CutTablesAreOne, CutTablesHaveNoOtherReport, ReportsAreOne};
 ghost use Rattle.mrp_api.specs.Laws.{ReportsExcludeRefusals, RequestsExcludeRefusals, TablesAreRead};

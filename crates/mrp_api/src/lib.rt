@@ -1,6 +1,6 @@
-//! **The theorem.** A table has one plan by the rules of material requirements planning, or it is refused.
-//! On success what a text function has written is exactly the report of that plan. A refusal is the first fault
-//! that holds, and nothing is written. After any other fault what was written is a prefix of the right report.
+//! The library, its **theorem**: a table has one plan by the rules of material requirements planning, or it is refused.
+//! On success what a text function has written is exactly the report of that plan. A refusal is the first fault that
+//! holds, and nothing is written. After any other fault what was written is a prefix of the right report.
 //!
 //! The planner as a library: a table from any reader, a report to any writer.
 //! [`plan_text`] writes the plan, each plant planned in a thread of its own (by construction; no clause says so),

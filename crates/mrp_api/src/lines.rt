@@ -1,4 +1,4 @@
-//! The line that reports a fault.
+//! The library: the line that reports a text function's fault.
 
 ghost use Rattle.std.specs.Prelude.{◌≡◌, IfErr};
 ghost use Rattle.std.specs.List.{flat_map};

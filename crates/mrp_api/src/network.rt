@@ -1,4 +1,5 @@
-//! The network of a table, its low-level codes and its figures within the bound, or the fault that there is.
+//! The library: from a table's bytes to its network, for the text functions, with low-level codes and figures within
+//! the bound, or the fault that there is.
 
 ghost use Rattle.std.specs.Prelude.{◌≡◌, map, IfOk, IfErr, All};
 ghost use Rattle.mrp_loops.specs.Sized.{IsSized};

@@ -1,5 +1,5 @@
-//! A network run by a thread for each plant, for its plan and the report of it. A network with a loop or past the bound
-//! is refused before anything is written.
+//! The library: a plan by threads for a text function. The network is run by a thread for each plant, and reported. A
+//! network with a loop or past the bound is refused before anything is written.
 
 ghost use Rattle.std.specs.Prelude.{◌≡◌, ◌<◌, IfOk, IfErr, length};
 ghost use Rattle.mrp_loops.specs.Sized.{IsSized};

@@ -1,4 +1,4 @@
-//! The text functions: each reads a table and writes one report of it.
+//! The library's text functions: each reads a table and writes one report of it.
 //!
 //! Their contracts say what the planner does from bytes to bytes: `text` which text is written,
 //! `refusal` what each fault says of the input, `untouched` after which faults nothing is written. The last clause

@@ -1,5 +1,5 @@
-//! What one thread writes of a network: the report that was chosen. A network with a loop or past the bound, and names
-//! and periods that it lacks, are refused before anything is written.
+//! The library: what a text function on one thread writes of a network, the report that was chosen. A network with a
+//! loop or past the bound, and names and periods that it lacks, are refused before anything is written.
 
 ghost use Rattle.std.specs.Prelude.{◌≡◌, ◌≢◌, ◌≤◌, ◌<◌, IfErr, IfOk, true, false};
 ghost use Rattle.mrp_loops.specs.Sized.{IsSized};

@@ -1,4 +1,4 @@
--- Firm planned orders, computed.
+-- Tests of the library: the table with firm planned orders that was worked by hand, computed.
 use Rattle.std.proofs.Common.{refl}
 use Rattle.std.specs.Fmt.{digits}
 use Rattle.mrp_cal.specs.Days.{date_at}

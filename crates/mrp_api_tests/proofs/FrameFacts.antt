@@ -1,4 +1,5 @@
--- The reach of a plan, messages within it, and the end of a table, computed.
+-- Tests of the library: the table of frames and bicycles that was worked by hand, computed, with the reach of its
+-- plan, messages within it, and its end.
 use Rattle.std.proofs.Common.{◌≡◌, ℕ, zero, suc, [], ◌∷◌, slice_index, arith, refl}
 use Rattle.std.specs.Fmt.{digits}
 use Rattle.mrp_cal.specs.Days.{date_at}

@@ -1,3 +1,4 @@
+-- Tests of the library and its reports: tables worked by hand, computed.
 mod WorkedFacts
 mod FirmOrderFacts
 mod PolicyFacts

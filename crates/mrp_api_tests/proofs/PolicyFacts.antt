@@ -1,4 +1,4 @@
--- Policies, computed.
+-- Tests of the library: the tables with policies that were worked by hand, computed.
 use Rattle.std.proofs.Common.{refl}
 use Rattle.std.specs.Fmt.{digits}
 use Rattle.mrp_cal.specs.Days.{date_at}

@@ -1,4 +1,4 @@
--- The other reports of the pumps, computed.
+-- Tests of the library: the other reports of the pumps, worked by hand, computed.
 use Rattle.std.proofs.Common.{refl}
 use Rattle.std.specs.Fmt.{digits}
 use Rattle.mrp_cal.specs.Days.{date_at}

@@ -1,4 +1,4 @@
--- Requirements that lack parts, computed.
+-- Tests of the library: the tables with requirements that lack parts that were worked by hand, computed.
 use Rattle.std.proofs.Common.{refl}
 use Rattle.std.specs.Fmt.{digits}
 use Rattle.mrp_cal.specs.Days.{date_at}

@@ -1,4 +1,5 @@
--- Vendors, and periods whose first days are given, computed.
+-- Tests of the library: the tables with vendors, and with periods whose first days are given, that
+-- were worked by hand, computed.
 use Rattle.std.proofs.Common.{refl}
 use Rattle.std.specs.Fmt.{digits}
 use Rattle.mrp_cal.specs.Days.{date_at}

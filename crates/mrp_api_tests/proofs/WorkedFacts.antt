@@ -1,4 +1,4 @@
--- The tables that were worked by hand, computed.
+-- Tests of the library: tables of one plant, of two and of the pumps, worked by hand, computed.
 use Rattle.std.proofs.Common.{refl}
 use Rattle.std.specs.Fmt.{digits}
 use Rattle.mrp_cal.specs.Days.{date_at}

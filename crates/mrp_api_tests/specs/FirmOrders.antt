@@ -1,5 +1,5 @@
--- Firm planned orders, worked by hand: one beside planned orders, which takes its components, and one that calls for
--- pieces of another plant.
+-- Tests of the library: a table with firm planned orders, worked by hand, one beside planned orders, which takes its
+-- components, and one that calls for pieces of another plant.
 use Rattle.std.specs.Prelude.{◌≡◌, [], ◌∷◌, ◌++◌, false, None, codes}
 use Rattle.mrp_lot.specs.declared.rule.Rule.TheVariants.{LotForLot}
 use Rattle.mrp_master_data.specs.declared.rows.Supply.TheVariants.{Make, Buy, From}

@@ -1,4 +1,5 @@
--- The reach of a plan, worked by hand, with messages within it; and a table that ends, as it is and cut off.
+-- Tests of the library: a table of frames and bicycles, worked by hand, for the reach of its plan, messages within it;
+-- and the table with its end, as it is and cut off.
 use Rattle.std.specs.Prelude.{◌≡◌, true, false, [], ◌∷◌, ◌++◌, None, Some, Ok, Err, codes}
 use Rattle.mrp_lot.specs.declared.rule.Rule.TheVariants.{LotForLot, Periods}
 use Rattle.mrp_master_data.specs.declared.rows.Supply.TheVariants.{Buy, Make}

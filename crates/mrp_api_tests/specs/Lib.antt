@@ -1,3 +1,4 @@
+-- Tests of the library and its reports: tables worked by hand.
 pub mod Worked
 pub mod FirmOrders
 pub mod Policies

@@ -1,4 +1,5 @@
--- Policies, worked by hand: a fence, an open order that is counted sooner than it comes, and a period of cover.
+-- Tests of the library: tables with policies, worked by hand, with a fence, an open order that is counted sooner than
+-- it comes, and a period of cover.
 use Rattle.std.specs.Prelude.{◌≡◌, [], ◌∷◌, ◌++◌, false, None, codes}
 use Rattle.mrp_lot.specs.declared.rule.Rule.TheVariants.{LotForLot}
 use Rattle.mrp_master_data.specs.declared.rows.Supply.TheVariants.{Buy}

@@ -1,6 +1,6 @@
--- A firm that was worked by hand: pumps made in one plant, of castings and brass of another, and sold from a depot,
--- with each lot rule, safety stocks, receipts, shipments, shares of two sources, figures that start anew, and late
--- orders.
+-- Tests of the library: a firm that was worked by hand. Pumps made in one plant, of castings and brass of another,
+-- and sold from a depot, with each lot rule, safety stocks, receipts, shipments, shares of two sources, figures
+-- that start anew, and late orders.
 use Rattle.std.specs.Prelude.{◌≡◌, [], ◌∷◌, ◌++◌, false, codes}
 use Rattle.mrp_lot.specs.declared.rule.Rule.TheVariants.{Fixed, LotForLot, MinMultiple, Periods}
 use Rattle.mrp_master_data.specs.declared.rows.Supply.TheVariants.{Buy, From, Make}

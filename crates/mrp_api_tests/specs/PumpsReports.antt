@@ -1,4 +1,4 @@
--- The other reports of the pumps, worked by hand.
+-- Tests of the library: the other reports of the pumps, worked by hand.
 use Rattle.std.specs.Prelude.{◌≡◌, ◌++◌, None, codes}
 use Rattle.mrp_commands.specs.declared.choice.Heading.TheVariants.{Names}
 use Rattle.mrp_net.specs.Plan.{plan_of}

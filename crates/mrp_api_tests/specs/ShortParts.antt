@@ -1,4 +1,5 @@
--- Requirements that lack parts, worked by hand: a phantom and a pair inside its fence; and two demanders of one pair.
+-- Tests of the library: tables with requirements that lack parts, worked by hand, of a phantom and a pair inside its
+-- fence; and two demanders of one pair.
 use Rattle.std.specs.Prelude.{◌≡◌, [], ◌∷◌, ◌++◌, false, codes}
 use Rattle.mrp_lot.specs.declared.rule.Rule.TheVariants.{LotForLot}
 use Rattle.mrp_master_data.specs.declared.rows.Supply.TheVariants.{Buy, From, Make}

@@ -1,4 +1,5 @@
--- Usages, worked by hand: scrap, a fraction, a component that replaces another, and one that isn't used for a while.
+-- Tests of the library: tables with usages, worked by hand, with scrap, a fraction, a component that replaces another,
+-- and one that isn't used for a while.
 use Rattle.std.specs.Prelude.{◌≡◌, [], ◌∷◌, ◌++◌, false, codes}
 use Rattle.mrp_lot.specs.declared.rule.Rule.TheVariants.{Fixed, LotForLot}
 use Rattle.mrp_master_data.specs.declared.rows.Supply.TheVariants.{Buy, Make}

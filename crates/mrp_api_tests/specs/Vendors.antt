@@ -1,4 +1,4 @@
--- Vendors, and periods whose first days are given, worked by hand.
+-- Tests of the library: tables with vendors, and with periods whose first days are given, worked by hand.
 use Rattle.std.specs.Prelude.{◌≡◌, [], ◌∷◌, ◌++◌, false, Some, None, codes}
 use Rattle.mrp_lot.specs.declared.rule.Rule.TheVariants.{Fixed, LotForLot}
 use Rattle.mrp_master_data.specs.declared.rows.Supply.TheVariants.{Buy, From}

@@ -1,4 +1,4 @@
--- Two tables that were worked by hand: the rows that say them, and the report of their plan.
+-- Tests of the library: two tables that were worked by hand, by the rows that say them, and the report of their plan.
 use Rattle.std.specs.Prelude.{◌≡◌, [], ◌∷◌, ◌++◌, false, codes}
 use Rattle.mrp_lot.specs.declared.rule.Rule.TheVariants.{LotForLot}
 use Rattle.mrp_master_data.specs.declared.rows.Supply.TheVariants.{Make, Buy, From}

@@ -1,4 +1,5 @@
-//! Tables that were worked by hand, computed in the prover by the definitions that the theorem cites.
+//! Tests of the library: tables that were worked by hand, computed in the prover by the
+//! definitions that the theorem cites.
 //!
 //! The tests are of calls that no command makes: which plan fits, records as text, booked and written again, and the
 //! text functions at their edges: readers and writers that fail, memory that is refused, gates that are shut.

@@ -1,5 +1,5 @@
-//! Calls that no command makes: what fits and the texts of records, on cases that were worked by hand, and the text
-//! functions at their edges.
+//! Tests of the library: calls that no command makes. What fits and the texts of records, on cases that were worked by
+//! hand, and the text functions at their edges.
 
 mod blocks;
 mod endings;

@@ -1,5 +1,5 @@
-//! Tables that were worked by hand, computed by the definitions alone. Each law is the contract of a function that
-//! does nothing.
+//! Tests of the library: tables that were worked by hand, computed by the definitions alone. Each law is the contract
+//! of a function that does nothing.
 
 ghost use Rattle.mrp_api_tests.specs.FirmOrders.{FirmAndPlannedIsOrdered, FirmAndPlannedIsPlanned};
 ghost use Rattle.mrp_api_tests.specs.FirmOrders.{FirmAndPlannedIsWritten, FirmCallIsScheduled};

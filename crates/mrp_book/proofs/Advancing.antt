@@ -1,4 +1,4 @@
--- The figures of a list with one record more.
+-- The book: the figures that it keeps of a list with one record more.
 use Rattle.std.proofs.Common.{◌≡◌, ℕ, ◌+◌, ◌==◌, Bool, true, false, cond, ◌||◌, Some, None, Option, List, [], ◌∷◌, ◌++◌, inl, inr, refl, sym, ◌∙◌, ap, subst}
 use Rattle.std.proofs.Common.{length, map, arith}
 use Rattle.std.specs.Prelude.{IsSomeAnd}

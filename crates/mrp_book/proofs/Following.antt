@@ -1,4 +1,4 @@
--- A list in form, record by record, and which block is open in it.
+-- The book: what it follows, a list in form, record by record, and which block is open in it.
 use Rattle.std.proofs.Common.{◌≡◌, ℕ, ◌==◌, Bool, true, false, not, ◌&&◌, Some, None, Option, List, [], ◌∷◌, ◌++◌, inl, inr, refl, sym, ◌∙◌, ap, subst, length}
 use Rattle.std.proofs.Common.{get_or, arith}
 use Rattle.std.specs.Prelude.{nat_lt, IsSomeAnd}

@@ -1,3 +1,4 @@
+-- The book of a lane's receiver, proofs.
 pub mod Advancing
 pub mod Deciding
 pub mod Following

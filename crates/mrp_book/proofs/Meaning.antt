@@ -1,4 +1,4 @@
--- The first test of a record over the figures is the first of the faults that it has over the list.
+-- The book: the first test of a record over its figures is the first of the faults that the record has over the list.
 use Rattle.std.proofs.Common.{◌≡◌, ℕ, ◌+◌, ◌==◌, Bool, true, false, cond, not, ◌||◌, ◌&&◌, Some, None, Option, List, [], ◌∷◌, ◌++◌, inl, inr, refl, sym, ◌∙◌}
 use Rattle.std.proofs.Common.{ap, length, map, arith}
 use Rattle.std.specs.Prelude.{nat_lt, nat_le, is_some, option_map, unwrap_or, Result, Ok, Err, IfErr}

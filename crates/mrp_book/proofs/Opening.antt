@@ -1,4 +1,4 @@
--- A new book shows the empty list.
+-- The book: a new one shows the empty list.
 use Rattle.std.proofs.Common.{◌≡◌, ℕ, ◌+◌, ◌<◌, ◌≤◌, ◌==◌, Bool, false, List, [], ◌∷◌, ◌++◌, refl, sym, ◌∙◌, ap, subst, length, map, take, get_or, zero, suc}
 use Rattle.std.proofs.Common.{arith, None}
 use Rattle.std.specs.List.{All, AllByRecursion, IsDistinct, list_any}

@@ -1,4 +1,4 @@
--- The place of an item among those of a book.
+-- The book: the place of an item among those that it has.
 use Rattle.std.proofs.Common.{◌≡◌, ℕ, ◌<◌, ◌==◌, Bool, true, false, cond, ltb, ◌||◌, Some, None, Option, List, [], ◌∷◌, ◌++◌, inl, inr, ◌+◌, refl, sym, ◌∙◌, ap}
 use Rattle.std.proofs.Common.{subst, length, map, get_or, set, zero, suc, arith}
 use Rattle.std.specs.Prelude.{slice_get, position}

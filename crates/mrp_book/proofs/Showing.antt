@@ -1,4 +1,4 @@
--- What a record that is booked or refused says of the lists that a book shows.
+-- The book: what a record that is booked or refused says of the lists that the book shows.
 use Rattle.std.proofs.Common.{◌≡◌, ℕ, ◌<◌, ◌==◌, length, Some, None, Option, List, [], ◌∷◌, ◌++◌, refl, sym, ◌∙◌, ap}
 use Rattle.std.specs.Prelude.{option_map, position, slice_index_or, Result, Ok, Err, OnOk, IfErr}
 use Rattle.mrp_record.specs.declared.record.Record.{Record}

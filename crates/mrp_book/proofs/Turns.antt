@@ -1,4 +1,4 @@
--- What the checks of a record say of its first fault, and what booking it keeps.
+-- The book: what its checks of a record say of the first fault, and what booking the record keeps.
 use Rattle.std.proofs.Common.{◌≡◌, ℕ, ◌+◌, ◌<◌, ◌≤◌, ◌==◌, false, Ok, Some, None, Option, List, [], ◌∷◌, ◌++◌, refl, sym, ◌∙◌, ap, subst, length, map, get_or}
 use Rattle.std.proofs.Common.{set, zero, suc, arith}
 use Rattle.std.specs.Prelude.{slice_get, nat_lt}

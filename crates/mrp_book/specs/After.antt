@@ -1,4 +1,4 @@
--- The figures after one more record.
+-- The book: its figures after one more record, or the fault for which it refuses the record.
 use Rattle.std.specs.Prelude.{◌≡◌, ℕ, ◌+◌, ◌≤◌, ◌<◌, ◌==◌, if◌then◌else◌, true, false, List, [], ◌∷◌, map, All, Some}
 use Rattle.std.specs.Prelude.{None, Result, MatchResult}
 use Rattle.mrp_qty.specs.declared.quantity.TheConstants.{MOST}

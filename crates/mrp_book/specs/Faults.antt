@@ -1,4 +1,4 @@
--- The faults of a record, as a table of tests: the first that holds is answered.
+-- The book: for which fault it refuses a record, as a table of tests. The first that holds is answered.
 use Rattle.std.specs.Prelude.{◌≡◌, ℕ, ◌+◌, ◌==◌, ◌&&◌, ◌||◌, nat_lt, nat_le, not, if◌then◌else◌, Bool, true, false}
 use Rattle.std.specs.Prelude.{List, [], ◌∷◌, ◌++◌, find, length}
 use Rattle.std.specs.Prelude.{position, slice_get, ◌<◌, Option, Some, None, is_some, Result, MatchResult}

@@ -1,4 +1,4 @@
--- What a book keeps of a list of records, and which lists a book shows.
+-- The book of a lane's receiver: what it keeps of a list of records, and which lists it shows.
 use Rattle.std.specs.Prelude.{◌≡◌, ℕ, ◌+◌, ◌≤◌, ◌==◌, Bool, List, length, map, fold, All, Option, Some}
 use Rattle.std.specs.Prelude.{None}
 use Rattle.std.specs.List.{IsDistinct}

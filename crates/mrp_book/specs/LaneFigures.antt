@@ -1,4 +1,4 @@
--- What is said of each figure of a lane.
+-- The book of a lane's receiver: what is true of each figure of the lane, as the book keeps it and reports tell it.
 use Rattle.std.specs.Prelude.{◌<◌, ◌≤◌, length}
 use Rattle.mrp_master_data.specs.Table.{Table}
 use Rattle.mrp_net.specs.Lanes.{lanes}

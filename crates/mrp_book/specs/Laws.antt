@@ -1,4 +1,4 @@
--- The laws of the first fault.
+-- The book: laws of its answer, the first fault of a record that doesn't keep the list in form.
 use Rattle.std.specs.Prelude.{◌≡◌, ◌↔◌, List, [], ◌∷◌, ◌++◌, None}
 use Rattle.mrp_record.specs.declared.record.Record.{Record}
 use Rattle.mrp_record.specs.Form.{LaneForm, IsInForm}

@@ -1,3 +1,4 @@
+-- The book of a lane's receiver: what it is, to contracts.
 pub mod After
 pub mod Faults
 pub mod Figures

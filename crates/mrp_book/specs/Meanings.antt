@@ -1,6 +1,6 @@
--- What each of the twelve faults says of a record, after a list of records on a lane of a known form. Each stands
--- alone, whatever the others say; of an item that isn't on the lane one says anything, since an earlier one says that
--- it isn't.
+-- The book: what each of its twelve faults says of a record, after a list of records on a lane of a known form.
+-- Each stands alone, whatever the others say; of an item that isn't on the lane one says anything, since an
+-- earlier one says that it isn't.
 use Rattle.std.specs.Prelude.{ℕ, ◌+◌, ◌==◌, ◌&&◌, ◌||◌, nat_lt, nat_le, not, Bool, false, List, [], ◌∷◌, length, find}
 use Rattle.std.specs.Prelude.{Option, None, is_some, option_map, unwrap_or}
 use Rattle.std.specs.List.{list_any}

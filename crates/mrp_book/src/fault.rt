@@ -1,4 +1,4 @@
-//! Why a record is refused by a book.
+//! The book: why a lane's receiver refuses a record, by the fault that the book answers.
 
 use thiserror::Error;
 

@@ -1,4 +1,4 @@
-//! The cumulative figures of an item on a lane.
+//! The book: the cumulative figures of an item on a lane, as its receiver keeps them and reports tell them.
 
 use mrp_net::{ItemNo, LaneNo};
 use mrp_qty::Qty;

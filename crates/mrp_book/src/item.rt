@@ -1,4 +1,4 @@
-//! What a book knows of one item of its lane.
+//! The book: what it knows of one item of its lane.
 
 ghost use Rattle.std.specs.Prelude.{◌≡◌, ◌+◌, ◌^◌, ◌≤◌, ◌<◌};
 ghost use Rattle.mrp_qty.specs.declared.quantity.TheConstants.{MOST};

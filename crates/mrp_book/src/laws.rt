@@ -1,4 +1,4 @@
-//! Laws of the first fault. Each is the contract of a function that does nothing.
+//! The book: laws of its answer, the first fault of a record. Each is the contract of a function that does nothing.
 
 ghost use Rattle.mrp_book.specs.Laws.{NoFaultIsInForm, FaultsAreFirst};
 

@@ -1,5 +1,5 @@
-//! The cumulative book of a lane's receiver: it takes exactly the records that keep the list in form,
-//! and keeps figures only.
+//! The book of a lane's receiver, in cumulative figures: it takes exactly the records that keep the list
+//! in form, and keeps figures only.
 //!
 //! Contracts speak of every list of records that a book shows; none is stored.
 //!

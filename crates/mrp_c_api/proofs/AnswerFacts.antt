@@ -1,4 +1,4 @@
--- What a call answers, by what a text function wrote and what was told.
+-- The library for C: what a call answers, by what a text function wrote and what was told.
 use Rattle.std.proofs.Common.{◌≡◌, ℕ, List, [], ◌++◌, Some, Result, Ok, Err, IfErr, inl, inr, ⊎_elim, subst}
 use Rattle.std.specs.Io.KnownBytes.{Appends}
 use Rattle.mrp_commands.specs.declared.reading.Reading.{Reading}

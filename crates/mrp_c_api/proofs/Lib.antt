@@ -1,1 +1,2 @@
+-- The library for C, proofs: what its calls answer.
 mod AnswerFacts

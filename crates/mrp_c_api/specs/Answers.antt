@@ -1,5 +1,5 @@
--- What a call from C answers: a status, and a text in the caller's buffer. `old` and `new` are the bytes of the buffer
--- before the call and after it, and `size` is the length that was told.
+-- The library for C: what a call answers, a status, and a text in the caller's buffer. `old` and `new` are the bytes
+-- of the buffer before the call and after it, and `size` is the length that was told.
 use Rattle.std.specs.Prelude.{◌≡◌, ◌≢◌, ℕ, ◌⊎◌, List, codes, Some, Result, Ok, Err, IsUtf8}
 use Rattle.mrp_commands.specs.declared.choice.Heading.{Heading}
 use Rattle.mrp_commands.specs.declared.reading.Reading.{Reading}

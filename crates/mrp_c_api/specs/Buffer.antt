@@ -1,4 +1,4 @@
--- What a caller finds in its buffer.
+-- The library for C: what a caller finds in its buffer.
 use Rattle.std.specs.Prelude.{◌≡◌, ℕ, ◌<◌, ◌≤◌, List, ◌++◌, length, drop}
 
 -- a text is handed over: its length is told; where it fits, the buffer begins with it and goes on as it was, and else

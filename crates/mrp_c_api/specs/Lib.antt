@@ -1,3 +1,4 @@
+-- The library for C: what its calls answer.
 pub mod Answers
 pub mod Buffer
 pub mod Options

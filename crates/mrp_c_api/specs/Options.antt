@@ -1,4 +1,4 @@
--- What the options of a call ask for.
+-- The library for C: what the options of a call ask for.
 use Rattle.std.specs.Prelude.{ℕ, Bool, true, false, List, [], ◌∷◌, Option, Some, None}
 use Rattle.mrp_commands.specs.declared.choice.Heading.{Heading}
 use Rattle.mrp_commands.specs.declared.choice.Heading.TheVariants.{Names, Without}

@@ -1,4 +1,4 @@
-//! A text in the buffer of a caller, with the status of the call.
+//! The library for C: a text in the buffer of a caller, with the status of the call.
 
 ghost use Rattle.std.specs.Prelude.{◌≡◌};
 ghost use Rattle.mrp_c_api.specs.Answers.{Answers, Tells, TellsFault, TellsOrMemory, name_line};

@@ -1,5 +1,5 @@
-//! The planner for C: the bytes of a table go in, and a report or the line of a fault comes out in the caller's buffer.
-//! `include/mrp.h` declares the calls, and [`mrp_api`] is what they call, on one thread.
+//! The library for C: the bytes of a table go in, and a report or the line of a fault comes out in the caller's
+//! buffer. `include/mrp.h` declares the calls, and [`mrp_api`] is what they call, on one thread.
 //!
 //! **Text.** A call returns a status, as the program ends with one. At 0 the text is the report, to the byte what the
 //! program writes to standard output. At 1, where the table or the question is refused, and at 3, where memory was

@@ -1,4 +1,4 @@
-//! What C says of a table and of a report, as a request takes it.
+//! The library for C: what a call says of a table and of a report, as a request takes it.
 
 ghost use Rattle.std.specs.Prelude.{◌≡◌};
 ghost use Rattle.mrp_c_api.specs.Options.{heading_of, limit_of, name_given, reading_of};

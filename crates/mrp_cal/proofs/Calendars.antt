@@ -1,4 +1,4 @@
--- The end of calendars in day numbers, and that a text spells one day.
+-- The calendar: its end in day numbers, and that a text spells one day.
 use Rattle.std.proofs.Common.{rules, ◌≡◌, ℕ, ◌+◌, ◌-◌, ◌*◌, ◌<◌, ◌≤◌, ℤ, pos, ◌+ℤ◌, refl, arith}
 use Rattle.jiff.specs.Types.{Date}
 use Rattle.std.specs.Int.{IsInRange}

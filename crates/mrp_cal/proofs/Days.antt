@@ -1,4 +1,4 @@
--- The dates that the calendar has day by day are those of the day numbers.
+-- The calendar: the dates that it has day by day are those of the day numbers.
 use Rattle.std.proofs.Common.{◌≡◌, ℕ, zero, suc, ◌+◌, ◌<◌, ◌≤◌, nat_lt, cond, List, Bool, true, false, ℤ, pos, ◌+ℤ◌, ◌≤ℤ◌, unsigned_abs, refl}
 use Rattle.std.proofs.Common.{sym, ap, ◌∙◌, arith}
 use Rattle.std.proofs.lemmas.Bool.{ltb-true, ltb-false}

@@ -1,3 +1,4 @@
+-- The calendar and its dates, proofs.
 pub mod BegunFacts
 pub mod Calendars
 pub mod Days

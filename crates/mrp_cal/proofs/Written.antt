@@ -1,4 +1,4 @@
--- A day from 1970-01-01 on has one text.
+-- The calendar: a day from 1970-01-01 on has one text.
 use Rattle.std.proofs.Common.{◌≡◌, ℕ, ◌+◌, ◌-◌, ◌*◌, ◌/◌, ◌%◌, List, [], ◌∷◌, pos, unsigned_abs, refl, ap, sym, ◌∙◌, arith}
 use Rattle.jiff.specs.Words.{epoch_day}
 use Rattle.mrp_cal.specs.DateText.{day_of, HasDateShape, IsDigit, month_of, SpellsDay, year_of}

@@ -1,4 +1,4 @@
--- A period whose first day is given: what the calendar is then, or why it is refused.
+-- The calendar: a period whose first day is given to it, what it is then, or why it is refused.
 use Rattle.std.specs.Prelude.{ℕ, ◌-◌, nat_lt, if◌then◌else◌, List, [], ◌∷◌, ◌++◌, Option, Some, None, Result, Ok, Err}
 use Rattle.std.specs.Prelude.{position}
 use Rattle.std.specs.List.{range_with_len}

@@ -1,4 +1,4 @@
--- What a planning calendar is: a first day, periods of so many days each, and periods whose first days are given.
+-- The calendar: what it is, a first day, periods of so many days each, and periods whose first days are given.
 use Rattle.std.specs.Prelude.{ℕ, ◌+◌, ◌-◌, ◌*◌, ◌<◌, ◌≤◌, nat_lt, if◌then◌else◌, List, [], ◌∷◌}
 use Rattle.mrp_qty.specs.declared.horizon.TheConstants.{LONGEST}
 use Rattle.mrp_cal.specs.declared.begun.Begun.{Begun}

@@ -1,5 +1,5 @@
--- What the text `yyyy-mm-dd` of a date is: ten bytes, four digits of the year, two of the month and
--- two of the day, with a dash between.
+-- The calendar: what the text `yyyy-mm-dd` of a date is. Ten bytes, four digits of the year, two of the month and two
+-- of the day, with a dash between.
 use Rattle.std.specs.Prelude.{◌≡◌, ℕ, ◌+◌, ◌-◌, ◌*◌, ◌≤◌, List, length, slice_index, ℤ, pos}
 use Rattle.jiff.specs.Types.{Date}
 use Rattle.jiff.specs.Words.{IsYmd, epoch_day}

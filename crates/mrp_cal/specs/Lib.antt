@@ -1,3 +1,4 @@
+-- The calendar and its dates, as contracts see them.
 pub mod Begins
 pub mod Calendar
 pub mod DateText

@@ -1,4 +1,4 @@
--- When a calendar is made of a text and two numbers, and when it is refused.
+-- The calendar: when it is made of a text and two numbers, and when it is refused.
 use Rattle.std.specs.Prelude.{◌≡◌, ℕ, ◌<◌, List, [], pos}
 use Rattle.mrp_cal.specs.DateText.{SpellsDay}
 use Rattle.mrp_cal.specs.declared.fault.CalFault.{CalFault}

@@ -1,4 +1,4 @@
-//! A period whose first day is given.
+//! The calendar: a period whose first day is given.
 
 /// A period whose first day is given, after a holiday or a shutdown, say.
 #[derive(Clone, Copy, Debug)]

@@ -1,4 +1,4 @@
-//! The planning calendar: a first day, days a period, periods, and first days that are given.
+//! The calendar: a first day, days a period, periods, and first days that are given.
 
 ghost use Rattle.std.specs.Prelude.{◌≡◌, ◌<◌, ◌≤◌, ◌^◌, ◌+◌, ◌-◌, ◌*◌, pos, ◌+ℤ◌, ◌<ℤ◌, Err, Ok, IfOk, IfErr, IfSome, MatchOption, OnErr, OnOk};
 ghost use Rattle.jiff.specs.Words.{epoch_day, IsEpochDay};

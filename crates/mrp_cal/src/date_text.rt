@@ -1,4 +1,4 @@
-//! The text of a day, yyyy-mm-dd, read and written.
+//! The calendar: the text of a day, yyyy-mm-dd, read and written.
 
 ghost use Rattle.std.specs.Prelude.{◌≡◌, ◌*◌, ◌+◌, ◌-◌, ◌≤◌, ◌↔◌, pos, ◌≤ℤ◌, unsigned_abs, length, slice_index, IsTrue};
 ghost use Rattle.std.specs.Prelude.{MatchOption};

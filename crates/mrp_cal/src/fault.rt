@@ -1,4 +1,4 @@
-//! Why a calendar is refused.
+//! The calendar: why it is refused.
 
 use thiserror::Error;
 

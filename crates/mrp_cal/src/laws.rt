@@ -1,5 +1,4 @@
-//! Laws about dates, their texts and the limits of a calendar, each the contract of a function that
-//! does nothing.
+//! The calendar: laws of its dates, their texts and its limits, each the contract of a function that does nothing.
 ghost use Rattle.std.specs.Prelude.{◌≡◌, ◌≢◌, ◌+◌, ◌*◌, ◌<◌, ◌≤◌, ◌↔◌, ℕ, All, List, [], Some, ℤ, pos, codes};
 ghost use Rattle.mrp_cal.specs.Begins.{begun_with, day_spelled, latest_begun};
 ghost use Rattle.mrp_cal.specs.Calendar.{CalendarTerms, IsCalendar, IsPeriodLength, first_day, last_date};

@@ -1,4 +1,4 @@
-//! The planning calendar: the date on which each period begins.
+//! The calendar of planning: the date on which each period begins.
 //!
 //! Contracts see a [`Calendar`] as its terms: the number of the first day, counted from 1970-01-01, the days of a
 //! period, the number of periods, and the periods whose first days are given, as after a holiday.

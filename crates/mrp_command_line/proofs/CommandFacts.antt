@@ -1,5 +1,5 @@
--- Where no step of the parse fails, the words name one of the nine commands, with its values, and say how the table is to
--- be read.
+-- The command line: where no step of clap's parse fails, its arguments name one of the nine commands, with its values,
+-- and say how the table is to be read.
 use Rattle.std.proofs.Common.{◌≡◌, ◌∙◌, ◌&&◌, ◌||◌, inl, inr, ℕ, Bool, cond, true, false, not, List, [], ◌∷◌, Option, Some, None, codes, option_map, refl, sym}
 use Rattle.std.proofs.Common.{ap, ap₂, subst, is_some, true≢false}
 use Rattle.std.specs.Prelude.{unwrap_or}

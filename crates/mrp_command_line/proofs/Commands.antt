@@ -1,4 +1,4 @@
--- A command with one argument more.
+-- The command line: as clap builds it: a command with one argument more.
 use Rattle.std.proofs.Common.{◌≡◌, ◌∙◌, ◌||◌, Bool, false, ap, ap₂}
 use Rattle.clap.specs.Words.{App, Rule, app_of, rule_of, with_rule, with_subcommand}
 use Rattle.clap.specs.declared.builder.arg.Arg.{Arg}

@@ -1,3 +1,4 @@
+-- The command line, proofs.
 pub mod Numbers
 pub mod RowFacts
 pub mod CommandFacts

@@ -1,4 +1,4 @@
--- What the getters of clap's matches give, where an argument has a value.
+-- The command line as clap reads it: what the getters of its matches give, where an argument has a value.
 use Rattle.std.proofs.Common.{◌≡◌, ◌∙◌, ℕ, Bool, true, false, Option, Some, None, Result, Ok, Err, codes, refl, sym, ap, subst, option_map}
 use Rattle.std.specs.Prelude.{IsSome}
 use Rattle.std.specs.Borrow.{Bor}

@@ -1,5 +1,5 @@
--- What the rows of a command have where no step of the parse fails: each has a value, each value
--- passes the parser of an argument of its name, and is read as it was written.
+-- The command line: what the rows of its command have where no step of clap's parse fails. Each has a value, each
+-- value passes the parser of an argument of its name, and is read as it was written.
 use Rattle.std.proofs.Common.{◌≡◌, ◌∙◌, ◌&&◌, ◌||◌, ℕ, Bool, cond, true, false, not, zero, suc, List, [], ◌∷◌, ◌++◌, Option, Some, None, codes, length, drop}
 use Rattle.std.proofs.Common.{option_map, refl, sym, ap, ap₂, subst, is_some, true≢false}
 use Rattle.std.specs.Prelude.{encode_utf8, find, fold, nat_lt, option_and_then, slice_get}

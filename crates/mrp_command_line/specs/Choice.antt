@@ -1,4 +1,4 @@
--- What the words of a command line ask: which choice they are, and how the table is to be read.
+-- The command line: what its arguments ask, which choice they are, and how the table is to be read.
 use Rattle.std.specs.Prelude.{◌≡◌, ℕ, Bool, false, true, List, Option, Some, None, codes}
 use Rattle.std.specs.Prelude.{map, option_map}
 use Rattle.std.specs.Borrow.{Bor}

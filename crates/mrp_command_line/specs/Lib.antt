@@ -1,3 +1,4 @@
+-- The command line, and what it asks for.
 pub mod CommandLine
 pub mod Choice
 pub mod Values

@@ -1,4 +1,4 @@
--- What the kind of an error of the command line means for the program.
+-- The command line: what the kind of an error of it means for the program.
 use Rattle.clap.specs.declared.error.kind.ErrorKind.{ErrorKind as WordsFault}
 use Rattle.clap.specs.declared.error.kind.ErrorKind.TheVariants as words
 use Rattle.mrp_command_line.specs.declared.meaning.Meaning.{Meaning}

@@ -1,4 +1,4 @@
--- What the values of a command have, where clap takes the words.
+-- The command line: what the values of a command have, where clap takes it.
 use Rattle.std.specs.Prelude.{◌≡◌, ◌⊎◌, ◌<◌, ◌≤◌, ◌^◌, ℕ, Bool, List, Option, Some, None, IfSome, codes}
 use Rattle.std.specs.Str.Parse.{IsNumeral, digits_value, without_leading_plus}
 use Rattle.clap.specs.Words.{Row, Text, one_of}

@@ -1,4 +1,5 @@
-//! What a program has to do where no choice was made.
+//! The command line: what a program has to do where it makes no choice, which is help, the
+//! version, or refused arguments.
 
 ghost use Rattle.std.specs.Prelude.{◌≡◌};
 ghost use Rattle.clap.specs.Words.{kind_of};

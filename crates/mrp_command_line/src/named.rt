@@ -1,4 +1,4 @@
-//! The words of a command line, with the program's own name before them.
+//! The command line: its arguments, with the program's own name before them.
 
 ghost use Rattle.std.specs.Prelude.{◌≡◌, ◌∷◌, codes, map, IfOk};
 ghost use Rattle.std.specs.String.{string_bytes};

@@ -1,4 +1,4 @@
-//! The command line: what words choose.
+//! The command line, by `clap`: what its arguments choose.
 
 ghost use Rattle.std.specs.Prelude.{◌≡◌, ◌≤◌, Some, true, [], codes, IfOk, IfErr};
 ghost use Rattle.clap.specs.Words.{App, app_of, fault_of, found_of, new_app, rows_of, subcommand_rows_of, takes};

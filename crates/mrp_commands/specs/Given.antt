@@ -1,4 +1,4 @@
--- What is given with a command, or isn't.
+-- Commands: what is given with one as a value, or isn't.
 use Rattle.std.specs.Prelude.{ℕ, List, Option, option_map}
 use Rattle.std.specs.Borrow.{Bor}
 

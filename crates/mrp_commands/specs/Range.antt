@@ -1,4 +1,4 @@
--- What a choice may ask.
+-- Commands: what their values may be.
 use Rattle.std.specs.Prelude.{◌≤◌, IfSome}
 use Rattle.mrp_commands.specs.declared.choice.Choice.{Choice}
 use Rattle.mrp_commands.specs.declared.choice.Choice.TheVariants.{Plan, Check, Reach, Peg, Cums}

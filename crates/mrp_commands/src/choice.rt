@@ -1,4 +1,4 @@
-//! What a program over the planner may be asked to do, and the limits of what it may be asked.
+//! Commands of the planner: what may be chosen, and the limits of what may be asked for.
 
 /// The most workers of a plant: 64.
 pub const MOST_WORKERS: u64 = mrp_qty::MOST_WORKERS;

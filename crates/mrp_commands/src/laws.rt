@@ -1,4 +1,4 @@
-//! The limits of a choice, as the contract of a function that does nothing.
+//! Commands: the limits of their values, as the contract of a function that does nothing.
 ghost use Rattle.std.specs.Prelude.{◌≡◌};
 ghost use Rattle.mrp_commands.specs.declared.choice.TheConstants.{MOST_WORKERS, MOST_CAPACITY, LAST_PERIOD};
 

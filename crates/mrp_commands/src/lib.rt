@@ -1,4 +1,4 @@
-//! What the planner may be asked to do: the nine commands with their values, and how the table is to be read.
+//! Commands, what the planner may be asked to do: the nine commands with their values, and how the table is to be read.
 //!
 //! A program of one's own makes a [`Request`] and hands it to `answer` of `mrp_api`; `mrp_command_line` reads one
 //! from the arguments of a command line. It is a crate of its own since the command line, the library of texts and

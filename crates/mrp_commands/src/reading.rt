@@ -1,4 +1,4 @@
-//! How a table is to be read.
+//! Commands: how the table is to be read for one.
 
 /// How a table is to be read.
 #[derive(Clone, Copy, Debug, PartialEq, Eq)]

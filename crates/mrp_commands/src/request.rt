@@ -1,4 +1,4 @@
-//! What is asked of the planner.
+//! Commands: a request, which is a command with its values, and how the table is to be read.
 
 use crate::{Choice, Reading};
 

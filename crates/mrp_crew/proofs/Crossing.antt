@@ -1,4 +1,4 @@
--- What a worker of a plant takes along may go to another thread.
+-- A crew's workers: what one of them takes along may go to another thread.
 use denote.Param.Send.{IsSend, recorded_send, struct_send}
 use denote.RattleType.{RattleType}
 use denote.Struct.Declared.{shape}

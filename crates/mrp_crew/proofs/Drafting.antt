@@ -1,4 +1,4 @@
--- The workers of a wave draft for pairs that can be drafted, and what they bring back can be kept.
+-- A crew's workers: in a wave they draft for pairs that can be drafted, and what they bring back can be kept.
 use Rattle.std.proofs.Common.{◌≡◌, ◌≢◌, ℕ, suc, ◌+◌, ◌<◌, List, [], ◌∷◌, ◌++◌, length, map, reverse, take, get_or, sym, ap, ◌∙◌, subst, All, Contains}
 use Rattle.std.proofs.Math.Seq.{take-suc}
 use Rattle.std.specs.List.{AllPairs}

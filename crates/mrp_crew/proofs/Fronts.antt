@@ -1,4 +1,4 @@
--- The first of some pairs, and results in the order in which they are settled.
+-- A crew's wave: the first ready pairs, and the workers' results in the order in which they are settled.
 use Rattle.std.proofs.Common.{◌≡◌, ℕ, suc, List, [], ◌∷◌, ◌++◌, map, reverse, take, drop, get_or, sym, subst, arith, All, length-append}
 use Rattle.std.specs.List.{AllPairs}
 use Rattle.std.proofs.lemmas.List.{reverse-append, get_or_append_left, take-append-drop}

@@ -1,4 +1,4 @@
--- The agent keeps the results of a wave one by one, and those that are left still fit it.
+-- A crew's wave: the agent keeps its results one by one, and those that are left still fit it.
 use Rattle.std.specs.Option.{is_some}
 use Rattle.std.specs.Result.{IfErr, OnOk}
 use Rattle.std.proofs.Common.{◌≡◌, ◌≢◌, ℕ, ◌<◌, Bool, true, false, Option, None, Some, Result, Ok, Err, slice_get, List, [], ◌∷◌, ◌++◌, length, get_or, reverse}

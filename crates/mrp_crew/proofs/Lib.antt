@@ -1,3 +1,4 @@
+-- A plant's crew of workers, proofs.
 pub mod PlanningLaws
 pub mod Ready
 pub mod Fronts

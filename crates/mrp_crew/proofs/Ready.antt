@@ -1,4 +1,4 @@
--- A ready pair of a plannable agent can be drafted, and isn't planned yet.
+-- A crew's workers: a pair that is ready for one of them can be drafted by the agent, and isn't planned yet.
 use Rattle.std.proofs.Common.{◌≡◌, ◌↔◌, ℕ, Bool, false, List, sym, subst, All, Contains}
 use Rattle.std.proofs.lemmas.List.Elements.{All-contains, All-contains_itself, All-weaker}
 use Rattle.mrp_master_data.specs.declared.numbers.PairNo.{PairNo}

@@ -1,4 +1,4 @@
--- Where the fault of a wave is a shut gate, one of its workers wasn't let in.
+-- A crew's wave: where its fault is a shut gate, one of its workers wasn't let in.
 use Rattle.std.proofs.Common.{◌≡◌, ◌≤◌, ◌⊎◌, inl, inr, ⊎_elim, Bool, true, false, ℕ, List, [], ◌∷◌, All, arith, sym, ◌∙◌, subst, refl}
 use Rattle.std.specs.declared.thread.PromisedHandle.{PromisedHandle}
 use Rattle.std.proofs.lemmas.Bool.{false≢true}

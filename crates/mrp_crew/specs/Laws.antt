@@ -1,4 +1,4 @@
--- The law of planning in a network.
+-- A crew of workers: the law of planning by it, in a network.
 use Rattle.std.specs.Prelude.{ℕ, List}
 use Rattle.mrp_master_data.specs.declared.numbers.PairNo.{PairNo}
 use Rattle.mrp_master_data.specs.Table.{Table}

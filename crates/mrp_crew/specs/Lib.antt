@@ -1,3 +1,4 @@
+-- A plant's crew of workers, as contracts see it.
 pub mod Planning
 pub mod State
 pub mod Shut

@@ -1,4 +1,4 @@
--- Which agents a crew can plan for, and what planning some pairs does to an agent.
+-- A crew of workers: which agents it can plan for, and what planning some pairs does to an agent.
 use Rattle.std.specs.Prelude.{◌≡◌, ℕ, ◌+◌, Bool, true, false, List, [], ◌∷◌, length, All}
 use Rattle.mrp_master_data.specs.declared.numbers.PairNo.{PairNo}
 use Rattle.mrp_master_data.specs.Table.{Table}

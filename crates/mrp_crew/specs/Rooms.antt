@@ -1,4 +1,4 @@
--- What workers draft in, and what they bring back.
+-- A crew's workers: what they draft in, and what they bring back.
 use Rattle.std.specs.Prelude.{◌≡◌, ℕ, ◌<◌, ◌≤◌, ◌++◌, true, List, [], Vec, length, map, reverse, All, vec_capacity}
 use Rattle.std.specs.Global.{Global}
 use Rattle.mrp_netting.specs.PlanRows.{PlanRows}

@@ -1,4 +1,4 @@
--- What the agent keeps of a wave, and what the plan of one pair leaves of another.
+-- A crew's wave: what the agent keeps of it, and what the plan of one pair leaves of another.
 use Rattle.std.specs.Prelude.{◌≡◌, ◌≢◌, List, All, AllPairs, Contains}
 use Rattle.mrp_master_data.specs.declared.numbers.PairNo.{PairNo}
 use Rattle.mrp_agent.specs.Drafts.{drafted, ready_numbers}

@@ -1,4 +1,4 @@
--- For whom a gate was shut.
+-- A crew's workers: for which of them a gate was shut.
 use Rattle.std.specs.Prelude.{◌≡◌, ◌≤◌, ℕ, false, List, All}
 use Rattle.mrp_crew.specs.declared.work.Work.{Work}
 

@@ -1,4 +1,4 @@
--- The threads of a wave.
+-- A crew's workers: their threads in a wave.
 use Rattle.std.specs.Prelude.{◌≡◌, ◌≤◌, ℕ, List, map}
 use Rattle.std.specs.declared.thread.PromisedHandle.{PromisedHandle}
 use Rattle.mrp_master_data.specs.declared.numbers.PairNo.{PairNo}

@@ -1,4 +1,4 @@
--- What callers see of a crew.
+-- A crew of workers: what callers see of it.
 use Rattle.std.specs.Prelude.{ℕ}
 
 -- how many workers it has, and for how many periods they plan

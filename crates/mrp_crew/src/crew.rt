@@ -1,4 +1,4 @@
-//! The workers of a plant, and the rooms that they draft in.
+//! A plant's crew: its workers, and the rooms that they draft in.
 
 ghost use Rattle.std.specs.Prelude.{◌≡◌, ◌+◌, ◌<◌, ◌≤◌, true, false, min, List, length, reverse, All, IfErr, IfOk};
 ghost use Rattle.std.specs.Prelude.{OnOk};

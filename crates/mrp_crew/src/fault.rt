@@ -1,4 +1,4 @@
-//! Why the work of a crew ended early.
+//! A plant's crew: why its work ended early.
 
 ghost use Rattle.std.specs.Prelude.{◌≡◌};
 

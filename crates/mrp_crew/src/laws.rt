@@ -1,4 +1,4 @@
-//! Laws of planning by a crew. Each is the contract of a function that does nothing.
+//! A crew of workers: laws of planning by it. Each is the contract of a function that does nothing.
 
 ghost use Rattle.mrp_crew.specs.Laws.{PlanningKeepsAtWork};
 

@@ -1,4 +1,4 @@
-//! The workers of one plant: threads that draft the plans of its ready pairs side by side.
+//! A plant's crew of workers: threads that draft the plans of its ready pairs side by side.
 //!
 //! A crew plans in waves. Of the pairs that are ready it takes as many as it has workers, each worker
 //! drafts the plan of one, and the agent keeps them, one after the other; so it goes on until no pair is

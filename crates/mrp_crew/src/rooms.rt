@@ -1,4 +1,4 @@
-//! The rooms that workers draft in.
+//! A crew's workers: the rooms that they draft in.
 ghost use Rattle.std.specs.Prelude.{◌≤◌, ℕ, All, OnOk, length};
 ghost use Rattle.mrp_crew.specs.Rooms.{IsRoom};
 

@@ -1,4 +1,4 @@
-//! The agent keeps what the workers of a wave drafted.
+//! A crew's workers: what they drafted in a wave, kept by the agent.
 ghost use Rattle.std.specs.Prelude.{◌≡◌, ◌≢◌, true, List, length, reverse, All, Contains};
 ghost use Rattle.std.specs.Bool.{OnTrue};
 ghost use Rattle.mrp_master_data.specs.declared.numbers.PairNo.{PairNo};

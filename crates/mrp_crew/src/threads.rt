@@ -1,4 +1,4 @@
-//! The threads of a wave: started, and joined.
+//! A crew's workers: their threads, started for a wave, and joined.
 ghost use Rattle.std.specs.Prelude.{◌≡◌, ◌+◌, ◌++◌, ◌<◌, ◌≤◌, false, List, [], ◌∷◌, length, reverse, All, IfSome, ℕ};
 ghost use Rattle.std.specs.Prelude.{vec_capacity};
 ghost use Rattle.std.specs.Bool.{OnTrue};

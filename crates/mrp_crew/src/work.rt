@@ -1,4 +1,4 @@
-//! What one worker does, and what the workers of a wave bring back.
+//! A crew's workers: what one of them does, and what the workers of a wave bring back.
 ghost use Rattle.std.specs.Prelude.{◌≡◌, ◌≤◌};
 ghost use Rattle.mrp_agent.specs.Drafts.{CanDraft};
 ghost use Rattle.mrp_crew.specs.Rooms.{IsRoom, WorkedFor};

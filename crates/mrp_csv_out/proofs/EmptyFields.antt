@@ -1,4 +1,4 @@
--- An empty field is plain too.
+-- CSV output: an empty field of a row is plain too.
 use Rattle.std.proofs.Common.{ℕ, List, refl}
 use Rattle.std.specs.Prelude.{Option, Some, None}
 use Rattle.mrp_csv_out.specs.DateLists.{date_in}

@@ -1,4 +1,4 @@
--- Fields that need no quotes, one by one, and reports below the names of their columns.
+-- CSV output: fields of a row that need no quotes, one by one, and reports below the names of their columns.
 use Rattle.std.proofs.Common.{◌≡◌, ◌++◌, ℕ, List, [], ◌∷◌, All, decimal, ap}
 use Rattle.std.specs.List.{flat_map}
 use Rattle.std.proofs.lemmas.List.Elements.{All-cons, All-nil}

@@ -1,4 +1,4 @@
--- Fronts of a text that is sent piece by piece.
+-- CSV output: rows that are sent out piece by piece, by prefixes of a text.
 use Rattle.std.proofs.Common.{ℕ, ◌+◌, List, ◌++◌, Option, length, length-append, subst, sym, ◌∙◌, arith}
 use Rattle.std.proofs.lemmas.List.{take-append-le, take_all}
 use Rattle.std.proofs.Math.Seq.{take-append-add}

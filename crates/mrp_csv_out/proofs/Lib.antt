@@ -1,3 +1,4 @@
+-- CSV output, proofs: of its rows, and of how they are sent out.
 pub mod RowFacts
 pub mod Fronts
 pub mod PlainFacts

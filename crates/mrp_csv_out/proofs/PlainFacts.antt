@@ -1,4 +1,4 @@
--- Names, numbers, dates and words need no quotes: none of their bytes comes before the dash.
+-- CSV output: names, numbers, dates and words need no quotes in a row, since none of their bytes comes before the dash.
 use Rattle.std.proofs.Common.{◌≡◌, ◌≤◌, ◌<◌, ◌+◌, ◌/◌, ◌%◌, ◌&&◌, ℕ, zero, suc, Bool, true, false, List, [], ◌∷◌, length, get_or, decimal, All}
 use Rattle.std.proofs.Common.{cond, eqb, ltb, refl, sym, subst, arith, ⊎_elim}
 use Rattle.std.specs.List.{list_all, range_with_len}

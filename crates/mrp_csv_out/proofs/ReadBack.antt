@@ -1,4 +1,4 @@
--- What csv reads of rows of plain fields: those fields.
+-- CSV output: what csv reads of rows of plain fields, which is those fields.
 use Rattle.std.proofs.Common.{◌≡◌, ◌≤◌, ◌<◌, ◌+◌, ℕ, zero, suc, List, [], ◌∷◌, ◌++◌, Some, None, length, map, All, refl, sym, ap, subst, ◌∙◌, arith}
 use Rattle.std.proofs.Common.{length-append}
 use Rattle.std.specs.List.{flat_map}

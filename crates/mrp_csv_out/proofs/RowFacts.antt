@@ -1,4 +1,4 @@
--- What csv's writer adds, and rows one after the other.
+-- CSV output: what csv's writer adds, and rows one after the other.
 use Rattle.std.proofs.Common.{◌≡◌, ℕ, zero, suc, ◌+◌, ◌<◌, ◌≤◌, List, [], ◌∷◌, ◌++◌, Option, Some, length, take, drop, get_or, subst, sym, ap, ◌∙◌, arith}
 use Rattle.std.proofs.Common.{append-nil}
 use Rattle.std.proofs.lemmas.List.{flat_map_more, take_more}

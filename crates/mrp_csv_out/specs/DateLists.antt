@@ -1,4 +1,4 @@
--- Lists of dates, and the date of a period in them.
+-- CSV output: lists of dates for its rows, and the date of a period in them.
 use Rattle.std.specs.Prelude.{ℕ, List, [], map, slice_index_or}
 use Rattle.std.specs.List.{range_with_len}
 use Rattle.mrp_cal.specs.Calendar.{CalendarTerms}

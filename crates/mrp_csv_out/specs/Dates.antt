@@ -1,4 +1,4 @@
--- The dates of a plan's periods.
+-- CSV output: the dates of a plan's periods for its rows.
 use Rattle.std.specs.Prelude.{ℕ, List, map}
 use Rattle.std.specs.List.{range_with_len}
 use Rattle.mrp_cal.specs.Calendar.{CalendarTerms, first_day}

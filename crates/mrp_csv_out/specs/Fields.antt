@@ -1,4 +1,4 @@
--- Fields of a row that are empty where there is nothing to say.
+-- CSV output: fields of a row that are empty where there is nothing to say.
 use Rattle.std.specs.Prelude.{ℕ, List, [], decimal, Option}
 use Rattle.std.specs.Option.{option_map_or}
 use Rattle.mrp_csv_out.specs.DateLists.{date_in}

@@ -1,4 +1,4 @@
--- The names of a report's columns, which may stand as a row above its rows.
+-- CSV output: the names of any report's columns, which may stand as a row above its rows.
 use Rattle.std.specs.Prelude.{ℕ, List, []}
 use Rattle.mrp_commands.specs.declared.choice.Heading.{Heading}
 use Rattle.mrp_commands.specs.declared.choice.Heading.TheVariants.{Without, Names}

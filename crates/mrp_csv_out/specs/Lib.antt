@@ -1,3 +1,4 @@
+-- CSV output: rows, headings and dates, and how they are sent out.
 pub mod DateLists
 pub mod Dates
 pub mod Fields

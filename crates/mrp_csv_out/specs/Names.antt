@@ -1,4 +1,4 @@
--- The names in a report's rows.
+-- CSV output: the names of pairs, plants and items in any report's rows.
 use Rattle.std.specs.Prelude.{ℕ, List, length}
 use Rattle.std.specs.List.{range_with_len}
 use Rattle.mrp_master_data.specs.Said.{item_name, plant_name}

@@ -1,4 +1,4 @@
--- Rows of a report as bytes.
+-- CSV output: rows as bytes, as each report is made of them.
 use Rattle.std.specs.Prelude.{ℕ, List, [], ◌∷◌, ◌++◌}
 use Rattle.std.specs.List.{join_with_byte}
 use Rattle.csv.specs.Machine.{line_feed}

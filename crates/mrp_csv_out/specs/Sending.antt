@@ -1,4 +1,4 @@
--- What a writer has received of a report.
+-- CSV output: what a writer has received of rows that are sent out, all, or a prefix.
 use Rattle.std.specs.Prelude.{ℕ, ◌<◌, List, length, take, Option}
 use Rattle.std.specs.Io.KnownBytes.{Appends}
 

@@ -1,4 +1,4 @@
--- What sending a report answers.
+-- CSV output: what sending rows out answers. All were written, or a prefix where writing fails.
 use Rattle.std.specs.Prelude.{ℕ, List, Option, Result, Ok, Err}
 use Rattle.std.specs.Io.KnownBytes.{Appends}
 use Rattle.mrp_csv_out.specs.declared.fault.ReportFault.{ReportFault}

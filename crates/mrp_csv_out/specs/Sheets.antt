@@ -1,4 +1,4 @@
--- A report as a sheet: what a reader of comma-separated values has to find in it.
+-- CSV output: rows as a sheet, and what a reader of comma-separated values has to find in any report.
 use Rattle.std.specs.Prelude.{◌≡◌, ℕ, false, List, [], ◌∷◌, All}
 use Rattle.csv.specs.Reading.{default_config, records, strip_bom}
 use Rattle.csv.specs.Writing.{default_writer, needs_quotes}

@@ -1,4 +1,4 @@
--- How rows are written: by their bytes, and by a writer of csv.
+-- CSV output: how rows are written, by their bytes, and by a writer of csv.
 use Rattle.std.specs.Prelude.{◌≡◌, ℕ, false, List, ◌++◌, Vec}
 use Rattle.std.specs.List.{join_with_byte}
 use Rattle.std.specs.declared.alloc.Global.{Global}

@@ -1,4 +1,4 @@
-//! The dates of a plan's periods as texts.
+//! CSV output: the dates of a plan's periods as texts.
 
 ghost use Rattle.std.specs.Prelude.{◌≡◌, ◌<◌, IfOk, IfErr, length};
 ghost use Rattle.mrp_csv_out.specs.Dates.{dates_of};

@@ -1,4 +1,4 @@
-//! Why a report was not written whole.
+//! CSV output: why it was not written whole.
 
 ghost use Rattle.mrp_csv_out.specs.declared.fault.ReportFault.TheVariants.{Memory};
 ghost use Rattle.std.specs.Prelude.{◌≡◌};

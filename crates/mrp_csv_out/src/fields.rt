@@ -1,4 +1,4 @@
-//! Fields of a row that are empty where there is nothing to say.
+//! CSV output: fields of a row that are empty where there is nothing to say.
 
 ghost use Rattle.std.specs.Prelude.{◌≡◌, ◌<◌, [], IfSome, length};
 ghost use Rattle.std.specs.Option.{option_map_or};

@@ -1,5 +1,5 @@
-//! Comma-separated rows: what a report is made of. Rows are written into a room of their own and
-//! then sent whole to a writer, with the names of the columns above them where these are asked for.
+//! CSV output: comma-separated rows, which a report is made of. Rows are written into a room of their own and then
+//! sent whole to a writer, with the names of the columns above them where these are asked for.
 //!
 //! A row ends with a line feed. Names, numbers, dates and the words of a report need no quotes, so no field
 //! gets any. The room is taken before the first byte is sent: where it is refused, the writer is as it was.

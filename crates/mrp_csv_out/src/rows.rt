@@ -1,4 +1,4 @@
-//! Rows of csv in a room of their own.
+//! CSV output: rows of csv in a room of their own.
 
 ghost use Rattle.std.specs.Prelude.{◌≡◌, ◌≤◌, ◌++◌, map, IfOk, OnOk, IfErr, [], length};
 ghost use Rattle.mrp_csv_out.specs.Headings.{header_row};

@@ -1,4 +1,4 @@
-//! Bytes sent to a writer whole.
+//! CSV output: how a report's rows go out, as bytes sent to a writer whole.
 
 ghost use Rattle.std.specs.Prelude.{◌≡◌, OnOk, OnErr, IfErr};
 ghost use Rattle.std.specs.Io.KnownBytes.{Appends};

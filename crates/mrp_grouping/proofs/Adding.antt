@@ -1,4 +1,5 @@
--- Adding up rows period by period: one row more changes one place.
+-- Grouping by a key, and by a second one as the period: rows of any kind are added up, and
+-- one row more changes one place.
 use Rattle.std.proofs.Common.{◌≡◌, ℕ, ◌+◌, ◌-◌, ◌*◌, ◌<◌, ◌^◌, ◌&&◌, Bool, true, false, cond, eqb, List, inl, inr, length, get_or, set, take, min, sym, ap, ◌∙◌}
 use Rattle.std.proofs.Common.{subst, arith}
 use Rattle.std.proofs.lemmas.Bool.{cases_eq, eq-eqb, eqb-true, and_from, and_parts, false_from_ne_true}

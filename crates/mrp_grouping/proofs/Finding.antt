@@ -1,4 +1,4 @@
--- The place of a key among keys that stand once each, and of which one more came.
+-- Grouping by a key: the place of a key, among keys of any kind that stand once each, and of which one more came.
 use Rattle.std.proofs.Common.{◌≡◌, ℕ, ◌+◌, ◌<◌, Bool, true, false, cond, List, [], ◌∷◌, ◌++◌, length, get_or, position, Option, Some, refl, sym, ap, subst, ◌∙◌}
 use Rattle.std.proofs.Common.{arith}
 use Rattle.std.specs.Cmp.{IsEquivalence}

@@ -1,3 +1,4 @@
+-- Grouping, sorting and adding up by a key, proofs.
 pub mod Grouping
 pub mod Sorting
 pub mod Placing

@@ -1,4 +1,4 @@
--- Amounts of rows added up by a key, as the pair, and by a second key beside it, as the period.
+-- Grouping by a key, as the pair: amounts of rows added up by it, and by a second key beside it, as the period.
 use Rattle.std.specs.Prelude.{◌≡◌, ℕ, ◌+◌, ◌-◌, ◌*◌, ◌^◌, ◌<◌, ◌==◌, ◌&&◌, if◌then◌else◌, min, List, length, sum_by}
 use Rattle.std.specs.Prelude.{slice_index}
 

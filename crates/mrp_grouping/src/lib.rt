@@ -1,4 +1,4 @@
-//! Rows of any type put into groups by a key, amounts added up by a key, and keys found by their places.
+//! Grouping: rows of any type put into groups by a key, amounts added up by a key, and keys found by their places.
 //!
 //! [`group`] puts rows in order by a key, as that of a pair, a route or a low-level code: rows are counted, and
 //! then placed (a stable counting sort). [`starts`] says where the groups begin. [`add_totals`] and [`add_amounts`]

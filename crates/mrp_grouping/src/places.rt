@@ -1,4 +1,4 @@
-//! Where keys stand in a list that has each of them once.
+//! Grouping by a key: where keys stand in a list that has each of them once, found by hash.
 
 use std::alloc::{AllocError, Global};
 use std::collections::HashMap;

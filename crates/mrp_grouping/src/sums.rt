@@ -1,4 +1,4 @@
-//! Amounts of rows added up by a key.
+//! Grouping by a key: amounts of rows added up by it.
 
 ghost use Rattle.std.specs.Prelude.{◌≡◌, ℕ, ◌+◌, ◌*◌, ◌<◌, length, All};
 ghost use Rattle.mrp_grouping.specs.Added.{AddsTotals, AddsAmounts};

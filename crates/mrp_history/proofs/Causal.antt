@@ -1,4 +1,4 @@
--- Stamps carry causality from the sender of a lane to its receiver.
+-- Histories: their stamps carry causality from the sender of a lane to its receiver.
 use Rattle.std.proofs.Common.{◌≡◌, ℕ, zero, suc, ◌<◌, ◌≤◌, List, length, get_or, refl, ap, ◌∙◌, subst, sym, arith}
 use Rattle.std.proofs.lemmas.List.{get_or_append_left}
 use Rattle.mrp_record.specs.declared.record.Record.{Record}

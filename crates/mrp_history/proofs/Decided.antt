@@ -1,4 +1,5 @@
--- What a plant has sent was decided before, and so it is in a state in which the pairs are planned that were by then.
+-- Histories: what a plant has sent by its history was decided before, and so it is in a state in which the pairs
+-- are planned that were by then.
 use Rattle.std.proofs.Common.{◌≡◌, ℕ, zero, suc, ◌+◌, ◌-◌, ◌<◌, ◌==◌, Bool, true, List, [], ◌∷◌, ◌++◌, inl, inr, length, sym, ap, subst, ◌∙◌, arith}
 use Rattle.std.proofs.Common.{All, Contains}
 use Rattle.std.specs.List.{flat_map}

@@ -1,4 +1,4 @@
--- The states of plants that are explained merge: histories that explain them agree over each lane.
+-- Histories: the states of plants that they explain merge, and they agree over each lane.
 use Rattle.std.proofs.Common.{◌≡◌, ℕ, zero, suc, ◌+◌, ◌<◌, ◌≤◌, true, List, inl, inr, length, sym, ap, subst, ◌∙◌, arith}
 use Rattle.std.proofs.lemmas.Bool.{cases_lt}
 use Rattle.std.proofs.lemmas.List.Elements.{All-contains}

@@ -1,3 +1,4 @@
+-- Histories of plants in logical time, proofs.
 pub mod Prefixes
 pub mod Decided
 pub mod Merging

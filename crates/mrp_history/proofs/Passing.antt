@@ -1,4 +1,5 @@
--- A plant stays explained: before its first step, with a record more at one of its ends, and with more pairs planned.
+-- Histories: a plant stays explained by its history, before its first step, with a record more at one of its
+-- ends, and with more pairs planned.
 use Rattle.std.proofs.Common.{refl, ◌≤◌, ◌≡◌, ◌≢◌, ℕ, ◌+◌, ◌-◌, ◌<◌, Bool, true, List, [], ◌∷◌, ◌++◌, inl, inr, length, get_or, set, sym, ap, subst}
 use Rattle.std.proofs.Common.{◌∙◌, arith}
 use Rattle.std.proofs.Common.{All, sum_by}

@@ -1,4 +1,4 @@
--- Prefixes of lists.
+-- Histories: prefixes of lists, as what a plant has sent and taken grows by them.
 use Rattle.std.proofs.Common.{◌≡◌, ◌≤◌, List, [], ◌∷◌, ◌++◌, inl, inr, length, refl, sym, ap, ◌∙◌, arith, append_assoc, length-append}
 use Rattle.std.proofs.lemmas.List.{append-nil}
 use Rattle.mrp_record.proofs.Fronts.{overlap}

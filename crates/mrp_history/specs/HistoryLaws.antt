@@ -1,4 +1,4 @@
--- Laws of histories.
+-- Histories of plants, laws: they merge to a run, and stamps are causal.
 use Rattle.std.specs.Prelude.{◌≡◌, ℕ, ◌≤◌, List, ◌++◌}
 use Rattle.mrp_master_data.specs.Table.{Table, IsTable}
 use Rattle.mrp_loops.specs.Loop.{IsLoopFree}

@@ -1,5 +1,5 @@
--- Stamps: the sender's clock at each record that went over a lane. A plant that takes a record has its clock beyond the
--- record's stamp from then on.
+-- Histories: their stamps, each the sender's clock at a record that went over a lane. A plant that takes a record has
+-- its clock beyond the record's stamp from then on.
 use Rattle.std.specs.Prelude.{◌≡◌, ℕ, ◌+◌, ◌<◌, ◌≤◌, List, ◌++◌, length, slice_index, sum_by, All, Contains}
 use Rattle.mrp_master_data.specs.Table.{Table}
 use Rattle.mrp_net.specs.Lanes.{lanes, lane_at}

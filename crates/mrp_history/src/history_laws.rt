@@ -1,4 +1,4 @@
-//! Laws of histories. Each is the contract of a function that does nothing.
+//! Histories: their laws. Each is the contract of a function that does nothing.
 
 ghost use Rattle.mrp_history.specs.HistoryLaws.{HistoriesMerge, FinishedHistoriesMerge};
 ghost use Rattle.mrp_history.specs.HistoryLaws.{LanesAreCausal, ExplainedStatesMerge, FinishedStatesMerge};

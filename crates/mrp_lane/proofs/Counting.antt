@@ -1,4 +1,4 @@
--- What the ends count is what their lists have, and it stays within the bound.
+-- A lane's mailbox between threads: what its two ends count is what their lists have, and it stays within the bound.
 use Rattle.std.proofs.Common.{◌≡◌, ℕ, zero, suc, ◌+◌, ◌<◌, ◌≤◌, ◌^◌, ◌==◌, Bool, true, false, cond, inl, inr, List, [], ◌∷◌, ◌++◌, length, get_or, set, map}
 use Rattle.std.proofs.Common.{take, refl, sym, ap, subst, ◌∙◌, arith, length-append, All, Contains}
 use Rattle.std.specs.List.{AllByRecursion, IsDistinct, sum_by}

@@ -1,4 +1,4 @@
--- What the joined pass of a mailbox holds, and what is left over once all is taken.
+-- A lane's mailbox between threads: what the joined ends hold of it, and what is left over once all is taken.
 use Rattle.std.proofs.Common.{◌≡◌, ℕ, ◌+◌, ◌<◌, ◌≤◌, List, [], ◌∷◌, ◌++◌, drop, length, take, refl, sym, ap, subst, ◌∙◌, append_assoc, append-nil}
 use Rattle.std.proofs.Common.{length-append, arith, All}
 use Rattle.std.proofs.Math.Seq.{take-append_seam}

@@ -1,4 +1,4 @@
--- Each step at a lane's mailbox keeps its rule.
+-- A lane's mailbox between threads: each step of either thread at it keeps its rule.
 use Rattle.std.proofs.Common.{◌≡◌, ◌≢◌, ℕ, zero, suc, true, false, true≢false, List, [], ◌∷◌, ◌++◌, length, set, sym, refl, ap, ◌∙◌, subst, ⊎_elim}
 use Rattle.std.proofs.Common.{append_assoc, length-append, arith}
 use mathlib.Core.Option.{some, some-ne-none}

@@ -1,4 +1,4 @@
--- The ends of a lane, as contracts see them.
+-- A lane's mailbox between threads: its two ends, as contracts see them.
 use Rattle.std.specs.Prelude.{◌≡◌, ℕ, ◌<◌, true, List, [], ◌∷◌, ◌++◌, length, Option}
 use Rattle.atomic_table.specs.Seated.{TableId}
 use Rattle.crossbeam_queue.specs.declared.array_queue.Doing.{Doing}

@@ -1,4 +1,4 @@
--- Laws of the rule of a lane's mailbox.
+-- A lane's mailbox between threads: laws of its rule.
 use Rattle.std.specs.Prelude.{◌≡◌, ℕ, true, List, ◌++◌, length}
 use mathlib.Core.Option.{some}
 use lib.ListN.{get_elem?}

@@ -1,3 +1,4 @@
+-- A lane's mailbox between threads, and its two ends.
 pub mod Views
 pub mod Tallies
 pub mod Ends

@@ -1,4 +1,4 @@
--- What reconciling and joining the two ends of a lane answers.
+-- A lane's mailbox between threads: what reconciling and joining its two ends answers.
 use Rattle.std.specs.Prelude.{◌≡◌, ℕ, ◌+◌, ◌<◌, true, List, [], ◌∷◌, ◌++◌, drop, length, map, take}
 use Rattle.crossbeam_queue.specs.Passes.{Pass, view}
 use Rattle.mrp_master_data.specs.declared.numbers.ItemNo.{ItemNo}

@@ -1,4 +1,4 @@
--- What an end of a lane counts of the records that went through it.
+-- A lane's mailbox between threads: what each of its two ends counts of the records that went through it.
 use Rattle.std.specs.Prelude.{ℕ, ◌+◌, ◌==◌, if◌then◌else◌, Bool, List, length, map}
 use Rattle.mrp_master_data.specs.declared.numbers.ItemNo.{ItemNo}
 use Rattle.mrp_master_data.specs.Table.{Table}

@@ -1,4 +1,4 @@
--- What the passes to a lane's mailbox know, and the rule that holds at each of its steps.
+-- A lane's mailbox between threads: what the passes of its two ends know, and the rule that holds at each of its steps.
 use Rattle.std.specs.Prelude.{◌≡◌, ℕ, true, false, List, [], ◌∷◌, ◌++◌, length}
 use mathlib.Core.Option.{some}
 use lib.ListN.{get_elem?}

@@ -1,4 +1,4 @@
-//! How the two ends of a lane are joined, and reconciled, once both are in one thread again.
+//! A lane's mailbox between threads: how its two ends are joined, and reconciled, once both are in one thread again.
 ghost use Rattle.std.specs.Prelude.{◌≡◌, ◌+◌, ◌<◌, ◌≤◌, ◌++◌, true, All, IfOk, length};
 ghost use Rattle.std.specs.Arc.{arc_value};
 ghost use Rattle.crossbeam_queue.specs.Passes.{view, IsPassOf};

@@ -1,4 +1,4 @@
-//! Laws of a lane's mailbox. Each is the contract of a function that does nothing.
+//! A lane's mailbox between threads: its laws. Each is the contract of a function that does nothing.
 
 ghost use Rattle.mrp_lane.specs.Laws.{MailboxesKeepOrder};
 

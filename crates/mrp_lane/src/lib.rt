@@ -1,4 +1,4 @@
-//! A lane between two threads: a mailbox of bounded room without locks, and its two ends.
+//! A lane's mailbox between threads: of bounded room without locks, with two ends.
 //!
 //! The sender's thread owns one end and the receiver's the other. Whatever the two threads do, and in
 //! whichever order their steps fall, the records taken are the records sent (offered and not refused), in

@@ -1,4 +1,4 @@
-//! The sender's end of a lane.
+//! A lane's mailbox between threads: the sender's end, by which a record is offered.
 ghost use Rattle.std.specs.Prelude.{◌≡◌, ◌<◌, true, false, [], ◌∷◌, ◌++◌, length, IfErr, OnOk, IsTrue};
 ghost use Rattle.crossbeam_queue.specs.Fifo.{Held};
 ghost use Rattle.crossbeam_queue.specs.Passes.{view, IsPassOf, IsSamePass, ruled_capacity};

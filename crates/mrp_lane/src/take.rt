@@ -1,4 +1,4 @@
-//! The receiver's end of a lane.
+//! A lane's mailbox between threads: the receiver's end, by which a record is taken.
 ghost use Rattle.std.specs.Prelude.{◌≡◌, ◌<◌, true, [], ◌∷◌, ◌++◌, length, IfNone, IfSome};
 ghost use Rattle.crossbeam_queue.specs.Passes.{view, IsPassOf, IsSamePass};
 ghost use Rattle.mrp_net.specs.Lanes.{lanes};

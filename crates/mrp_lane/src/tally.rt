@@ -1,4 +1,4 @@
-//! What an end of a lane counts of the records that went through it.
+//! A lane's mailbox between threads: what each of its two ends counts of the records that went through it.
 ghost use Rattle.std.specs.Prelude.{◌≡◌, ◌+◌, ◌<◌, ◌^◌, ◌==◌, false, [], All, Contains, IfOk, IfSome, IfNone, IsTrue};
 ghost use Rattle.std.specs.Prelude.{length, map, slice_index_or};
 ghost use Rattle.std.specs.List.{IsDistinct};

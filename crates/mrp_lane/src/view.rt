@@ -1,4 +1,4 @@
-//! What the two ends of a lane know of its mailbox, and the rule that each step keeps.
+//! A lane's mailbox between threads: what its two ends know of it, and the rule that each step keeps.
 
 use crossbeam_queue::protocol::{Join, Lesson, Outcome, Protocol, Split};
 use crossbeam_queue::{Pass, RuledArrayQueue};

@@ -1,4 +1,4 @@
--- Over a lane an item's opening figure and all parts of its releases are within the bound.
+-- The bound: in a sized network an item's opening figure over a lane and all parts of its releases are within it.
 use Rattle.std.proofs.Common.{◌≡◌, ℕ, zero, suc, ◌+◌, ◌*◌, ◌≤◌, ◌==◌, ◌&&◌, true, List, sum, sum_by, take, slice_index, sym, ap, ◌∙◌, subst, arith, eqb-true}
 use Rattle.std.specs.List.{range_with_len}
 use Rattle.std.proofs.lemmas.Bool.{and_parts}

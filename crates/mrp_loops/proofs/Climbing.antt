@@ -1,4 +1,4 @@
--- A list of pairs, each in a relation to the next.
+-- Loops and chains of a network: a list of pairs, each in a relation to the next.
 use Rattle.std.specs.Prelude.{ℕ, List, [], ◌∷◌}
 use Rattle.mrp_master_data.specs.declared.numbers.PairNo.{PairNo}
 

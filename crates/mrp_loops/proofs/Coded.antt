@@ -1,4 +1,5 @@
--- A network without loops has codes: no chain is as long as the table has pairs, so each pair has a longest.
+-- Low-level codes: a network without loops has them. No chain is as long as the table has
+-- pairs, so each pair has a longest.
 use Rattle.std.proofs.Common.{◌≡◌, ℕ, zero, suc, ◌+◌, ◌<◌, ◌≤◌, Bool, true, false, cond, ⊎_elim, List, [], ◌∷◌, ◌++◌, map, reverse, length, refl, sym, ap}
 use Rattle.std.proofs.Common.{subst, ◌∙◌, arith, All, slice_index}
 use Rattle.std.specs.List.{list_any, range_with_len}

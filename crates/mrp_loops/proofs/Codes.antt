@@ -1,4 +1,4 @@
--- Codes are the longest chains, and a network with codes has no loop.
+-- Low-level codes are the longest chains, and a network with codes has no loop.
 use Rattle.std.proofs.Common.{◌≡◌, ◌≢◌, ℕ, suc, ◌<◌, ◌≤◌, ◌==◌, false, List, [], ◌∷◌, length, sym, ◌∙◌, arith, All, slice_index}
 use Rattle.std.proofs.lemmas.Bool.{eq-eqb, both_ways}
 use Rattle.std.proofs.lemmas.List.{get_or_default}

@@ -1,4 +1,4 @@
--- The edges of a table, as the lists of a pair's demanders and suppliers have them.
+-- The loop check: the edges of a table, as the lists of a pair's demanders and suppliers have them.
 use Rattle.std.proofs.Common.{◌≡◌, ℕ, ◌<◌, ◌==◌, List, ⊎_elim, length, map, refl, sym, subst, ◌∙◌, arith, count_by}
 use Rattle.std.specs.List.{filter, flat_map, range_with_len}
 use Rattle.std.proofs.lemmas.Bool.{eq-eqb, eqb-true}

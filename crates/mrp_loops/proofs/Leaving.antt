@@ -1,4 +1,4 @@
--- What is left where pairs are taken away, and where the walk upstream goes among it.
+-- The loop check: what is left where pairs are taken away, and where the walk upstream goes among it.
 use Rattle.std.proofs.Common.{◌≡◌, ℕ, zero, suc, ◌<◌, ◌≤◌, ◌==◌, ⊎_elim, List, length, get_or, slice_index, take, refl, sym, ap, subst, ◌∙◌, arith, All}
 use Rattle.std.specs.List.{filter}
 use Rattle.std.proofs.lemmas.Bool.{cases_eq, cases_lt}

@@ -1,3 +1,4 @@
+-- The loop check, low-level codes and the bound, proofs.
 pub mod Counts
 pub mod Edges
 pub mod Taken

@@ -1,4 +1,4 @@
--- The needs, found in an order in which demanders come first.
+-- The bound: the needs of all pairs, found in an order in which demanders come first.
 use Rattle.std.proofs.Common.{◌≡◌, ◌≢◌, ℕ, zero, suc, ◌+◌, ◌-◌, ◌*◌, ◌<◌, ◌≤◌, ◌==◌, true, inl, inr, ⊎_elim, List, [], ◌∷◌, length, map, get_or, set, min, refl}
 use Rattle.std.proofs.Common.{sym, ap, subst, ◌∙◌, arith, slice_index, sum_by, length-set}
 use Rattle.std.proofs.lemmas.Bool.{eqb-true, cases_eq, or_cases, true≢false}

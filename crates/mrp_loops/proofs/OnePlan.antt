@@ -1,4 +1,4 @@
--- The plan of a network without loops fits it, and is the only table that does.
+-- Loops: the plan of a network without them fits it, and is the only table that does.
 use Rattle.std.proofs.Common.{◌≡◌, ℕ, ◌<◌, ◌≤◌, List, length, slice_index, zero, suc, arith, refl, sym, ap, ◌∙◌, subst}
 use Rattle.std.specs.List.{range_with_len}
 use Rattle.std.proofs.lemmas.List.{ext_get_or}

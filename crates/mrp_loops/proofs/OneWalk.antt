@@ -1,4 +1,4 @@
--- The walk upstream is one, and so is its loop.
+-- The loop check: its walk upstream is one, and so is its loop.
 use Rattle.std.proofs.Common.{◌≡◌, ◌≢◌, ℕ, zero, suc, ◌<◌, ◌≤◌, ◌⊎◌, inl, inr, ⊎_elim, List, [], ◌∷◌, reverse, refl, sym, ap, subst, ◌∙◌, arith, All}
 use Rattle.std.specs.List.{AllPairs}
 use Rattle.std.proofs.lemmas.Bool.{cases_eq, cases_lt}

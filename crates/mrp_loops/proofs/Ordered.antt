@@ -1,4 +1,4 @@
--- A network with codes has an order by codes, and needs.
+-- Low-level codes: a network with them has an order by codes, and needs.
 use Rattle.std.proofs.Common.{ℕ, List, map, length, replicate, arith}
 use Rattle.std.proofs.lemmas.List.{length-replicate}
 use Rattle.mrp_master_data.specs.Table.{Table, IsTable}

@@ -1,4 +1,4 @@
--- What a planning order says of the places in it.
+-- Low-level codes: the planning order by them, and what it says of the places in it.
 use Rattle.std.proofs.Common.{◌≡◌, ℕ, ◌<◌, ◌==◌, List, length, map, slice_index, slice_index_or, take, arith, ap, subst, sym, ◌∙◌, ⊎_elim, eq-eqb, ne_eqb}
 use Rattle.std.specs.List.{range_with_len, Contains}
 use Rattle.std.proofs.lemmas.Bool.{cases_eq, cases_order, eqb-false}

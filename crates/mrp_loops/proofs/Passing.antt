@@ -1,4 +1,5 @@
--- How far one pass of the loop check has come: over the edges of a pair that is taken away, and over the pairs at first.
+-- The loop check: how far one pass of it has come, over the edges of a pair that is taken
+-- away, and over the pairs at first.
 use Rattle.std.specs.Prelude.{◌≡◌, ℕ, ◌<◌, ◌≤◌, ◌==◌, ◌++◌, ◌∷◌, [], List, length, slice_index, slice_index_or, All}
 use Rattle.mrp_master_data.specs.Table.{Table}
 use Rattle.mrp_master_data.specs.declared.numbers.PairNo.{PairNo}

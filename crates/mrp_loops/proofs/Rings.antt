@@ -1,4 +1,4 @@
--- A walk upstream that comes to a pair again has a loop behind it, which may begin anywhere.
+-- The loop check: a walk upstream that comes to a pair again has a loop behind it, which may begin anywhere.
 use Rattle.std.proofs.Common.{◌≡◌, ◌≢◌, ℕ, ◌+◌, ◌<◌, ◌≤◌, ◌==◌, Bool, true, false, ⊎_elim, List, [], ◌∷◌, ◌++◌, map, replicate, reverse, length, get_or, set}
 use Rattle.std.proofs.Common.{take, drop, refl, sym, ap, subst, ◌∙◌, arith, All, IsPermutation}
 use Rattle.std.specs.List.{IsDistinct, AllPairs}

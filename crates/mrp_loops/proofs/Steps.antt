@@ -1,4 +1,4 @@
--- Steps of the loop check: a pair begins to be taken away, an edge is passed, all edges are passed.
+-- The loop check, step by step: a pair begins to be taken away, an edge is passed, all edges are passed.
 use Rattle.std.proofs.Common.{◌≡◌, ◌≢◌, ℕ, zero, suc, ◌+◌, ◌-◌, ◌<◌, ◌≤◌, ◌==◌, max, true, false, cond, ⊎_elim, List, [], ◌∷◌, ◌++◌, length, get_or, set, take}
 use Rattle.std.proofs.Common.{drop, replicate, refl, sym, ap, subst, ◌∙◌, arith, All, length-set, slice_index}
 use Rattle.std.proofs.lemmas.Bool.{eq-eqb, eqb-true, ne_eqb, cases_eq, cases_lt, cases_Bool, true≢false, or_from, cond_both}

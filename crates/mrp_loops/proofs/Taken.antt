@@ -1,4 +1,4 @@
--- Steps of the loop check: a pair is taken away, an edge is passed.
+-- The loop check, step by step: a pair is taken away, an edge is passed.
 use Rattle.std.proofs.Common.{◌≡◌, ℕ, ◌+◌, ◌<◌, ◌≤◌, ◌==◌, ◌||◌, Bool, true, false, cond, not, ⊎_elim, List, [], ◌∷◌, ◌++◌, length, map, get_or, refl, sym, ap}
 use Rattle.std.proofs.Common.{◌∙◌, arith, count_by, All}
 use Rattle.std.specs.List.{list_any}

@@ -1,4 +1,4 @@
--- Upstream of a pair there is a last one of each set, where the network has no loop.
+-- Loops: in a network without them there is a last one of each set upstream of a pair.
 use Rattle.std.proofs.Common.{◌≡◌, ℕ, zero, suc, ◌+◌, ◌==◌, Bool, true, false, not, ⊎_elim, List, [], ◌∷◌, ◌++◌, reverse, length, refl, sym, ap, ◌∙◌, arith}
 use Rattle.std.proofs.Common.{All, slice_index}
 use Rattle.std.specs.List.{list_any}

@@ -1,4 +1,4 @@
--- In a table of plans that fits a sized network the releases of each pair are within its need.
+-- The bound: in a table of plans that fits a sized network the releases of each pair are within its need.
 use Rattle.std.proofs.Common.{◌≡◌, ℕ, ◌+◌, ◌*◌, ◌≤◌, ◌==◌, ◌&&◌, if◌then◌else◌, Bool, true, false, inl, inr, leb, List, [], ◌∷◌, sum, sum_by, slice_index}
 use Rattle.std.proofs.Common.{slice_index_or, length, take, refl, sym, ap, ◌∙◌, subst, arith}
 use Rattle.std.specs.List.{All}

@@ -1,4 +1,4 @@
--- What the refusals of the bound say.
+-- The bound on a network's quantities: what its refusals say.
 use Rattle.std.specs.Prelude.{ℕ, ◌+◌, ◌<◌, ◌≤◌, List, slice_index}
 use Rattle.mrp_qty.specs.declared.quantity.TheConstants.{MOST}
 use Rattle.mrp_master_data.specs.Table.{Table, IsPair}

@@ -1,4 +1,4 @@
--- Laws of codes, of networks without loops, of needs, and of plans.
+-- Low-level codes, networks without loops, needs, and the bound on a sized network's plans: their laws.
 use Rattle.std.specs.Prelude.{◌≡◌, ℕ, ◌<◌, Bool, true, false, List, map, slice_index}
 use Rattle.mrp_master_data.specs.Table.{Table, IsTable, IsPair}
 use Rattle.mrp_net.specs.PlanLaws.{HasOnePlan}

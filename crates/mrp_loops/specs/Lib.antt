@@ -1,3 +1,4 @@
+-- The loop check with low-level codes, and the bound: when a network is sized.
 pub mod BoundFaults
 pub mod Codes
 pub mod Laws

@@ -1,4 +1,4 @@
--- Loops and low-level codes of a network.
+-- Loops of a network, and its low-level codes.
 use Rattle.std.specs.Prelude.{◌≡◌, ℕ, List, [], ◌∷◌, Contains}
 use Rattle.mrp_master_data.specs.Table.{Table}
 use Rattle.mrp_net.specs.Edges.{edges}

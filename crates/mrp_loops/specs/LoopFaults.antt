@@ -1,4 +1,4 @@
--- What the faults of the loop check say.
+-- The loop check: what its faults say.
 use Rattle.std.specs.Prelude.{map}
 use Rattle.mrp_master_data.specs.Table.{Table}
 use Rattle.mrp_loops.specs.declared.loops.LoopFault.{LoopFault}

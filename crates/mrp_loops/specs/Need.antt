@@ -1,4 +1,4 @@
--- What each pair may need over the whole horizon.
+-- The bound: what each pair may need over the whole horizon.
 use Rattle.std.specs.Prelude.{◌≡◌, ℕ, ◌+◌, ◌*◌, ◌≤◌, List, length, sum_by, slice_index}
 use Rattle.mrp_qty.specs.declared.quantity.TheConstants.{MOST}
 use Rattle.mrp_lot.specs.Lot.{rule_quantities}

@@ -1,4 +1,4 @@
--- A network with its codes and needs, and the orders in which its pairs can be planned.
+-- Low-level codes and needs of a network, and the orders in which its pairs can be planned.
 use Rattle.std.specs.Prelude.{ℕ, ◌<◌, List, length, take, slice_index, All, Contains, IsPermutation}
 use Rattle.std.specs.List.{range_with_len}
 use Rattle.mrp_master_data.specs.Table.{Table}

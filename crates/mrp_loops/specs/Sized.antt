@@ -1,4 +1,4 @@
--- A sized network: no loop, and every figure of its plan within the bound.
+-- Loops and the bound: a sized network has no loop, and every figure of its plan is within the bound.
 use Rattle.std.specs.Prelude.{ℕ, List}
 use Rattle.mrp_master_data.specs.Table.{Table, IsTable}
 use Rattle.mrp_loops.specs.Loop.{IsLoopFree}

@@ -1,4 +1,4 @@
--- How far the loop check has come: the pairs taken away, and what is known of those that are left.
+-- The loop check: how far it has come, by the pairs taken away, and what is known of those that are left.
 use Rattle.std.specs.Prelude.{◌≡◌, ℕ, ◌+◌, ◌<◌, ◌≤◌, ◌==◌, [], Bool, true, not, List, length, count_by, slice_index}
 use Rattle.std.specs.Prelude.{slice_index_or, All}
 use Rattle.std.specs.List.{list_any}

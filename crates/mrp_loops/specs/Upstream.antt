@@ -1,4 +1,4 @@
--- The walk upstream, which decides which of several loops is answered.
+-- The loop check: its walk upstream, which decides which of several loops is answered.
 use Rattle.std.specs.Prelude.{ℕ, zero, suc, ◌≤◌, List, All}
 use Rattle.mrp_master_data.specs.Table.{Table}
 use Rattle.mrp_loops.specs.Loop.{HasEdge, IsRound}

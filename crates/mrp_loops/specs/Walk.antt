@@ -1,4 +1,4 @@
--- The walk upstream among pairs that can't be taken away.
+-- The loop check: its walk upstream among pairs that can't be taken away.
 use Rattle.std.specs.Prelude.{◌≡◌, ℕ, ◌<◌, List, map, reverse, length, slice_index, slice_index_or, Contains}
 use Rattle.mrp_master_data.specs.Table.{Table, IsTable, IsPair}
 use Rattle.mrp_master_data.specs.declared.numbers.PairNo.{PairNo}

@@ -1,5 +1,5 @@
-//! Laws of codes, of networks without loops, of needs, and of plans. Each is the contract of a function that
-//! does nothing.
+//! Loops, low-level codes, the needs of a sized network, and its plans within the bound: their laws. Each is the
+//! contract of a function that does nothing.
 
 ghost use Rattle.mrp_loops.specs.Laws.{CodesRise, CodedIsLoopFree, CodesExist, CodesAreOne, WalkedLoopIsOne};
 ghost use Rattle.mrp_loops.specs.Laws.{SetsHaveAFirst, DemandersDecide};

@@ -1,4 +1,4 @@
-//! Which networks can be planned: the loop check with low-level codes, and the bound on quantities.
+//! The loop check with low-level codes, and the bound on quantities: which networks can be planned.
 //!
 //! A [`SizedNet`] is a network that passed both.
 //!

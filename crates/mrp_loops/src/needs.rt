@@ -1,4 +1,4 @@
-//! The needs of the pairs: what may be ordered of each at most.
+//! The bound: the needs of the pairs, what may be ordered of each at most.
 
 ghost use Rattle.std.specs.Prelude.{◌≡◌, ◌-◌, ◌*◌, ◌^◌, min, length, sum_by, slice_index, All};
 ghost use Rattle.mrp_lot.specs.Lot.{rule_quantities};

@@ -1,4 +1,4 @@
-//! How pairs are taken away, demanders first, until each that is left has a demander left.
+//! The loop check: how pairs are taken away, demanders first, until each that is left has a demander left.
 
 ghost use Rattle.std.specs.Prelude.{◌≡◌, ◌+◌, ◌<◌, ◌≤◌, ◌-◌, ◌++◌, ◌∷◌, [], ◌==◌, if◌then◌else◌, max, length, take};
 ghost use Rattle.std.specs.Prelude.{slice_index};

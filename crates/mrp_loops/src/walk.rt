@@ -1,4 +1,4 @@
-//! The walk upstream among the pairs that are left, until one is met twice.
+//! The loop check: its walk upstream among the pairs that are left, until one is met twice.
 
 ghost use Rattle.std.specs.Prelude.{◌≡◌, ◌<◌, ◌≤◌, true, All, length, map, drop, slice_index, slice_index_or, IfOk};
 ghost use Rattle.mrp_master_data.specs.Table.{IsPair};

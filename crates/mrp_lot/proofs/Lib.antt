@@ -1,1 +1,2 @@
+-- Lot rules, proofs.
 pub mod LotLaws

@@ -1,4 +1,4 @@
--- Laws of the lot rules.
+-- Lot rules: their laws.
 use Rattle.std.specs.Prelude.{◌≡◌, ℕ, ◌+◌, ◌-◌, ◌*◌, ◌/◌, ◌%◌, ◌≤◌, ◌<◌, max, min}
 use Rattle.std.proofs.Common.{arith, refl, ◌∙◌, ap}
 use Rattle.std.proofs.Math.Nat.{mul_comm, mul-le-mul_left}

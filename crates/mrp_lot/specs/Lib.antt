@@ -1,2 +1,3 @@
+-- Lot rules and their laws.
 pub mod Lot
 pub mod Rules

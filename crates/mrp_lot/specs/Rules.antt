@@ -1,4 +1,4 @@
--- Laws of the lot rules, whatever they are asked for.
+-- Lot rules: their laws, whatever they are asked for.
 use Rattle.std.specs.Prelude.{◌≡◌, ℕ, ◌+◌, ◌*◌, ◌≤◌, ◌<◌, max}
 use Rattle.mrp_lot.specs.declared.rule.Rule.{Rule}
 use Rattle.mrp_lot.specs.declared.rule.Rule.TheVariants.{LotForLot, Fixed, MinMultiple}

@@ -1,4 +1,4 @@
-//! Laws of the lot rules. Each is the contract of a function that does nothing.
+//! Lot rules: their laws. Each is the contract of a function that does nothing.
 
 ghost use Rattle.std.specs.Prelude.{◌≡◌, ◌≤◌, ◌↔◌, ℕ};
 ghost use Rattle.mrp_lot.specs.Lot.{IsRule};

@@ -1,4 +1,4 @@
-//! The lot rules and their limits.
+//! Lot rules and their limits.
 
 /// The greatest quantity in a lot rule: 10^12 pieces.
 pub const MOST_IN_RULE: u64 = 1_000_000_000_000;

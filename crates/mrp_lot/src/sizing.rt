@@ -1,4 +1,4 @@
-//! How much a lot rule orders for a net requirement.
+//! Lot rules: how much one of them orders for a net requirement.
 
 ghost use Rattle.std.specs.Prelude.{◌≡◌, ◌+◌, ◌≤◌};
 ghost use Rattle.mrp_qty.specs.declared.quantity.TheConstants.{MOST};

@@ -1,4 +1,4 @@
--- A number has one text: its digits, without a zero before them.
+-- Master data: a number has one text, its digits, without a zero before them.
 use Rattle.std.proofs.Common.{◌≡◌, ◌≢◌, ◌<◌, ◌≤◌, ◌^◌, ◌==◌, ◌&&◌, ◌||◌, ℕ, zero, suc, Bool, true, false, not, leb, if◌then◌else◌, get_or, List, length, Option}
 use Rattle.std.proofs.Common.{Some, None, MatchOption, refl, ap, sym, ◌∙◌, subst, arith, rules}
 use Rattle.std.specs.Char.{is_ascii_digit}

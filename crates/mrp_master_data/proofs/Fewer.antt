@@ -1,4 +1,4 @@
--- A table without its bill rows, usage rows and demand rows is one.
+-- Master data without bill rows, usage rows and demand rows are a table's.
 use Rattle.std.proofs.Common.{◌≡◌, arith, true}
 use Rattle.std.proofs.lemmas.List.Elements.{All-nil}
 use Rattle.mrp_master_data.proofs.SpelledLists.{IsDistinct-nil}

@@ -1,4 +1,4 @@
--- What is found of a plant and an item.
+-- Master data that grow by a pair: what is found of a plant and an item.
 use Rattle.std.proofs.Common.{◌≡◌, ◌<◌, ◌==◌, ◌&&◌, ◌∙◌, ℕ, Bool, true, false, cond, List, [], ◌∷◌, ◌++◌, length, position, Option, None, Some, IfSome}
 use Rattle.std.proofs.Common.{option_map, refl, ap, sym, subst}
 use Rattle.std.specs.List.{list_any}

@@ -1,4 +1,4 @@
--- Rows that are in range stay so while a table grows.
+-- Master data: rows that are in range stay so while a table grows.
 use Rattle.std.proofs.Common.{◌≡◌, true, false, if◌then◌else◌, ℕ, ◌+◌, ◌≤◌, ◌<◌, List, [], ◌∷◌, ◌++◌, length, arith, refl, ap, sym, subst, Result, Ok, Err}
 use Rattle.std.proofs.Common.{OnOk, OnErr, IfSome, Option, Some, None}
 use Rattle.std.specs.List.{All, list_any}

@@ -1,4 +1,4 @@
--- The places of keys.
+-- Master data: the places of keys, as of pairs by plant and item.
 use Rattle.std.proofs.Common.{◌≡◌, ◌<◌, ℕ, get_or, ◌==◌, ◌&&◌, Bool, cond, true, false, ltb, List, [], ◌∷◌, map, length, position, unwrap_or, option_map}
 use Rattle.std.proofs.Common.{Option, None, Some, IsSome, IfSome, is_some, ◌↔◌, refl, ◌∙◌, subst, arith, rules}
 use Rattle.std.specs.List.{All, position_or_len, list_any}

@@ -1,3 +1,4 @@
+-- Master data of a table, and how they are spelled, proofs.
 pub mod Apart
 pub mod Cuts
 pub mod Decimals

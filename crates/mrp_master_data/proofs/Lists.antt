@@ -1,4 +1,4 @@
--- What holds of a list holds of the list with more at its end.
+-- Master data that grow row by row: what holds of a list holds of it with more at its end.
 use Rattle.std.proofs.Common.{◌≡◌, ◌<◌, ℕ, zero, suc, Bool, true, List, [], ◌∷◌, ◌++◌, length, slice_get, Some, refl, ◌∙◌, arith}
 use Rattle.std.specs.List.{list_any}
 use Rattle.std.proofs.lemmas.Bool.{or_left, or_right}

@@ -1,4 +1,4 @@
--- Tests of the elements that a function makes.
+-- Master data: tests of the elements that a function makes, for keys and names.
 use Rattle.std.proofs.Common.{◌≡◌, Bool, List, [], ◌∷◌, map, refl}
 use Rattle.std.specs.List.{list_all, list_any}
 

@@ -1,4 +1,4 @@
--- Names of which one more came, and where they stand.
+-- Master data: names of plants and items of which one more came, and where they stand.
 use Rattle.std.proofs.Common.{if◌then◌else◌, unwrap_or, ◌≡◌, ◌<◌, ℕ, true, false, get_or, List, [], ◌∷◌, ◌++◌, map, length, position, Option, None, Some}
 use Rattle.std.proofs.Common.{IfSome, String, Global, ap, sym, subst, ◌∙◌}
 use Rattle.std.specs.Cmp.Lexicographic.{nat_list_eq_equiv}

@@ -1,4 +1,5 @@
--- What a text spells is in the range that was asked for, and a number in that range is spelled by its text.
+-- Master data: a number that is spelled is in the range that was asked for, and one in
+-- that range is spelled by its text.
 use Rattle.std.proofs.Common.{◌≡◌, ◌≤◌, ◌<◌, ◌^◌, ℕ, ◌&&◌, Bool, true, false, leb, if◌then◌else◌, List, Option, Some, None, option_map, refl, ap, ◌∙◌, subst}
 use Rattle.std.proofs.Common.{arith}
 use Rattle.std.specs.Fmt.{decimal}

@@ -1,4 +1,4 @@
--- The reader of plants with their shares goes from one to the next.
+-- Master data: how a supply's text is read, from one plant with its share to the next.
 use Rattle.std.proofs.Common.{◌≡◌, ℕ, ◌+◌, ◌-◌, ◌<◌, ◌≤◌, ◌==◌, ◌&&◌, ◌||◌, not, Bool, true, false, leb, ltb, if◌then◌else◌, List, [], ◌∷◌, ◌++◌, length}
 use Rattle.std.proofs.Common.{Option, Some, None, refl, sym, ap, ◌∙◌, subst, arith}
 use Rattle.std.specs.List.{All, after_first, before_first, list_all, list_any, position_or_len, slice_split, sum_by}

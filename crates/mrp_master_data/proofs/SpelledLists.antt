@@ -1,4 +1,4 @@
--- Lists without an element twice.
+-- Master data: lists without an element twice, for the sources that a supply spells, and for names.
 use Rattle.std.proofs.Common.{◌≡◌, Bool, false, List, [], ◌∷◌, ◌++◌, arith}
 use Rattle.std.specs.List.{All, IsDistinct, list_any}
 use Rattle.std.proofs.lemmas.Bool.{or_parts}

@@ -1,4 +1,5 @@
--- The sources that a supply names: other plants each, and shares that follow one another to the whole.
+-- Master data: the sources that a supply spells, which are other plants each, and shares that
+-- follow one another to the whole.
 use Rattle.std.proofs.Common.{◌≡◌, ◌≤◌, ℕ, ◌+◌, ◌==◌, ◌&&◌, not, Bool, true, false, leb, if◌then◌else◌, List, [], ◌∷◌, length, Option, Some, None, refl, subst}
 use Rattle.std.proofs.Common.{arith}
 use Rattle.std.specs.List.{All, IsDistinct, list_all, list_any, slice_split, sum_by}

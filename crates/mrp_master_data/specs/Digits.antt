@@ -1,4 +1,4 @@
--- The number of a text of digits.
+-- Master data: the number that a text of digits spells.
 use Rattle.std.specs.Prelude.{ℕ, if◌then◌else◌, List, Option, Some, None}
 use Rattle.std.specs.Char.{is_ascii_digit}
 use Rattle.std.specs.List.{list_all}

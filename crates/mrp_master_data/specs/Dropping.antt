@@ -1,4 +1,4 @@
--- The table without rows that nobody reads once its edges and sums are made. Usage rows go with their bill rows.
+-- Master data without rows that nobody reads once the edges and sums are made. Usage rows go with their bill rows.
 use Rattle.std.specs.Prelude.{[]}
 use Rattle.mrp_master_data.specs.Table.{Table}
 

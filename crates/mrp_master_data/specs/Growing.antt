@@ -1,4 +1,4 @@
--- The table with one row more.
+-- Master data of a table with one row more.
 use Rattle.std.specs.Prelude.{ℕ, ◌∷◌, ◌++◌, [], List, length, if◌then◌else◌, Bool, true, false, not, nat_lt}
 use Rattle.std.specs.List.{list_any}
 use Rattle.std.specs.Str.{bytes_eq}

@@ -1,3 +1,4 @@
+-- Master data of a table: its rows with names as numbers, and how their fields are spelled.
 pub mod Digits
 pub mod Parsing
 pub mod Spelled

@@ -1,4 +1,4 @@
--- What the names of a table stand for.
+-- Master data: what the names of plants and items stand for.
 use Rattle.std.specs.Prelude.{ℕ, ◌==◌, ◌&&◌, Bool, List, Option, Some, None, position}
 use Rattle.std.specs.List.{list_any}
 use Rattle.std.specs.Str.{bytes_eq}

@@ -1,4 +1,4 @@
--- Which number and which lot rule a text spells.
+-- Master data: which number and which lot rule a text spells.
 use Rattle.std.specs.Prelude.{ℕ, ◌<◌, ◌^◌, ◌+◌, ◌-◌, ◌*◌, ◌==◌, ◌&&◌, ◌||◌, not, nat_lt, nat_le, Bool, if◌then◌else◌}
 use Rattle.std.specs.Prelude.{List, [], ◌∷◌, length}
 use Rattle.std.specs.Prelude.{slice_index, codes, Option, Some, None, option_map}

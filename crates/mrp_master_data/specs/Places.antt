@@ -1,4 +1,4 @@
--- What finds a pair by its plant and its item.
+-- Master data: what finds a pair by its plant and its item.
 use Rattle.std.specs.Prelude.{◌≡◌, ℕ, ◌==◌, ◌&&◌, Bool, List, Option, option_map, position}
 use Rattle.mrp_master_data.specs.declared.numbers.PairNo.{PairNo}
 use Rattle.mrp_master_data.specs.declared.row_lists.PlantItem.{PlantItem}

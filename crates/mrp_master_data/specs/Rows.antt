@@ -1,4 +1,4 @@
--- What the rows of a table say, with names as numbers.
+-- Master data: what the rows of a table say, with names as numbers.
 use Rattle.std.specs.Prelude.{ℕ, List, Option}
 use Rattle.std.specs.String.{string_bytes}
 use Rattle.mrp_netting.specs.declared.params.PairParams.{PairParams}

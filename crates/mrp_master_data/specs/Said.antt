@@ -1,4 +1,4 @@
--- What a table says by its numbers: which names they stand for, and where a pair comes from.
+-- Master data: what they say by their numbers, which names these stand for, and where a pair comes from.
 use Rattle.std.specs.Prelude.{ℕ, List, [], map, slice_index_or}
 use Rattle.mrp_master_data.specs.Supplies.{BuyTerms, FromTerms, MakeTerms, SourceTerms, SupplyTerms}
 use Rattle.mrp_master_data.specs.Table.{item_at, plant_at, sources_of_pair, Table}

@@ -1,4 +1,4 @@
--- What the readers of a supply answer, in the words of its spelling.
+-- Master data: what the readers of a supply's text answer, in the words in which it is spelled.
 use Rattle.std.specs.Prelude.{◌≡◌, ◌≢◌, ℕ, ◌≤◌, ◌<◌, Bool, List, length, map, All, Option, None, Some, option_map}
 use Rattle.std.specs.Prelude.{Result, Ok, Err}
 use Rattle.std.specs.Borrow.{Bor}

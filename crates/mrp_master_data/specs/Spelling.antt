@@ -1,4 +1,5 @@
--- How names and lot rules are spelled. The one text of a number is its decimal digits, without a zero before them.
+-- Master data: how names and lot rules are spelled. The one text of a number is its decimal
+-- digits, without a zero before them.
 use Rattle.std.specs.Prelude.{ℕ, decimal, ◌==◌, ◌&&◌, ◌||◌, nat_le, Bool, List, ◌++◌, length, codes}
 use Rattle.std.specs.Char.{is_ascii_alphanumeric}
 use Rattle.std.specs.List.{list_all}

@@ -1,4 +1,5 @@
--- What the reader of plants with their shares answers part by part. How they are spelled is said in Supplies.
+-- Master data: what the reader of a supply's text, of plants with their shares, answers part by part. How they
+-- are spelled is said in Supplies.
 use Rattle.std.specs.Prelude.{ℕ, ◌+◌, ◌-◌, ◌==◌, ◌&&◌, not, nat_le, Bool, if◌then◌else◌, List, ◌++◌, length, Option}
 use Rattle.std.specs.Prelude.{Some, None}
 use Rattle.std.specs.List.{list_all, slice_split, sum_by}

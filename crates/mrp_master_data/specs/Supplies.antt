@@ -1,4 +1,4 @@
--- How it is spelled where a pair comes from, and what each plant's share is.
+-- Master data: how it is spelled where a pair comes from, and what each plant's share is.
 use Rattle.std.specs.Prelude.{ℕ, ◌-◌, List, [], ◌∷◌, ◌++◌, codes, decimal}
 use Rattle.std.specs.List.{join_with_byte}
 

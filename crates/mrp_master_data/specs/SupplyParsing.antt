@@ -1,4 +1,4 @@
--- Which supply a text spells, and what every supply that is spelled says.
+-- Master data: which supply a text spells, and what every supply that is spelled says.
 use Rattle.std.specs.Prelude.{◌≡◌, ◌≤◌, ◌<◌, ℕ, ◌+◌, ◌-◌, ◌==◌, ◌&&◌, not, nat_le, Bool, true, if◌then◌else◌, List, []}
 use Rattle.std.specs.Prelude.{◌∷◌, ◌++◌, codes, length}
 use Rattle.std.specs.Prelude.{Option, Some, None, option_map, All}

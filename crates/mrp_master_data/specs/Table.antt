@@ -1,4 +1,4 @@
--- A table as its rows say it, and what every accepted table says.
+-- Master data: a table, as what its rows say with names as numbers, and what every accepted one says.
 use Rattle.std.specs.Prelude.{◌≡◌, ℕ, ◌≤◌, ◌<◌, ◌==◌, ◌&&◌, Bool, true, false, List, [], ◌∷◌, length, map, filter}
 use Rattle.std.specs.Prelude.{nat_le, All, IfSome, position, unwrap_or}
 use Rattle.std.specs.Prelude.{option_map, slice_get}

@@ -1,4 +1,4 @@
--- How many rows a table was read from.
+-- Master data: how many rows those of a table were read from.
 use Rattle.std.specs.Prelude.{ℕ, ◌+◌, length, if◌then◌else◌}
 use Rattle.mrp_master_data.specs.Table.{Table}
 

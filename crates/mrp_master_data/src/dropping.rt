@@ -1,4 +1,4 @@
-//! A table lets go of the rows that nobody reads once its edges and sums are made.
+//! Master data: a table drops the rows that nobody reads once its edges and sums are made.
 
 ghost use Rattle.std.specs.Prelude.{◌≡◌};
 ghost use Rattle.mrp_master_data.specs.Dropping.{without_bills_and_demands};

@@ -1,5 +1,5 @@
-//! The rows of a planner's table, with names as numbers: what an accepted table says, and how the fields of its
-//! rows are spelled.
+//! Master data: the rows of a planner's table, with names as numbers, what an accepted table says, and how the
+//! fields of its rows are spelled.
 //!
 //! [`RowLists`] grows row by row while a table is read; [`Tables`] is the whole of it. [`number`], [`rule`] and
 //! [`supply`] read one field.

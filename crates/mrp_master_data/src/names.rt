@@ -1,4 +1,4 @@
-//! Names in the order of a table.
+//! Master data: names of plants, items and pairs in the order of a table, which numbers them.
 
 ghost use Rattle.std.specs.Prelude.{◌≡◌, ◌<◌, ◌++◌, ◌∷◌, [], length, map, position, slice_get, IfSome, OnErr, OnOk};
 ghost use Rattle.std.specs.Prelude.{Some};

@@ -1,4 +1,4 @@
-//! Plants, items and pairs by their places in a table.
+//! Master data: plants, items and pairs by their places in a table.
 
 /// A plant, by its place among the plants of the table, from 0.
 #[derive(Clone, Copy, Debug, PartialEq, Eq, PartialOrd, Ord, Hash)]

@@ -1,4 +1,4 @@
-//! The lists of a table: how they grow, row by row, and how they are read.
+//! Master data: the lists of rows that a table is, how they grow, row by row, and how they are read.
 
 use crate::names::{name_at, place_of_name, push_name};
 use crate::{

@@ -1,4 +1,4 @@
-//! The rows of a table, with names as numbers.
+//! Master data: the rows of a table, a type for each kind of row, with names as numbers.
 
 ghost use Rattle.std.specs.Prelude.{◌≡◌};
 

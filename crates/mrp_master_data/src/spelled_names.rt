@@ -1,4 +1,4 @@
-//! How a name is spelled.
+//! Master data: how a name is spelled, of a plant, an item or a vendor.
 
 ghost use Rattle.std.specs.Prelude.{◌≡◌};
 ghost use Rattle.std.specs.List.{list_all};

@@ -1,4 +1,4 @@
-//! How a number is spelled.
+//! Master data: how a number is spelled.
 
 ghost use Rattle.std.specs.Prelude.{◌≡◌, ◌≢◌, ◌≤◌, ℕ, length, IfSome, MatchOption, decimal};
 ghost use Rattle.mrp_master_data.specs.Digits.{digits_of};

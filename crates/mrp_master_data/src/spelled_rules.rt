@@ -1,4 +1,4 @@
-//! How a lot rule is spelled.
+//! Master data: how a pair's lot rule is spelled.
 
 ghost use Rattle.std.specs.Prelude.{◌≡◌, ◌≢◌, IfSome, MatchOption};
 ghost use Rattle.mrp_lot.specs.declared.rule.Rule.{Rule};

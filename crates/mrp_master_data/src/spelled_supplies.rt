@@ -1,4 +1,4 @@
-//! How it is spelled where a pair comes from.
+//! Master data: how it is spelled where a pair comes from.
 
 ghost use Rattle.std.specs.Prelude.{◌≡◌, ◌+◌, ◌-◌, ◌==◌, ◌≤◌, if◌then◌else◌, length, map, option_map, Err, IfOk};
 ghost use Rattle.std.specs.Prelude.{IfSome, Some, None};

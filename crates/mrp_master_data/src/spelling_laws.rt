@@ -1,4 +1,4 @@
-//! Laws of spelling, each the contract of a function that does nothing.
+//! Master data: laws of how they are spelled, each the contract of a function that does nothing.
 ghost use Rattle.std.specs.Prelude.{◌≡◌, ℕ, List, Some, decimal};
 ghost use Rattle.mrp_lot.specs.declared.rule.Rule.{Rule};
 ghost use Rattle.mrp_lot.specs.Lot.{IsRule};

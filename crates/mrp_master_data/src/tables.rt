@@ -1,4 +1,4 @@
-//! A table that was read.
+//! Master data of a table that was read and accepted, as all that plan see them.
 
 ghost use Rattle.std.specs.Prelude.{◌≡◌};
 

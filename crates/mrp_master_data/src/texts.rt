@@ -1,4 +1,4 @@
-//! Short texts.
+//! Master data: short texts, as names and words are, and whether two are equal.
 
 ghost use Rattle.std.specs.Prelude.{◌≡◌};
 ghost use Rattle.std.specs.Str.{bytes_eq};

@@ -1,4 +1,4 @@
--- The periods from which figures start anew, source by source.
+-- The network: the periods from which the figures of its sources start anew, source by source.
 use Rattle.std.proofs.Common.{◌≡◌, ◌≢◌, ℕ, ◌+◌, ◌<◌, Bool, true, false, cond, eqb, List, [], ◌∷◌, ◌++◌, Option, Some, None, inl, inr, length, get_or, set, take}
 use Rattle.std.proofs.Common.{replicate, sym, ap, ◌∙◌, subst, arith}
 use Rattle.std.specs.List.{All, find}

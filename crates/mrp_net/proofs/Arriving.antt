@@ -1,4 +1,4 @@
--- What comes in for a pair comes over the lanes to its plant.
+-- The network: what comes in for one of its pairs comes over the lanes to the pair's plant.
 use Rattle.std.proofs.Common.{◌≡◌, ℕ, ◌+◌, ◌<◌, ◌==◌, ◌&&◌, if◌then◌else◌, Bool, true, false, cond, inl, inr, List, [], ◌∷◌, length, get_or, map, refl, sym, ap}
 use Rattle.std.proofs.Common.{◌∙◌, subst, arith}
 use Rattle.std.specs.List.{range_with_len, sum_by}

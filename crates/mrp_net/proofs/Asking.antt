@@ -1,4 +1,4 @@
--- Gross requirements by who asks: rows of the plant, and sources over its routes.
+-- The network: gross requirements by who asks, which is rows of the plant, and sources over its routes.
 use Rattle.std.proofs.Common.{◌≡◌, ℕ, ◌<◌, Bool, true, false, cond, eqb, List, inl, inr, length, get_or, map, refl, sym, ap, ◌∙◌, arith}
 use Rattle.std.specs.List.{All, filter, sum_by}
 use Rattle.std.proofs.lemmas.Bool.{cases_Bool, eqb-true, eq-eqb}

@@ -1,5 +1,5 @@
--- What comes in for the pairs to which something is on its way, and those whose policies have SOONER: their places, their
--- receipts, and their shipments.
+-- The network: what comes in for pairs to which something is on its way, and for those whose policies have SOONER:
+-- their places, their receipts, and their shipments.
 use Rattle.std.proofs.Common.{◌≡◌, ℕ, ◌+◌, ◌-◌, ◌*◌, ◌^◌, ◌<◌, ◌≤◌, ◌&&◌, Bool, cond, eqb, List, [], ◌∷◌, ◌++◌, inl, inr, length, get_or, map, set, take, drop, refl}
 use Rattle.std.proofs.Common.{sym, ap, ◌∙◌, subst, arith, ⊎_elim}
 use Rattle.std.specs.List.{All, range_with_len, sum_by}

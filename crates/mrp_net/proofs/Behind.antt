@@ -1,4 +1,4 @@
--- What stands behind an item of a lane: its source, and a pair at either end.
+-- The network: what stands behind an item of one of its lanes, which is a source, and a pair at either end.
 use Rattle.std.proofs.Common.{◌≡◌, ℕ, ◌<◌, length, refl, ap, ◌∙◌, subst}
 use Rattle.std.specs.List.{Contains}
 use Rattle.std.proofs.lemmas.List.Elements.{Contains-get_or}

@@ -1,4 +1,4 @@
--- Each source is on one route, an item stands once over a route, and plans look at demanders alone.
+-- The network: each source is on one route, an item stands once over a route, and plans look at demanders alone.
 use Rattle.std.proofs.Common.{◌≡◌, ℕ, ◌+◌, ◌<◌, ◌&&◌, Bool, true, false, cond, eqb, List, [], ◌∷◌, inl, inr, length, get_or, map, refl, sym, ap, ◌∙◌, subst}
 use Rattle.std.proofs.Common.{arith, slice_index}
 use Rattle.std.specs.List.{All, AllByRecursion, IsDistinct, filter, flat_map, range_with_len, sum_by}

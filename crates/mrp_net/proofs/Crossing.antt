@@ -1,4 +1,4 @@
--- A network may be shared by threads: it owns its rows.
+-- The network: threads may share it, since it owns its rows.
 use denote.Param.Send.{IsSync, recorded_sync, struct_sync, view_sync}
 use denote.Struct.Declared.{shape}
 use Rattle.std.proofs.Crossing.{crosses}

@@ -1,4 +1,4 @@
--- At most one edge joins two given pairs.
+-- The network: at most one of its edges joins two given pairs.
 use Rattle.std.proofs.Common.{◌≡◌, ◌≢◌, ℕ, ◌==◌, true, false, length, get_or, map, sym, ap, ◌∙◌, arith}
 use Rattle.std.specs.List.{All, AllPairs, filter}
 use Rattle.std.proofs.lemmas.Bool.{eqb-true, eq-eqb, and_from, true≢false}

@@ -1,5 +1,5 @@
--- Firm planned orders: what all periods have is what the pair has, and a pair without any, and without a policy, is
--- planned as before.
+-- The network: its firm planned orders. What all periods have is what the pair has, and a pair without any, and
+-- without a policy, is planned as before.
 use Rattle.std.proofs.Common.{◌≡◌, ℕ, ◌+◌, ◌<◌, ◌≤◌, ◌==◌, eqb, if◌then◌else◌, List, [], ◌∷◌, length, map, sum, sum_by, slice_index, slice_range}
 use Rattle.std.proofs.Common.{arith, refl, sym, ap, ◌∙◌, subst}
 use Rattle.std.specs.List.{All, range_with_len}

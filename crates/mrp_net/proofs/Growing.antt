@@ -1,4 +1,4 @@
--- Lists that grow row by row, and rows of a table that were read.
+-- The network: how it is built, by lists that grow row by row, and from rows of a table that were read.
 use Rattle.std.proofs.Common.{◌≡◌, ℕ, ◌+◌, ◌-◌, ◌*◌, ◌^◌, ◌<◌, ◌≤◌, Bool, true, false, cond, eqb, List, [], ◌∷◌, ◌++◌, inl, inr, length, get_or, map, set, take}
 use Rattle.std.proofs.Common.{min, sym, ap, ◌∙◌, subst, arith, append_assoc}
 use Rattle.std.specs.List.{All}

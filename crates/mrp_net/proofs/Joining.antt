@@ -1,4 +1,4 @@
--- The edges join pairs of the table, however they are grouped.
+-- The network: its edges join pairs of the table, however they are grouped.
 use Rattle.std.proofs.Common.{◌≡◌, ℕ, ◌+◌, ◌<◌, ◌≤◌, eqb, List, length, map, slice_index, slice_range, sym, subst, ap, ◌∙◌, arith}
 use Rattle.std.specs.List.{All, filter}
 use Rattle.std.proofs.lemmas.List.Elements.{All-append, All-map, All-filter}

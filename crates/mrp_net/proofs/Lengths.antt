@@ -1,4 +1,4 @@
--- The records of a lane's text fit 64 bits.
+-- The network: the records of each of its lanes' texts fit 64 bits.
 use Rattle.std.proofs.Common.{◌≡◌, ℕ, ◌≤◌, ◌&&◌, Bool, true, false, cond, eqb, length, refl, ap, arith}
 use Rattle.std.specs.Option.{is_some}
 use Rattle.std.proofs.lemmas.List.{length-map}

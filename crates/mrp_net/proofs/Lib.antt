@@ -1,3 +1,4 @@
+-- The network of a table, proofs: of its edges, lanes and sums.
 pub mod Members
 pub mod Summing
 pub mod Joining

@@ -1,4 +1,4 @@
--- Edges within a plant are those of components.
+-- The network: its edges within a plant are those of components.
 use Rattle.std.proofs.Common.{◌≡◌, ℕ, ◌&&◌, true, false, not, eqb, List, ◌++◌, length, get_or, map, refl, sym, ap, ◌∙◌, arith}
 use Rattle.std.specs.List.{All, filter, position_or_len}
 use Rattle.std.specs.Option.{unwrap_or, option_map}

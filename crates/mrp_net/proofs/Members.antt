@@ -1,4 +1,5 @@
--- Membership in a list by recursion, through filters, maps, ranges and joined lists.
+-- The network: membership in its lists of edges, pairs and lanes, by recursion, through filters,
+-- maps, ranges and joined lists.
 use Rattle.std.proofs.Common.{◌≡◌, ℕ, zero, suc, ◌+◌, ◌<◌, ◌≤◌, Bool, true, ◌⊎◌, inl, inr, ⊎_elim, List, [], ◌∷◌, ◌++◌, length, map, get_or, refl, sym, ap}
 use Rattle.std.proofs.Common.{subst, ◌∙◌, arith, All, Contains}
 use Rattle.std.specs.List.{filter, flat_map, list_any, range_with_len}

@@ -1,4 +1,4 @@
--- The pair of a plant and an item, by its number and by its names.
+-- The network: its pair of a plant and an item, by its number and by its names.
 use Rattle.std.proofs.Common.{◌≡◌, ℕ, ◌<◌, ◌≤◌, ◌&&◌, Bool, true, false, not, eqb, ltb, List, [], inl, inr, length, get_or, Option, Some, None, refl, sym, ap}
 use Rattle.std.proofs.Common.{◌∙◌, arith}
 use Rattle.std.specs.Option.{unwrap_or, IfSome, IfNone, IsSome, option_map}

@@ -1,5 +1,5 @@
--- What releases ask over edges: rounded up, by the bill row where an edge has no usage rows, of sources their shares, and at
--- most so much for each piece.
+-- The network: what releases ask over its edges. Rounded up, by the bill row where an edge has no usage rows, of
+-- sources their shares, and at most so much for each piece.
 use Rattle.std.proofs.Common.{◌≡◌, ℕ, ◌*◌, ◌≤◌, ◌<◌, cond, eqb, List, ◌++◌, length, get_or, map, ap, ◌∙◌, arith}
 use Rattle.std.specs.List.{All, filter, sum_by}
 use Rattle.std.proofs.lemmas.List.Elements.{All-filter}

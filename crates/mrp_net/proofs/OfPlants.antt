@@ -1,4 +1,4 @@
--- The pairs of each plant, and the lanes that it receives and sends, as a network keeps and reads them.
+-- The network: the pairs of each plant, and the lanes that it receives and sends, as they are kept and read.
 use Rattle.std.proofs.Common.{◌≡◌, ℕ, ◌+◌, ◌<◌, ◌≤◌, ◌==◌, ◌⊎◌, inl, inr, List, [], length, map, get_or, slice_index, slice_index_or, slice_range, arith, refl, sym, ap, subst}
 use Rattle.std.specs.List.{All, range_with_len}
 use Rattle.std.proofs.lemmas.Bool.{ne_eqb}

@@ -1,4 +1,4 @@
--- Sums of rows by period: no period, and not all periods together, have more than all rows.
+-- The network: sums of its rows by period. No period, and not all periods together, have more than all rows.
 use Rattle.std.proofs.Common.{◌≡◌, ℕ, ◌+◌, ◌<◌, ◌≤◌, ◌==◌, ◌&&◌, if◌then◌else◌, Bool, true, false, List, [], ◌∷◌, length, sum, sum_by, slice_index}
 use Rattle.std.proofs.Common.{slice_index_or, arith, ap, ◌∙◌, ⊎_elim, inl, inr}
 use Rattle.std.specs.List.{range_with_len}

@@ -1,4 +1,4 @@
--- Policies of pairs as a network keeps and reads them, and within which ranges they are.
+-- The network: policies of its pairs as they are kept and read, and within which ranges they are.
 use Rattle.std.proofs.Common.{◌≡◌, ℕ, zero, suc, ◌+◌, ◌<◌, ◌≤◌, Bool, cond, eqb, List, [], ◌∷◌, inl, inr, length, slice_index, slice_range, get_or}
 use Rattle.std.proofs.Common.{arith, refl, sym, ap, ◌∙◌, subst}
 use Rattle.std.specs.List.{All}

@@ -1,4 +1,4 @@
--- Lanes and their items: what stands in the groups of the routes.
+-- The network: its lanes and their items, which are what stands in the groups of the routes.
 use Rattle.std.proofs.Common.{◌≡◌, ℕ, suc, zero, ◌+◌, ◌*◌, ◌<◌, ◌≤◌, ◌&&◌, Bool, cond, eqb, List, [], ◌∷◌, ◌++◌, inl, inr, length, get_or, map, take, drop}
 use Rattle.std.proofs.Common.{slice_index, slice_range, refl, sym, ap, ◌∙◌, subst, arith, add-one}
 use Rattle.std.specs.List.{All, filter, flat_map, range_with_len}

@@ -1,4 +1,4 @@
--- The parts of a release over a pair's sources make the release, and pairs stand once.
+-- The network: the parts of a release over a pair's sources make the release, and pairs stand once.
 use Rattle.std.proofs.Common.{◌≡◌, ℕ, suc, zero, ◌+◌, ◌-◌, ◌*◌, ◌/◌, ◌≤◌, ◌&&◌, true, eqb, List, [], ◌∷◌, ◌++◌, inl, inr, length, get_or, map, refl, sym}
 use Rattle.std.proofs.Common.{ap, ◌∙◌, subst, arith}
 use Rattle.std.specs.List.{All, filter, sum_by, position_or_len}

@@ -1,4 +1,5 @@
--- Receipts that may be counted sooner than they come, those that count when they come, and the plan from all of them.
+-- The network: receipts that may be counted sooner than they come, those that count when they come,
+-- and the plan from all of them.
 use Rattle.std.proofs.Common.{◌≡◌, ℕ, ◌+◌, ◌<◌, ◌≤◌, nat_lt, List, [], length, map, slice_index, replicate, take, inl, inr}
 use Rattle.std.proofs.Common.{arith, refl, sym, ap, ◌∙◌}
 use Rattle.std.specs.List.{range_with_len}

@@ -1,4 +1,4 @@
--- The sources of a pair stand together, and each is found by its pair and plant.
+-- The network: the sources of a pair stand together, and each is found by its pair and plant.
 use Rattle.std.proofs.Common.{◌≡◌, ◌≢◌, ℕ, suc, zero, ◌+◌, ◌<◌, ◌≤◌, ◌&&◌, Bool, true, cond, eqb, ltb, List, [], ◌∷◌, inl, inr, length, get_or, slice_index}
 use Rattle.std.proofs.Common.{slice_range, map, refl, sym, ap, ◌∙◌, arith, ◌^◌, subst}
 use Rattle.std.specs.List.{All, Contains, filter, sum_by}

@@ -1,4 +1,4 @@
--- Sums of a table's rows are within 64 bits, so nothing is cut off them.
+-- The network: the sums that it makes of a table's rows are within 64 bits, so nothing is cut off them.
 use Rattle.std.proofs.Common.{◌≡◌, ℕ, ◌+◌, ◌-◌, ◌*◌, ◌^◌, ◌<◌, ◌≤◌, ◌&&◌, Bool, true, false, cond, eqb, List, [], ◌∷◌, ◌++◌, length, get_or, map, take, drop}
 use Rattle.std.proofs.Common.{min, replicate, refl, sym, subst, ap, ◌∙◌, inl, inr, arith}
 use Rattle.std.specs.List.{All, AllByRecursion, IsDistinct, range_with_len, sum_by}

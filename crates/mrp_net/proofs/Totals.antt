@@ -1,4 +1,4 @@
--- Gross requirements of all periods together.
+-- The network: gross requirements of all periods together, by what its edges ask.
 use Rattle.std.proofs.Common.{ℕ, ◌+◌, ◌*◌, ◌≤◌, List, [], ◌∷◌, sum, sum_by, slice_index, take, arith}
 use Rattle.std.specs.List.{All, range_with_len}
 use Rattle.std.proofs.lemmas.List.Elements.{All-head, All-tail}

@@ -1,4 +1,4 @@
--- Lanes stand in twos, each once, and each source has its two.
+-- The network: its lanes stand in twos, each once, and each source has its two.
 use Rattle.std.proofs.Common.{◌≡◌, ◌≢◌, ℕ, suc, zero, ◌*◌, ◌<◌, ◌==◌, ◌&&◌, inl, inr, List, [], ◌∷◌, ◌++◌, length, map, get_or, refl, sym, ap, subst, arith}
 use Rattle.std.proofs.Common.{add-one}
 use Rattle.std.specs.List.{All, AllPairs, Contains, flat_map, range_with_len}

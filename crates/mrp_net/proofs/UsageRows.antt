@@ -1,4 +1,4 @@
--- Usage rows of an edge: in which order they are kept, which of them is in force, and that sources have none.
+-- The network: usage rows of an edge. In which order they are kept, which is in force, and that sources have none.
 use Rattle.std.proofs.Common.{◌≡◌, ℕ, suc, ◌+◌, ◌<◌, ◌≤◌, ◌&&◌, Bool, true, false, cond, eqb, List, [], ◌∷◌, inl, inr, ⊎_elim, length}
 use Rattle.std.proofs.Common.{get_or, slice_index, slice_range, arith, refl, sym, ap, ◌∙◌, subst}
 use Rattle.std.specs.Prelude.{nat_le}

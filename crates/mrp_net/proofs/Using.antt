@@ -1,4 +1,4 @@
--- How many pieces go into parents, by the usage in force.
+-- The network: how many pieces go into parents over one of its edges, by the usage in force.
 use Rattle.std.proofs.Common.{◌≡◌, ℕ, ◌+◌, ◌-◌, ◌*◌, ◌/◌, ◌≤◌, ◌<◌, zero, suc, max, Bool, true, false, nat_le, if◌then◌else◌, leb, ltb, eqb}
 use Rattle.std.proofs.Common.{List, [], ◌∷◌, ◌++◌, length, get_or, set, take, drop, sum, sum_by, slice_index, filter, refl, sym, ap, ◌∙◌, arith, ⊎_elim}
 use Rattle.std.specs.Int.{div_ceil}

@@ -1,4 +1,5 @@
--- Vendors and days change no plan, and what a vendor's figures begin at is within the supply of its pair.
+-- The network: vendors and days change no plan of it, and what a vendor's figures begin at is
+-- within the supply of its pair.
 use Rattle.std.proofs.Common.{◌≡◌, ℕ, zero, suc, ◌+◌, ◌≤◌, cond, eqb, List, length, get_or, map, arith, refl, sym, ap, ◌∙◌, subst}
 use Rattle.std.specs.List.{range_with_len}
 use Rattle.std.proofs.lemmas.Bool.{cond_both, eq-eqb, true≢false}

@@ -1,4 +1,4 @@
--- What the lists of a built network hold.
+-- The network as it is built: what its lists hold, which is its edges in groups, and its sums.
 use Rattle.std.specs.Prelude.{◌≡◌, ℕ, ◌+◌, ◌-◌, ◌*◌, ◌^◌, ◌<◌, min, List, length, slice_index}
 use Rattle.mrp_master_data.specs.Table.{Table, IsTable, IsPair, horizon}
 use Rattle.mrp_net.specs.declared.edge.Edge.{Edge}

@@ -1,4 +1,4 @@
--- Laws of edges: which join two pairs, and which of them stay within a plant.
+-- The network: laws of its edges. Which join two pairs, and which of them stay within a plant.
 use Rattle.std.specs.Prelude.{◌≡◌, ◌≢◌, ℕ, ◌==◌, not, Bool, true}
 use Rattle.std.specs.Prelude.{map, filter, All}
 use Rattle.std.specs.List.{AllPairs}

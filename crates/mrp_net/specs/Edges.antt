@@ -1,4 +1,4 @@
--- Who takes from whom: the edges of a network, read off its rows.
+-- The network: its edges, which say who takes from whom, read off its rows.
 use Rattle.std.specs.Prelude.{ℕ, List, ◌++◌, length, map}
 use Rattle.mrp_grouping.specs.Groups.{group, sorted_by}
 use Rattle.mrp_master_data.specs.declared.rows.BillRow.{BillRow}

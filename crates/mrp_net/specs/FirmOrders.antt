@@ -1,4 +1,4 @@
--- Firm planned orders of a pair, and what they add up to. Orders that are equal all count.
+-- The network: firm planned orders of one of its pairs, and what they add up to. Orders that are equal all count.
 use Rattle.std.specs.Prelude.{ℕ, ◌==◌, if◌then◌else◌, List, sum_by}
 use Rattle.mrp_grouping.specs.Groups.{group}
 use Rattle.mrp_master_data.specs.declared.rows.FirmRow.{FirmRow}

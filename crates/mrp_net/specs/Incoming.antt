@@ -1,5 +1,5 @@
--- What comes in at its time for each pair, kept for the pairs to which something is on its way, and for those whose
--- receipts may be counted sooner.
+-- The network: what comes in at its time for each of its pairs, kept for the pairs to which something is on its way,
+-- and for those whose receipts may be counted sooner.
 use Rattle.std.specs.Prelude.{◌≡◌, ℕ, ◌+◌, ◌-◌, ◌*◌, ◌^◌, ◌<◌, ◌≤◌, List, length, All, slice_index}
 use Rattle.mrp_master_data.specs.declared.rows.PolicyRow.{PolicyRow}
 use Rattle.mrp_master_data.specs.declared.rows.ShipRow.{ShipRow}

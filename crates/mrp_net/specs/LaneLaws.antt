@@ -1,4 +1,5 @@
--- Laws of lanes: their items, the sources behind them, the two plants that each joins, and what arrives over them.
+-- The network: laws of its lanes. Their items, the sources behind them, the two plants that each
+-- joins, and what arrives over them.
 use Rattle.std.specs.Prelude.{◌≡◌, ◌≢◌, ℕ, ◌+◌, ◌*◌, ◌<◌, ◌≤◌, ◌==◌, ◌&&◌, if◌then◌else◌, Bool, true, false, List}
 use Rattle.std.specs.Prelude.{[], length, map, filter, sum_by, All, Contains}
 use Rattle.std.specs.List.{AllPairs, IsDistinct}

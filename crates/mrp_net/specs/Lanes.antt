@@ -1,4 +1,4 @@
--- Lanes: the two ways of records between a plant that takes items and a plant that it takes them from.
+-- The network: its lanes, the two ways of records between a plant that takes items and a plant that it takes them from.
 use Rattle.std.specs.Prelude.{ℕ, ◌+◌, ◌==◌, ◌&&◌, if◌then◌else◌, Bool, List, [], ◌∷◌, length}
 use Rattle.std.specs.Prelude.{map, filter, sum_by, slice_index_or, Option, option_map}
 use Rattle.std.specs.List.{find, flat_map, range_with_len}

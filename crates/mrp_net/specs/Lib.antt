@@ -1,3 +1,4 @@
+-- The network of a table: its edges, lanes and sums, and the plan that it has.
 pub mod Built
 pub mod EdgeLaws
 pub mod Edges

@@ -1,4 +1,4 @@
--- The names of pairs.
+-- The network: the names of its pairs.
 use Rattle.std.specs.Prelude.{◌≡◌, ℕ, List, slice_get, Some}
 use Rattle.mrp_master_data.specs.Table.{Table, IsPair}
 use Rattle.mrp_net.specs.Sums.{pair_at}

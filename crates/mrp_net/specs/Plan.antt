@@ -1,5 +1,4 @@
--- The plan of a whole network: the rows of each pair, whose gross requirements come from the
--- releases of its demanders.
+-- The network has one plan: the rows of each pair, whose gross requirements come from the releases of its demanders.
 use Rattle.std.specs.Prelude.{ℕ, ◌+◌, zero, suc, List, [], length, map, sum_by, slice_index, slice_index_or}
 use Rattle.std.specs.List.{range_with_len}
 use Rattle.mrp_netting.specs.PlanRows.{PlanRows}

@@ -1,5 +1,5 @@
--- Laws of plans: what the plan of a pair looks at, from which receipts it is made, and where its gross requirements
--- come from.
+-- The network: laws of the plan that it has. What the rows of a pair look at, from which receipts they are made, and
+-- where gross requirements come from.
 use Rattle.std.specs.Prelude.{◌≡◌, ℕ, ◌+◌, ◌==◌, if◌then◌else◌, List, [], sum, sum_by, All, length}
 use Rattle.mrp_netting.specs.PlanRows.{PlanRows}
 use Rattle.mrp_netting.specs.PlanningData.{PairData, plain, no_policy, one}

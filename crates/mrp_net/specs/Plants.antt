@@ -1,4 +1,4 @@
--- The pairs of each plant, and the lanes that it receives and sends.
+-- The network: its plants, the pairs of each, and the lanes that each receives and sends.
 use Rattle.std.specs.Prelude.{ℕ, List, length, map}
 use Rattle.std.specs.List.{range_with_len}
 use Rattle.mrp_grouping.specs.Groups.{group}

@@ -1,4 +1,4 @@
--- How the pairs of a table are planned beyond their rows.
+-- The network: how its pairs are planned beyond their rows, by their policies.
 use Rattle.std.specs.Prelude.{ℕ, List, [], ◌∷◌}
 use Rattle.mrp_grouping.specs.Groups.{group}
 use Rattle.mrp_netting.specs.declared.planning_data.Policy.{Policy}

@@ -1,4 +1,4 @@
--- Laws of routes: what is added up over the routes of a plant, and of all plants.
+-- The network: laws of its routes. What is added up over the routes of a plant, and of all plants.
 use Rattle.std.specs.Prelude.{◌≡◌, ℕ, ◌==◌, List}
 use Rattle.std.specs.Prelude.{length, filter, sum_by}
 use Rattle.std.specs.List.{range_with_len}

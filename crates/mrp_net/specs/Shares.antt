@@ -1,4 +1,4 @@
--- The share of a release: the one rounding rule.
+-- The network: the share of a release that one of its sources is asked for, by the one rounding rule.
 use Rattle.std.specs.Prelude.{ℕ, ◌-◌, ◌*◌, ◌/◌}
 
 -- the share from one running share to another, in thousandths: what the thousandths up to `high` make of a release,

@@ -1,4 +1,4 @@
--- What is kept of each source of the table: the shipments on their way by it, and its figures.
+-- The network: what it keeps of each source of the table, which is the shipments on their way by it, and its figures.
 use Rattle.std.specs.Prelude.{◌≡◌, ℕ, true, List, length, map, slice_index, slice_index_or, Option, None}
 use Rattle.mrp_master_data.specs.declared.numbers.ItemNo.{ItemNo}
 use Rattle.mrp_master_data.specs.declared.rows.ResetRow.{ResetRow}

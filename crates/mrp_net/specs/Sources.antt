@@ -1,4 +1,4 @@
--- What is kept of each source of the table: the shipments on their way by it, and its figures.
+-- The network: its sources by number, and the one by which a pair, or a lane's customer, takes from a plant.
 use Rattle.std.specs.Prelude.{ℕ, ◌==◌, ◌&&◌, slice_index_or}
 use Rattle.std.specs.List.{position_or_len}
 use Rattle.mrp_master_data.specs.declared.numbers.ItemNo.{ItemNo}

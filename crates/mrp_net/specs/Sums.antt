@@ -1,4 +1,4 @@
--- What the rows of a network add up to for each pair. Rows that are equal all count.
+-- The network: what its rows add up to for each pair. Rows that are equal all count.
 use Rattle.std.specs.Prelude.{ℕ, ◌+◌, ◌==◌, ◌&&◌, nat_lt, max, if◌then◌else◌, List, [], map, sum_by, slice_index_or}
 use Rattle.std.specs.List.{range_with_len}
 use Rattle.mrp_netting.specs.declared.params.PairParams.{PairParams}

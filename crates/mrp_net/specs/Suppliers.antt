@@ -1,4 +1,4 @@
--- From whom a pair takes, and what every edge says.
+-- The network: from whom one of its pairs takes, and what every edge says.
 use Rattle.std.specs.Prelude.{ℕ, ◌<◌, ◌≤◌, List, length}
 use Rattle.mrp_grouping.specs.Groups.{group, sorted_by}
 use Rattle.mrp_qty.specs.declared.limits.TheConstants.{MOST_PER}

@@ -1,4 +1,4 @@
--- Laws of what a pair takes: the parts of its release, its sources and its components.
+-- The network: laws of what one of its pairs takes. The parts of its release, its sources and its components.
 use Rattle.std.specs.Prelude.{◌≡◌, ℕ, ◌≤◌, ◌==◌}
 use Rattle.std.specs.Prelude.{[], length, map, filter, sum_by}
 use Rattle.mrp_master_data.specs.declared.rows.Supply.TheVariants.{From, Buy}

@@ -1,4 +1,4 @@
--- What planners say of a pair.
+-- The network: what planners say of one of its pairs.
 use Rattle.std.specs.Prelude.{ℕ, List, map}
 use Rattle.std.specs.List.{range_with_len}
 use Rattle.mrp_netting.specs.declared.params.PairParams.{PairParams}

@@ -1,4 +1,4 @@
--- How long the text of a lane can be.
+-- The network: how long the text of one of its lanes can be.
 use Rattle.std.specs.Prelude.{ℕ, ◌+◌, if◌then◌else◌, length, sum_by, is_some}
 use Rattle.mrp_master_data.specs.declared.numbers.ItemNo.{ItemNo}
 use Rattle.mrp_master_data.specs.Table.{Table, horizon}

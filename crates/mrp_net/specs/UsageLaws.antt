@@ -1,4 +1,4 @@
--- Laws of usage rows: which of them is in force, what it asks, and the most that any asks.
+-- The network: laws of usage rows on its edges. Which of them is in force, what it asks, and the most that any asks.
 use Rattle.std.specs.Prelude.{◌≡◌, ℕ, ◌+◌, ◌*◌, ◌<◌, ◌≤◌, ◌==◌, ◌&&◌, if◌then◌else◌, Bool, List, [], filter, All, Contains}
 use Rattle.mrp_netting.specs.PlanRows.{PlanRows}
 use Rattle.mrp_master_data.specs.declared.rows.BillRow.{BillRow}

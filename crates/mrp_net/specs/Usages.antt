@@ -1,4 +1,5 @@
--- How many pieces of a component go into its parents: by the bill row, and by usage rows from their periods on.
+-- The network: how many pieces of a component go into its parents over an edge, by the bill row, and by
+-- usage rows from their periods on.
 use Rattle.std.specs.Prelude.{ℕ, ◌+◌, ◌-◌, ◌*◌, ◌/◌, nat_le, max, if◌then◌else◌, List, [], ◌∷◌, length}
 use Rattle.mrp_grouping.specs.Groups.{group, sorted_by}
 use Rattle.mrp_master_data.specs.declared.rows.Usage.{Usage}

@@ -1,4 +1,4 @@
--- Laws of vendors and of days: what they count for, and that no plan changes by them.
+-- The network: laws of vendors and of days. What they count for, and that no plan changes by them.
 use Rattle.std.specs.Prelude.{◌≡◌, ◌+◌, ◌≤◌, List, All}
 use Rattle.mrp_cal.specs.Calendar.{CalendarTerms}
 use Rattle.mrp_master_data.specs.Growing.{with_calendar}

@@ -1,4 +1,4 @@
-//! An edge: a pair takes from another one, by a bill or from a source.
+//! The network: one of its edges, by which a pair takes from another one, by a bill or from a source.
 
 use mrp_master_data::PairNo;
 

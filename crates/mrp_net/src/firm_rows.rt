@@ -1,4 +1,4 @@
-//! Rows for the firm planned orders of a pair: what of them is released in each period, and what is due.
+//! The network's rows for the firm planned orders of a pair: what of them is released in each period, and what is due.
 
 ghost use Rattle.std.specs.Prelude.{◌≡◌, ℕ, ◌<◌, ◌≤◌, List, [], All, length, slice_index, sum_by};
 ghost use Rattle.std.specs.Prelude.{if◌then◌else◌};

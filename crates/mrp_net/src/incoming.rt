@@ -1,5 +1,5 @@
-//! What comes in at its time for each pair. Where nothing is on its way, and no receipt may be counted sooner, that is
-//! what is received, so only the other pairs have rows of their own.
+//! The network: what comes in at its time for each pair. Where nothing is on its way, and no receipt may be counted
+//! sooner, that is what is received, so only the other pairs have rows of their own.
 
 ghost use Rattle.std.specs.Prelude.{◌≡◌, ℕ, ◌-◌, ◌*◌, ◌<◌, ◌^◌, [], length, replicate, All, IfOk, slice_index};
 ghost use Rattle.mrp_master_data.specs.Table.{IsPair, horizon};

@@ -1,4 +1,4 @@
-//! What a network keeps of its table.
+//! The network: what it keeps of its table.
 
 ghost use Rattle.std.specs.Prelude.{◌≡◌, ◌==◌, ◌&&◌, ◌↔◌, IsSome, IfSome, option_map, position};
 ghost use Rattle.mrp_master_data.specs.Table.{IsPair, IsTable, horizon, pair_no};

@@ -1,4 +1,4 @@
-//! A lane between two plants, its kind and its shipments.
+//! The network: a lane between two of its plants, its kind and its shipments.
 
 use mrp_master_data::PlantNo;
 use mrp_qty::Qty;

@@ -1,4 +1,4 @@
-//! The lanes of a network, and the items on each.
+//! The network: its lanes, and the items on each.
 
 ghost use Rattle.std.specs.Prelude.{◌≡◌, ◌+◌, ◌*◌, ◌<◌, ◌++◌, true, length, map, replicate, All, IfOk};
 ghost use Rattle.mrp_master_data.specs.Table.{is_taken_from};

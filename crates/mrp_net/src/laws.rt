@@ -1,5 +1,5 @@
-//! Laws of sources and shares and of the pairs of a table, of routes and lanes, of edges, and of vendors and days.
-//! Each is the contract of a function that does nothing.
+//! The network: its laws, of sources and shares and of the pairs of a table, of routes and lanes, of edges, and of
+//! vendors and days. Each is the contract of a function that does nothing.
 
 ghost use Rattle.mrp_net.specs.SupplyLaws.{PartsAreWhole, NeedsAreWhole, PartsAreWithin, OthersHaveNoSources};
 ghost use Rattle.mrp_net.specs.SupplyLaws.{OthersHaveComponents, BoughtHaveNoEdges};

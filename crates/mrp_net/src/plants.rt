@@ -1,4 +1,4 @@
-//! The pairs of each plant, and the lanes that it receives and sends.
+//! The network: its plants, the pairs of each, and the lanes that each receives and sends.
 
 ghost use Rattle.std.specs.Prelude.{◌≡◌, ◌<◌, length, slice_index_or, IfOk};
 ghost use Rattle.mrp_net.specs.Lanes.{lanes, no_lane};

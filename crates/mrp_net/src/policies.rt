@@ -1,4 +1,4 @@
-//! The policy of a pair among the policy rows of a table.
+//! The network: the policy of one of its pairs, among the policy rows of a table.
 
 ghost use Rattle.std.specs.Prelude.{◌≡◌};
 ghost use Rattle.mrp_net.specs.Policies.{first_policy};

@@ -1,4 +1,4 @@
-//! The share of a release, the one rounding rule.
+//! The network: the share of a release that one of its sources is asked for, by the one rounding rule.
 
 ghost use Rattle.std.specs.Prelude.{◌≡◌, ◌≤◌};
 ghost use Rattle.mrp_qty.specs.declared.quantity.TheConstants.{MOST};

@@ -1,4 +1,4 @@
-//! Rows of a table by their pair and their period, by which they are put in order and added up.
+//! The network: the keys by which it adds up the rows of a table, their pair and their period.
 
 ghost use Rattle.std.specs.Prelude.{◌+◌};
 

@@ -1,4 +1,4 @@
-//! What planners say of a pair, and the plan of the pair from it.
+//! The network: what planners say of one of its pairs, and the rows planned for the pair from it.
 
 ghost use Rattle.std.specs.Prelude.{◌≡◌, ◌<◌, ℕ, List, All, length};
 ghost use Rattle.mrp_netting.specs.PlanningData.{planned, one};

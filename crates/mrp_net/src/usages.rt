@@ -1,4 +1,4 @@
-//! How many pieces of a component go into its parents, by a bill row and usage rows.
+//! The network: how many pieces of a component go into its parents over an edge, by a bill row and usage rows.
 
 ghost use Rattle.std.specs.Prelude.{◌≡◌, ℕ, ◌+◌, ◌≤◌, ◌<◌, length, slice_index, All, IfSome};
 ghost use Rattle.std.specs.List.Sorted.{IsNonDecreasingBy};

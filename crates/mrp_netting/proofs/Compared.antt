@@ -1,4 +1,4 @@
--- Rows that are written for all periods, and late orders that are compared with those of the plan.
+-- Netting one pair: rows that are written for all periods, and late orders that are compared with those of its plan.
 use Rattle.std.proofs.Common.{◌≡◌, ℕ, ◌+◌, ◌-◌, ◌<◌, ◌≤◌, ◌++◌, List, [], ◌∷◌, Some, length, map, slice_index}
 use Rattle.std.proofs.Common.{slice_index_or, slice_get, take, cond, zero, suc, refl, sym, ap, ◌∙◌, arith, length-append}
 use Rattle.std.specs.List.{range_with_len}

@@ -1,4 +1,4 @@
--- The step from the sums before a period to those with it.
+-- Netting one pair: receipts that are counted, by the step from the sums before a period to those with it.
 use Rattle.std.specs.Prelude.{◌≡◌, ℕ, ◌+◌, ◌-◌, ◌≤◌, min, max, List, sum, take, slice_index, zero, suc}
 use Rattle.std.proofs.Common.{arith, ap, add-one}
 use Rattle.mrp_qty.proofs.RangeLaws.{sum_take-suc}

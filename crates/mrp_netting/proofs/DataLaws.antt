@@ -1,4 +1,4 @@
--- Needs, orders and balances of the plan from one record of planning data.
+-- Netting one pair: needs, orders and balances from one record of planning data.
 use Rattle.std.specs.Prelude.{◌≡◌, ℕ, ◌+◌, ◌-◌, ◌≤◌, ◌<◌, ◌==◌, max}
 use Rattle.std.specs.Prelude.{length, sum, sum_by, take, drop, slice_index, zero, suc}
 use Rattle.std.specs.List.{range_with_len}

@@ -1,4 +1,4 @@
--- The rows that were written from planning data are the plan.
+-- Netting one pair: the rows that were written from planning data are the plan of the pair.
 use Rattle.std.proofs.Common.{◌≡◌, ℕ, max, List, length, ◌∙◌, ap}
 use Rattle.mrp_netting.specs.declared.planning_data.PlanningData.{PlanningData}
 use Rattle.mrp_netting.specs.PlanRows.{late_periods}

@@ -1,4 +1,4 @@
--- The rows of the plan from one record of planning data.
+-- Netting one pair: the rows of its plan from one record of planning data.
 use Rattle.std.specs.Prelude.{◌≡◌, ℕ, ◌+◌, ◌≤◌, ◌<◌, List, length, sum, sum_by, take, slice_index, zero, suc}
 use Rattle.std.specs.List.{range_with_len}
 use Rattle.std.proofs.Common.{arith, refl, sym, ◌∙◌, ap, subst}

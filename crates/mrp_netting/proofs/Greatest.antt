@@ -1,4 +1,4 @@
--- The greatest of the needs of 1 to n periods.
+-- Netting one pair: the greatest of its needs of 1 to n periods.
 use Rattle.std.specs.Prelude.{◌≡◌, ℕ, ◌+◌, ◌≤◌, ◌<◌, max, zero, suc}
 use Rattle.std.proofs.Common.{arith, refl, ap, ⊎_elim, add-zero}
 use Rattle.std.proofs.lemmas.Bool.{cases_lt}

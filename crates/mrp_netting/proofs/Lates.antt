@@ -1,4 +1,4 @@
--- The loop over a pair's orders that are late.
+-- Netting one pair: the loop over its orders that are late.
 use Rattle.std.proofs.Common.{◌≡◌, ℕ, ◌+◌, ◌-◌, ◌<◌, ◌≤◌, ◌&&◌, Bool, true, false, cond, min, nat_lt, ⊎_elim, List, [], ◌∷◌, ◌++◌, length, slice_index, filter}
 use Rattle.std.proofs.Common.{zero, suc, sym, refl, ◌∙◌, ap, arith, ltb-true, lt-ltb, le-ltb, add-one, add-zero, get_or, All}
 use Rattle.std.specs.List.{range_with_len}

@@ -1,3 +1,4 @@
+-- Netting one pair, proofs: of its plan and its laws.
 pub mod OneLaws
 pub mod Greatest
 pub mod Lots

@@ -1,4 +1,4 @@
--- What a lot rule orders for the needs of 1, 2, .. periods, and how it is made up.
+-- Netting one pair: what a lot rule orders for the needs of 1, 2, .. periods, and how it is made up.
 use Rattle.std.specs.Prelude.{◌≡◌, ℕ, ◌+◌, ◌*◌, ◌/◌, ◌%◌, ◌≤◌, ◌<◌, max, min}
 use Rattle.std.proofs.Common.{arith, ◌∙◌, ap}
 use Rattle.mrp_lot.specs.declared.rule.Rule.{Rule}

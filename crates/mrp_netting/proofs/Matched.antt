@@ -1,4 +1,4 @@
--- Rows that are compared with those of the plan from planning data.
+-- Netting one pair: rows that are compared with those of its plan from planning data.
 use Rattle.std.proofs.Common.{◌≡◌, ℕ, ◌+◌, ◌<◌, List, sym, ap, ◌∙◌, subst, ⊎_elim, arith}
 use Rattle.std.proofs.lemmas.Bool.{cases_eq}
 use Rattle.mrp_netting.specs.PlanRows.{PlanRows, late_orders}

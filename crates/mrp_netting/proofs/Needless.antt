@@ -1,4 +1,4 @@
--- Open orders that aren't needed change no planned order.
+-- Netting one pair: open orders that aren't needed change no planned order in its plan.
 use Rattle.std.specs.Prelude.{◌≡◌, ℕ, ◌+◌, ◌-◌, ◌≤◌, ◌<◌, ◌==◌, ◌⊎◌, if◌then◌else◌, min, max, List, length, sum, sum_by, take, zero, suc}
 use Rattle.std.specs.List.{range_with_len}
 use Rattle.std.proofs.Common.{arith, refl, sym, ap, ◌∙◌, subst, ⊎_elim, inl, inr}

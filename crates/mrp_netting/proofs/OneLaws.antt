@@ -1,4 +1,4 @@
--- Laws of the plan of one pair.
+-- Netting one pair: laws of its plan.
 use Rattle.std.specs.Prelude.{◌≡◌, ℕ, ◌+◌, ◌-◌, ◌≤◌, ◌<◌, ◌==◌, if◌then◌else◌, min, max, All}
 use Rattle.std.specs.Prelude.{List, length, map, get_or, sum, sum_by, take, drop, slice_index, zero, suc}
 use Rattle.std.specs.List.{range_with_len}

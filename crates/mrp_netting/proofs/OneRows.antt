@@ -1,4 +1,4 @@
--- The rows of the plan from one record as wholes, and rows of firm planned orders that say the same.
+-- Netting one pair: the rows of its plan from one record as wholes, and rows of firm planned orders that say the same.
 use Rattle.std.specs.Prelude.{◌≡◌, ℕ, ◌≤◌, ◌<◌, List, length, sum, take, zero, suc, slice_index}
 use Rattle.std.proofs.Common.{arith, refl, sym, ◌∙◌, ⊎_elim}
 use Rattle.std.proofs.lemmas.Bool.{cases_lt}

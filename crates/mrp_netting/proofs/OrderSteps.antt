@@ -1,4 +1,4 @@
--- One period of the loops over a pair's orders.
+-- Netting one pair: one period of the loops over its orders.
 use Rattle.std.specs.Prelude.{◌≡◌, ℕ, ◌+◌, ◌-◌, ◌≤◌, ◌<◌, min, List, length, sum, take, drop, slice_index, suc}
 use Rattle.std.proofs.Common.{arith, refl, ap, ◌∙◌, sym, ⊎_elim}
 use Rattle.std.proofs.lemmas.Bool.{cases_eq}

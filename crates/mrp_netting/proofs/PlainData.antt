@@ -1,4 +1,4 @@
--- Planning data of a pair that is planned from two rows.
+-- Netting one pair: planning data of a pair that is netted from two rows.
 use Rattle.std.proofs.Common.{◌≡◌, ℕ, ◌≤◌, List, length, take, refl, ◌∙◌, ap, arith}
 use Rattle.mrp_qty.specs.declared.horizon.TheConstants.{LONGEST}
 use Rattle.mrp_netting.specs.declared.params.PairParams.{PairParams}

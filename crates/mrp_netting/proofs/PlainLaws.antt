@@ -1,4 +1,4 @@
--- The plan of a pair without policy and firm planned orders is the one from two rows.
+-- Netting one pair: its plan without policy and firm planned orders is the one from two rows.
 use Rattle.std.specs.Prelude.{◌≡◌, ◌≢◌, ℕ, ◌+◌, ◌-◌, ◌≤◌, ◌<◌, ◌==◌, if◌then◌else◌, min, max}
 use Rattle.std.specs.Prelude.{List, length, map, sum, take, drop, slice_index, zero, suc}
 use Rattle.std.specs.List.{range_with_len}

@@ -1,4 +1,4 @@
--- What of the planned orders is released in each period.
+-- Netting one pair: what of its planned orders is released in each period.
 use Rattle.std.specs.Prelude.{◌≡◌, ℕ, ◌+◌, ◌≤◌, ◌<◌, ◌==◌, nat_lt, List, sum, sum_by, take, slice_index, zero, suc}
 use Rattle.std.specs.List.{range_with_len}
 use Rattle.std.proofs.Common.{arith, refl, ap, ◌∙◌, ⊎_elim, eq-eqb, ne_eqb, le-ltb, lt-ltb}

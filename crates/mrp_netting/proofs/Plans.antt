@@ -1,4 +1,4 @@
--- The rows that were written are the plan.
+-- Netting one pair: the rows that were written are its plan.
 use Rattle.std.proofs.Common.{◌≡◌, ℕ, ◌++◌, Bool, true, cond, List, [], ◌∙◌, ap}
 use Rattle.std.proofs.lemmas.Bool.{cond-true}
 use Rattle.mrp_netting.specs.PlanRows.{PlanRows}

@@ -1,4 +1,4 @@
--- Receipts that are counted by each period, and what comes in.
+-- Netting one pair: receipts that are counted by each period, and what comes in.
 use Rattle.std.specs.Prelude.{◌≡◌, ℕ, ◌+◌, ◌-◌, ◌≤◌, ◌<◌, max, sum, take, length, slice_index, zero, suc}
 use Rattle.std.proofs.Common.{arith, refl}
 use Rattle.mrp_qty.specs.declared.quantity.TheConstants.{MOST}

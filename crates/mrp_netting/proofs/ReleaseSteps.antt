@@ -1,4 +1,4 @@
--- The loop over a pair's orders that are released from planning data.
+-- Netting one pair: the loop over its orders that are released from planning data.
 use Rattle.std.specs.Prelude.{◌≡◌, ℕ, ◌+◌, ◌≤◌, ◌<◌, List, length, sum, take, slice_index, slice_set, suc}
 use Rattle.std.proofs.Common.{arith, ap, ◌∙◌, sym, ⊎_elim, get_or-set_other}
 use Rattle.std.proofs.lemmas.Bool.{cases_eq, cases_lt}

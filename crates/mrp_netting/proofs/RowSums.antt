@@ -1,4 +1,4 @@
--- Sums over the front of a row, and from a period on.
+-- Netting one pair: sums over the front of a row of its plan, and from a period on.
 use Rattle.std.specs.Prelude.{◌≡◌, ℕ, ◌+◌, ◌-◌, ◌≤◌, List, sum, take, drop, length, slice_index, zero, suc}
 use Rattle.std.proofs.Common.{arith, refl, sym, ap, ◌∙◌, add-zero, add-one, length-drop}
 use Rattle.std.proofs.lemmas.List.{take_all}

@@ -1,4 +1,4 @@
--- Rows that follow the rules are the plan, and the plan follows them.
+-- Netting one pair: rows that follow the rules are its plan, and its plan follows them.
 use Rattle.std.specs.Prelude.{◌≡◌, ℕ, ◌+◌, ◌-◌, ◌≤◌, ◌<◌, ◌==◌, if◌then◌else◌, min, List, length, slice_index, zero, suc}
 use Rattle.std.proofs.Common.{arith, sym, refl, ◌∙◌, ap, ⊎_elim, eq-eqb, eqb-true, ne_eqb}
 use Rattle.std.proofs.lemmas.Bool.{cases_lt, cond-false, cond-true, cond_both}

@@ -1,4 +1,4 @@
--- Pairs of which as much comes in and is firmly released in each period have one plan.
+-- Netting one pair: data by which as much comes in and is firmly released in each period have one plan.
 use Rattle.std.specs.Prelude.{◌≡◌, ℕ, ◌+◌, ◌-◌, ◌==◌, if◌then◌else◌, List, length, sum, take, slice_index, zero, suc}
 use Rattle.std.proofs.Common.{arith, sym, ◌∙◌, ap}
 use Rattle.mrp_qty.proofs.RangeLaws.{sum_take-suc, map-range-same}

@@ -1,4 +1,4 @@
--- The plans of the pairs that were planned by hand.
+-- Netting one pair: the plans of the single pairs that were worked by hand.
 use Rattle.std.proofs.Common.{refl}
 use Rattle.mrp_netting.specs.PlanningData.{one, incoming_at, short, greatest, balance_before, order_at}
 use Rattle.mrp_netting.specs.WorkedPairs.{FirmParentIsPlanned, FirmComponentIsPlanned, FencedIsPlanned}

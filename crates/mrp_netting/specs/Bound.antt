@@ -1,4 +1,4 @@
--- Within which numbers the plan of a pair is made.
+-- Netting one pair: within which numbers its plan is made.
 use Rattle.std.specs.Prelude.{◌≡◌, ℕ, ◌+◌, ◌≤◌, List, length, sum}
 use Rattle.mrp_qty.specs.declared.quantity.TheConstants.{MOST}
 use Rattle.mrp_lot.specs.declared.rule.TheConstants.{LONGEST_LEAD}

@@ -1,4 +1,4 @@
--- The sums that tell which receipts are counted in a period.
+-- Netting one pair: the sums that tell which receipts are counted in a period.
 use Rattle.std.specs.Prelude.{◌≡◌, ℕ, ◌+◌, sum, take, zero, suc}
 use Rattle.mrp_netting.specs.declared.counting.Sums.{Sums}
 use Rattle.mrp_netting.specs.PlanningData.{PairData, short, had_before}

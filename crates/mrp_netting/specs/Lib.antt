@@ -1,3 +1,4 @@
+-- Netting one pair: its plan by definition, and the laws of it.
 pub mod PlanRows
 pub mod Bound
 pub mod One

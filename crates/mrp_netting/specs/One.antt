@@ -1,8 +1,8 @@
--- The plan of one pair whose gross requirements and scheduled receipts are given, period by period: the
--- record of an item in Orlicky's Material Requirements Planning (1975). Its terms are those of the APICS
--- Dictionary, each beside its definition: gross requirements, scheduled receipts, net requirements,
--- planned order receipts, planned order releases, projected available balance. The order row comes first,
--- by net requirement and lot rule; releases and late orders are read off it alone.
+-- Netting one pair: its plan where gross requirements and scheduled receipts are given, period by period, the record
+-- of an item in Orlicky's Material Requirements Planning (1975). Its terms are those of the APICS Dictionary, each
+-- beside its definition: gross requirements, scheduled receipts, net requirements, planned order receipts, planned
+-- order releases, projected available balance. The order row comes first, by net requirement and lot rule; releases
+-- and late orders are read off it alone.
 --
 -- Subtraction of ℕ stops at 0. So where safety stock is 0, that projected available is never below it says
 -- nothing, and what says something is the balance without subtraction: what was there, comes in and is

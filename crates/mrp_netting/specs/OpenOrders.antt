@@ -1,5 +1,6 @@
--- Laws of open orders: which of them a pair needs, when receipts are counted, and the plan without those that it
--- doesn't need. Open orders count in the order in which they come; each is told by the pieces that come before it.
+-- Netting one pair: laws of its open orders, which of them its plan needs, when receipts are counted, and the
+-- plan without those that it doesn't need. Open orders count in the order in which they come; each is told by
+-- the pieces that come before it.
 use Rattle.std.specs.Prelude.{◌≡◌, ℕ, ◌+◌, ◌≤◌, ◌<◌, ◌↔◌, ◌⊎◌, length, sum, take, min, suc}
 use Rattle.mrp_netting.specs.PlanningData.{PairData, due, lack, short, had, one}
 use Rattle.mrp_netting.specs.PlanningBound.{IsWithinData}

@@ -1,4 +1,4 @@
--- What a plan of one pair keeps.
+-- Netting one pair: what its plan keeps, the five rows and the late orders.
 use Rattle.std.specs.Prelude.{◌≡◌, ℕ, ◌<◌, List, [], length, map, replicate, All}
 use Rattle.mrp_qty.specs.Row.{IsRow}
 use Rattle.mrp_netting.specs.declared.params.Late.{Late}

@@ -1,4 +1,4 @@
--- The rows of one pair's plan, and what is read off them.
+-- Netting one pair: the rows of its plan, and what is read off them.
 use Rattle.std.specs.Prelude.{ℕ, ◌-◌, ◌&&◌, Bool, nat_lt, List, length, map, filter, sum, take, drop, slice_index}
 use Rattle.std.specs.List.{range_with_len}
 use Rattle.mrp_netting.specs.declared.params.Late.{Late}

@@ -1,4 +1,4 @@
--- Within which numbers the plan of a pair is made from its planning data.
+-- Netting one pair: within which numbers its plan is made from its planning data.
 use Rattle.std.specs.Prelude.{◌≡◌, ℕ, ◌+◌, ◌≤◌, ◌<◌, List, length, sum}
 use Rattle.mrp_qty.specs.declared.quantity.TheConstants.{MOST}
 use Rattle.mrp_qty.specs.declared.horizon.TheConstants.{LONGEST}

@@ -1,4 +1,4 @@
--- The plan of one pair from one record of its planning data, period by period: the record of an item in Orlicky's
+-- Netting one pair: its plan from one record of its planning data, period by period, the record of an item in Orlicky's
 -- Material Requirements Planning (1975), with firm planned orders, a planning time fence, receipts that may be counted
 -- sooner, periods of cover, and the order modifiers minimum and multiple. Terms are those of the APICS Dictionary.
 --

@@ -1,4 +1,4 @@
--- Laws of the plan from one record of planning data.
+-- Netting one pair: laws of its plan from one record of planning data.
 use Rattle.std.specs.Prelude.{◌≡◌, ℕ, ◌+◌, ◌≤◌, ◌<◌, ◌↔◌, List, length, sum, slice_index, max, All, suc}
 use Rattle.mrp_qty.specs.declared.quantity.TheConstants.{MOST}
 use Rattle.mrp_lot.specs.Rules.{IsLeastMultiple}

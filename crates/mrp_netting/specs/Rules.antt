@@ -1,5 +1,5 @@
--- A second reading of a pair's plan: the rules as equations, period by period, among rows that are
--- given, with the balance before a period read off the projected available.
+-- Netting one pair: a second reading of its plan. The rules as equations, period by period, among rows that are given,
+-- with the balance before a period read off the projected available.
 use Rattle.std.specs.Prelude.{◌≡◌, ℕ, ◌+◌, ◌≤◌, ◌<◌, List, length, sum, slice_index, All, zero, suc}
 use Rattle.mrp_qty.specs.declared.quantity.TheConstants.{MOST}
 use Rattle.mrp_lot.specs.declared.rule.Rule.TheVariants.{LotForLot, Periods}

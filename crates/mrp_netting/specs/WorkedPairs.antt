@@ -1,4 +1,4 @@
--- Pairs that were planned by hand, and their plans.
+-- Netting one pair: single pairs that were worked by hand, and their plans.
 use Rattle.std.specs.Prelude.{◌≡◌, ℕ, List, [], ◌∷◌}
 use Rattle.mrp_lot.specs.declared.rule.Rule.TheVariants.{LotForLot}
 use Rattle.mrp_netting.specs.declared.params.PairParams.{PairParams}

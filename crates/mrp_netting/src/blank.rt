@@ -1,4 +1,4 @@
-//! Plans of which nothing is planned yet.
+//! Netting one pair: blank plans of single pairs, in which nothing is netted or planned yet.
 
 ghost use Rattle.std.specs.Prelude.{◌≡◌, IfOk, replicate};
 ghost use Rattle.mrp_netting.specs.Plan.{nothing_planned};

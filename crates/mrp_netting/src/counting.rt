@@ -1,4 +1,5 @@
-//! Which receipts are counted in each period: the sums of the periods before it, and the step to the next.
+//! Netting one pair: which receipts are counted in each period, by the sums of the periods before it, and the step to
+//! the next.
 
 ghost use Rattle.std.specs.Prelude.{◌≡◌, ◌+◌, ◌<◌, length, slice_index};
 ghost use Rattle.mrp_netting.specs.PlanningData.{incoming_at};

@@ -1,4 +1,4 @@
-//! Scheduled receipts: what comes in, and which receipts are counted sooner.
+//! Netting one pair: scheduled receipts, what comes in, and which receipts are counted sooner.
 
 ghost use Rattle.std.specs.Prelude.{◌≡◌, ℕ, ◌+◌, length, slice_index};
 ghost use Rattle.mrp_netting.specs.PlanningData.{incoming_row};

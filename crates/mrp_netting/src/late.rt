@@ -1,4 +1,4 @@
-//! The late orders of a plan.
+//! Netting one pair: the late orders in its plan.
 
 ghost use Rattle.std.specs.Prelude.{◌≡◌, ◌≤◌, ◌<◌, length, vec_capacity, MatchBool};
 ghost use Rattle.mrp_qty.specs.declared.horizon.TheConstants.{LONGEST};

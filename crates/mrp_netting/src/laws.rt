@@ -1,4 +1,4 @@
-//! Laws of the plan of one pair. Each is the contract of a function that does nothing.
+//! Netting one pair: laws of its plan. Each is the contract of a function that does nothing.
 
 ghost use Rattle.mrp_netting.specs.Rules.{LotForLotOrdersTheNeed, PeriodsIsGreatest};
 ghost use Rattle.mrp_netting.specs.Rules.{NothingIsOrderedWithoutANeed, OrderCoversTheNeed};

@@ -1,4 +1,4 @@
-//! The plan of one pair: what is netted, ordered and released, period by period, where the gross
+//! Netting one pair, the plan of it: what is netted, ordered and released, period by period, where the gross
 //! requirements and the scheduled receipts are given.
 //!
 //! `specs/` has its definition, the record of Orlicky's material requirements planning, in the terms of the APICS

@@ -1,4 +1,4 @@
-//! Whether the rows of a plan follow from its planning data, period by period. Nothing is written.
+//! Netting one pair: whether the rows of its plan follow from its planning data, period by period. Nothing is written.
 
 ghost use Rattle.std.specs.Prelude.{◌≡◌, ℕ, ◌+◌, ◌≤◌, ◌<◌, ◌↔◌, IsTrue, List, Some, length, slice_get, sum};
 ghost use Rattle.mrp_qty.specs.declared.quantity.TheConstants.{MOST};

@@ -1,4 +1,4 @@
-//! Planned order receipts and projected available from planning data, period by period.
+//! Netting one pair: planned order receipts and projected available from planning data, period by period.
 
 ghost use Rattle.std.specs.Prelude.{◌≡◌, ◌+◌, ◌-◌, ◌<◌, ◌≤◌, length, suc};
 ghost use Rattle.mrp_qty.specs.declared.quantity.TheConstants.{MOST};

@@ -1,4 +1,4 @@
-//! What a pair is planned by, and an order that is late.
+//! Netting one pair: what the pair is planned by, and an order of its plan that is late.
 
 use mrp_lot::Rule;
 use mrp_qty::Qty;

@@ -1,4 +1,4 @@
-//! Rows that may be shorter than the horizon: past its end a row has no pieces.
+//! Netting one pair: rows that may be shorter than the horizon. Past its end a row has no pieces.
 
 ghost use Rattle.std.specs.Prelude.{◌≡◌, ℕ, ◌+◌, ◌≤◌, ◌<◌, length, slice_index, sum, take};
 ghost use Rattle.mrp_qty.specs.declared.quantity.TheConstants.{MOST};

@@ -1,4 +1,4 @@
-//! The plan of one pair, its five rows and its late orders.
+//! Netting one pair: its plan, of five rows and late orders.
 
 ghost use Rattle.std.specs.Prelude.{◌≡◌, ◌<◌, ◌≤◌, ◌↔◌, length, IsTrue, IfOk, Some, slice_get, vec_capacity};
 ghost use Rattle.mrp_netting.specs.PlanRows.{PlanRows};

@@ -1,4 +1,4 @@
-//! What the plan of one pair is made from: its rows, and how planners want it planned.
+//! Netting one pair: what its plan is made from, its rows, and how planners want it planned.
 
 use crate::PairParams;
 

@@ -1,4 +1,5 @@
-//! Laws of the plan from one record of planning data. Each is the contract of a function that does nothing.
+//! Netting one pair: laws of its plan from one record of planning data. Each is the contract
+//! of a function that does nothing.
 
 ghost use Rattle.mrp_netting.specs.PlanningLaws.{PlainIsToday, PlainFollowsRules, ReceiptsAreCounted};
 ghost use Rattle.mrp_netting.specs.PlanningLaws.{OrdersComeAfterReceipts, AvailableCoversAhead, StockIsKept};

@@ -1,4 +1,4 @@
-//! Releases of firm and planned orders, from planning data.
+//! Netting one pair: releases of firm and planned orders, from planning data.
 
 ghost use Rattle.std.specs.Prelude.{◌≡◌, ◌+◌, ◌≤◌, length, max, sum};
 ghost use Rattle.mrp_qty.specs.declared.quantity.TheConstants.{MOST};

@@ -1,4 +1,4 @@
--- The terms of a pegging add up to the gross requirement, and each is what a row asks.
+-- The plan of the whole network: the terms of a pegging add up to its gross requirement, and each is what a row asks.
 use Rattle.std.proofs.Common.{◌≡◌, ℕ, ◌+◌, ◌-◌, ◌*◌, ◌/◌, ◌<◌, ◌==◌, Bool, true, false, not, eqb, List, [], ◌∷◌, length, map, slice_index}
 use Rattle.std.proofs.Common.{get_or, arith, ap, ◌∙◌, sym, refl, subst}
 use Rattle.std.specs.List.{All, Contains, filter, sum_by}

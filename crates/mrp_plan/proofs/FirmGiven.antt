@@ -1,4 +1,5 @@
--- What a pair is planned from: the terms that the network gives, where rows are written for its firm planned orders.
+-- The plan of the whole network: what it makes a pair's plan from, the terms that the network gives, where rows are
+-- written for its firm planned orders.
 use Rattle.std.proofs.Common.{◌≡◌, ℕ, ◌<◌, ◌≤◌, List, length, sum_by, slice_index, sym, ap, ◌∙◌, subst, arith}
 use Rattle.std.specs.List.{All}
 use Rattle.std.proofs.lemmas.List.FromFn.{get_or-map-range_with_len, length-map-range_with_len}

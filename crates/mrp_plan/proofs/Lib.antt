@@ -1,3 +1,4 @@
+-- The plan of the whole network, proofs: of pegging, explosion and orders.
 pub mod Adding
 pub mod Asked
 pub mod Pegs

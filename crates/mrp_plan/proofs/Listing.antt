@@ -1,4 +1,5 @@
--- Listed orders, firm and planned, make the releases, are each listed once, and those that are late are the late orders.
+-- The plan of the whole network: its orders listed, firm and planned. They make the releases, are each listed once,
+-- and those that are late are the late orders.
 use Rattle.std.proofs.Common.{◌≡◌, ℕ, ◌+◌, ◌-◌, ◌<◌, ◌==◌, Bool, true, false, not, cond, ltb, max, List, [], ◌∷◌, ◌++◌, map, slice_index, arith, ap, ◌∙◌}
 use Rattle.std.proofs.Common.{refl, sym, subst}
 use Rattle.std.specs.List.{All, filter, flat_map, range_with_len, sum_by}

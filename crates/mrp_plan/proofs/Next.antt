@@ -1,4 +1,4 @@
--- The next pair of an order, as the loops over the pairs read it.
+-- The plan of the whole network: the next pair of the planning order, as the plan goes over the pairs.
 use Rattle.std.proofs.Common.{◌≡◌, ℕ, ◌+◌, ◌<◌, List, ◌++◌, length, take, drop, map, slice_index, slice_index_or, slice_set, sym, ap, ◌∙◌, subst, arith}
 use Rattle.std.proofs.lemmas.List.{append-nil, drop_all, get_or-map, length-map, take_all}
 use Rattle.mrp_netting.specs.PlanRows.{PlanRows}

@@ -1,4 +1,5 @@
--- Planned orders, with the firm planned ones, make the releases, and those that are late are the late orders.
+-- The plan of the whole network: planned orders, with the firm planned ones, make its releases, and those
+-- that are late are the late orders.
 use Rattle.std.proofs.Common.{◌≡◌, ℕ, ◌+◌, ◌-◌, ◌<◌, ◌==◌, ◌&&◌, Bool, true, false, not, cond, ltb, max, List, [], ◌∷◌, length, map, slice_index, arith, ap, ◌∙◌, sym}
 use Rattle.std.proofs.Common.{refl, subst}
 use Rattle.std.specs.List.{filter, range_with_len, sum_by}

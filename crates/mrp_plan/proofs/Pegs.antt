@@ -1,4 +1,5 @@
--- What a plan that fits says of a pair's gross requirement and of its demanders' releases.
+-- The plan of the whole network: in its pegging, what a plan that fits says of a pair's gross requirement
+-- and of its demanders' releases.
 use Rattle.std.proofs.Common.{◌≡◌, ℕ, ◌<◌, ◌≤◌, List, [], ◌∷◌, ◌++◌, length, map, slice_index, slice_index_or, arith, ap, ◌∙◌, sym, subst}
 use Rattle.std.specs.List.{All, filter}
 use Rattle.std.proofs.lemmas.List.{get_or_default}

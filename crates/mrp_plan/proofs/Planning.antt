@@ -1,4 +1,4 @@
--- One more pair is planned.
+-- The plan of the whole network, with one more pair planned.
 use Rattle.std.proofs.Common.{◌≡◌, ℕ, ◌+◌, ◌*◌, ◌<◌, ◌≤◌, ◌≢◌, List, [], ◌∷◌, length, sum, sum_by, slice_index, slice_index_or, slice_set, suc, arith, refl, ap}
 use Rattle.std.proofs.Common.{sym, ◌∙◌, ⊎_elim, subst}
 use Rattle.std.proofs.lemmas.Bool.{cases_eq}

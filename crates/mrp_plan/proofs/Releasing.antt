@@ -1,4 +1,4 @@
--- What a period releases of the planned orders: those that are released in it, each in one period.
+-- The plan of the whole network: what a period releases of its planned orders, each in one period.
 use Rattle.std.proofs.Common.{◌≡◌, ℕ, suc, zero, ◌+◌, ◌-◌, ◌<◌, ◌≤◌, ◌==◌, cond, min, max, List, length, sum, sum_by, take, slice_index, sym, ap, ◌∙◌, arith}
 use Rattle.std.proofs.Common.{⊎_elim, eq-eqb, ne_eqb}
 use Rattle.std.specs.List.{range_with_len}

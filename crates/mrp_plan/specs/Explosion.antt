@@ -1,4 +1,5 @@
--- What the releases of a pair's demanders ask of it.
+-- The plan of the whole network: its explosion as it goes on, which is what the releases
+-- of a pair's demanders ask of it.
 use Rattle.std.specs.Prelude.{◌≡◌, ℕ, ◌*◌, ◌<◌, List, length, sum, sum_by}
 use Rattle.mrp_netting.specs.PlanRows.{PlanRows}
 use Rattle.mrp_master_data.specs.declared.rows.UsageRow.{UsageRow}

@@ -1,3 +1,4 @@
+-- The plan of a whole network: pegging, explosion and orders.
 pub mod Explosion
 pub mod OrderLaws
 pub mod Orders

@@ -1,5 +1,5 @@
--- Laws of orders: firm and planned they are the releases, each is listed once, and those that are late are the late
--- orders.
+-- The plan of the whole network: laws of its orders. Firm and planned they are the releases, each is listed once, and
+-- those that are late are the late orders.
 use Rattle.std.specs.Prelude.{◌≡◌, ℕ, ◌+◌, ◌<◌, ◌==◌, nat_lt, Bool, true, false, not, List, [], map, filter, sum_by}
 use Rattle.std.specs.Prelude.{slice_index, IsPermutation}
 use Rattle.mrp_netting.specs.PlanRows.{PlanRows}

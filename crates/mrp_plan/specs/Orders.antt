@@ -1,4 +1,5 @@
--- Orders of a pair, firm and planned: what is ordered, when it is due, and when it is released.
+-- The plan of the whole network: orders of a pair in it, firm and planned, what is ordered, when it
+-- is due, and when it is released.
 use Rattle.std.specs.Prelude.{ℕ, ◌-◌, ◌==◌, nat_le, max, Bool, true, not, if◌then◌else◌, List, [], ◌∷◌, ◌++◌, map, filter}
 use Rattle.std.specs.Prelude.{slice_index}
 use Rattle.std.specs.Prelude.{Option, Some, None}

@@ -1,4 +1,4 @@
--- Pegging: which requirements a gross requirement consists of.
+-- The plan of the whole network: pegging in it, which requirements a gross requirement consists of.
 use Rattle.std.specs.Prelude.{◌<◌, ◌≤◌, length, Bool, ℕ, ◌==◌, if◌then◌else◌, List, ◌∷◌, map, filter, not, slice_index}
 use Rattle.mrp_qty.specs.declared.quantity.TheConstants.{MOST}
 use Rattle.mrp_netting.specs.PlanRows.{PlanRows}

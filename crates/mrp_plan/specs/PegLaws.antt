@@ -1,4 +1,5 @@
--- Laws of pegging: the terms of a period are its gross requirement, and each of them is what a row of the table asks.
+-- The plan of the whole network: laws of pegging in it. The terms of a period are its gross requirement, and each of
+-- them is what a row of the table asks.
 use Rattle.std.specs.Prelude.{◌≡◌, ℕ, ◌*◌, ◌<◌, List, sum_by, slice_index, All, Contains}
 use Rattle.mrp_netting.specs.PlanRows.{PlanRows}
 use Rattle.mrp_master_data.specs.declared.rows.BillRow.{BillRow}

@@ -1,4 +1,4 @@
--- How far a plan has come, and which pair can be planned next.
+-- The plan of the whole network: how far it has come, and which pair can be planned next.
 use Rattle.std.specs.Prelude.{◌≡◌, ℕ, ◌+◌, ◌<◌, ◌≤◌, List, length, sum, slice_index, All}
 use Rattle.mrp_qty.specs.declared.quantity.TheConstants.{MOST}
 use Rattle.mrp_netting.specs.PlanRows.{PlanRows}

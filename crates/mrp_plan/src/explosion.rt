@@ -1,4 +1,5 @@
-//! Explosion: what the releases of a pair's demanders ask of it.
+//! The plan of the whole network: its explosion as it goes on, which is what the releases
+//! of a pair's demanders ask of it.
 
 ghost use Rattle.std.specs.Prelude.{◌≡◌, ◌+◌, ◌*◌, ◌<◌, ◌≤◌, ◌↔◌, ℕ, IsTrue, length, sum, sum_by, slice_index, All};
 ghost use Rattle.mrp_qty.specs.declared.quantity.TheConstants.{MOST};

@@ -1,4 +1,4 @@
-//! Whether a table of plans obeys the rules at every pair.
+//! The plan of the whole network: whether a table of all plans obeys the rules at every pair.
 
 ghost use Rattle.std.specs.Prelude.{◌≡◌, ◌<◌, ◌≤◌, ◌+◌, ◌↔◌, IsTrue, length, map, All};
 ghost use Rattle.mrp_qty.specs.declared.quantity.TheConstants.{MOST};

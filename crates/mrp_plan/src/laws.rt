@@ -1,4 +1,5 @@
-//! Laws of pegging and of orders, each the contract of a function that does nothing.
+//! The plan of the whole network: laws of pegging and of orders in it, each the contract
+//! of a function that does nothing.
 
 ghost use Rattle.mrp_plan.specs.OrderLaws.{OrdersMakeReleases, PlannedOrdersMakeReleases};
 ghost use Rattle.mrp_plan.specs.OrderLaws.{LateOrdersAreOrders, LateOrdersAreListed, LateOrdersArePlanned};

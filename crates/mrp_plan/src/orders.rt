@@ -1,4 +1,5 @@
-//! Orders of a pair, firm and planned: what is ordered, when it is due and when it is released.
+//! The plan of the whole network: orders of a pair in it, firm and planned, what is ordered, when it
+//! is due and when it is released.
 
 ghost use Rattle.std.specs.Prelude.{◌≡◌, ◌<◌, length, Option};
 ghost use Rattle.mrp_plan.specs.Orders.{order_in, is_released_by, firm_order, order_of_plan};

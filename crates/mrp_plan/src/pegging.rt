@@ -1,4 +1,4 @@
-//! Pegging: what a gross requirement consists of.
+//! The plan of the whole network: pegging in it, what a gross requirement consists of.
 
 ghost use Rattle.std.specs.Prelude.{◌≡◌, ◌<◌, ◌≤◌, ◌++◌, ◌∷◌, [], ℕ, length, filter, map, All, IfOk, OnOk};
 ghost use Rattle.mrp_master_data.specs.Table.{IsPair, horizon};

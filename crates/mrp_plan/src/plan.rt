@@ -1,4 +1,4 @@
-//! The plan of the network, pair after pair in planning order.
+//! The plan of the whole network, made pair after pair in planning order.
 
 ghost use Rattle.std.specs.Prelude.{◌≡◌, ◌+◌, ◌<◌, ◌≤◌, length, map, slice_set, IfOk};
 ghost use Rattle.mrp_qty.specs.declared.quantity.TheConstants.{MOST};

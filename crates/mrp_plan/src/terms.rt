@@ -1,4 +1,4 @@
-//! A term of a gross requirement, and where it comes from.
+//! The plan of the whole network: in its pegging, a term of a gross requirement, and where it comes from.
 
 use mrp_net::PairNo;
 

@@ -1,4 +1,5 @@
--- What the sender of a lane sees called for: the customer its own part on a schedule lane, a supplier nothing.
+-- The view of one plant that sends a lane: what is called for, of the customer its own part on a
+-- schedule lane, of a supplier nothing.
 use Rattle.std.proofs.Common.{◌≡◌, Option, None, Some, unwrap_or, ap}
 use Rattle.mrp_master_data.specs.declared.numbers.ItemNo.{ItemNo}
 use Rattle.mrp_master_data.specs.Table.{Table}

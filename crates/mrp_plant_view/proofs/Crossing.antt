@@ -1,5 +1,5 @@
--- What a plant sees may go to another thread, and threads may share it: its lists own their rows, and the
--- copies of the sums, which only contracts read, own nothing.
+-- The view of one plant may go to another thread, and threads may share it: its lists own their rows, and the copies
+-- of the sums, which only contracts read, own nothing.
 use denote.Builtin.{u64}
 use denote.Param.Send.{IsSend, IsSync, recorded_send, recorded_sync, sendable, struct_send, struct_sync, view_send, view_sync}
 use denote.Struct.Declared.{shape}

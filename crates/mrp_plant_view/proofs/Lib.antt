@@ -1,3 +1,4 @@
+-- The view of one plant, proofs.
 pub mod Calling
 pub mod Loading
 pub mod Spans

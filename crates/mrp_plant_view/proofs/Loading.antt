@@ -1,4 +1,5 @@
--- The shipments of the items of a lane stand in one list: an item more goes to its end.
+-- The view of one plant: how it gets its shipments. Those of the items of a lane stand in one list,
+-- and an item more goes to its end.
 use Rattle.std.proofs.Common.{◌≡◌, ℕ, ◌+◌, ◌≤◌, List, [], ◌∷◌, ◌++◌, length, drop, slice_range, refl, sym, ap, ◌∙◌, arith}
 use Rattle.std.proofs.lemmas.List.{length-append, map-append, take-append-le, take_all}
 use Rattle.std.proofs.lemmas.List.Elements.{All-head, All-tail}

@@ -1,4 +1,4 @@
--- How many elements of a list have a number: at most one, where no two have the same.
+-- The view of one plant: its numbers, each once, by how many elements of a list have a number.
 use Rattle.std.proofs.Common.{◌≡◌, ℕ, zero, suc, ◌+◌, ◌<◌, ◌≤◌, Bool, true, false, cond, eqb, List, [], ◌∷◌, inl, inr, get_or, map, refl, sym, ap, ◌∙◌, subst}
 use Rattle.std.proofs.Common.{arith}
 use Rattle.std.specs.List.{All, IsDistinct, count_by, filter, range_with_len}

@@ -1,4 +1,4 @@
--- The edges that a plant sees: in order, and each pair's are those of the component rows.
+-- The view of one plant: its edges, in order, and each pair's are those of the component rows.
 use Rattle.std.proofs.Common.{◌≡◌, ℕ, zero, suc, ◌+◌, ◌<◌, ◌≤◌, Bool, true, false, cond, eqb, List, [], ◌∷◌, ◌++◌, inl, inr, length, get_or, map, refl}
 use Rattle.std.proofs.Common.{sym, ap, ◌∙◌, arith}
 use Rattle.std.specs.List.{All, AllPairs, count_by, filter, flat_map, range_with_len, sum_by}

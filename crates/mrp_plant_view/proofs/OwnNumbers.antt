@@ -1,4 +1,4 @@
--- A plant's pairs and lanes as the network lists them, and as the view has them.
+-- The view of one plant: the plant's pairs and lanes as the network lists them, and as the view has them.
 use Rattle.std.proofs.Common.{◌≡◌, ◌==◌, ℕ, ◌+◌, ◌<◌, ◌≤◌, Bool, inl, inr, List, [], ◌∷◌, ◌++◌, length, map, get_or, take, refl, sym, ap, ◌∙◌}
 use Rattle.std.specs.List.{filter, range_with_len}
 use Rattle.std.proofs.lemmas.Bool.{cases_Bool}

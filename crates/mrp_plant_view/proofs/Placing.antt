@@ -1,4 +1,4 @@
--- Where a pair stands among those of its plant: a binary search finds it.
+-- The view of one plant: where a pair stands in it, found by a binary search.
 use Rattle.std.proofs.Common.{◌≡◌, ℕ, ◌<◌, ◌≤◌, Bool, true, false, cond, eqb, ltb, List, Some, None, Result, Ok, Err, inl, inr, length, get_or, sym, ap, ◌∙◌}
 use Rattle.std.proofs.Common.{arith}
 use Rattle.std.specs.List.{position, position_or_len}

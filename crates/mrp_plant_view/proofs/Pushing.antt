@@ -1,4 +1,4 @@
--- The loops that make a plant's view: what is made of each of a list is pushed, in order.
+-- The view of one plant: the loops that make it. What is made of each of a list is pushed, in order.
 use Rattle.std.proofs.Common.{◌≡◌, ℕ, ◌+◌, ◌<◌, ◌≤◌, List, [], ◌∷◌, ◌++◌, length, get_or, map, take, refl, sym, ap, subst}
 use Rattle.std.proofs.Common.{◌∙◌}
 use Rattle.std.specs.List.{Contains, flat_map}

@@ -1,5 +1,5 @@
--- What planners say of a plant's pairs is in range: how they are planned, their firm planned orders, and how many pieces go
--- into their parents, which are the plant's too.
+-- The view of one plant: what it says of its pairs is in range, how they are planned, their firm planned orders, and
+-- how many pieces go into their parents, which are the plant's too.
 use Rattle.std.proofs.Common.{◌≡◌, ℕ, ◌==◌, ◌&&◌, true, eqb, List, length, get_or, sym, ap, ◌∙◌}
 use Rattle.std.specs.List.{All, filter, range_with_len}
 use Rattle.std.specs.List.Sorted.{IsNonDecreasingBy}

@@ -1,4 +1,4 @@
--- What a plant sees of an accepted table: the lanes that it receives or sends.
+-- The view of one plant: the lanes in it, for an accepted table, which are those that the plant receives or sends.
 use Rattle.std.proofs.Common.{◌≡◌, ℕ, ◌+◌, ◌-◌, ◌*◌, ◌/◌, ◌<◌, ◌≤◌, ◌&&◌, true, eqb, List, [], ◌∷◌, Option, None, Some, ◌⊎◌, inl, inr, length, get_or, map}
 use Rattle.std.proofs.Common.{refl, sym, ap, ◌∙◌, subst, arith}
 use Rattle.std.specs.List.{All, Contains, count_by, filter, find}

@@ -1,4 +1,4 @@
--- The lists of a plant's pairs stand in one: that of one pair more goes to its end.
+-- The view of one plant: the lists of its pairs stand in one, and that of one pair more goes to its end.
 use Rattle.std.proofs.Common.{◌≡◌, ◌+◌, List, [], ◌∷◌, ◌++◌, length, slice_range, refl, ap, ◌∙◌}
 use Rattle.std.proofs.lemmas.List.{map-append}
 use Rattle.std.proofs.lemmas.List.Elements.{All-head, All-tail}

@@ -1,4 +1,4 @@
--- What every view of an accepted table says.
+-- The view of one plant: what each one of an accepted table says.
 use Rattle.std.proofs.Common.{◌∙◌, arith}
 use Rattle.std.specs.List.{filter}
 use Rattle.std.proofs.lemmas.List.{length-map, map-id}

@@ -1,4 +1,4 @@
--- Laws of what plants see.
+-- The view of one plant, laws: what the plant sees is its own, and all that it needs.
 use Rattle.std.specs.Prelude.{◌≡◌, ℕ, ◌==◌, if◌then◌else◌, List, map, filter, sum_by}
 use Rattle.mrp_netting.specs.PlanRows.{PlanRows}
 use Rattle.mrp_master_data.specs.declared.rows.UsageRow.{UsageRow}

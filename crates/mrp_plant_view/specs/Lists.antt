@@ -1,4 +1,4 @@
--- The lists of a plant's pairs, one after the other in one.
+-- The view of one plant: the lists of its pairs, one after the other in one.
 use Rattle.std.specs.Prelude.{◌≤◌, List, length, map, All, slice_range}
 use Rattle.mrp_plant_view.specs.declared.lists.Span.{Span}
 

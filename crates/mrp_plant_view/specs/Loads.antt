@@ -1,4 +1,5 @@
--- The items of a lane that a plant sends, each with what is called for of it and its shipments on their way.
+-- The view of one plant: what it has of a lane that the plant sends, its items, each with what is called for of it
+-- and its shipments on their way.
 use Rattle.std.specs.Prelude.{ℕ, ◌≤◌, List, [], length, map, All, Option, None, unwrap_or, slice_range, slice_index_or}
 use Rattle.mrp_master_data.specs.declared.numbers.ItemNo.{ItemNo}
 use Rattle.mrp_net.specs.declared.lane.Shipment.{Shipment}

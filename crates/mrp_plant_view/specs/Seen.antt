@@ -1,4 +1,5 @@
--- What the view of a plant says, whatever the accepted table: all that a plant must know of it to plan alone.
+-- The view of one plant: what it says, whatever the accepted table, which is all that a plant
+-- must know of it to plan alone.
 use Rattle.std.specs.Prelude.{◌≡◌, ℕ, ◌-◌, ◌*◌, ◌<◌, ◌≤◌, ◌==◌, List, length, map, count_by, Option, None, Some, IfSome}
 use Rattle.std.specs.Prelude.{All, Contains}
 use Rattle.std.specs.List.Sorted.{IsNonDecreasingBy}

@@ -1,4 +1,4 @@
--- What a plant sees of a network: its own pairs and rows, and the lanes that it receives or sends.
+-- The view of one plant: its own pairs and rows, and the lanes that the plant receives or sends.
 use Rattle.std.specs.Prelude.{ℕ, ◌<◌, ◌==◌, Bool, List, [], length, map, filter, Option, None, Some}
 use Rattle.std.specs.List.{AllPairs, flat_map, range_with_len}
 use Rattle.mrp_master_data.specs.declared.numbers.ItemNo.{ItemNo}

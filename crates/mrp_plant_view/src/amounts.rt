@@ -1,4 +1,5 @@
-//! What the demand rows of a plant's pairs add up to, and their receipt rows that count when they come.
+//! The view of one plant: what it has of demand and receipts, what the demand rows of its pairs add up to, and their
+//! receipt rows that count when they come.
 ghost use Rattle.std.specs.Prelude.{◌≡◌, ◌≤◌, ◌++◌, length, All, IfOk};
 ghost use Rattle.std.specs.List.{flat_map};
 ghost use Rattle.mrp_master_data.specs.Table.{IsPair};

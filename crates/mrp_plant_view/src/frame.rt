@@ -1,5 +1,4 @@
-//! What one plant sees of the network, but for the sums of its demand rows and of its receipt rows that count when they
-//! come.
+//! The view of one plant, but for the sums of its demand rows and of its receipt rows that count when they come.
 
 use crate::lists::Lists;
 use crate::view::{IncomingLane, OutgoingLane, PlantEdge, PlantPair};

@@ -1,4 +1,4 @@
-//! Laws of what plants see. Each is the contract of a function that does nothing.
+//! The view of one plant: laws of what it says. Each is the contract of a function that does nothing.
 
 ghost use Rattle.mrp_plant_view.specs.Laws.{ViewsSayEnough, ViewsHaveLanesIn, ViewsHaveLanesOut, ViewsHaveParents};
 ghost use Rattle.mrp_plant_view.specs.Laws.{ViewsHaveBills};

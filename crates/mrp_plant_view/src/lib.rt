@@ -1,5 +1,5 @@
-//! What one plant sees of a network: its own pairs and rows, and the lanes that it receives or sends.
-//! A plant is planned from this alone.
+//! The view of one plant of a network: its own pairs and rows, and the lanes that it receives or sends. A
+//! plant is planned from this alone.
 //!
 //! Used by agents and those who make them, and by the proofs of plans that plants make alone.
 //! Keeps true: a view has the rows and lanes of its own plant and no other, and they are enough to plan it.

@@ -1,4 +1,4 @@
-//! A list for each of a plant's pairs.
+//! The view of one plant: a list for each of its pairs.
 
 use mrp_qty::Memory;
 use std::alloc::Global;

@@ -1,4 +1,4 @@
-//! What one plant sees of the network: its pairs, their rows, its lanes.
+//! The view of one plant: its pairs, their rows, its lanes.
 
 use crate::frame::PlantFrame;
 use crate::lists::Lists;

@@ -1,4 +1,4 @@
-//! How a plant's view is taken from the network.
+//! The view of one plant: how it is taken from the network.
 
 ghost use Rattle.std.specs.Prelude.{◌≡◌, ◌<◌, ◌≤◌, ◌++◌, length, map, All, Contains, IfOk};
 ghost use Rattle.std.specs.List.{flat_map};

@@ -1,4 +1,5 @@
--- What taken lanes have brought to a ready pair: what its sources ship, and what its customers' releases call for.
+-- The protocol: what lanes have brought to a ready pair, which is what its sources ship, and what
+-- its customers' releases call for.
 use Rattle.std.proofs.Common.{◌≡◌, ℕ, ◌+◌, ◌<◌, ◌==◌, ◌&&◌, not, Bool, true, false, cond, List, [], ◌∷◌, ◌++◌, inl, inr, length, map, filter, sum_by, refl, sym}
 use Rattle.std.proofs.Common.{ap, subst, ◌∙◌, arith, Contains}
 use Rattle.std.specs.List.{AllByRecursion, IsDistinct, filter_map, flat_map, list_any, range_with_len}

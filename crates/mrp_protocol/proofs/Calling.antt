@@ -1,4 +1,4 @@
--- A schedule lane calls for the items of the pairs at its end: its item joins the customer's pair to the supplier's.
+-- The protocol: a schedule lane calls for the items of the pairs at its end, each joined to the supplier's pair.
 use Rattle.std.proofs.Common.{◌≡◌, ℕ, ◌==◌, ◌&&◌, map, sym, ap, ◌∙◌, Contains}
 use Rattle.std.proofs.lemmas.Bool.{and_from, eq-eqb}
 use Rattle.mrp_master_data.specs.declared.numbers.ItemNo.{ItemNo}

@@ -1,4 +1,4 @@
--- How many steps are left: each event that is enabled is one, and none is left where the run is finished.
+-- The protocol: how many steps are left. Each event that is enabled is one, and none is left where the run is finished.
 use Rattle.std.proofs.Common.{◌≡◌, ℕ, zero, suc, ◌+◌, ◌*◌, ◌-◌, ◌<◌, ◌≤◌, ◌==◌, not, Bool, true, false, cond, List, [], ◌∷◌, ◌++◌, length, sum_by, refl, sym}
 use Rattle.std.proofs.Common.{ap, subst, ◌∙◌, arith, length-append}
 use Rattle.std.specs.List.{flat_map, range_with_len}

@@ -1,4 +1,4 @@
--- Each event is enabled or isn't, so each list of events runs.
+-- The protocol: each of its events is enabled or isn't, so each list of events runs.
 use Rattle.std.proofs.Common.{◌≡◌, ℕ, zero, suc, ◌+◌, ◌<◌, ◌≤◌, Bool, true, false, cond, List, [], ◌∷◌, ◌++◌, ◌⊎◌, inl, inr, length, refl, sym, ap, subst, ◌∙◌}
 use Rattle.std.proofs.Common.{arith, length-append, All, Contains}
 use Rattle.std.specs.List.{flat_map}

@@ -1,4 +1,4 @@
--- The deliveries of a row of amounts, and those of shipments.
+-- The protocol: what lanes carry, as deliveries, those of a row of amounts, and those of shipments.
 use Rattle.std.proofs.Common.{◌≡◌, ℕ, zero, suc, ◌+◌, ◌<◌, ◌≤◌, ◌==◌, not, Bool, true, cond, leb, List, [], ◌∷◌, ◌⊎◌, inl, inr, length, get_or, map, filter}
 use Rattle.std.proofs.Common.{sum_by, refl, ap, subst, ◌∙◌, arith, All}
 use Rattle.std.specs.List.{AllPairs, range_with_len}

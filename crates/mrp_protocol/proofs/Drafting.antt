@@ -1,4 +1,4 @@
--- What a plant has of a pair by its view is what the network has of it, and so is its plan.
+-- The protocol's local plans: what a plant has of a pair by its view is what the network has of it, and so is its plan.
 use Rattle.std.proofs.Common.{◌≡◌, ℕ, ◌<◌, ◌==◌, Bool, cond, List, get_or, refl, sym, ap, ◌∙◌, subst, arith, All, slice_index}
 use Rattle.std.specs.List.{sum_by}
 use Rattle.std.proofs.lemmas.Bool.{eqb-true}

@@ -1,4 +1,4 @@
--- No schedule sticks: a run that isn't finished can go on, and a longest run takes all steps.
+-- The protocol has no deadlock: a run that isn't finished can go on, and a longest run takes all steps.
 use Rattle.std.proofs.Common.{◌≡◌, ℕ, zero, suc, ◌+◌, ◌<◌, ◌≤◌, not, Bool, true, false, List, [], ◌∷◌, ◌⊎◌, inl, inr, length, refl, sym, ap, subst, ◌∙◌, arith}
 use Rattle.std.proofs.lemmas.Bool.{cases_Bool}
 use Rattle.mrp_master_data.specs.Table.{Table, IsTable, IsPair}

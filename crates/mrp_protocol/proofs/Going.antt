@@ -1,4 +1,5 @@
--- A lane goes on, or it rests: then all that may be told over it has been told, and it may be closed.
+-- The protocol: in each of its states a lane goes on, or it rests. Then all that may be told over it has
+-- been told, and it may be closed.
 use Rattle.std.proofs.Common.{◌≡◌, ℕ, ◌+◌, ◌<◌, ◌≤◌, ◌==◌, Bool, true, false, List, [], ◌∷◌, ◌++◌, ◌⊎◌, inl, inr, length, refl, sym, ap, subst, ◌∙◌, arith}
 use Rattle.std.proofs.Common.{append_assoc, All, Contains}
 use Rattle.std.specs.List.{flat_map, list_any}

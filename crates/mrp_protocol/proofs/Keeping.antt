@@ -1,4 +1,4 @@
--- What every event keeps: lanes are in order, and on schedule lanes records are of planned pairs.
+-- The protocol: what every event keeps. Lanes are in order, and on schedule lanes records are of planned pairs.
 use Rattle.std.proofs.Common.{◌≡◌, ℕ, ◌≤◌, ◌==◌, Bool, true, false, List, [], ◌∷◌, ◌++◌, inl, inr, length, refl, sym, ap, subst, ◌∙◌, arith, append_assoc}
 use Rattle.std.proofs.Common.{length-append, All}
 use Rattle.std.proofs.lemmas.Bool.{cond_both, eqb-true}

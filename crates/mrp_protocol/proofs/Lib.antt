@@ -1,3 +1,4 @@
+-- The protocol between plants, proofs: of what lanes carry, of events and of every run.
 pub mod Delivered
 pub mod Calling
 pub mod Small

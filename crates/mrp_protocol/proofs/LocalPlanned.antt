@@ -1,4 +1,4 @@
--- Local plans are the plan of the network, and a plant sees which of its pairs can be planned.
+-- The protocol's local plans are the plan of the network, and a plant sees which of its pairs can be planned.
 use Rattle.std.proofs.Common.{◌≡◌, ℕ, suc, zero, ◌<◌, Bool, true, List, get_or, sym, ap, ◌∙◌, subst, arith, slice_index}
 use Rattle.mrp_netting.specs.PlanRows.{PlanRows}
 use Rattle.mrp_netting.specs.PlanningBound.{IsWithinData}

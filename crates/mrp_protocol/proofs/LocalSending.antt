@@ -1,4 +1,4 @@
--- What a plant has to send over its lanes is what they carry in the network.
+-- The protocol: what a plant has to send by it is what its lanes carry in the network.
 use Rattle.std.proofs.Common.{◌≡◌, ℕ, ◌+◌, ◌-◌, ◌^◌, ◌<◌, ◌≤◌, Bool, true, Some, List, length, get_or, refl, sym, ap, ◌∙◌, subst, arith, All, Contains}
 use Rattle.std.proofs.Common.{slice_index}
 use Rattle.std.specs.List.{filter}

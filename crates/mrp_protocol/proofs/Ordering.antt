@@ -1,4 +1,4 @@
--- Laws of every reached state: order, decided records, figures, and whole lanes.
+-- The protocol's laws of every reached state: order, decided records, figures, and whole lanes.
 use Rattle.std.proofs.Common.{◌≡◌, ℕ, ◌+◌, Bool, true, false, ◌||◌, List, [], ◌∷◌, ◌++◌, inl, inr, refl, sym, ap, subst, ◌∙◌, arith, append_assoc}
 use Rattle.std.specs.List.{list_any, sum_by}
 use Rattle.std.proofs.lemmas.Bool.{cases_Bool, false≢true}

@@ -1,4 +1,5 @@
--- Pairs that are planned were ready, and plans made of what is at hand are those of the network.
+-- The protocol: in its runs pairs that are planned were ready, and plans made of what is at
+-- hand are those of the network.
 use Rattle.std.proofs.Common.{◌≡◌, ℕ, zero, suc, ◌+◌, ◌<◌, ◌≤◌, ◌==◌, Bool, true, List, [], ◌∷◌, ◌++◌, inl, inr, get_or, map, slice_index, refl, sym, ap}
 use Rattle.std.proofs.Common.{subst, ◌∙◌, arith}
 use Rattle.std.specs.List.{list_any, range_with_len}

@@ -1,4 +1,5 @@
--- Pairs are planned until all of a set are: as long as some of them are to be planned, one of these can be.
+-- The protocol: events plan pairs until all of a set are. As long as some of them are to
+-- be planned, one of these can be.
 use Rattle.std.proofs.Common.{◌≡◌, ℕ, zero, suc, ◌+◌, ◌<◌, ◌≤◌, ◌&&◌, not, Bool, true, false, List, inl, inr, ◌⊎◌, length, refl, sym, ap, subst, ◌∙◌}
 use Rattle.std.proofs.Common.{arith}
 use Rattle.std.proofs.lemmas.Bool.{and_parts, cases_Bool, cases_eq, not-true}

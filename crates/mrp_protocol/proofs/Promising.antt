@@ -1,4 +1,4 @@
--- What a plant sends by its own plans is what its lanes carry.
+-- The protocol: what a plant sends by its own plans is what its lanes carry.
 use Rattle.std.proofs.Common.{◌≡◌, ℕ, ◌+◌, ◌-◌, ◌*◌, ◌/◌, ◌<◌, Bool, true, List, ◌⊎◌, inl, inr, length, map, slice_index, sym, ap, subst, ◌∙◌, arith, Contains}
 use Rattle.mrp_netting.specs.PlanRows.{PlanRows}
 use Rattle.mrp_master_data.specs.declared.numbers.ItemNo.{ItemNo}

@@ -1,4 +1,4 @@
--- What a plant sees of the network: amounts, parents, and what has come over its lanes.
+-- The protocol: what a plant sees in one of its states, which is amounts, parents, and what has come over its lanes.
 use Rattle.std.proofs.Common.{◌≡◌, ℕ, suc, zero, ◌+◌, ◌*◌, ◌<◌, ◌==◌, Bool, true, inl, inr, List, [], ◌∷◌, length, get_or, map, refl, sym, ap, ◌∙◌, subst}
 use Rattle.std.proofs.Common.{arith, All, Contains, slice_index, slice_index_or}
 use Rattle.std.specs.List.{filter, flat_map, position_or_len, range_with_len}

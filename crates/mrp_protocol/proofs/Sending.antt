@@ -1,4 +1,4 @@
--- What a plant sees of its lanes says what they carry.
+-- The protocol: what a plant's view says of its lanes is what they carry.
 use Rattle.std.proofs.Common.{◌≡◌, ℕ, ◌+◌, ◌==◌, ◌&&◌, Bool, true, false, cond, List, [], map, filter, refl, sym, ap, ◌∙◌, arith}
 use Rattle.mrp_qty.proofs.RangeLaws.{sum_by-ext}
 use Rattle.mrp_master_data.specs.declared.numbers.ItemNo.{ItemNo}

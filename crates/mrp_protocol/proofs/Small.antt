@@ -1,4 +1,4 @@
--- What lanes carry: each item once, within the bound, and no longer than the table says.
+-- The protocol: what lanes carry is small. Each item once, within the bound, and no longer than the table says.
 use Rattle.std.proofs.Common.{◌≡◌, ℕ, ◌+◌, ◌*◌, ◌<◌, ◌≤◌, ◌==◌, ◌&&◌, Bool, true, false, cond, Some, inl, inr, List, [], ◌∷◌, length, get_or, map, refl, sym}
 use Rattle.std.proofs.Common.{ap, subst, ◌∙◌, arith, All, Contains}
 use Rattle.std.specs.Prelude.{is_some, option_map}

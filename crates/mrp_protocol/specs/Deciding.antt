@@ -1,4 +1,4 @@
--- Whether an event is enabled is always settled, so each list of events has a run.
+-- The protocol: whether one of its events is enabled is always settled, so each list of events has a run.
 use Rattle.std.specs.Prelude.{ℕ, List, [], ◌∷◌, ◌++◌, ◌⊎◌}
 use Rattle.mrp_master_data.specs.Table.{Table, IsTable}
 use Rattle.mrp_protocol.specs.declared.event.Event.{Event}

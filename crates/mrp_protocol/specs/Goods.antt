@@ -1,6 +1,5 @@
--- What a plant has to send over its lanes, by its own view, plans and lists. `taken` has the records of
--- each lane by the lane's number, `planned` and `plans` say which pairs are planned and how, by the
--- pair's number.
+-- The protocol: what a plant has to send over its lanes, by its own view, plans and lists. `taken` has the records of
+-- each lane by the lane's number, `planned` and `plans` say which pairs are planned and how, by the pair's number.
 use Rattle.std.specs.Prelude.{◌≡◌, ℕ, ◌-◌, ◌<◌, Bool, true, List, length, map, filter, drop, slice_index}
 use Rattle.std.specs.List.{range_with_len}
 use Rattle.mrp_netting.specs.PlanRows.{PlanRows}

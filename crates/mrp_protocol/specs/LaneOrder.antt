@@ -1,4 +1,4 @@
--- What is true of a lane in a state of a run: its order, and its figures.
+-- The protocol: what it keeps true of a lane in each state of a run, its order, and its figures.
 use Rattle.std.specs.Prelude.{◌≡◌, ℕ, ◌≤◌, List, [], ◌∷◌, ◌++◌, length}
 use Rattle.mrp_master_data.specs.declared.numbers.ItemNo.{ItemNo}
 use Rattle.mrp_master_data.specs.Table.{Table}

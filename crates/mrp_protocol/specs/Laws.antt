@@ -1,4 +1,4 @@
--- Laws of a lane in every state of a run: FIFO, conservation, and a closed lane's text is whole.
+-- The protocol: laws of a lane in every state of a run. FIFO, conservation, and a closed lane's text is whole.
 use Rattle.std.specs.Prelude.{◌≡◌, ℕ, ◌+◌, ◌<◌, true, List, ◌++◌, length, All, Contains}
 use Rattle.mrp_master_data.specs.declared.numbers.ItemNo.{ItemNo}
 use Rattle.mrp_master_data.specs.Table.{Table, IsTable}

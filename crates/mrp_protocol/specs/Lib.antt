@@ -1,3 +1,4 @@
+-- The protocol between plants: what lanes carry, events, and laws of every run.
 pub mod Deciding
 pub mod LaneOrder
 pub mod Laws

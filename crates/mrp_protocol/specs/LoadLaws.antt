@@ -1,4 +1,4 @@
--- Laws of what lanes carry.
+-- The protocol: laws of what lanes carry, their loads, figures and lengths.
 use Rattle.std.specs.Prelude.{◌*◌, ◌≤◌, List, length, All, Contains}
 use Rattle.mrp_qty.specs.declared.quantity.TheConstants.{MOST}
 use Rattle.mrp_master_data.specs.declared.numbers.ItemNo.{ItemNo}

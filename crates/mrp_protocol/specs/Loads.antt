@@ -1,4 +1,4 @@
--- What the lanes of a network carry: for each item of a lane its load.
+-- The protocol's loads: what the lanes of a network carry, for each item of a lane.
 use Rattle.std.specs.Prelude.{ℕ, ◌==◌, not, Bool, List, map, filter}
 use Rattle.std.specs.List.{range_with_len}
 use Rattle.mrp_master_data.specs.declared.numbers.ItemNo.{ItemNo}

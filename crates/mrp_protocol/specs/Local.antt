@@ -1,4 +1,4 @@
--- Local plans: what a pair's plan is made of at its own plant, and that it is the plan of the network.
+-- The protocol's local plans: what a pair's plan is made of at its own plant, and that it is the plan of the network.
 use Rattle.std.specs.Prelude.{◌≡◌, ℕ, ◌+◌, ◌<◌, ◌==◌, ◌&&◌, if◌then◌else◌, Bool, true, List, length, sum_by}
 use Rattle.std.specs.List.{range_with_len}
 use Rattle.mrp_netting.specs.PlanRows.{PlanRows}

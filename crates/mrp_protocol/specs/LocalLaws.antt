@@ -1,4 +1,5 @@
--- Laws of local plans: they are the plan of the network, and what is sent by them is what its lanes carry.
+-- The protocol: laws of local plans. They are the plan of the network, and what is sent
+-- by them is what its lanes carry.
 use Rattle.std.specs.Prelude.{◌≡◌, ◌↔◌, ℕ, ◌<◌, Bool, true, List, length, slice_get, Some, All, Contains}
 use Rattle.mrp_netting.specs.PlanRows.{PlanRows}
 use Rattle.mrp_netting.specs.PlanningBound.{IsWithinData}

@@ -1,6 +1,6 @@
--- What a plant plans from its own view and from the records that have come to it. `taken` has the
--- records of each lane by the lane's number, `planned` and `plans` say which pairs are planned and how,
--- by the pair's number.
+-- The protocol: what a plant may plan from its own view and from the records that have come to it.
+-- `taken` has the records of each lane by the lane's number, `planned` and `plans` say which pairs are
+-- planned and how, by the pair's number.
 use Rattle.std.specs.Prelude.{◌≡◌, ℕ, ◌+◌, ◌*◌, ◌==◌, if◌then◌else◌, not, Bool, true, false}
 use Rattle.std.specs.Prelude.{List, [], map, filter, sum_by, slice_index, slice_index_or, All, Contains}
 use Rattle.std.specs.List.{position_or_len, range_with_len}

@@ -1,4 +1,4 @@
--- How far a run is from its end: no deadlock, and termination.
+-- The protocol: how far a run is from its end. No deadlock, and termination.
 use Rattle.std.specs.Prelude.{◌≡◌, ℕ, ◌+◌, ◌-◌, ◌≤◌, ◌↔◌, ◌⊎◌, not, Bool, List, [], ◌∷◌, length, sum_by, count_by}
 use Rattle.std.specs.List.{range_with_len}
 use Rattle.mrp_master_data.specs.Table.{Table, IsTable}

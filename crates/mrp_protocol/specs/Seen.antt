@@ -1,4 +1,4 @@
--- What a plant sees of its lanes says what they carry.
+-- The protocol: what a plant sees of its lanes says what they carry.
 use Rattle.std.specs.Prelude.{◌≡◌, ℕ, ◌-◌, ◌<◌, if◌then◌else◌, Bool, true, List, length, map, sum_by, Contains}
 use Rattle.mrp_netting.specs.PlanRows.{PlanRows}
 use Rattle.mrp_master_data.specs.declared.numbers.ItemNo.{ItemNo}

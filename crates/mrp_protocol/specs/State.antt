@@ -1,4 +1,4 @@
--- The states between the plants of a network, and the events that lead from one to another.
+-- The protocol: the states between the plants of a network, and the events that lead from one to another.
 use Rattle.std.specs.Prelude.{◌≡◌, ℕ, ◌+◌, ◌<◌, ◌==◌, Bool, true, false, if◌then◌else◌, List, [], ◌∷◌, ◌++◌, length}
 use Rattle.std.specs.Prelude.{Contains, ◌⊎◌}
 use Rattle.mrp_master_data.specs.declared.numbers.ItemNo.{ItemNo}

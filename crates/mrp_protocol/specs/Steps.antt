@@ -1,4 +1,4 @@
--- How many events a run has.
+-- The protocol: how many events a run of it has.
 use Rattle.std.specs.Prelude.{ℕ, ◌+◌, ◌*◌, length, sum_by}
 use Rattle.mrp_master_data.specs.Table.{Table}
 use Rattle.mrp_net.specs.Lanes.{lanes}

@@ -1,4 +1,4 @@
-//! The events of a run: a record is sent, a record is received, a pair is planned.
+//! The protocol between plants has three events: a record is sent, a record is received, a pair is planned.
 
 use mrp_net::{LaneNo, PairNo};
 

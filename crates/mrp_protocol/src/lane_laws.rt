@@ -1,5 +1,5 @@
-//! What holds of each lane in every state of a run: FIFO, at-most-once delivery, and conservation. Each law is the
-//! contract of a function that does nothing.
+//! The protocol's laws of each lane in every state of a run: FIFO, at-most-once delivery, and conservation. Each law is
+//! the contract of a function that does nothing.
 
 ghost use Rattle.mrp_protocol.specs.Laws.{LanesKeepOrder, NothingSentIsLost};
 ghost use Rattle.mrp_protocol.specs.Laws.{ClosedTextsAreWhole, SentIsDecided};

@@ -1,5 +1,5 @@
-//! What the lanes of a network carry, which events can happen between its plants, and the laws of
-//! every run: FIFO and conservation on each lane ([`lane_laws`]), no deadlock, and termination ([`run_laws`]).
+//! The protocol between plants: what lanes carry, which events can happen, and the laws of every run, which are FIFO
+//! and conservation on each lane ([`lane_laws`]), no deadlock, and termination ([`run_laws`]).
 //!
 //! What a lane carries is small and of known length ([`load_laws`]). A pair that is ready has all that its plan
 //! needs ([`ready_laws`]), and a plant's view says what its lanes carry ([`view_laws`]). So what one plant plans and

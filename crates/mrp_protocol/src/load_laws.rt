@@ -1,5 +1,5 @@
-//! What a lane carries: its loads, the bounds of its figures, and how long its text is. Each law is the contract of
-//! a function that does nothing.
+//! The protocol: what a lane carries, its loads, the bounds of its figures, and how long its text is. Each law is the
+//! contract of a function that does nothing.
 
 ghost use Rattle.mrp_protocol.specs.LoadLaws.{LoadsStandOnce, LoadsAreSmall, LegalIsInForm};
 ghost use Rattle.mrp_protocol.specs.LoadLaws.{LegalFiguresAreSmall, LegalCumsAreSmall};

@@ -1,4 +1,5 @@
-//! Laws of local plans and of what is sent by them. Each is the contract of a function that does nothing.
+//! The protocol's laws of local plans and of what is sent by them. Each is the contract of a function that does
+//! nothing.
 
 ghost use Rattle.mrp_protocol.specs.LocalLaws.{PlantPlansAreThePlan, DraftsAreThePlan};
 ghost use Rattle.mrp_protocol.specs.LocalLaws.{DraftsAreWithin, PlannableIsLocal};

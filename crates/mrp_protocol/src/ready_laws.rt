@@ -1,5 +1,5 @@
-//! Ready pairs: what the lanes have brought to a pair that may be planned, and that its local plan is the
-//! network's. Each law is the contract of a function that does nothing.
+//! The protocol: pairs that its events let be planned. What the lanes have brought to a ready one, and that its local
+//! plan is the network's. Each law is the contract of a function that does nothing.
 
 ghost use Rattle.mrp_protocol.specs.Local.{PlannedStayReady, DespatchesBringIncoming, SchedulesBringGross};
 ghost use Rattle.mrp_protocol.specs.Local.{LocalPlansAreThePlan, ReachedPlansAreThePlan};

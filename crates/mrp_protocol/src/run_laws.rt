@@ -1,5 +1,5 @@
-//! Runs: each list of events is one, there is no deadlock, and every run terminates after the same number of steps.
-//! Each law is the contract of a function that does nothing.
+//! The protocol's runs: each list of events is one, there is no deadlock, and every run terminates after the same
+//! number of steps. Each law is the contract of a function that does nothing.
 
 ghost use Rattle.mrp_protocol.specs.Deciding.{EventsAreDecided, EveryListRuns, RunsGoOn};
 ghost use Rattle.mrp_protocol.specs.Deciding.{OpeningIsReached, ReachedGoesOn};

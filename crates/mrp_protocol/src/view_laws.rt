@@ -1,4 +1,5 @@
-//! What a plant sees of its lanes says what they carry. Each law is the contract of a function that does nothing.
+//! The protocol: what a plant sees of its lanes says what they carry. Each law is the contract
+//! of a function that does nothing.
 
 ghost use Rattle.mrp_protocol.specs.Seen.{DespatchesAreSeen, SchedulesAreSeen, SchedulesOpenAfterShipments};
 ghost use Rattle.mrp_protocol.specs.Seen.{LocalLoadsAreTheLoads, FormsAreSeen, BroughtIsSeen};

@@ -1,1 +1,2 @@
+-- Quantities: rows of them, proofs.
 pub mod RangeLaws

@@ -1,4 +1,4 @@
--- Sums and lists over the periods 0 to n - 1, and over the front of a row.
+-- Quantities: sums and lists of them over the periods 0 to n - 1, and over the front of a row.
 use Rattle.std.specs.Prelude.{◌≡◌, ℕ, ◌+◌, ◌≤◌, ◌<◌, ◌==◌, if◌then◌else◌, List, []}
 use Rattle.std.specs.Prelude.{◌∷◌, map, sum, sum_by, take, drop, slice_index, zero, suc}
 use Rattle.std.specs.List.{range_with_len}

@@ -1,1 +1,2 @@
+-- Quantities: rows of them, as contracts see them.
 pub mod Row

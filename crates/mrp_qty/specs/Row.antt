@@ -1,4 +1,4 @@
--- What a row is: one quantity for each period of a horizon. Every list that a `Row` shows is one.
+-- Quantities: what a row of them is, one for each period of a horizon. Every list that a `Row` shows is one.
 use Rattle.std.specs.Prelude.{ℕ, ◌≤◌, List, length, All}
 use Rattle.mrp_qty.specs.declared.quantity.TheConstants.{MOST}
 use Rattle.mrp_qty.specs.declared.horizon.TheConstants.{LONGEST}

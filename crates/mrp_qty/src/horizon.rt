@@ -1,4 +1,4 @@
-//! How many periods are planned.
+//! Quantities: the planning horizon, which is how many periods they are planned for.
 
 ghost use Rattle.std.specs.Prelude.{◌≡◌, ℕ, ◌≤◌, ◌↔◌, IsSome, IfSome};
 ghost use Rattle.mrp_qty.specs.declared.horizon.TheConstants.{LONGEST};

@@ -1,4 +1,5 @@
-//! Laws of the limits, each the contract of a function that does nothing.
+//! Quantities and limits: laws of the limits of quantities, tables and runs, each the contract
+//! of a function that does nothing.
 ghost use Rattle.std.specs.Prelude.{◌≡◌, ◌+◌, ◌-◌, ◌*◌, ◌^◌};
 ghost use Rattle.mrp_qty.specs.declared.horizon.TheConstants.{LONGEST};
 ghost use Rattle.mrp_qty.specs.declared.quantity.TheConstants.{MOST};

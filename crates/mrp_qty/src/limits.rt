@@ -1,4 +1,4 @@
-//! The limits of tables, records and runs, each as a number.
+//! Quantities and limits: the limits of tables, records and runs, each as a number.
 
 /// The most plants of a table.
 pub const MOST_PLANTS: usize = 64;

@@ -1,4 +1,4 @@
-//! The fault that memory was refused.
+//! Quantities: the fault that memory was refused, for all that plan or count them.
 
 use std::alloc::{AllocError, AllocFailed};
 use thiserror::Error;

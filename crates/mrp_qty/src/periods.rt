@@ -1,4 +1,4 @@
-//! All periods of a row at once, in one tight loop each.
+//! Quantities of all periods of a row at once, in one tight loop each.
 
 ghost use Rattle.std.specs.Prelude.{◌≡◌, ℕ, ◌+◌, ◌*◌, ◌≤◌, ◌<◌, length, slice_index, All};
 ghost use Rattle.mrp_qty.specs.declared.quantity.TheConstants.{MOST};

@@ -1,4 +1,4 @@
-//! A quantity of pieces, up to 10^15.
+//! Quantities: one of them, of pieces, up to 10^15.
 
 ghost use Rattle.std.specs.Prelude.{◌≡◌, ℕ, ◌≤◌, ◌↔◌, IsSome, IfSome, Some, decimal};
 ghost use Rattle.mrp_qty.specs.declared.quantity.TheConstants.{MOST};

@@ -1,4 +1,4 @@
-//! A row: one quantity a period.
+//! Quantities: a row of them, one a period of the horizon.
 
 ghost use Rattle.std.specs.Prelude.{◌≡◌, ℕ, ◌+◌, ◌*◌, ◌≤◌, ◌<◌, List, length, sum, replicate, slice_index, slice_set};
 ghost use Rattle.std.specs.Prelude.{IfOk, All};

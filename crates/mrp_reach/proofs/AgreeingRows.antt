@@ -1,4 +1,4 @@
--- Rows that have the same pieces in so many periods.
+-- Reach: rows that have the same pieces in so many periods.
 use Rattle.std.specs.Prelude.{◌≡◌, ℕ, ◌+◌, ◌≤◌, List, sum, take, slice_index}
 use Rattle.std.proofs.Common.{arith, sym, ◌∙◌}
 use Rattle.mrp_qty.proofs.RangeLaws.{sum_by-range-same, sum_by-range-take}

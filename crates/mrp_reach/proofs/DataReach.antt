@@ -1,4 +1,4 @@
--- What a pair is planned from agrees with what it is planned from in a table that goes on.
+-- Reach: what a pair is planned from agrees with what it is planned from in a table that goes on.
 use Rattle.std.specs.Prelude.{ℕ, List, slice_index}
 use Rattle.std.proofs.Common.{get_or}
 use Rattle.std.proofs.lemmas.List.Elements.{Contains-get_or}

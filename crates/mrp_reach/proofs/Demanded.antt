@@ -1,4 +1,4 @@
--- The whole periods, found in an order in which demanders come first.
+-- Reach: the whole periods of all pairs, found in an order in which demanders come first.
 use Rattle.std.proofs.Common.{◌≡◌, ◌≢◌, ℕ, ◌+◌, ◌<◌, ◌≤◌, ⊎_elim, List, length, map, get_or, set, min, drop}
 use Rattle.std.proofs.Common.{sym, ap, subst, ◌∙◌, arith, slice_index, length-set, add-one, drop-cons}
 use Rattle.std.proofs.lemmas.Bool.{cases_eq}

@@ -1,4 +1,4 @@
--- The least of a number and those of a list.
+-- Reach: the least of a number and those of a list, as whole periods are the least of several.
 use Rattle.std.specs.Prelude.{◌≡◌, ℕ, ◌≤◌, min, List, [], ◌∷◌, map, All}
 use Rattle.std.proofs.Common.{arith}
 use Rattle.std.proofs.lemmas.List.Elements.{All-cons, All-head, All-nil, All-tail}

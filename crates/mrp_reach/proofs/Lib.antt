@@ -1,3 +1,4 @@
+-- Reach, until which period a plan is whole, proofs.
 pub mod AgreeingRows
 pub mod PairReach
 pub mod LongerRows

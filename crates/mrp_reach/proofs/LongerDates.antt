@@ -1,4 +1,4 @@
--- The periods of a table begin on the same days in one that goes on where it ends.
+-- Reach: the periods of a table begin on the same days in one that goes on where it ends.
 use Rattle.std.proofs.Common.{◌≡◌, ℕ, zero, suc, ◌+◌, ◌-◌, ◌*◌, ◌<◌, ◌≤◌, nat_lt, Bool, true, false, if◌then◌else◌, List, [], ◌∷◌, filter, length, get_or, ⊎_elim, refl, sym, ap, ◌∙◌, arith}
 use Rattle.std.proofs.lemmas.Bool.{cases_lt, cond-true, cond-false, lt-ltb, le-ltb}
 use Rattle.mrp_cal.specs.declared.begun.Begun.{Begun}

@@ -1,5 +1,5 @@
--- A table that goes on where another one ends: its edges and policies, and its amounts in the periods of that one, are
--- those of that one.
+-- Reach: a table that goes on where another one ends has that one's edges and policies, and in
+-- that one's periods its amounts.
 use Rattle.std.specs.Prelude.{◌≡◌, ℕ, ◌+◌, ◌≤◌, ◌<◌, ◌==◌, ◌&&◌, ◌⊎◌, nat_lt, if◌then◌else◌, Bool, true, false, List, [], ◌∷◌, length, map, slice_index}
 use Rattle.std.specs.Prelude.{filter, sum_by, All}
 use Rattle.std.specs.List.{range_with_len}

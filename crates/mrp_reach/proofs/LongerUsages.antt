@@ -1,4 +1,4 @@
--- A table that goes on where another one ends: in the periods of that one the same usages are in force.
+-- Reach: in a table that goes on where another one ends, the same usages are in force in the periods of that one.
 use Rattle.std.specs.Prelude.{◌≡◌, ℕ, zero, suc, ◌+◌, ◌-◌, ◌<◌, ◌==◌, nat_le, nat_lt, if◌then◌else◌, Bool, List, [], ◌∷◌, ◌++◌, length, filter, All}
 use Rattle.std.proofs.Common.{arith, refl, sym, ap, ◌∙◌, get_or, inl, inr, ne_eqb}
 use Rattle.std.proofs.lemmas.Bool.{cases_lt, cond-false, le-ltb, lt-ltb, lt-leb}

@@ -1,4 +1,4 @@
--- What is whole stays so in the plan of each table that goes on.
+-- Reach over a network: what is whole stays so in the plan of each table that goes on.
 use Rattle.std.specs.Prelude.{◌≡◌, ℕ, zero, suc, ◌<◌, List, length, slice_index, sum_by, All}
 use Rattle.std.proofs.Common.{arith, sym, ap, subst, ◌∙◌, get_or}
 use Rattle.std.proofs.lemmas.List.FromFn.{length-map-range_with_len}

@@ -1,4 +1,4 @@
--- One pair whose data agree up to a period: how far its plans do.
+-- Reach of one pair whose data agree up to a period: how far its plans do.
 use Rattle.std.specs.Prelude.{◌≡◌, ℕ, ◌+◌, ◌-◌, ◌≤◌, ◌<◌, ◌==◌, if◌then◌else◌, max, length, slice_index, zero, suc}
 use Rattle.std.proofs.Common.{arith, refl, sym, ap, subst, ◌∙◌, ⊎_elim}
 use Rattle.std.proofs.lemmas.Bool.{cases_eq, cases_lt}

@@ -1,4 +1,4 @@
--- The report is the rows of its sheet, and csv reads it back.
+-- Reach: its report is the rows of its sheet, and csv reads it back.
 use Rattle.std.proofs.Common.{◌≡◌, ℕ, zero, suc, List, refl, arith, slice_index, map}
 use Rattle.std.specs.List.{flat_map}
 use Rattle.csv.specs.Reading.{strip_bom}

@@ -1,4 +1,4 @@
--- The whole periods of a network without loops: they are there, they are one list, none is beyond the horizon, and a
+-- Reach: the whole periods of a network without loops are there, they are one list, none is beyond the horizon, and a
 -- table that goes on has as many or more.
 use Rattle.std.specs.Prelude.{◌≡◌, ℕ, zero, suc, ◌+◌, ◌-◌, ◌≤◌, ◌<◌, max, List, [], length, map, slice_index, All}
 use Rattle.std.specs.List.{range_with_len}

@@ -1,4 +1,4 @@
--- A table that goes on where another one ends.
+-- Reach: a table that goes on where another one ends.
 use Rattle.std.specs.Prelude.{◌≡◌, ℕ, ◌+◌, ◌≤◌, ◌<◌, ◌⊎◌, nat_lt, if◌then◌else◌, Option, Some, None, map, filter, All}
 use Rattle.mrp_master_data.specs.Rows.{Vendor}
 use Rattle.mrp_master_data.specs.Table.{Table, horizon}

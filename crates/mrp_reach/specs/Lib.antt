@@ -1,3 +1,4 @@
+-- Reach: until which period a plan is whole.
 pub mod Lengthening
 pub mod Reach
 pub mod ReachLaws

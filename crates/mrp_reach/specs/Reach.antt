@@ -1,5 +1,5 @@
--- Until which period requirements and releases of a pair are whole: nothing that is wanted behind the horizon changes
--- them. Each counts the whole periods, from 0 on. Subtraction of ℕ stops at 0.
+-- Reach: until which period requirements and releases of a pair are whole, as nothing that is wanted behind the horizon
+-- changes them. Each counts the whole periods, from 0 on. Subtraction of ℕ stops at 0.
 use Rattle.std.specs.Prelude.{◌≡◌, ℕ, ◌+◌, ◌-◌, min, max, List, [], ◌∷◌, length, map, slice_index}
 use Rattle.mrp_lot.specs.declared.rule.Rule.{Rule}
 use Rattle.mrp_lot.specs.declared.rule.Rule.TheVariants.{LotForLot, Fixed, Periods, MinMultiple}

@@ -1,4 +1,4 @@
--- Laws of the reach of a plan.
+-- Reach: laws of how far a plan is whole.
 use Rattle.std.specs.Prelude.{◌≡◌, ℕ, ◌≤◌, ◌<◌, List, slice_index}
 use Rattle.mrp_cal.specs.Calendar.{first_day}
 use Rattle.mrp_netting.specs.PlanRows.{PlanRows}

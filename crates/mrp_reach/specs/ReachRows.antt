@@ -1,4 +1,4 @@
--- The report of the reach of a plan.
+-- Reach: its report, of how far a plan is whole.
 use Rattle.std.specs.Prelude.{ℕ, zero, suc, List, [], ◌∷◌, ◌++◌, decimal, slice_index, codes as text_bytes}
 use Rattle.std.specs.List.{flat_map}
 use Rattle.mrp_master_data.specs.Table.{Table}

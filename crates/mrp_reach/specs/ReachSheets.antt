@@ -1,4 +1,4 @@
--- The report of the reach of a plan as a sheet: what a reader of comma-separated values has to find in it.
+-- Reach: its report as a sheet, and what a reader of comma-separated values has to find in it.
 use Rattle.std.specs.Prelude.{ℕ, List, ◌++◌, map, slice_index}
 use Rattle.mrp_master_data.specs.Table.{Table, IsTable}
 use Rattle.mrp_commands.specs.declared.choice.Heading.{Heading}

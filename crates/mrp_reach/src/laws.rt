@@ -1,4 +1,4 @@
-//! Laws of the reach of a plan, each the contract of a function that does nothing.
+//! Reach: its laws, until which period a plan is whole; each the contract of a function that does nothing.
 
 ghost use Rattle.mrp_reach.specs.ReachLaws.{DatesStay, WholeStays, WholesAreOne, WholesAreWithin, WholesExist, WholesGrow};
 

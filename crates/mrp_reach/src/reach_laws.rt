@@ -1,4 +1,4 @@
-//! The law of the reach report.
+//! Reach: the law of its report.
 
 ghost use Rattle.mrp_reach.specs.ReachSheets.{ReachIsReadBack};
 

@@ -1,4 +1,4 @@
-//! The reach rows: until when the plan of each pair is whole.
+//! Reach: its rows, until when the plan of each pair is whole.
 
 ghost use Rattle.std.specs.Prelude.{◌≡◌, ◌++◌, Err, OnOk, IfOk, IfErr};
 ghost use Rattle.mrp_master_data.specs.Table.{IsPair};

@@ -1,4 +1,4 @@
-//! How many periods of each pair's plan are whole.
+//! Reach: how many periods of each pair's plan are whole.
 
 ghost use Rattle.std.specs.Prelude.{◌≡◌, IfOk, length};
 ghost use Rattle.mrp_master_data.specs.Table.{IsPair};

@@ -1,4 +1,5 @@
--- Waits as counts: of joins with unplanned demanders, and of awaited blocks that aren't ended.
+-- Readiness: what pairs wait for before they are ready, as counts of joins with unplanned demanders, and of
+-- awaited blocks that aren't ended.
 use Rattle.std.proofs.Common.{◌≡◌, ℕ, ◌+◌, ◌-◌, ◌<◌, ◌≤◌, ◌&&◌, Bool, true, false, not, cond, eqb, List, [], ◌∷◌, inl, inr, length, get_or, set, map}
 use Rattle.std.proofs.Common.{refl, sym, ap, ◌∙◌, subst, arith, Some}
 use Rattle.std.specs.Prelude.{slice_get}

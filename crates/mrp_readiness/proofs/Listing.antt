@@ -1,4 +1,4 @@
--- The list of the pairs that can be planned, as one is planned and others wait for less.
+-- Readiness: the list of the ready pairs, as one is planned and others wait for less.
 use Rattle.std.proofs.Common.{◌≡◌, ℕ, ◌+◌, ◌-◌, ◌<◌, ◌≤◌, Bool, true, false, not, cond, eqb, List, [], ◌∷◌, ◌++◌, inl, inr, length, get_or, set, take, refl}
 use Rattle.std.proofs.Common.{sym, ap, ◌∙◌, subst, arith}
 use Rattle.std.specs.Prelude.{◌↔◌, Contains, replicate}

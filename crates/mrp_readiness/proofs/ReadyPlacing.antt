@@ -1,4 +1,4 @@
--- Places in slots: what an exchange leaves, which pairs are chosen and which are gone.
+-- Readiness: ready pairs in slots, what an exchange of two leaves, which pairs are chosen and which are gone.
 use Rattle.std.proofs.Common.{◌≡◌, ℕ, ◌+◌, ◌-◌, ◌<◌, ◌≤◌, List, [], ◌∷◌, ◌++◌, inl, inr, length, get_or, set, take, drop, map, refl, sym, ap, ◌∙◌, subst, arith}
 use Rattle.std.specs.Prelude.{◌↔◌, swap, Contains}
 use Rattle.std.specs.List.{range_with_len, slice_range}

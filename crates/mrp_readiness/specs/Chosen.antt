@@ -1,4 +1,4 @@
--- Some of the pairs of a plant, and how slots keep them.
+-- Readiness: some of the pairs of a plant, as those that are ready, and how slots keep them.
 use Rattle.std.specs.Prelude.{◌≡◌, ◌≢◌, ◌≤◌, ◌<◌, ℕ, List, length, map, take, slice_index, slice_range, slice_index_or}
 use Rattle.std.specs.Prelude.{slice_set, AllPairs}
 use Rattle.mrp_master_data.specs.declared.numbers.PairNo.{PairNo}

@@ -1,4 +1,4 @@
--- The components of each pair of a plant, in one flat list.
+-- Readiness: the components that wait for each pair of a plant, in one flat list.
 use Rattle.std.specs.Prelude.{ℕ, ◌+◌, ◌-◌, ◌<◌, ◌≤◌, List, length, map, slice_index, slice_range}
 use Rattle.std.specs.List.{range_with_len}
 

@@ -1,4 +1,5 @@
--- What a pair waits for: joins whose demander isn't planned, and awaited blocks of records that aren't ended.
+-- Readiness: what a pair waits for before it is ready, which is joins whose demander isn't planned, and awaited
+-- blocks of records that aren't ended.
 use Rattle.std.specs.Prelude.{◌≡◌, ◌<◌, ◌+◌, ◌==◌, ◌&&◌, ℕ, Bool, not, List, length, map, filter, count_by, slice_index}
 use Rattle.mrp_readiness.specs.declared.join.Join.{Join}
 use Rattle.mrp_readiness.specs.Progress.{is_planned}

@@ -1,3 +1,4 @@
+-- Readiness: which pairs are ready, and what the others wait for.
 pub mod Chosen
 pub mod Components
 pub mod Progress

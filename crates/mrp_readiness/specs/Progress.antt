@@ -1,4 +1,4 @@
--- How far the planning of a plant's pairs is. A pair is named by its place there.
+-- Readiness: how far the planning of a plant's pairs is. A pair is named by its place there.
 use Rattle.std.specs.Prelude.{◌≡◌, ◌↔◌, ◌<◌, ◌+◌, ◌==◌, ℕ, Bool, true, false, not, List, length, count_by, slice_index}
 use Rattle.std.specs.Prelude.{slice_index_or, Contains}
 use Rattle.mrp_master_data.specs.declared.numbers.PairNo.{PairNo}

@@ -1,4 +1,4 @@
--- Laws of what pairs wait for.
+-- Readiness: its laws, and those of what pairs wait for.
 use Rattle.std.specs.Prelude.{◌≡◌, ◌↔◌, ◌≤◌, ◌<◌, ℕ, Bool, true, false, List, length, All, Contains, slice_get}
 use Rattle.std.specs.Prelude.{slice_index, slice_set, Some}
 use Rattle.mrp_readiness.specs.declared.join.Join.{Join}

@@ -1,4 +1,4 @@
-//! The components of each pair, grouped by demander.
+//! Readiness: the components that wait for each pair, grouped by demander.
 
 ghost use Rattle.std.specs.Prelude.{◌≡◌, ◌<◌, ◌^◌, All, IfOk, Some, length, map, slice_get};
 ghost use Rattle.std.specs.List.{range_with_len};

@@ -1,4 +1,4 @@
-//! A join: a pair waits for a demander of it to be planned.
+//! Readiness: a join, by which a pair waits for a demander of it to be planned.
 
 /// A bill row at one plant: a component goes into a demander. Both are places among the plant's pairs.
 /// A component may stand in several rows of one demander.

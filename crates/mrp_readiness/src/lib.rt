@@ -1,4 +1,4 @@
-//! Which pairs of a plant can be planned, kept event by event.
+//! Readiness: which pairs of a plant can be planned, kept event by event.
 //!
 //! A pair is named by its place among the pairs of its plant. It waits for each join to a demander at the plant that
 //! isn't planned yet, and for each block of messages that it awaits and that isn't ended: [`Readiness`] has how many

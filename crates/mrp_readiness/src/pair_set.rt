@@ -1,4 +1,4 @@
-//! A set of a plant's pairs.
+//! Readiness: a set of a plant's pairs, as of those that are ready.
 
 ghost use Rattle.std.specs.Prelude.{◌≡◌, ◌<◌, IfOk, IsTrue, ◌↔◌};
 

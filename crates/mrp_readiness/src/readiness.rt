@@ -1,4 +1,4 @@
-//! Which pairs of a plant can be planned, kept up with each event.
+//! Readiness: which pairs of a plant can be planned, kept up with each event.
 
 ghost use Rattle.std.specs.Prelude.{◌≡◌, ℕ, ◌<◌, ◌↔◌, [], IfOk, IsTrue, Contains, length, slice_index};
 

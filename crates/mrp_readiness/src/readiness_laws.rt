@@ -1,4 +1,4 @@
-//! Laws of what pairs wait for. Each is the contract of a function that does nothing.
+//! Readiness: its laws, of what pairs wait for. Each is the contract of a function that does nothing.
 
 ghost use Rattle.mrp_readiness.specs.ReadinessLaws.{ReadyWhereNothingIsOpen, ComponentsWait, EndingOpensFewer};
 ghost use Rattle.mrp_readiness.specs.ReadinessLaws.{OpenBlocksAreAwaited};

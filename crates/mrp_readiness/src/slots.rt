@@ -1,4 +1,4 @@
-//! The pairs of a plant in slots, each found by its place.
+//! Readiness: the pairs of a plant in slots, each found by its place, for the set of ready pairs.
 
 ghost use Rattle.std.specs.Prelude.{◌≡◌, ◌<◌, IfOk, length, swap, slice_index};
 ghost use Rattle.std.specs.List.{range_with_len};

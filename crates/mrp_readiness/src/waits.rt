@@ -1,4 +1,4 @@
-//! How much each pair waits for.
+//! Readiness: how much each pair waits for before it is ready.
 
 ghost use Rattle.std.specs.Prelude.{◌≡◌, ℕ, ◌+◌, ◌^◌, ◌<◌, All, IfOk, length, slice_index};
 ghost use Rattle.mrp_readiness.specs.Progress.{times};

@@ -1,4 +1,5 @@
--- Laws of legal beginnings: fronts, the closing record, lengths, and what an ended block has brought.
+-- Records of a lane: their legal beginnings, prefixes, the closing record, lengths, and
+-- what an ended block has brought.
 use Rattle.std.proofs.Common.{◌≡◌, ℕ, ◌+◌, true, false, List, [], ◌∷◌, ◌++◌, inl, inr, refl, sym, ◌∙◌, ap, subst, length, append_assoc, length-append, arith}
 use Rattle.std.specs.List.{Contains, flat_map, filter_map, list_any, sum_by}
 use Rattle.std.proofs.lemmas.Bool.{eq-eqb, false≢true, both_ways}

@@ -1,4 +1,4 @@
--- A list in form is a legal beginning of the loads that it has brought so far.
+-- Records of a lane: a list of them in form is a legal beginning of the loads that it has brought so far.
 use Rattle.std.proofs.Common.{◌≡◌, Bool, true, false, not, List, [], ◌∷◌, ◌++◌, inl, inr, refl, sym, ◌∙◌, ap, subst, length, get_or, map, append_assoc, arith}
 use Rattle.std.specs.Prelude.{nat_lt}
 use Rattle.std.specs.List.{All, AllByRecursion, Contains, IsDistinct, flat_map, list_any}

@@ -1,4 +1,4 @@
--- The block of a small load is in form, record by record.
+-- Records of a lane: the block of a small load is in form, record by record.
 use Rattle.std.proofs.Common.{◌≡◌, ℕ, ◌+◌, ◌<◌, ◌≤◌, Bool, true, false, cond, ltb, suc, ◌||◌, Some, None, Option, List, [], ◌∷◌, ◌++◌, inl, inr, refl, sym, ◌∙◌}
 use Rattle.std.proofs.Common.{ap, subst, length, get_or, append_assoc, length-append, arith}
 use Rattle.std.specs.List.{All, AllPairs, fold, list_any, sum_by, count_by}

@@ -1,4 +1,4 @@
--- What a record that is due says of what is left.
+-- Records of a lane: the one that is due at a sender's cursor, and what it says of what is left of the block.
 use Rattle.std.proofs.Common.{◌≡◌, ℕ, Bool, true, false, cond, Some, None, Option, List, refl, sym, ap, subst}
 use Rattle.std.specs.Prelude.{if◌then◌else◌, not, ◌&&◌}
 use Rattle.std.proofs.lemmas.Bool.{leb-true}

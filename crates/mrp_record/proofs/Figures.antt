@@ -1,4 +1,5 @@
--- The cumulative figure of an item is its opening figure and what its lines have moved.
+-- Records of a lane: over a list of them the cumulative figure of an item is its opening figure
+-- and what its lines have moved.
 use Rattle.std.proofs.Common.{◌≡◌, ℕ, ◌+◌, ◌≤◌, Some, None, List, [], ◌∷◌, ◌++◌, refl, sym, ◌∙◌, ap, subst, length, append_assoc, arith}
 use Rattle.std.specs.List.{Contains, fold, sum_by}
 use Rattle.std.proofs.lemmas.List.Sums.{sum_by-cons, sum_by-append}

@@ -1,4 +1,4 @@
--- The items of a lane, each once.
+-- Records of a lane: the items by which a list of them is in form, each once.
 use Rattle.std.proofs.Common.{◌≡◌, ℕ, ◌+◌, ◌<◌, ◌==◌, Bool, true, false, cond, zero, suc, Some, List, [], ◌∷◌, ◌++◌, inl, inr, refl, sym, ◌∙◌, ap, length}
 use Rattle.std.proofs.Common.{get_or, arith}
 use Rattle.std.specs.List.{All, AllByRecursion, Contains, IsDistinct, find, list_any}

@@ -1,4 +1,4 @@
--- A legal beginning of small loads is in form, and no figure in it is above 10^15.
+-- Records of a lane: a legal beginning, of small loads, is in form, and no figure in it is above 10^15.
 use Rattle.std.proofs.Common.{◌≡◌, ℕ, ◌+◌, ◌≤◌, ◌==◌, Bool, true, false, cond, Some, None, Option, List, [], ◌∷◌, ◌++◌, inl, inr, refl, sym, ◌∙◌, ap, subst}
 use Rattle.std.proofs.Common.{length, take, drop, get_or, map, length-append, arith}
 use Rattle.std.specs.Prelude.{nat_lt, not, ◌&&◌, IsSomeAnd}

@@ -1,4 +1,4 @@
--- Two prefixes of one list, and where a list stands in one that is put together of pieces.
+-- Records of a lane: two prefixes of one list, and where a list stands in one made of pieces, for legal beginnings.
 use Rattle.std.proofs.Common.{◌≡◌, List, [], ◌∷◌, ◌++◌, ◌⊎◌, inl, inr, refl}
 
 -- the list goes on beyond p

@@ -1,4 +1,4 @@
--- A list in form, record by record, and what each record adds to those of its item.
+-- Records of a lane: a list of them in form, record by record, and what each adds to the records of its item.
 use Rattle.std.proofs.Common.{◌≡◌, ℕ, ◌+◌, ◌==◌, true, false, Some, Option, List, [], ◌∷◌, ◌++◌, ◌⊎◌, inl, inr, refl, sym, ◌∙◌, ap, subst, length, append_assoc}
 use Rattle.std.proofs.Common.{length-append, arith}
 use Rattle.std.specs.Prelude.{IsSomeAnd}

@@ -1,3 +1,4 @@
+-- Records of lanes, proofs: of the texts that lanes have of them, and of a sender's cursor.
 pub mod Beginnings
 pub mod Begun
 pub mod BlockForm

@@ -1,4 +1,4 @@
--- Lists by their places.
+-- Records of a lane: lists by their places, as a sender's cursor keeps the lane's items and queue.
 use Rattle.std.proofs.Common.{◌≡◌, ℕ, ◌<◌, ◌≤◌, zero, suc, Some, None, List, [], ◌∷◌, ◌++◌, refl, sym, ◌∙◌, ap, length, get_or, map, take, drop, arith}
 use Rattle.std.specs.Prelude.{slice_get}
 use Rattle.std.specs.List.{Contains, range_with_len}

@@ -1,4 +1,4 @@
--- The loads of a lane: each item has one, and the records of an item are those of its block.
+-- Records of a lane by its loads: each item has one, and the records of an item are those of its block.
 use Rattle.std.proofs.Common.{◌≡◌, ℕ, ◌+◌, ◌<◌, ◌≤◌, ◌==◌, true, false, cond, zero, suc, Some, List, [], ◌∷◌, ◌++◌, ◌⊎◌, inl, inr, refl, sym, ◌∙◌, ap, subst}
 use Rattle.std.proofs.Common.{length, get_or, map, arith}
 use Rattle.std.specs.List.{Contains, flat_map, find}

@@ -1,4 +1,4 @@
--- Where a cursor gives no record none can be sent.
+-- Records of a lane: where a sender's cursor gives none, none can be sent.
 use Rattle.std.proofs.Common.{◌≡◌, ℕ, ◌<◌, ◌≤◌, cond, Bool, true, false, Some, None, List, [], ◌∷◌, ◌++◌, ◌⊎◌, inl, inr, refl, sym, ◌∙◌, ap, subst, length}
 use Rattle.std.proofs.Common.{take, drop, suc, length-append, arith}
 use Rattle.std.specs.Prelude.{slice_get, nat_lt, ◌||◌}

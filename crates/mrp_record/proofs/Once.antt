@@ -1,4 +1,4 @@
--- Elements that are counted by a number of theirs, each number once.
+-- Records of a lane: elements counted by a number of theirs, each number once, for the blocks of the lane's text.
 use Rattle.std.proofs.Common.{◌≡◌, ℕ, ◌+◌, ◌≤◌, ◌==◌, false, cond, suc, List, [], ◌∷◌, inl, inr, refl, sym, ◌∙◌, arith}
 use Rattle.std.specs.List.{AllByRecursion, IsDistinct, count_by}
 use Rattle.std.proofs.lemmas.Bool.{cases_Bool, eq-eqb, eqb-true, false≢true, cond-true, cond-false}

@@ -1,4 +1,5 @@
--- A list in form is the records of its items in the order of their blocks: whole blocks, and then the block that goes on.
+-- Records of a lane: a list of them in form is those of its items in the order of their blocks, whole blocks,
+-- and then the block that goes on.
 use Rattle.std.proofs.Common.{◌≡◌, ℕ, ◌==◌, true, false, not, ◌&&◌, Some, None, Option, List, [], ◌∷◌, ◌++◌, ◌⊎◌, inl, inr, refl, sym, ◌∙◌, ap, subst, length}
 use Rattle.std.proofs.Common.{get_or, append_assoc, arith}
 use Rattle.std.specs.Prelude.{nat_lt, IsSomeAnd}

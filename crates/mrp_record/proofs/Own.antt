@@ -1,4 +1,4 @@
--- The records of an item in a list, and in the blocks of loads.
+-- Records of a lane: an item's own ones in a list, and in the blocks of loads.
 use Rattle.std.proofs.Common.{◌≡◌, ℕ, ◌+◌, ◌==◌, Bool, true, false, Some, None, List, [], ◌∷◌, ◌++◌, refl, ◌∙◌, ap, length}
 use Rattle.std.specs.List.{list_any}
 use Rattle.std.proofs.lemmas.Bool.{eq-eqb, false≢true, or_from, or_parts}

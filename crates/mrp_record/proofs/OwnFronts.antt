@@ -1,4 +1,5 @@
--- The records of an item, each of which goes on from those before it, are the front of the block of what they deliver.
+-- Records of a lane: those of one item, each of which goes on from those before it, are a prefix of
+-- the block of what they deliver.
 use Rattle.std.proofs.Common.{◌≡◌, ℕ, ◌+◌, ◌<◌, ◌≤◌, ◌==◌, true, false, suc, Some, None, Option, List, [], ◌∷◌, ◌++◌, refl, sym, ◌∙◌, ap, length, append_assoc}
 use Rattle.std.proofs.Common.{arith}
 use Rattle.std.specs.Prelude.{nat_lt, is_some}

@@ -1,4 +1,5 @@
--- What is left of a block after a line, a reset or the end, and how the part that was sent grows.
+-- Records of a lane: what a cursor has left of a block after a line, a reset or the end, and
+-- how the part that it sent grows.
 use Rattle.std.proofs.Common.{◌≡◌, ℕ, ◌+◌, ◌<◌, ◌≤◌, Bool, true, false, Some, None, Option, List, [], ◌∷◌, ◌++◌, refl, sym, ◌∙◌, ap, subst, length}
 use Rattle.std.proofs.Common.{append_assoc, arith}
 use Rattle.std.specs.Prelude.{nat_lt}

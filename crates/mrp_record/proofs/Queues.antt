@@ -1,4 +1,4 @@
--- Places that come to the queue, and the goods that a cursor looks at.
+-- Records of a lane: places that come to the queue of a sender's cursor, and the goods that it looks at.
 use Rattle.std.proofs.Common.{◌≡◌, ℕ, ◌<◌, true, List, [], ◌∷◌, ◌++◌, inl, inr, refl, sym, ◌∙◌, ap, subst, length, take, drop, length-append, arith}
 use Rattle.std.specs.Prelude.{nat_lt, slice_index, ◌&&◌, remove}
 use Rattle.std.specs.List.{Contains, range_with_len}

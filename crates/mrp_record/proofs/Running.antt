@@ -1,4 +1,4 @@
--- What a block's records make of its deliveries.
+-- Records of a lane: those of a block, line by line, and what they make of its deliveries.
 use Rattle.std.proofs.Common.{◌≡◌, ℕ, ◌+◌, true, false, cond, ltb, Some, None, Option, List, [], ◌∷◌, ◌++◌, refl, ◌∙◌, ap, length, length-append, arith}
 use Rattle.std.specs.Prelude.{is_some, if◌then◌else◌}
 use Rattle.std.specs.List.{list_any, sum_by, filter_map}

@@ -1,4 +1,5 @@
--- Where a legal beginning stands: before a record of a block, before the closing record, or after it.
+-- Records of a lane: where a legal beginning stands, before a record of a block, before
+-- the closing record, or after it.
 use Rattle.std.proofs.Common.{◌≡◌, List, [], ◌∷◌, ◌++◌, ◌⊎◌, inl, inr, refl, sym, ◌∙◌, ap, append_assoc}
 use Rattle.std.specs.List.{flat_map}
 use Rattle.mrp_record.specs.Entries.{Entry, Closing}

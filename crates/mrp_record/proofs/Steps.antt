@@ -1,4 +1,4 @@
--- After each step a cursor shows the list with the record that it gave.
+-- Records of a lane: after each step a sender's cursor shows the list with the record that it gave.
 use Rattle.std.proofs.Common.{◌≡◌, ℕ, ◌+◌, ◌^◌, ◌<◌, ◌≤◌, min, cond, suc, Bool, true, false, Some, None, Option, List, [], ◌∷◌, ◌++◌, inl, inr, refl, sym, ◌∙◌}
 use Rattle.std.proofs.Common.{ap, subst, length, take, append_assoc, length-append, arith}
 use Rattle.std.specs.Prelude.{slice_get, nat_lt, ◌||◌}

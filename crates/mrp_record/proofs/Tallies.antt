@@ -1,4 +1,5 @@
--- What the records of one item add up to, record by record, and which records an item may have next.
+-- Records of a lane: what those of one item add up to, record by record, and which of
+-- them a list in form may have next.
 use Rattle.std.proofs.Common.{◌≡◌, ℕ, ◌+◌, ◌<◌, ◌≤◌, Bool, true, false, cond, ◌||◌, List, [], ◌∷◌, ◌++◌, refl, sym, ◌∙◌, ap, arith}
 use Rattle.std.specs.Prelude.{is_some}
 use Rattle.std.specs.List.{fold, list_any, sum_by, count_by}

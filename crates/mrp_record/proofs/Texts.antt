@@ -1,4 +1,5 @@
--- A shown list is a legal beginning, a closed one a whole text, and none is long.
+-- Records of a lane: what a sender's cursor shows is a legal beginning of them, a closed one
+-- a whole text, and none is long.
 use Rattle.std.proofs.Common.{◌≡◌, ℕ, ◌+◌, ◌*◌, ◌≤◌, suc, true, false, Some, None, Option, List, [], ◌∷◌, ◌++◌, ◌⊎◌, inl, inr, refl, sym, ◌∙◌, ap, subst}
 use Rattle.std.proofs.Common.{length, get_or, map, take, drop, append_assoc, length-append, arith}
 use Rattle.std.specs.Prelude.{slice_get}

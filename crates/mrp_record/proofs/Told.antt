@@ -1,4 +1,5 @@
--- What the records of an item, each of which goes on from those before it, tell of the load that they bring.
+-- Records of a lane: what those of an item, each of which goes on from those before it,
+-- tell of the load that they bring.
 use Rattle.std.proofs.Common.{◌≡◌, ℕ, ◌+◌, ◌<◌, ◌≤◌, true, zero, suc, List, [], ◌∷◌, get_or, length, arith}
 use Rattle.std.specs.List.{All, AllPairs}
 use Rattle.std.proofs.lemmas.List.Elements.{All-nil, All-cons}

@@ -1,5 +1,5 @@
--- What a list of records says of one item beside its figures: its deliveries, its lines, its next period, whether its
--- block is open.
+-- Records of a lane: what a list of them says of one item beside its figures, which is its deliveries, its lines, its
+-- next period, whether its block is open.
 use Rattle.std.specs.Prelude.{ℕ, ◌+◌, ◌&&◌, nat_lt, not, Bool, true, false, List, length, filter_map, fold, count_by}
 use Rattle.std.specs.Prelude.{Option, Some, None}
 use Rattle.std.specs.List.{list_any}

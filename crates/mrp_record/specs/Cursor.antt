@@ -1,4 +1,4 @@
--- What a sender keeps of an outgoing lane, and what it has to send there.
+-- Records of a lane: a sender's cursor, what it keeps of them, and what it has to send.
 use Rattle.std.specs.Prelude.{ℕ, ◌≤◌, ◌<◌, Bool, false, List, length, slice_index, Option}
 use Rattle.std.specs.List.{flat_map}
 use Rattle.mrp_record.specs.Entries.{Entry, Delivery}

@@ -1,4 +1,4 @@
--- Laws of cursors and the lists that they show.
+-- Records of a lane: laws of a sender's cursor and the lists of records that it shows.
 use Rattle.std.specs.Prelude.{◌≡◌, ℕ, ◌+◌, ◌*◌, ◌^◌, ◌≤◌, ◌<◌, true, List, [], ◌∷◌, ◌++◌, length, slice_get, Option}
 use Rattle.std.specs.Prelude.{Some, None, Contains}
 use Rattle.mrp_record.specs.declared.record.Record.{Record}

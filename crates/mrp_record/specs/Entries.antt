@@ -1,4 +1,4 @@
--- What the records of a lane say apart from their numbers, and what a list of them says of one item.
+-- Records of a lane: what they say apart from their numbers, and what a list of them says of one item.
 use Rattle.std.specs.Prelude.{ℕ, ◌+◌, ◌==◌, Bool, true, false, List, map, filter, fold, sum_by}
 use Rattle.std.specs.List.{list_any}
 use Rattle.mrp_record.specs.declared.record.Record.{Record}

@@ -1,4 +1,4 @@
--- What a lane's list can be without knowledge of any plan: each record continues those before it.
+-- Records of a lane: what a list of them can be without knowledge of any plan. Each continues those before it.
 use Rattle.std.specs.Prelude.{◌≡◌, ℕ, ◌+◌, ◌≤◌, ◌<◌, ◌==◌, ◌&&◌, nat_le, not, Bool, true, false, List, ◌∷◌, ◌++◌}
 use Rattle.std.specs.Prelude.{length, find, All, Option, Some, None}
 use Rattle.std.specs.Prelude.{is_some, IsSomeAnd}

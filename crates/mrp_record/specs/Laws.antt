@@ -1,4 +1,4 @@
--- Laws of texts, legal beginnings and lists in form.
+-- Records of a lane: laws of lists of them, a lane's texts, their legal beginnings, and lists in form.
 use Rattle.std.specs.Prelude.{◌≡◌, ℕ, ◌+◌, ◌≤◌, ◌<◌, ◌==◌, if◌then◌else◌, Bool, true, List, [], ◌∷◌, ◌++◌, length, map}
 use Rattle.std.specs.Prelude.{sum_by, All, Contains, is_some, ◌⊎◌}
 use Rattle.std.specs.List.{AllPairs, IsDistinct}

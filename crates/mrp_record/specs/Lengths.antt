@@ -1,4 +1,4 @@
--- How many records the texts of some loads have.
+-- Records of a lane: how many its text has, by the loads that it carries.
 use Rattle.std.specs.Prelude.{ℕ, ◌+◌, if◌then◌else◌, List, length, sum_by, is_some}
 use Rattle.mrp_record.specs.Text.{Load}
 

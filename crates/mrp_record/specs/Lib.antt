@@ -1,3 +1,4 @@
+-- Records of lanes, the texts that lanes have of them, and a sender's cursor, as contracts see them.
 pub mod Blocks
 pub mod Entries
 pub mod Form

@@ -1,4 +1,5 @@
--- Which record a cursor sends next, by what is left of the item at its head, and the cursor after a step.
+-- Records of a lane: which one a cursor sends next, by what is left of the item at its
+-- head, and the cursor after a step.
 use Rattle.std.specs.Prelude.{◌≡◌, ℕ, ◌+◌, ◌-◌, ◌^◌, nat_lt, min, not, ◌&&◌, ◌||◌, if◌then◌else◌, Bool, true, false}
 use Rattle.std.specs.Prelude.{List, [], ◌∷◌, ◌++◌, length, slice_get}
 use Rattle.std.specs.Prelude.{Option, Some, None, is_some}

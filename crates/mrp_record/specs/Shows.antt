@@ -1,4 +1,4 @@
--- Which lists of sent records a cursor shows.
+-- Records of a lane: which lists of sent ones a sender's cursor shows.
 use Rattle.std.specs.Prelude.{◌≡◌, ℕ, ◌+◌, ◌≤◌, if◌then◌else◌, Bool, true, false, List, [], ◌∷◌, ◌++◌, length, take}
 use Rattle.std.specs.Prelude.{slice_get, Option, Some, None}
 use Rattle.std.specs.Prelude.{IsPermutation}

@@ -1,4 +1,5 @@
--- The text of a lane: the block of each of its items, in some order, and the closing record.
+-- Records of a lane: its text, as the list of them. The block of each of its items, in some
+-- order, and the closing record.
 use Rattle.std.specs.Prelude.{◌≡◌, ℕ, ◌+◌, nat_lt, if◌then◌else◌, List, [], ◌∷◌, ◌++◌, length, sum_by, Option, Some}
 use Rattle.std.specs.Prelude.{None, IsPermutation}
 use Rattle.std.specs.List.{flat_map}

@@ -1,4 +1,4 @@
-//! What a sender keeps of an outgoing lane: the next record and what is left to send.
+//! Records of a lane: the sender's cursor over them, the next one, and what is left to send.
 
 ghost use Rattle.std.specs.Prelude.{◌≡◌, ℕ, IfOk};
 ghost use Rattle.std.specs.List.{range_with_len};

@@ -1,4 +1,4 @@
-//! Laws of cursors. Each is the contract of a function that does nothing.
+//! Records of a lane: laws of the sender's cursor over them. Each is the contract of a function that does nothing.
 
 ghost use Rattle.mrp_record.specs.CursorLaws.{GivenContinues, StepsShow, StepsKeepPlaces, NoneIsLeft, QueuesShow};
 ghost use Rattle.mrp_record.specs.CursorLaws.{QueuedArePlaces, LooksAtQueued};

@@ -1,4 +1,5 @@
-//! Laws of the texts of lanes. Each is the contract of a function that does nothing.
+//! Records of a lane: laws of lists of them, the texts of lanes and their beginnings. Each is the contract
+//! of a function that does nothing.
 
 ghost use Rattle.mrp_record.specs.Laws.{EmptyIsABeginning, PrefixesAreBeginnings};
 ghost use Rattle.mrp_record.specs.Laws.{PrefixesAreNested, NothingFollowsClosing};

@@ -1,5 +1,5 @@
-//! Records, the lines, ends, resets and closings that go over a lane between two plants, the texts that they
-//! make, and the cursor of a sender: what it keeps of what it has sent, so that each record that it sends
+//! Records of lanes: the lines, ends, resets and closings that go over a lane between two plants, the texts that they
+//! make, and the cursor of a sender, which is what it keeps of what it has sent, so that each record that it sends
 //! continues that to a legal beginning of the lane's text.
 //!
 //! Contracts speak of every list of records that a cursor shows; none is stored.

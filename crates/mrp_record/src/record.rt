@@ -1,4 +1,4 @@
-//! The records of a lane: lines, resets, item ends and the closing.
+//! Records of a lane: lines, resets, item ends and the closing.
 
 use mrp_master_data::ItemNo;
 

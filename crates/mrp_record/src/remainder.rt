@@ -1,4 +1,4 @@
-//! What is left to send of an item.
+//! Records of a lane: what a sender's cursor has left to send of an item, its next line, and the records behind it.
 
 use crate::ItemNo;
 

@@ -1,4 +1,4 @@
--- The bytes of names and numbers: they are ASCII, and none calls for quotes.
+-- Records as CSV: in the row of one, the bytes of names and numbers are ASCII, and none calls for quotes.
 use Rattle.std.proofs.Common.{◌≡◌, ◌<◌, ◌≤◌, ◌&&◌, ℕ, zero, suc, Bool, true, false, List, [], ◌∷◌, refl, arith, Some, None, if◌then◌else◌}
 use Rattle.std.specs.Char.{is_ascii_digit}
 use Rattle.std.specs.List.{list_all, list_any}

@@ -1,4 +1,4 @@
--- The fault of a row is the first test of the list that it fails.
+-- Records as CSV: the fault of a row that is read is the first test of the list that it fails.
 use Rattle.std.proofs.Common.{◌≡◌, ℕ, ◌==◌, ◌&&◌, not, Bool, true, false, cond, List, length, Option, Some, None, is_some, Ok, Err, ok_or, if◌then◌else◌, refl}
 use Rattle.std.specs.Result.{result_err}
 use Rattle.std.specs.List.{list_all}

@@ -1,3 +1,4 @@
+-- Records as CSV, read and written, proofs.
 pub mod Back
 pub mod Bytes
 pub mod First

@@ -1,4 +1,4 @@
--- Each fault that a row may have stands in the list of these.
+-- Records as CSV: each fault that a row may have stands in the list of these.
 use Rattle.std.proofs.Common.{◌≡◌, ℕ, ◌==◌, List, length, Result, Ok, Err, IfErr, refl, ◌∙◌, arith}
 use Rattle.std.specs.List.{Contains, list_all}
 use Rattle.std.specs.Str.{is_utf8}

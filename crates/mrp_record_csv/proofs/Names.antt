@@ -1,4 +1,4 @@
--- The places of names.
+-- Records as CSV: the items in their rows, by the places of their names.
 use Rattle.std.proofs.Common.{◌≡◌, ◌<◌, ◌+◌, ◌==◌, ℕ, nat_lt, Bool, cond, true, false, if◌then◌else◌, get_or, List, length, position, slice_get, option_map, []}
 use Rattle.std.proofs.Common.{Option, Some, None, refl, sym, ap, subst, ◌∙◌, arith}
 use Rattle.std.proofs.lemmas.Bool.{eqb-true, false≢true}

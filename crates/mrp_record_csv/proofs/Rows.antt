@@ -1,4 +1,4 @@
--- Rows as they are written.
+-- Records as CSV: their rows as they are written.
 use Rattle.std.proofs.Common.{◌≡◌, ◌<◌, ◌≤◌, ◌+◌, ℕ, List, [], ◌∷◌, ◌++◌, length, map, take, get_or, sym, ap, ◌∙◌, append_assoc, append-nil, Result, Ok, Err}
 use Rattle.std.proofs.Common.{OnErr}
 use Rattle.std.specs.List.{flat_map, join_with_byte}

@@ -1,4 +1,4 @@
--- A row that is read as a record is the row of that record.
+-- Records as CSV: a row that is read as a record is the row of that record.
 use Rattle.std.proofs.Common.{◌≡◌, ◌<◌, ◌==◌, ℕ, Bool, true, false, if◌then◌else◌, List, [], ◌∷◌, length, codes, Some, None, Result, Ok, Err, refl, ap, subst}
 use Rattle.std.proofs.Common.{◌∙◌, arith}
 use Rattle.std.specs.List.{All, list_all}

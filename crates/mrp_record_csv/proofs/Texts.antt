@@ -1,4 +1,4 @@
--- The row of a record, read back.
+-- Records as CSV: the row of one, read back.
 use Rattle.std.proofs.Common.{◌≡◌, ◌<◌, ℕ, true, List, [], ◌∷◌, ◌++◌, length, map, codes, Some, Ok, refl, sym, ap, ◌∙◌, append-nil}
 use Rattle.std.specs.List.{All, join_with_byte, list_all}
 use Rattle.std.specs.Str.{is_utf8}

@@ -1,4 +1,4 @@
--- What a row says, tested in the order of the faults.
+-- Records as CSV: what a row says, tested in the order of the faults.
 use Rattle.std.specs.Prelude.{ℕ, ◌==◌, ◌&&◌, Bool, if◌then◌else◌, List, length, codes}
 use Rattle.std.specs.Prelude.{Option, Some, None, option_map, position, Result, Ok, Err, ok_or}
 use Rattle.std.specs.List.{list_all}

@@ -1,4 +1,4 @@
--- Laws of the text of records.
+-- Records as CSV: laws of writing and reading them.
 use Rattle.std.specs.Prelude.{◌≡◌, ◌⊎◌, ◌↔◌, ℕ, List, [], ◌∷◌, map, All, Ok, IfErr}
 use Rattle.std.specs.List.{Contains}
 use Rattle.mrp_csv_out.specs.Sheets.{sheet_of}

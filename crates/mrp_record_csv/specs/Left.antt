@@ -1,4 +1,4 @@
--- The rows that a reader has left, and what the steps of the reading answer of them.
+-- Records as CSV: the rows that a reader has left, and what the steps of the reading answer of them.
 use Rattle.std.specs.Prelude.{◌≡◌, ◌⊎◌, ℕ, ◌<◌, Bool, true, false, List, [], ◌∷◌, ◌++◌, length, map, Option, Some, None}
 use Rattle.std.specs.Prelude.{Result, Ok, Err}
 use Rattle.csv.specs.declared.error.ErrorKind.{ErrorKind}

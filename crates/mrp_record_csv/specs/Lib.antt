@@ -1,3 +1,4 @@
+-- Records as CSV, read and written.
 pub mod Grammar
 pub mod Laws
 pub mod Left

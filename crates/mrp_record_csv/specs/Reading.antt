@@ -1,4 +1,4 @@
--- What reading a text of records answers.
+-- Records as CSV: what reading them answers.
 use Rattle.std.specs.Prelude.{◌≡◌, ℕ, ◌+◌, ◌≤◌, ◌<◌, List, ◌∷◌, ◌++◌, length, map, All, Err}
 use Rattle.mrp_master_data.specs.Table.{Table}
 use Rattle.mrp_record.specs.declared.record.Record.{Record}

@@ -1,4 +1,4 @@
--- The row of a record: its fields, and its bytes.
+-- Records as CSV: the row of one, its fields, and its bytes.
 use Rattle.std.specs.Prelude.{◌≡◌, ℕ, ◌<◌, List, [], ◌∷◌, ◌++◌, length, codes, All, Option, Some, None, decimal}
 use Rattle.std.specs.Prelude.{IfSome}
 use Rattle.std.specs.List.{flat_map}

@@ -1,6 +1,6 @@
--- The tests of a row, one for each fault that it may have, whatever the others answer; of what isn't there a test says
--- anything, since an earlier one tells that it isn't. The first test of the list that a row fails is the fault that it
--- has.
+-- Records as CSV: the tests of a row, one for each fault that it may have, whatever the others answer; of what isn't
+-- there a test says anything, since an earlier one tells that it isn't. The first test of the list that a row fails is
+-- the fault that it has.
 use Rattle.std.specs.Prelude.{◌≡◌, ℕ, ◌==◌, ◌&&◌, not, Bool, true, false, List, [], ◌∷◌, length, find, Option, Some}
 use Rattle.std.specs.Prelude.{None, is_some}
 use Rattle.std.specs.Result.{result_err}

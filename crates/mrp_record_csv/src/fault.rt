@@ -1,4 +1,4 @@
-//! Why a text of records is refused.
+//! Records as CSV: why a text of them is refused, and at which row.
 
 ghost use Rattle.mrp_record_csv.specs.declared.fault.RecordFaultKind.TheVariants.{Memory};
 ghost use Rattle.std.specs.Prelude.{◌≡◌};

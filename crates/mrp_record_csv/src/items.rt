@@ -1,4 +1,4 @@
-//! The items of a network by their names.
+//! Records as CSV: the items of a network by their names.
 
 use crate::RecordFaultKind;
 use mrp_net::{ItemNo, Network};

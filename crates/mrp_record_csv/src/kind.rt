@@ -1,4 +1,4 @@
-//! The kinds of records, by their first field.
+//! Records as CSV: their kinds, by the first field of their rows.
 
 /// The kinds of records.
 #[derive(Clone, Copy, Debug, PartialEq, Eq)]

@@ -1,4 +1,4 @@
-//! Laws of the text of records. Each is the contract of a function that does nothing.
+//! Records as CSV: their laws. Each is the contract of a function that does nothing.
 
 ghost use Rattle.mrp_record_csv.specs.Laws.{RecordsHaveOneRow, RowsHaveListedFaults};
 ghost use Rattle.mrp_record_csv.specs.Laws.{WrittenHasNoFault, WrittenReadsBack};

@@ -1,4 +1,4 @@
-//! The text of records: comma-separated rows, one a record.
+//! Records as CSV: comma-separated rows, one a record.
 //!
 //! Each record of a network has one row, and a row that is read is the row of one record.
 //!

@@ -1,4 +1,4 @@
-//! Records read from a text of csv rows.
+//! Records as CSV, read from rows.
 
 ghost use Rattle.std.specs.Prelude.{true, false, ◌≡◌, ◌+◌, ◌≤◌, [], length, IfOk, IfErr, OnOk, OnErr, option_map};
 ghost use Rattle.csv.specs.Reading.{has_failed, strip_bom};

@@ -1,4 +1,4 @@
-//! What the fields of a record's row spell.
+//! Records as CSV: what the fields of a row spell.
 
 ghost use Rattle.std.specs.Prelude.{◌≡◌, IfOk};
 ghost use Rattle.csv.specs.Records.{fields_of};

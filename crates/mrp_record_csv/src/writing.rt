@@ -1,4 +1,4 @@
-//! Records written as csv rows.
+//! Records as CSV, written as rows.
 
 ghost use Rattle.std.specs.Prelude.{◌≡◌, ◌++◌, ◌∷◌, map, OnOk, OnErr};
 ghost use Rattle.mrp_csv_out.specs.Rows.{row};

@@ -1,4 +1,5 @@
--- What the plan rows are of may be shared by threads: a network and its plan own their rows.
+-- Reports: what the rows of the plan report are of may be shared by threads, since a
+-- network and its plan own their rows.
 use denote.Builtin.{u8}
 use denote.Param.Send.{IsSync, array_sync, recorded_sync, sendable, shr_slice_sync, shr_sync, struct_sync}
 use denote.RattleType.{RattleType}

@@ -1,4 +1,4 @@
--- How many digits a number has.
+-- Reports: how many digits a number has, for the length of a row.
 use Rattle.std.proofs.Common.{◌^◌, ℕ, ◌<◌, ◌≤◌, ◌==◌, Bool, true, false, if◌then◌else◌, List, ◌∷◌, ◌++◌, length, decimal, arith}
 use Rattle.std.proofs.lemmas.List.{length-append}
 use Rattle.mrp_report.specs.Terms.{per_text}

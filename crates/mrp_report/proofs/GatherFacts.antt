@@ -1,4 +1,4 @@
--- Rows that gather in a room before they are sent.
+-- Reports: rows of the plan, or of pegs, that gather in a room before they are sent.
 use Rattle.std.proofs.Common.{◌≡◌, ◌<◌, ◌+◌, ◌-◌, ℕ, List, [], ◌++◌, Option, Result, Ok, Err, OnOk, OnErr, length, take, drop, get_or, subst, sym, ap, ◌∙◌}
 use Rattle.std.proofs.Common.{refl, arith, append-nil, append_assoc}
 use Rattle.std.specs.List.{flat_map, range_with_len}

@@ -1,3 +1,4 @@
+-- Reports of plan, late orders, orders, pegs, codes and figures, proofs.
 pub mod Crossing
 pub mod DigitFacts
 pub mod RowFacts

@@ -1,4 +1,4 @@
--- The rows of a pair's orders, due period by due period.
+-- The report of orders: the rows of a pair, due period by due period.
 use Rattle.std.proofs.Common.{◌≡◌, ◌∙◌, ℕ, ◌==◌, if◌then◌else◌, Bool, true, false, cond, List, [], Option, ◌∷◌, ◌++◌, inl, inr, length, map, refl, sym, ap}
 use Rattle.std.proofs.Common.{arith}
 use Rattle.std.specs.List.{All, filter, flat_map, range_with_len}

@@ -1,4 +1,4 @@
--- Rows of the plan report by their parts.
+-- The report of the plan: its rows by their parts.
 use Rattle.std.proofs.Common.{◌≡◌, ℕ, List, length, refl, append_assoc}
 use Rattle.std.specs.List.{flat_map, range_with_len}
 use Rattle.mrp_netting.specs.PlanRows.{PlanRows}

@@ -1,4 +1,4 @@
--- Rows of the pegging of a whole plan by their parts.
+-- The report of pegs: rows of the pegging of a whole plan by their parts.
 use Rattle.std.proofs.Common.{◌≡◌, ◌≤◌, ℕ, true, false, Bool, cond, List, [], ◌∷◌, ◌++◌, length, map, refl, sym, ap, ◌∙◌, arith, append_assoc, eq-eqb}
 use Rattle.std.specs.List.{filter, flat_map}
 use Rattle.std.proofs.lemmas.Bool.{ne_eqb}

@@ -1,4 +1,4 @@
--- A piece of the plan rows stays within the room that was taken for it.
+-- The report of the plan: a piece of its rows stays within the room that was taken for it.
 use Rattle.std.proofs.Common.{◌≡◌, ◌≤◌, ◌<◌, ◌+◌, ◌-◌, ◌*◌, ◌&&◌, ℕ, true, List, [], length, nat_le, subst, arith}
 use Rattle.std.specs.List.{list_all}
 use Rattle.std.proofs.lemmas.Bool.Decides.{nat_tests}

@@ -1,4 +1,4 @@
--- The rows of a pair's plan have all periods.
+-- The report of the plan: the rows of a pair have all periods.
 use Rattle.std.proofs.Common.{◌≡◌, ℕ, List, length, subst, sym, ap, arith}
 use Rattle.std.proofs.lemmas.List.FromFn.{length-map-range_with_len}
 use Rattle.mrp_netting.specs.PlanRows.{PlanRows}

@@ -1,4 +1,4 @@
--- Each report is the rows of its sheet.
+-- Reports of plan, late orders, orders, pegs, codes and figures: each is the rows of its sheet.
 use Rattle.std.proofs.Common.{◌≡◌, ◌-◌, ◌∷◌, ◌++◌, ◌∙◌, ℕ, List, [], Option, decimal, length, map, All, refl, sym, ap, arith}
 use Rattle.std.specs.Prelude.{◌==◌, Bool, true, false, if◌then◌else◌, slice_index}
 use Rattle.std.specs.List.{flat_map, range_with_len}

@@ -1,4 +1,4 @@
--- The sources of a pair, found one after the other among its edges by where their shares begin.
+-- The report of orders: the sources of a pair, found one after the other among its edges by where their shares begin.
 use Rattle.std.proofs.Common.{◌≡◌, ◌∙◌, ◌-◌, ◌<◌, ◌≤◌, ℕ, zero, suc, Bool, cond, eqb, List, [], ◌∷◌, ◌++◌, Option, Some, None, inl, inr, length, get_or, map}
 use Rattle.std.proofs.Common.{All, refl, sym, ap, subst, arith, append-nil, append_assoc}
 use Rattle.std.specs.List.{filter, find, flat_map}

@@ -1,4 +1,4 @@
--- What a supply is spelled as: its sources one after the other, and no byte that needs quotes.
+-- The report of orders: what a supply is spelled as, its sources one after the other, and no byte that needs quotes.
 use Rattle.std.proofs.Common.{◌≡◌, ◌∙◌, ◌-◌, ◌<◌, ◌||◌, ℕ, Bool, true, false, cond, List, [], ◌∷◌, ◌++◌, map, All, decimal, codes, refl, ap, arith, append-nil}
 use Rattle.std.proofs.Common.{append_assoc}
 use Rattle.std.specs.List.{flat_map, join_with_byte}

@@ -1,4 +1,4 @@
--- The rows of low-level codes.
+-- The report of low-level codes, row by row.
 use Rattle.std.specs.Prelude.{ℕ, List, [], ◌∷◌, slice_index, decimal, codes as text_bytes}
 use Rattle.std.specs.List.{flat_map}
 use Rattle.mrp_master_data.specs.Table.{Table}

@@ -1,4 +1,4 @@
--- Rows that gather in a room before they are sent.
+-- Reports: rows of the plan, or of pegs, that gather in a room before they are sent.
 use Rattle.std.specs.Prelude.{◌≡◌, ℕ, List, ◌++◌, Option}
 use Rattle.std.specs.Io.KnownBytes.{Appends}
 

@@ -1,4 +1,4 @@
--- The names of each report's columns.
+-- Reports of orders, pegs, codes and figures: the names of their columns.
 use Rattle.std.specs.Prelude.{ℕ, List, [], ◌∷◌, codes as text_bytes}
 
 -- the columns of the orders, firm and planned

@@ -1,5 +1,5 @@
--- The reports of an accepted table are read back: what a spreadsheet shows of them is the fields that
--- their rows are made of.
+-- Reports of plan, late orders, orders, pegs, codes and figures are read back: what a spreadsheet shows of them is the
+-- fields that their rows are made of.
 use Rattle.std.specs.Prelude.{ℕ, List, ◌++◌, Option}
 use Rattle.mrp_netting.specs.PlanRows.{PlanRows}
 use Rattle.mrp_master_data.specs.Table.{IsTable, Table}

@@ -1,3 +1,4 @@
+-- Reports: of plan, late orders, orders, pegs, codes and figures.
 pub mod Headings
 pub mod Report
 pub mod Orders

@@ -1,4 +1,4 @@
--- The order rows of one pair, due period by due period.
+-- The report of orders: the rows of one pair, due period by due period.
 use Rattle.std.specs.Prelude.{◌≡◌, ℕ, ◌<◌, ◌==◌, if◌then◌else◌, List, [], ◌++◌, length, Option}
 use Rattle.std.specs.List.{flat_map, range_with_len}
 use Rattle.mrp_netting.specs.PlanRows.{PlanRows}

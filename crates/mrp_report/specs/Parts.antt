@@ -1,4 +1,4 @@
--- How the plan report is made: its rows by two parts, each one text, and by pieces of some pairs.
+-- The report of the plan: how it is made, its rows by two parts, each one text, and by pieces of some pairs.
 use Rattle.std.specs.Prelude.{ℕ, ◌<◌, List, [], ◌∷◌, length, slice_index, decimal, codes as text_bytes}
 use Rattle.std.specs.List.{flat_map, range_with_len}
 use Rattle.mrp_netting.specs.PlanRows.{PlanRows}

@@ -1,4 +1,4 @@
--- A row of the pegging of a whole plan in two parts, each as one text.
+-- The report of pegs: a row of the pegging of a whole plan in two parts, each as one text.
 use Rattle.std.specs.Prelude.{◌≡◌, ◌≤◌, ℕ, if◌then◌else◌, List, [], ◌∷◌, length, decimal, codes as text_bytes}
 use Rattle.std.specs.List.{flat_map}
 use Rattle.mrp_netting.specs.PlanRows.{PlanRows}

@@ -1,4 +1,4 @@
--- The plan report: which rows it has, and in which order.
+-- The report of the plan: which rows it has, and in which order.
 use Rattle.std.specs.Prelude.{ℕ, List, [], ◌∷◌, length, slice_index, slice_index_or, decimal, codes as text_bytes}
 use Rattle.std.specs.List.{flat_map, range_with_len}
 use Rattle.mrp_netting.specs.PlanRows.{PlanRows}

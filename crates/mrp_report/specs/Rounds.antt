@@ -1,4 +1,4 @@
--- The plan report by rounds: pieces of it that are written side by side.
+-- The report of the plan by rounds: pieces of it that are written side by side.
 use Rattle.std.specs.Prelude.{◌≡◌, ℕ, ◌+◌, ◌-◌, ◌*◌, ◌≤◌, min, List, length}
 use Rattle.mrp_netting.specs.PlanRows.{PlanRows}
 use Rattle.mrp_master_data.specs.Table.{IsTable, Table}

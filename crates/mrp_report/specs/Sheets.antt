@@ -1,4 +1,5 @@
--- The reports as sheets: what a reader of comma-separated values has to find in them.
+-- Reports of plan, late orders, orders, pegs, codes and figures as sheets: what a reader of
+-- comma-separated values has to find in them.
 use Rattle.std.specs.Prelude.{ℕ, List, ◌++◌, length, map, slice_index, Option}
 use Rattle.std.specs.List.{flat_map, range_with_len}
 use Rattle.mrp_netting.specs.PlanRows.{PlanRows}

@@ -1,4 +1,4 @@
--- The rows of the terms of a gross requirement.
+-- The report of a gross requirement: the rows of its terms.
 use Rattle.std.specs.Prelude.{ℕ, ◌==◌, if◌then◌else◌, List, [], ◌∷◌, ◌++◌, decimal, codes as text_bytes}
 use Rattle.std.specs.List.{flat_map}
 use Rattle.mrp_master_data.specs.Table.{Table}

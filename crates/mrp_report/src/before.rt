@@ -1,4 +1,4 @@
-//! Fields of a row, written from its end: each with a comma before what stands behind it.
+//! Reports: their rows, written from their end, each field with a comma before what stands behind it.
 
 ghost use Rattle.std.specs.Prelude.{◌≡◌, ◌+◌, ◌++◌, ◌∷◌, ◌≤◌, drop, length, decimal};
 ghost use Rattle.csv.specs.Writing.{comma};

@@ -1,4 +1,4 @@
-//! The code rows: the low-level code of each pair.
+//! The report of codes: its rows, the low-level code of each pair.
 
 ghost use Rattle.std.specs.Prelude.{◌≡◌, ◌++◌, Err, OnOk, IfOk, IfErr};
 ghost use Rattle.mrp_master_data.specs.Table.{IsPair};

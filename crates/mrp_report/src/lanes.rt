@@ -1,4 +1,4 @@
-//! The lane rows: the cumulative figures of each item of each lane.
+//! The report of cumulative figures: the lane rows, one for each item of each lane.
 
 ghost use Rattle.std.specs.Prelude.{◌≡◌, ◌++◌, ◌<◌, Err, OnOk, IfOk, IfErr, All, length};
 ghost use Rattle.mrp_net.specs.Lanes.{lanes};

@@ -1,4 +1,5 @@
-//! The late rows: each planned order that is due before the earliest period in which one can come in.
+//! The report of the plan: its late rows, each planned order that is due before the earliest
+//! period in which one can come in.
 
 ghost use Rattle.std.specs.Prelude.{◌≡◌, ◌++◌, Err, OnOk, IfOk, IfErr};
 ghost use Rattle.std.specs.List.{flat_map};

@@ -1,4 +1,5 @@
-//! Laws of the reports. Each is the contract of a function that does nothing.
+//! Reports of plan, late orders, orders, pegs, codes and figures, laws. Each is the contract
+//! of a function that does nothing.
 ghost use Rattle.mrp_report.specs.Laws.{PlanIsReadBack, LateOrdersAreReadBack, PlanWithLateOrdersIsReadBack};
 ghost use Rattle.mrp_report.specs.Laws.{TermsAreReadBack, PegsAreReadBack, CodesAreReadBack, FiguresAreReadBack};
 ghost use Rattle.mrp_report.specs.Laws.{OrdersAreReadBack};

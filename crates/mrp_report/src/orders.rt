@@ -1,4 +1,5 @@
-//! The order rows: each order, firm and planned, with where its pair comes from and when it is released and due.
+//! The report of orders, row by row: each order, firm and planned, with where its pair comes from and when it is
+//! released and due.
 
 ghost use Rattle.std.specs.Prelude.{◌≡◌, ◌+◌, ◌<◌, ◌++◌, All, Err, OnOk, IfOk, IfErr, length};
 ghost use Rattle.std.specs.List.{flat_map};

@@ -1,4 +1,4 @@
-//! The pegs rows: the pegging of the whole plan.
+//! The report of pegs: its rows, the pegging of the whole plan.
 
 ghost use Rattle.std.specs.Prelude.{◌≡◌, ◌≤◌, ◌<◌, ◌++◌, drop, length, All, Err, OnOk};
 ghost use Rattle.std.specs.Prelude.{IfErr, OnErr};

@@ -1,4 +1,4 @@
-//! The peg rows: the terms of a gross requirement.
+//! The report of pegs: its peg rows, the terms of a gross requirement.
 
 ghost use Rattle.std.specs.Prelude.{◌≡◌, ◌++◌, Err, OnOk, IfOk, IfErr, All};
 ghost use Rattle.mrp_master_data.specs.Table.{IsPair};

@@ -1,4 +1,4 @@
-//! The plan rows: the record of each pair, period by period.
+//! The report of the plan: its rows, the record of each pair, period by period.
 
 ghost use Rattle.std.specs.Prelude.{◌≡◌, ◌+◌, ◌-◌, ◌*◌, ◌++◌, ◌∷◌, [], ◌≤◌, drop, take, length, decimal, Err};
 ghost use Rattle.std.specs.Prelude.{OnOk, IfErr, OnErr};

@@ -1,4 +1,4 @@
-//! Rows by their bytes, and a room in which they gather before they are sent.
+//! Reports: rows of the plan and of pegs by their bytes, and a room in which they gather before they are sent.
 
 ghost use Rattle.std.specs.Prelude.{◌≡◌, ◌+◌, ◌≤◌, ◌++◌, ◌∷◌, [], take, length, IfOk, OnOk, IfErr, OnErr};
 ghost use Rattle.std.specs.Io.KnownBytes.{Appends};

@@ -1,4 +1,4 @@
-//! The plan rows by threads: large pieces of them are written side by side, and sent in order.
+//! The report of the plan: its rows by threads, large pieces of them written side by side, and sent in order.
 
 ghost use Rattle.std.specs.Prelude.{◌≡◌, ◌*◌, ◌-◌, ◌<◌, ◌≤◌, List, ℕ, Err, min, length, take};
 ghost use Rattle.std.specs.Prelude.{IfOk, OnOk, IfErr, OnErr};

@@ -1,4 +1,4 @@
-//! Where a pair comes from, as its row of the table spells it.
+//! The report of orders: where a pair comes from, as its row of the table spells it.
 
 ghost use Rattle.std.specs.Prelude.{◌≡◌, ◌<◌, ◌-◌, ◌++◌, ◌==◌, [], OnOk, IfErr};
 ghost use Rattle.std.specs.List.{find};

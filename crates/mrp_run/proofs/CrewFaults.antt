@@ -1,4 +1,4 @@
--- A crew's fault as that of the run.
+-- The run by threads: the fault of a crew as that of the run.
 use Rattle.std.proofs.Common.{◌≡◌, ℕ, refl, sym, subst}
 use Rattle.mrp_master_data.specs.declared.numbers.PlantNo.{PlantNo}
 use Rattle.mrp_crew.specs.declared.fault.CrewFault.{CrewFault}

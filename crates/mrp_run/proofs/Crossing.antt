@@ -1,4 +1,5 @@
--- A plant may go to another thread with what it owns, and so may what its thread brings back, or the thread that made it.
+-- The run by threads: a plant may go to another thread with what it owns, and so may what its thread brings
+-- back, or the thread that made it.
 use denote.Param.Send.{IsSend, IsSync, recorded_send, recorded_sync, struct_send, struct_sync}
 use denote.RattleType.{RattleType}
 use denote.Struct.Declared.{shape}

@@ -1,4 +1,4 @@
--- The two ends of the next lane dealt to their plants.
+-- The run by threads: before its threads start, the two ends of the next lane dealt to their plants.
 use Rattle.std.proofs.Common.{◌≡◌, ◌≢◌, inl, inr, ℕ, ◌+◌, ◌<◌, ◌==◌, Bool, true, false, List, [], ◌∷◌, ◌++◌, length, get_or, set, take, drop, min, All, Vec}
 use Rattle.std.proofs.Common.{Global, refl, sym, ap, subst, ◌∙◌, add-one}
 use Rattle.std.specs.List.{filter}

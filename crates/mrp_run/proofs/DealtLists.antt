@@ -1,4 +1,5 @@
--- Lists of plants and of ends: one element changed, one more at the end, the last one taken.
+-- The run by threads: before its threads start, the lists of plants and of lane ends as they are dealt, with one
+-- element changed, one more at the end, or the last one taken.
 use Rattle.std.proofs.Common.{◌≡◌, ◌≢◌, ◌⊎◌, inl, inr, ℕ, ◌-◌, ◌<◌, ◌==◌, Bool, true, false, cond, List, [], ◌∷◌, ◌++◌, length, get_or, set, map, reverse}
 use Rattle.std.proofs.Common.{Option, None, Some, Result, Ok, refl, sym, ap, subst, ◌∙◌, arith, length-append, All}
 use Rattle.std.specs.List.{filter}

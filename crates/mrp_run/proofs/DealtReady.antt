@@ -1,4 +1,4 @@
--- With the ends of all lanes dealt each plant is at work.
+-- The run by threads: with the ends of all lanes dealt each plant is at work, before the threads start.
 use Rattle.std.proofs.Common.{◌≡◌, ℕ, zero, suc, Bool, List, [], ◌∷◌, ◌++◌, length, map, sym, ap, subst, ◌∙◌, All}
 use Rattle.std.specs.List.{filter, range_with_len}
 use Rattle.std.proofs.lemmas.List.{map-append}

@@ -1,4 +1,4 @@
--- A plant that is done has finished.
+-- The run by threads: a plant that is done in its thread has finished.
 use Rattle.std.proofs.Common.{◌≡◌, ◌↔◌, ℕ, Bool, true, List, get_or, sym, ◌∙◌, subst, Contains}
 use Rattle.std.specs.Bool.{IsTrue}
 use Rattle.std.proofs.lemmas.List.Elements.{Contains-get_or}

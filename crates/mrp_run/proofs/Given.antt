@@ -1,4 +1,5 @@
--- What an agent gives to send is of an item that may be sent, and the pairs that it has planned are ready.
+-- The run by threads: what a plant's agent gives to send in its thread is of an item that may be sent, and the pairs
+-- that it has planned are ready.
 use Rattle.std.proofs.Common.{◌≡◌, ℕ, ◌<◌, Bool, true, Some, List, length, get_or, sym, ap, subst, ◌∙◌, arith}
 use Rattle.std.specs.List.{All, Contains}
 use Rattle.std.proofs.lemmas.Bool.{eqb-true, false≢true}

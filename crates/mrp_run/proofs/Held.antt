@@ -1,4 +1,4 @@
--- The ends of a plant's lanes: each lane has one of them.
+-- The run by threads: the ends of lanes that a plant holds in its thread, where each lane has one of them.
 use Rattle.std.proofs.Common.{◌≡◌, ◌≢◌, ℕ, ◌<◌, Bool, List, [], ◌∷◌, ◌++◌, inl, inr, length, get_or, set, sym, ap, ◌∙◌, subst, arith, Contains}
 use Rattle.std.specs.List.{AllPairs, filter}
 use Rattle.std.proofs.lemmas.Bool.{cases_eq, cases_lt}

@@ -1,4 +1,5 @@
--- The worst of some faults, and what was brought back where there is none.
+-- The run by threads: once its threads are joined, the worst of some faults, and what was
+-- brought back where there is none.
 use Rattle.std.proofs.Common.{◌≡◌, ◌⊎◌, inl, inr, List, [], ◌∷◌, ◌++◌, length, map, Option, Some, None, Ok, Err, refl, sym, ap, subst, ◌∙◌, arith, append_assoc}
 use Rattle.std.proofs.Common.{append-nil}
 use Rattle.std.specs.Result.{result_err}

@@ -1,4 +1,4 @@
--- What threads have kept that are joined, and that each of their plants took some of its turns.
+-- The run by threads: what its threads have kept that are joined, and that each of their plants took some of its turns.
 use Rattle.std.proofs.Common.{◌≡◌, ℕ, ◌<◌, zero, suc, List, [], ◌∷◌, ◌++◌, length, get_or, map, Ok, Err, Option, None, Result, Vec, Global, sym, ap, subst, ◌∙◌}
 use Rattle.std.proofs.Common.{append-nil, arith}
 use Rattle.std.specs.List.{AllZip}

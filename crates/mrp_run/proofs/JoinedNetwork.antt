@@ -1,4 +1,4 @@
--- What the plants of a network are before the first turn, after the joins, and when their ends are paired.
+-- The run by threads: what its plants are before the first turn, after the joins, and when their ends are paired.
 use Rattle.std.proofs.Common.{◌≡◌, ℕ, List, length, map, get_or, Result, Ok, Err, Vec, Global, sym, subst, ◌∙◌, arith}
 use Rattle.std.specs.List.{All}
 use Rattle.std.specs.Result.{IfErr, IfOk, IsErrAnd}

@@ -1,4 +1,4 @@
--- What threads that are joined bring back.
+-- The run by threads: what its threads bring back when they are joined.
 use Rattle.std.proofs.Common.{◌≡◌, ℕ, ◌<◌, List, [], ◌∷◌, ◌++◌, length, get_or, map, Ok, Err, Option, Some, None, Result, Vec, Global, refl, sym, ap, subst}
 use Rattle.std.proofs.Common.{◌∙◌, arith, append_assoc, append-nil, length-append, zero, suc}
 use Rattle.std.specs.List.{All, AllZip, Contains}

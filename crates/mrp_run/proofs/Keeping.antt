@@ -1,4 +1,5 @@
--- What work keeps: nothing done keeps it, one step after another keeps it, and so does planning.
+-- The run by threads: what a plant's work in its thread keeps. Nothing done keeps it, one step after another
+-- keeps it, and so does planning.
 use Rattle.std.proofs.Common.{◌≡◌, ℕ, Bool, true, List, [], ◌∷◌, refl, ◌∙◌}
 use Rattle.mrp_master_data.specs.declared.numbers.PairNo.{PairNo}
 use Rattle.mrp_protocol.specs.State.{State, changed}

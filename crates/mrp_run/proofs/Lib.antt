@@ -1,3 +1,4 @@
+-- The run by threads of a network, proofs.
 pub mod Crossing
 pub mod Given
 pub mod Held

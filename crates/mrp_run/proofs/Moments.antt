@@ -1,4 +1,5 @@
--- Whenever each plant is at work and the two ends of each lane are in order, some events have led to what the plants show.
+-- The run by threads: whenever each plant is at work and the two ends of each lane are in order, some events
+-- have led to what the plants show.
 use Rattle.std.proofs.Common.{◌≡◌, ℕ, ◌<◌, ◌≤◌, true, List, inl, inr, length, get_or, refl, sym, ap, subst, ◌∙◌, arith, length-append, Contains}
 use Rattle.std.proofs.lemmas.Bool.{cases_lt, eqb-true}
 use Rattle.std.proofs.lemmas.List.Elements.{All-contains}

@@ -1,4 +1,4 @@
--- A plant sends the record that its agent has next.
+-- The run by threads: a plant at work in its thread sends the record that its agent has next.
 use Rattle.std.proofs.Common.{◌≡◌, ℕ, ◌<◌, List, [], ◌∷◌, ◌++◌, length, get_or, set, refl, sym, ap, ◌∙◌, subst}
 use Rattle.std.proofs.lemmas.List.{map-set}
 use Rattle.std.proofs.Math.Seq.{map-set_same}

@@ -1,4 +1,4 @@
--- The two ends of the last lane taken from their plants.
+-- The run by threads: after it, the two ends of the last lane taken from their plants, to be paired.
 use Rattle.std.proofs.Common.{◌≡◌, ℕ, suc, ◌+◌, ◌-◌, ◌<◌, List, [], ◌∷◌, ◌++◌, length, get_or, set, Option, None, Vec, Global, refl, sym, ap, subst}
 use Rattle.std.proofs.Common.{◌∙◌, arith, add-one}
 use Rattle.std.specs.List.{filter}

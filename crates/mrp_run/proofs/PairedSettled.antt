@@ -1,4 +1,4 @@
--- What two ends of a closed lane show when they are joined.
+-- The run by threads: after it, what two ends of a closed lane show when they are joined.
 use Rattle.std.proofs.Common.{◌≡◌, ℕ, ◌+◌, ◌-◌, true, List, [], ◌∷◌, ◌++◌, length, map, reverse, refl, sym, ap, subst, ◌∙◌, arith, append_assoc, take, drop}
 use Rattle.std.proofs.lemmas.List.{length-map, length-reverse, length_push, map-append, reverse-append, take_at}
 use Rattle.mrp_master_data.specs.Table.{Table}

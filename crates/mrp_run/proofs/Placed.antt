@@ -1,4 +1,5 @@
--- The ends of a plant's lanes and the lanes that it sees are both in lane order: a lane has the place of its end.
+-- The run by threads: for a plant in its thread, the ends of its lanes and the lanes that it sees are both in lane
+-- order, so a lane has the place of its end.
 use Rattle.std.proofs.Common.{◌≡◌, ℕ, ◌<◌, List, length, get_or, sym, ap, ◌∙◌, arith}
 use Rattle.std.proofs.lemmas.List.{get_or-map, length-map}
 use Rattle.mrp_master_data.specs.Table.{Table}

@@ -1,4 +1,5 @@
--- What a run comes to is a run of the events: the lists that the ends of its lanes showed are those of a finished state.
+-- The run by threads: what it comes to is a run of the events. The lists that the ends of its lanes showed
+-- are those of a finished state.
 use Rattle.std.proofs.Common.{◌≡◌, ℕ, ◌<◌, inl, inr, List, [], ◌∷◌, ◌++◌, length, get_or, set, Option, None, Some, IfSome, refl, sym, ap}
 use Rattle.std.proofs.Common.{subst, ◌∙◌, arith, Contains, Vec, Global}
 use Rattle.std.specs.Option.{option_to_list}

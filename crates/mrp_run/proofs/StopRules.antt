@@ -1,4 +1,4 @@
--- The faults that plants meet, and the rule of a run's stop.
+-- The run by threads: the faults that its plants meet, and the rule by which it stops.
 use Rattle.std.proofs.Common.{◌≡◌, ℕ, ◌+◌, ◌≤◌, ◌<◌, Result, Ok, Err, inl, inr, ⊎_elim, sym, subst, arith}
 use Rattle.std.specs.Result.{IfErr, IsErrAnd}
 use Rattle.std.proofs.lemmas.Bool.{cases_lt}

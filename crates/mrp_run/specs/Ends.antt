@@ -1,5 +1,5 @@
--- The lanes of a network dealt to its plants: each plant has the sender's end of each lane that goes from it
--- and the receiver's end of each that comes to it, in lane order.
+-- The run by threads: the lanes of a network dealt to its plants' threads. Each plant has the sender's end of each
+-- lane that goes from it and the receiver's end of each that comes to it, in lane order.
 use Rattle.std.specs.Prelude.{◌≡◌, ℕ, zero, suc, ◌<◌, Bool, List, [], ◌∷◌, ◌++◌, min, length, filter, slice_index_or}
 use Rattle.std.specs.Prelude.{All, Contains}
 use Rattle.mrp_master_data.specs.Table.{Table}

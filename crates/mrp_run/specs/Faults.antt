@@ -1,4 +1,4 @@
--- Whose fault it is that a run ends early, and what a crew's fault is to the run.
+-- The run by threads: whose fault it is that it ends early, and what a crew's fault is to it.
 use Rattle.std.specs.Prelude.{◌≡◌, ◌+◌, ◌≤◌, ◌<◌, ◌⊎◌, ℕ}
 use Rattle.mrp_master_data.specs.declared.numbers.PlantNo.{PlantNo}
 use Rattle.mrp_crew.specs.Shut as crews

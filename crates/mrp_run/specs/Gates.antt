@@ -1,4 +1,4 @@
--- What the end of a run says of its gate and of the turns of its plants.
+-- The run by threads: what its end says of its gate and of the turns of its plants.
 use Rattle.std.specs.Prelude.{ℕ, length, Result, IfErr, OnOk}
 use Rattle.mrp_master_data.specs.Table.{Table}
 use Rattle.mrp_run.specs.declared.fault.RunFault.{RunFault}

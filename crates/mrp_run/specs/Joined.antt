@@ -1,4 +1,4 @@
--- The threads of the plants, and what they bring back.
+-- The run by threads: the threads of its plants, and what they bring back.
 use Rattle.std.specs.Prelude.{◌≡◌, ℕ, ◌≤◌, List, [], map, Result, All, IfOk, IfErr, OnOk, filter_map}
 use Rattle.std.specs.Result.{result_err}
 use Rattle.std.specs.Vec.{vec_capacity}

@@ -1,4 +1,4 @@
--- Laws of what a run comes to.
+-- The run by threads: laws of what it comes to.
 use Rattle.std.specs.Prelude.{◌≡◌, ℕ, List, length}
 use Rattle.mrp_master_data.specs.Table.{Table}
 use Rattle.mrp_net.specs.Lanes.{lane_at}

@@ -1,3 +1,4 @@
+-- The run by threads of a network, as contracts see it.
 pub mod Ends
 pub mod Faults
 pub mod Gates

@@ -1,4 +1,4 @@
--- A moment of a run: the states that its plants stand in, and what lies between them.
+-- The run by threads: one of its moments, by the states that its plants stand in, and what lies between them.
 use Rattle.std.specs.Prelude.{◌≡◌, ℕ, ◌<◌, ◌≤◌, List, ◌++◌, length, All, Contains}
 use Rattle.mrp_master_data.specs.Table.{Table}
 use Rattle.mrp_net.specs.Lanes.{lanes, lane_at}

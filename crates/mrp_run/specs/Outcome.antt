@@ -1,4 +1,5 @@
--- What a run of a network comes to: the plan of the network, and what went over its lanes, as in a run of the events.
+-- The run by threads: what it comes to, which is the plan of the network, and what went over its
+-- lanes, as in a run of the events.
 use Rattle.std.specs.Prelude.{◌≡◌, ℕ, ◌≤◌, List, [], length}
 use Rattle.mrp_master_data.specs.Table.{Table}
 use Rattle.mrp_net.specs.Lanes.{lanes, lane_at}

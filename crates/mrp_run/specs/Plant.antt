@@ -1,4 +1,4 @@
--- A plant at work in a network: its agent, and the ends of its lanes.
+-- The run by threads: a plant at work in its thread, with its agent, and the ends of its lanes.
 use Rattle.std.specs.Prelude.{◌≡◌, ℕ, true, List, map, filter, All}
 use Rattle.mrp_master_data.specs.Table.{Table}
 use Rattle.mrp_plant_view.specs.View.{comes_to, goes_from, lane_numbers}

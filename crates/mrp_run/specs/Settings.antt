@@ -1,4 +1,4 @@
--- How a network is run.
+-- The run by threads: its settings, which are the workers of each plant, and the room of a mailbox.
 use Rattle.std.specs.Prelude.{ℕ, ◌≤◌}
 use Rattle.mrp_qty.specs.declared.limits.TheConstants.{MOST_WORKERS, MOST_ROOM}
 

@@ -1,4 +1,4 @@
--- What the steps of a plant's thread keep, in the words of `Plant` of the code.
+-- The run by threads: what the steps of a plant's thread keep, in the words of `Plant` of the code.
 use Rattle.std.specs.Prelude.{◌≡◌, ◌⊎◌, ℕ, false, length}
 use Rattle.mrp_master_data.specs.Table.{Table}
 use Rattle.mrp_agent.specs.Shows.{is_done}

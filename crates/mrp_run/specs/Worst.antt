@@ -1,4 +1,4 @@
--- Which of several faults a run answers.
+-- The run by threads: which fault it answers where several plants met one.
 use Rattle.std.specs.Prelude.{◌≡◌, ◌⊎◌, ℕ, ◌<◌, ◌≤◌, List, [], length, Option, All, Contains, MatchOption}
 use Rattle.mrp_master_data.specs.Table.{Table}
 use Rattle.mrp_run.specs.declared.fault.RunFault.{RunFault}

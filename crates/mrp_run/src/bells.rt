@@ -1,4 +1,4 @@
-//! How the plants of a run wake one another.
+//! The run by threads: how its plants' threads wake one another.
 
 use crate::moving::Lanes;
 use crate::plant::Plant;

@@ -1,4 +1,4 @@
-//! How a plant books the records that come to it.
+//! The run by threads: how a plant in its thread books the records that come to it.
 ghost use Rattle.std.specs.Prelude.{◌<◌, length};
 ghost use Rattle.mrp_run.specs.Steps.{PlantIsAtWork, KeepsPlant};
 

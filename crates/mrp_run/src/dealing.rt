@@ -1,4 +1,4 @@
-//! How the plants of a network are made, and the ends of its lanes dealt to them.
+//! The run by threads: how the plants are made before its threads start, and the ends of the lanes dealt to them.
 ghost use Rattle.std.specs.Prelude.{◌≡◌, ◌+◌, ◌≤◌, ◌<◌, [], ◌∷◌, ◌++◌, List, All, IfOk, OnOk, Ok, length, map};
 ghost use Rattle.mrp_master_data.specs.Table.{Table};
 ghost use Rattle.mrp_net.specs.Lanes.{lanes, lane_at};

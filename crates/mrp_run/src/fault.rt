@@ -1,4 +1,4 @@
-//! Why a run by threads ended early.
+//! The run by threads: why it ended early.
 
 ghost use Rattle.std.specs.Prelude.{◌≡◌};
 

@@ -1,4 +1,4 @@
-//! What the plants give to the plan of the network.
+//! The run by threads: what the plants' threads bring to the plan of the network once it ends.
 ghost use Rattle.std.specs.Prelude.{◌≡◌, IfErr, IfOk, length};
 ghost use Rattle.mrp_master_data.specs.Table.{Table};
 ghost use Rattle.mrp_net.specs.Plan.{plan_of};

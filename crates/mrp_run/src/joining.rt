@@ -1,4 +1,4 @@
-//! How the two ends of each lane are paired and joined, once the threads are.
+//! The run by threads: how the two ends of each lane are paired and joined after its threads.
 ghost use Rattle.std.specs.Prelude.{◌≡◌, ◌+◌, ◌<◌, [], ◌∷◌, ◌++◌, List, length, map, IfOk, IfSome, IsSomeAnd};
 ghost use Rattle.mrp_master_data.specs.Table.{Table};
 ghost use Rattle.mrp_net.specs.Lanes.{lanes, lane_at};

@@ -1,4 +1,4 @@
-//! Laws of what a run comes to. Each is the contract of a function that does nothing.
+//! The run by threads: laws of what it comes to. Each is the contract of a function that does nothing.
 
 ghost use Rattle.mrp_run.specs.Laws.{SettledLanesAreCounted};
 ghost use Rattle.mrp_run.specs.Moments.{MomentsAreReached};

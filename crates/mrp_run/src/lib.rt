@@ -1,4 +1,4 @@
-//! A network run by threads, one for each plant.
+//! The run by threads of a network, one thread for each plant.
 //!
 //! Each plant's thread owns its agent and the ends of its lanes, and nothing else of the network. It books
 //! what lies in its incoming lanes, plans what is ready and offers what it has, turn by turn, until it is

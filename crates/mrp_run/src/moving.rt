@@ -1,4 +1,5 @@
-//! How a plant moves records over its lanes, one after the other until none can be moved.
+//! The run by threads: how a plant in its thread moves records over its lanes, one after the
+//! other until none can be moved.
 ghost use Rattle.std.specs.Prelude.{◌≡◌, ◌<◌};
 ghost use Rattle.mrp_run.specs.Steps.{PlantIsAtWork, KeepsPlant, lane_count};
 

@@ -1,4 +1,4 @@
-//! A whole network, run by a thread for each plant.
+//! The run by threads of a whole network, a thread for each plant.
 ghost use Rattle.std.specs.Prelude.{◌≡◌, IfErr, IfOk, map};
 ghost use Rattle.mrp_loops.specs.Sized.{IsSized};
 ghost use Rattle.mrp_run.specs.Ends.{AreThrough};

@@ -1,4 +1,4 @@
-//! How a plant offers the records that it has to send.
+//! The run by threads: how a plant in its thread offers the records that it has to send.
 ghost use Rattle.std.specs.Prelude.{◌≡◌, ◌<◌, [], ◌∷◌, ◌++◌, length, IfErr, OnOk};
 ghost use Rattle.mrp_lane.specs.Ends.{IsNextRecord};
 ghost use Rattle.mrp_run.specs.Steps.{PlantIsAtWork, KeepsPlant, clock};

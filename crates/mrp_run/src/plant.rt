@@ -1,4 +1,4 @@
-//! A plant at work in a thread: its agent and the ends of its lanes.
+//! The run by threads: a plant at work in its thread, with its agent and the ends of its lanes.
 
 use mrp_agent::Agent;
 use mrp_lane::{SendEnd, TakeEnd};

@@ -1,4 +1,4 @@
-//! What the threads of the plants bring back, and which fault is answered.
+//! The run by threads: what the threads of the plants bring back, and which fault is answered.
 ghost use Rattle.std.specs.Prelude.{◌≡◌, ◌≤◌, ◌⊎◌, ◌++◌, ◌∷◌, [], List, Ok, None, IfOk, IfErr, length, map};
 ghost use Rattle.std.specs.Prelude.{option_to_list, vec_capacity};
 ghost use Rattle.mrp_run.specs.declared.fault.RunFault.{RunFault};

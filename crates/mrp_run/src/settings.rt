@@ -1,4 +1,4 @@
-//! The settings of a run: the workers of a plant and the room of a mailbox.
+//! The run by threads: its settings, which are the workers of a plant and the room of a mailbox.
 
 use mrp_crew::MOST_WORKERS;
 use mrp_lane::MOST_ROOM;

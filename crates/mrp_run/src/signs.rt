@@ -1,4 +1,4 @@
-//! Over which lanes records were moved at the other end since a plant last looked.
+//! The run by threads: over which lanes another plant's thread has moved records since a plant last looked.
 
 use crate::moving::Lanes;
 use mrp_net::LaneNo;

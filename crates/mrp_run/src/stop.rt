@@ -1,4 +1,4 @@
-//! How the plants of a run tell one another that they stop, and why.
+//! The run by threads: how the plants' threads tell one another that they stop, and why.
 
 ghost use Rattle.std.specs.Prelude.{IfSome};
 

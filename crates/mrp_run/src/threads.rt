@@ -1,4 +1,4 @@
-//! How the threads of the plants are started and joined.
+//! The run by threads: its threads, one for each plant, and how they are started and joined.
 ghost use Rattle.std.specs.Prelude.{◌≡◌, ◌≤◌, ◌++◌, [], List, All, IfErr, IfOk, IfSome, OnOk, length, slice_index_or};
 ghost use Rattle.std.specs.Prelude.{vec_capacity};
 ghost use Rattle.std.specs.List.{AllZip};

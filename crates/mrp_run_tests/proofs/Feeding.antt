@@ -1,4 +1,5 @@
--- A cursor over all that a lane carries gives legal records to the lane's end, and shows what it has sent.
+-- Tests of runs, lanes: a cursor over all that a lane carries gives legal records to the lane's
+-- end, and shows what it has sent.
 use Rattle.std.proofs.Common.{◌≡◌, ℕ, suc, ◌+◌, ◌-◌, ◌<◌, ◌≤◌, true, Some, Option, List, [], ◌∷◌, ◌++◌, length, map, refl, sym, ap, subst, ◌∙◌}
 use Rattle.std.proofs.Common.{arith, Contains, not}
 use Rattle.std.specs.List.{filter, range_with_len}

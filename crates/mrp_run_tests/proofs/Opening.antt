@@ -1,4 +1,5 @@
--- A new agent of a plant of a sized network can be planned for, and where there are no lanes it is at work without ends.
+-- Tests of runs, crews and a plant alone: a new agent of a plant of a sized network can be planned for, and where
+-- there are no lanes it is at work without ends.
 use Rattle.std.proofs.Common.{◌≡◌, ℕ, List, [], length, sym, ap, subst}
 use Rattle.std.specs.List.{filter, range_with_len}
 use Rattle.std.proofs.lemmas.List.Elements.{All-nil}

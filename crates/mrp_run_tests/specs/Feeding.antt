@@ -1,4 +1,5 @@
--- What a lane carries as the goods of a cursor, place by place, and a cursor that feeds the lane's end.
+-- Tests of runs, lanes: what a lane carries as the goods of a cursor, place by place, and a
+-- cursor that feeds the lane's end.
 use Rattle.std.specs.Prelude.{◌≡◌, ℕ, ◌<◌, List, length, map, drop, slice_index_or}
 use Rattle.std.specs.List.{range_with_len}
 use Rattle.mrp_master_data.specs.declared.numbers.ItemNo.{ItemNo}

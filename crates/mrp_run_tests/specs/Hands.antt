@@ -1,4 +1,4 @@
--- Agents that stand alone: what one of them sends is handed to the other plant's agent.
+-- Tests of runs, agents that stand alone: what one of them sends is handed to the other plant's agent.
 use Rattle.std.specs.Prelude.{◌≡◌, ℕ, ◌≤◌, List, [], ◌∷◌}
 use Rattle.mrp_master_data.specs.Table.{Table}
 use Rattle.mrp_record.specs.declared.record.Record.{Record}

@@ -1,2 +1,3 @@
+-- Tests of runs, lanes and agents: what they need of contracts.
 pub mod Hands
 pub mod Feeding

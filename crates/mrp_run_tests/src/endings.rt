@@ -1,4 +1,4 @@
-//! What the tables come to.
+//! Tests of runs: what the tables of firms that were worked by hand come to.
 
 use crate::tables::{
     COUNTED_SOONER, COVERED, FENCED, FIVE_ARTICLES_BY_POLICY, FOUR_PLANTS, FOUR_PLANTS_BY_POLICY,

@@ -1,6 +1,6 @@
-//! Worked cases of firms: all plants and the mailboxes between them, event by event, agents alone, crews, lanes
-//! between threads, and networks that are run by threads, one for each plant. Of a lane, a cursor over a network
-//! feeds one end, and what comes out at the other is compared with records worked by hand.
+//! Tests of runs, worked cases of firms: all plants and the mailboxes between them, event by event, agents alone,
+//! crews, lanes between threads, and networks that are run by threads, one for each plant. Of a lane, a cursor over a
+//! network feeds one end, and what comes out at the other is compared with records worked by hand.
 //!
 //! The tables that were worked by hand, and what each comes to, are here for the other tests, too:
 //! [`is_same_plan`] and [`has_pieces`] compare plans with one another and with what was worked.

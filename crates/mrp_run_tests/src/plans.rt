@@ -1,4 +1,4 @@
-//! Plans beside one another, and beside what was worked by hand.
+//! Tests of runs: plans beside one another, and beside what was worked by hand.
 
 ghost use Rattle.std.specs.Prelude.{◌≡◌, ◌↔◌, length, IsTrue};
 

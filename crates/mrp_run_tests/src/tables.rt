@@ -1,4 +1,5 @@
-//! The tables, as they are read: rows of plants, pairs, bills, demand and what is on its way.
+//! Tests of runs: their tables of firms, as they are read, with rows of plants, pairs, bills,
+//! demand and what is on its way.
 
 /// One plant, with two wheels to a bicycle.
 pub const BICYCLE: &str = "run,2026-01-05,7,4,,,,\nplant,P1,,,,,,\npair,P1,BIKE,make,lot,1,0,0\n\

@@ -1,5 +1,5 @@
-//! Firms event by event, agents alone, crews, lanes between threads and runs by threads: what they come to, and
-//! what gates see of them.
+//! Tests of runs: firms event by event, agents alone, crews, lanes between threads and runs by threads; what they come
+//! to, and what gates see of them.
 
 mod agents;
 mod alone;

@@ -1,4 +1,5 @@
--- Amounts of periods as deliveries: those of an early and a late part, and their pieces.
+-- Delivery schedules: their calls, which are amounts of periods as deliveries, those of an early and
+-- a late part, and their pieces.
 use Rattle.std.proofs.Common.{◌≡◌, ℕ, zero, suc, ◌+◌, ◌-◌, ◌<◌, ◌≤◌, ◌==◌, not, Bool, true, false, cond, List, [], ◌∷◌, ◌++◌, length, inl, inr, refl, sym, ap}
 use Rattle.std.proofs.Common.{◌∙◌, append_assoc, arith}
 use Rattle.std.specs.Prelude.{nat_lt, Option, Some, None, filter_map}

@@ -1,4 +1,4 @@
--- A schedule is what whole texts of the lane carry.
+-- Delivery schedules are what whole texts of a lane carry.
 use Rattle.std.proofs.Common.{◌≡◌, ℕ, List, [], ◌∷◌, ◌++◌, sum_by, refl, sym, ap, subst, ◌∙◌, arith}
 use Rattle.std.specs.Prelude.{Option, Some, None, Contains, filter_map}
 use Rattle.std.proofs.lemmas.List.{append-nil}

@@ -1,4 +1,4 @@
--- What a plan that fits and the table say of a vendor's schedule.
+-- Delivery schedules of vendors: what a plan that fits and the table say of one.
 use Rattle.std.proofs.Common.{◌≡◌, ℕ, zero, suc, ◌+◌, ◌-◌, ◌≤◌, ◌==◌, not, cond, List, ◌∷◌, ◌++◌, [], length, sum, sum_by, take, slice_index, refl, ap, ◌∙◌, arith}
 use Rattle.std.specs.Prelude.{Option, Contains, IfSome, filter_map}
 use Rattle.std.specs.List.{range_with_len}

@@ -1,4 +1,4 @@
--- The figures of a schedule follow from one another.
+-- Delivery schedules: their figures follow from one another.
 use Rattle.std.proofs.Common.{◌≡◌, ℕ, zero, suc, ◌+◌, ◌-◌, ◌≤◌, ◌<◌, List, ◌∷◌, ◌++◌, inl, inr, refl, sym, ap, subst, ◌∙◌, arith}
 use Rattle.std.specs.Prelude.{Option, Some, None, Contains, IfSome, filter_map}
 use Rattle.std.proofs.lemmas.Bool.{cases_eq}

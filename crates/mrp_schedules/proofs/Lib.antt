@@ -1,3 +1,4 @@
+-- Delivery schedules, proofs.
 pub mod Amounts
 pub mod Carried
 pub mod Delivering

@@ -1,4 +1,4 @@
--- The calls from a period on: one more, or none, and those behind it.
+-- Delivery schedules: their calls from a period on, one more, or none, and those behind it.
 use Rattle.std.proofs.Common.{◌≡◌, ℕ, suc, ◌+◌, ◌-◌, ◌<◌, ◌≤◌, List, [], ◌∷◌, ◌++◌, sym, ap, ◌∙◌, append_assoc, arith, slice_index}
 use Rattle.std.specs.Prelude.{Option, Some, None, filter_map}
 use Rattle.mrp_record.specs.Entries.{Delivery}

@@ -1,4 +1,4 @@
--- What a plan that fits and the table say of a schedule.
+-- Delivery schedules: what a plan that fits and the table say of one.
 use Rattle.std.proofs.Common.{◌≡◌, ℕ, ◌+◌, ◌-◌, ◌<◌, ◌≤◌, true, false, cond, List, [], ◌∷◌, ◌++◌, length, refl, sym, ap, ◌∙◌, append_assoc, arith}
 use Rattle.std.specs.Prelude.{Option, Some, None, All, Contains, IfSome, filter_map, option_map}
 use Rattle.std.specs.List.{find}

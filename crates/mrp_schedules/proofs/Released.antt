@@ -1,4 +1,4 @@
--- What the schedules of all sources of a pair call for is what the plan releases.
+-- Delivery schedules: what those of all sources of a pair call for is what the plan releases.
 use Rattle.std.proofs.Common.{◌≡◌, ℕ, suc, ◌-◌, ◌≤◌, ◌==◌, true, false, cond, List, [], ◌∷◌, inl, inr, length, sum_by, refl, sym, ap, ◌∙◌, arith}
 use Rattle.std.specs.Prelude.{Option, Some, None, filter_map}
 use Rattle.std.specs.List.{AllByRecursion, IsDistinct}

@@ -1,5 +1,5 @@
--- The lines of a schedule stand within the horizon; the rows of an item are those of its lines, and those of the report
--- are those of the lanes that are asked for.
+-- Delivery schedules: their lines stand within the horizon; the rows of an item are those of its lines, and those of
+-- the report are those of the lanes that are asked for.
 use Rattle.std.proofs.Common.{◌≡◌, ℕ, ◌<◌, Bool, true, false, cond, List, [], ◌∷◌, ◌++◌, length, map, refl, sym, ap, subst, ◌∙◌}
 use Rattle.std.specs.Prelude.{Option, Some, None, All, Contains, IfSome, filter, filter_map}
 use Rattle.std.specs.List.{flat_map}

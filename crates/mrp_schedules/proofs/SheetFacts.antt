@@ -1,4 +1,4 @@
--- The report is the rows of its sheet.
+-- Delivery schedules: their report is the rows of its sheet.
 use Rattle.std.proofs.Common.{◌≡◌, ℕ, List, [], ◌∷◌, ◌++◌, All, arith, refl, sym, ap₂, ◌∙◌}
 use Rattle.std.specs.Prelude.{Option, Some, None, codes as text_bytes, filter}
 use Rattle.std.specs.List.{flat_map}

@@ -1,4 +1,4 @@
--- The calls of some of the periods.
+-- Delivery schedules: their calls for some of the periods.
 use Rattle.std.specs.Prelude.{ℕ, ◌+◌, ◌-◌, List, [], ◌∷◌, map, filter, slice_index}
 use Rattle.std.specs.List.{range_with_len}
 use Rattle.mrp_record.specs.Entries.{Delivery}

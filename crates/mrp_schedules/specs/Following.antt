@@ -1,4 +1,4 @@
--- How the figures of a schedule follow from one another.
+-- Delivery schedules: how their figures follow from one another.
 use Rattle.std.specs.Prelude.{◌≡◌, ℕ, ◌+◌, ◌≤◌, List, [], ◌∷◌, Contains}
 use Rattle.mrp_master_data.specs.declared.numbers.ItemNo.{ItemNo}
 use Rattle.mrp_master_data.specs.Rows.{Vendor}

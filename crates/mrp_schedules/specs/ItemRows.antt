@@ -1,4 +1,4 @@
--- The schedule rows of one lane, of one vendor and of one item, line by line.
+-- Delivery schedules: their rows, of one lane, of one vendor and of one item, line by line.
 use Rattle.std.specs.Prelude.{◌≡◌, ℕ, ◌<◌, if◌then◌else◌, List, [], Option}
 use Rattle.mrp_master_data.specs.Rows.{Vendor}
 use Rattle.mrp_master_data.specs.Said.{item_name, plant_name}

@@ -1,4 +1,4 @@
--- Laws of schedules.
+-- Delivery schedules: their laws.
 use Rattle.std.specs.Prelude.{◌≡◌, ℕ, ◌+◌, ◌==◌, if◌then◌else◌, List, ◌∷◌, sum_by, filter_map, Contains}
 use Rattle.mrp_master_data.specs.declared.numbers.ItemNo.{ItemNo}
 use Rattle.mrp_master_data.specs.declared.rows.SourceRow.{SourceRow}

@@ -1,3 +1,4 @@
+-- Delivery schedules of plants and vendors, and their report.
 pub mod Calls
 pub mod Following
 pub mod ItemRows

@@ -1,4 +1,4 @@
--- The report of delivery schedules.
+-- Delivery schedules: their report.
 use Rattle.std.specs.Prelude.{ℕ, ◌&&◌, Bool, true, List, [], ◌∷◌, ◌++◌, filter, decimal}
 use Rattle.std.specs.Prelude.{codes as text_bytes, Option, Some, None}
 use Rattle.std.specs.List.{flat_map}

@@ -1,4 +1,4 @@
--- The report as a sheet: what a reader of comma-separated values has to find in it.
+-- Delivery schedules: their report as a sheet, and what a reader of comma-separated values has to find in it.
 use Rattle.std.specs.Prelude.{ℕ, List, ◌++◌, map, filter, Option}
 use Rattle.std.specs.List.{flat_map}
 use Rattle.mrp_master_data.specs.Rows.{Vendor}

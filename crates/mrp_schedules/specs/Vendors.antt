@@ -1,4 +1,5 @@
--- The delivery schedule of a vendor: made as that of a lane's item, from the releases of the pair that it delivers.
+-- Delivery schedules of vendors: each made as that of a lane's item, from the releases of the
+-- pair that the vendor delivers.
 use Rattle.std.specs.Prelude.{ℕ, ◌+◌, List}
 use Rattle.mrp_master_data.specs.Rows.{Vendor}
 use Rattle.mrp_master_data.specs.Table.{Table, horizon}

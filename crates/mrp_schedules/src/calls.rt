@@ -1,4 +1,4 @@
-//! The calls of a schedule and its reset.
+//! Delivery schedules: their calls, and their reset.
 
 ghost use Rattle.std.specs.Prelude.{◌≡◌, ℕ, ◌+◌, ◌-◌, ◌≤◌, ◌++◌, IfSome, filter_map, length, slice_index, vec_capacity};
 ghost use Rattle.mrp_qty.specs.declared.quantity.TheConstants.{MOST};

@@ -1,4 +1,4 @@
-//! Laws of schedules. Each is the contract of a function that does nothing.
+//! Delivery schedules: their laws. Each is the contract of a function that does nothing.
 
 ghost use Rattle.mrp_schedules.specs.Laws.{TextsCarrySchedules, FiguresAddUp, CallsAreReleased};
 ghost use Rattle.mrp_schedules.specs.Laws.{VendorCallsAreReleased, VendorSchedulesOpen};

@@ -1,4 +1,4 @@
-//! A line of a delivery schedule.
+//! Delivery schedules: one of their lines.
 
 use mrp_qty::Qty;
 

@@ -1,4 +1,4 @@
-//! The schedule rows: the delivery schedules of plants and of vendors, item by item and line by line.
+//! Delivery schedules: their rows, of plants and of vendors, item by item and line by line.
 
 ghost use Rattle.std.specs.Prelude.{◌≡◌, ◌<◌, ◌++◌, Err, OnOk, IfOk, IfErr, IfSome, All, Contains, length};
 ghost use Rattle.std.specs.List.{flat_map};

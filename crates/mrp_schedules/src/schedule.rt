@@ -1,4 +1,4 @@
-//! The schedule of an item of a lane, and that of a vendor.
+//! Delivery schedules: that of an item of a lane, and that of a vendor.
 
 ghost use Rattle.std.specs.Prelude.{◌≡◌, ◌+◌, ◌<◌, ◌≤◌, ◌++◌, IfOk, IfErr, IsOk, Contains, length, vec_capacity};
 ghost use Rattle.mrp_net.specs.declared.lane.LaneKind.TheVariants.{Schedule};

@@ -1,4 +1,4 @@
--- What terms lack that take one after the other of the same pieces, and what that adds up to.
+-- Shortages: what terms lack that take one after the other of the same pieces, and what that adds up to.
 use Rattle.std.proofs.Common.{◌≡◌, ℕ, zero, suc, ◌-◌, ◌≤◌, List, [], ◌∷◌, map, take, refl, ap, arith}
 use Rattle.std.specs.List.{All, filter, sum_by}
 use Rattle.std.proofs.lemmas.Bool.{cond_both, ltb-false, ltb-true}

@@ -1,3 +1,4 @@
+-- Shortages of parts in period 0, proofs.
 pub mod Lacking
 pub mod There
 pub mod LineFacts

@@ -1,4 +1,4 @@
--- The report is the rows of its sheet, and csv reads it back.
+-- Shortages: their report is the rows of its sheet, and csv reads it back.
 use Rattle.std.proofs.Common.{◌≡◌, ℕ, List, All, refl, arith}
 use Rattle.std.specs.List.{flat_map}
 use Rattle.csv.specs.Reading.{strip_bom}

@@ -1,4 +1,5 @@
--- Laws of shortages, and of the report as a sheet: what a reader of comma-separated values has to find in it.
+-- Shortages: their laws, and those of their report as a sheet, and what a reader of
+-- comma-separated values has to find in it.
 use Rattle.std.specs.Prelude.{◌≡◌, ℕ, ◌-◌, ◌≤◌, List, ◌++◌, map, filter, sum_by, slice_index, take, All}
 use Rattle.std.specs.List.{flat_map}
 use Rattle.mrp_netting.specs.PlanRows.{PlanRows}

@@ -1,4 +1,4 @@
--- The rows of one pair's shortages, term by term.
+-- Shortages: the rows of one pair's, term by term.
 use Rattle.std.specs.Prelude.{◌≡◌, ℕ, if◌then◌else◌, List, [], filter}
 use Rattle.std.specs.List.{flat_map}
 use Rattle.mrp_netting.specs.PlanRows.{PlanRows}

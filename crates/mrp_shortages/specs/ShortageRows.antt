@@ -1,4 +1,4 @@
--- The report of the requirements of period 0 that lack pieces.
+-- Shortages: their report, which is the requirements of period 0 that lack pieces.
 use Rattle.std.specs.Prelude.{ℕ, List, [], ◌∷◌, ◌++◌, decimal, codes as text_bytes}
 use Rattle.std.specs.List.{flat_map}
 use Rattle.mrp_netting.specs.PlanRows.{PlanRows}

@@ -1,5 +1,5 @@
--- Which of this period's requirements lack parts: what is there of a pair in period 0, and what each term of its gross
--- requirement lacks of it.
+-- Shortages, which of this period's requirements lack parts: what is there of a pair in period 0, and what each term of
+-- its gross requirement lacks of it.
 use Rattle.std.specs.Prelude.{ℕ, ◌+◌, ◌-◌, ◌==◌, ◌&&◌, nat_lt, Bool, true, false, if◌then◌else◌, List, [], ◌∷◌, filter}
 use Rattle.std.specs.Prelude.{slice_index}
 use Rattle.mrp_netting.specs.PlanRows.{PlanRows}

@@ -1,4 +1,4 @@
-//! Laws of shortages, and of the report of them. Each is the contract of a function that does nothing.
+//! Shortages: their laws, and those of the report of them. Each is the contract of a function that does nothing.
 
 ghost use Rattle.mrp_shortages.specs.ShortageLaws.{ShortagesAddUp, ShortagesAddUpSoFar, ShortagesAreOfTerms};
 ghost use Rattle.mrp_shortages.specs.ShortageLaws.{ShortagesAreReadBack, ShortagesAreTermsInOrder};

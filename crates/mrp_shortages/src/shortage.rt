@@ -1,4 +1,4 @@
-//! What is there of a pair in period 0, and what each requirement of the period lacks of it.
+//! Shortages: what is there of a pair in period 0, and what each requirement of the period lacks of it.
 
 ghost use Rattle.std.specs.Prelude.{◌≡◌, ◌==◌, ◌≤◌, ◌+◌, ◌-◌, ◌*◌, ◌^◌, if◌then◌else◌, sum_by};
 ghost use Rattle.mrp_master_data.specs.Table.{IsPair, IsTable};

@@ -1,4 +1,4 @@
-//! The shortage rows: each requirement of period 0 that lacks pieces.
+//! Shortages: their rows, each requirement of period 0 that lacks pieces.
 
 ghost use Rattle.std.specs.Prelude.{◌≡◌, ◌-◌, ◌++◌, All, Err, OnOk, IfOk, IfErr, length, map};
 ghost use Rattle.mrp_master_data.specs.Table.{IsPair, IsTable};

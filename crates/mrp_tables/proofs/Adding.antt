@@ -1,4 +1,4 @@
--- A row that was added to the draft, and one that was refused.
+-- The reader of tables: a row that was added to the draft, and one that was refused.
 use Rattle.std.proofs.Common.{◌≡◌, ℕ, List, Option, Result, Ok, Err, MatchResult, sym, ap, ◌∙◌}
 use Rattle.mrp_tables.specs.Drafts.{draft_state, TellsAdded}
 use Rattle.mrp_tables.specs.declared.draft.Draft.{Draft}

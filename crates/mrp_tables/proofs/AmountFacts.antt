@@ -1,4 +1,4 @@
--- What a demand, a receipt, a firm or a policy row says of a pair.
+-- The reader of tables: what a demand, a receipt, a firm or a policy row says of a pair.
 use Rattle.std.proofs.Common.{◌≡◌, ◌<◌, ℕ, Bool, true, false, List, [], get_or, Option, None, Some, is_some, position, Result, Ok, Err, ok_or}
 use Rattle.std.proofs.Common.{option_map, refl, ap, sym, subst, ◌∙◌, ◌≤◌, nat_lt, arith, true≢false}
 use Rattle.std.specs.List.{All}

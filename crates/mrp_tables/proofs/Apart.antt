@@ -1,4 +1,4 @@
--- A text that is cut behind a line feed, and has no quote above it, is read apart.
+-- Reading a table in pieces: a text that is cut behind a line feed, and has no quote above it, is read apart.
 use Rattle.std.proofs.Common.{◌≡◌, ◌⊎◌, inl, inr, ℕ, zero, suc, ◌+◌, ◌<◌, ◌==◌, ◌||◌, Bool, true, false, List, [], ◌∷◌, ◌++◌, length, Option, Some}
 use Rattle.std.proofs.Common.{None, refl, ap, sym, ◌∙◌, subst}
 use Rattle.std.proofs.Common.{arith, true≢false}

@@ -1,4 +1,4 @@
--- Rows that are read as is asked: a table that has to be whole, or any.
+-- Reading a table as is asked: one that has to be whole, or any.
 use Rattle.std.proofs.Common.{◌≡◌, ℕ, ◌+◌, ◌&&◌, not, Bool, true, false, if◌then◌else◌, List, Option, Some, None, Result, Ok, Err, MatchResult}
 use Rattle.std.proofs.Common.{IfOk, refl, sym, ap, ◌∙◌, subst}
 use Rattle.mrp_commands.specs.declared.reading.Reading.{Reading}

@@ -1,4 +1,4 @@
--- A table read by pieces and by blocks of them: what each step takes off the rows left.
+-- Reading a table by pieces and by blocks of them: what each step takes off the rows left.
 use Rattle.std.proofs.Common.{◌≡◌, ℕ, suc, ◌+◌, ◌<◌, true, List, [], ◌∷◌, ◌++◌, drop, take, set, length, get_or, Option, Some, None, Result, Ok, Err}
 use Rattle.std.proofs.Common.{refl, ap, sym, ◌∙◌, subst, arith}
 use Rattle.std.proofs.Common.{add-one, append_assoc, drop-cons, length-append}

@@ -1,4 +1,5 @@
--- What a bill, a demand, a receipt or a shipment says of one table, it says of each that has the same pairs, lanes and periods.
+-- Reading a table, rows apart: what a bill, a demand, a receipt or a shipment says of one table, it says of each that has
+-- the same pairs, lanes and periods.
 use Rattle.std.proofs.Common.{◌≡◌, ℕ, Bool, true, false, not, List, length, nat_lt, Some, Result, Ok, Err, refl, sym, ap, ◌∙◌, subst}
 use Rattle.csv.specs.Records.{AllText}
 use Rattle.mrp_qty.specs.declared.limits.TheConstants.{MOST_BILLS, MOST_OF_A_KIND}

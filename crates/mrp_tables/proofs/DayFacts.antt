@@ -1,4 +1,4 @@
--- A first day that is given is one row more.
+-- The reader of tables: a first day that is given is one row more.
 use Rattle.std.proofs.Common.{◌≡◌, ℕ, ◌+◌, List, length, Ok, ap, ◌∙◌}
 use Rattle.std.proofs.lemmas.List.{length_push}
 use Rattle.mrp_cal.proofs.BegunFacts.{begun-is}

@@ -1,4 +1,4 @@
--- The end row: it has the number of the rows above it, and is one more.
+-- The reader of tables: the end row has the number of the rows above it, and is one more.
 use Rattle.std.proofs.Common.{◌≡◌, ℕ, ◌+◌, false, List, Result, Ok, Err, refl, sym, arith}
 use Rattle.mrp_master_data.specs.Growing.{with_end}
 use Rattle.mrp_master_data.specs.Table.{Table}

@@ -1,4 +1,4 @@
--- What the reading finds of the names of a row on a lane is what the grammar says of them.
+-- The reader of tables: what it finds of the names of a row on a lane is what the table's rules say of them.
 use Rattle.std.proofs.Common.{◌-◌, ◌≡◌, ℕ, ◌<◌, ◌≤◌, ◌==◌, ◌&&◌, nat_lt, Bool, not, List, length, Option, Some, None, IfSome, option_map, is_some, arith}
 use Rattle.std.proofs.Common.{subst, Ok, Err, true}
 use Rattle.std.proofs.Common.{false, refl, sym, ap, ◌∙◌}

@@ -1,4 +1,4 @@
--- What is found by the key of a name is what is found by the name.
+-- The reader of tables: what it finds by the key of a name is what is found by the name.
 use Rattle.std.proofs.Common.{◌≡◌, ◌<◌, ◌≤◌, ℕ, ltb, nat_le, slice_get, Bool, true, false, ◌==◌, ◌&&◌, eq-eqb, get_or, List, [], ◌∷◌, ◌++◌, length, map}
 use Rattle.std.proofs.Common.{position, Option, None, Some, is_some, refl, ap, sym, ◌∙◌, subst, arith}
 use Rattle.std.specs.Cmp.Lexicographic.{nat_list_eq_equiv}

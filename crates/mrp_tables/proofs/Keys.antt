@@ -1,4 +1,4 @@
--- The places of keys.
+-- The reader of tables: keys by which it finds rows, their places, and whether a row of a key is there.
 use Rattle.std.proofs.Common.{◌≡◌, ◌<◌, ℕ, ◌==◌, ◌&&◌, false, List, [], ◌∷◌, ◌++◌, length, map, position, Option, Some, None, option_map, ap, refl, sym}
 use Rattle.std.proofs.Common.{◌∙◌, subst, arith}
 use Rattle.std.specs.List.{All, IsDistinct, list_any}

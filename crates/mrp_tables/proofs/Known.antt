@@ -1,4 +1,4 @@
--- What is found with one more plant, item or pair.
+-- The reader of tables: what it finds by its keys with one more plant, item or pair.
 use Rattle.std.proofs.Common.{◌≡◌, ◌<◌, ◌∙◌, ℕ, ltb, Bool, not, true, false, true≢false, if◌then◌else◌, unwrap_or, List, [], ◌∷◌, ◌++◌, length, map, position}
 use Rattle.std.proofs.Common.{slice_get, Option, Some, refl, ap, sym, subst, arith}
 use Rattle.std.specs.List.{IsDistinct, list_any, position_or_len}

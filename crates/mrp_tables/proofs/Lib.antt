@@ -1,3 +1,4 @@
+-- The reader of tables, proofs.
 pub mod Taken
 pub mod Adding
 pub mod AmountFacts

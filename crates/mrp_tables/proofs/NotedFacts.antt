@@ -1,4 +1,4 @@
--- What the rows of a piece say, noted row by row.
+-- Reading a table in pieces: what the rows of a piece say, noted row by row.
 use Rattle.std.proofs.Common.{◌≡◌, ℕ, List, [], ◌∷◌, ◌++◌, Option, Some, None, refl, ap, sym, ◌∙◌, subst, append_assoc}
 use Rattle.std.proofs.lemmas.List.{append-nil}
 use Rattle.mrp_master_data.specs.Table.{Table}

@@ -1,4 +1,4 @@
--- What the rows of a piece said, taken into the table row by row.
+-- Reading a table in pieces: what the rows of a piece said, taken into the table row by row.
 use Rattle.std.proofs.Common.{◌≡◌, ℕ, suc, ◌+◌, ◌<◌, List, [], ◌∷◌, ◌++◌, drop, get_or, length, Some, Result, Ok, Err, MatchResult, OnOk, refl, ap}
 use Rattle.std.proofs.Common.{sym, ◌∙◌, subst}
 use Rattle.std.proofs.Common.{add-one, drop-cons}

@@ -1,4 +1,4 @@
--- When a text is read apart from what stands behind it.
+-- Reading a table in pieces: when a text is read apart from what stands behind it.
 use Rattle.std.proofs.Common.{◌≡◌, ℕ, suc, ◌-◌, ◌<◌, ◌==◌, Bool, true, false, List, [], ◌∷◌, ◌++◌, length, get_or, Option, Some, None, option_map}
 use Rattle.std.proofs.Common.{refl, ap, sym, ◌∙◌, arith}
 use Rattle.csv.specs.Reading.{strip_bom}

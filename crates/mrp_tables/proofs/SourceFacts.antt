@@ -1,4 +1,4 @@
--- What is read of bytes in front of a reader, and of the reader behind them.
+-- The reader of tables: what it gets of bytes in front of a reader, and of the reader behind them.
 use Rattle.std.proofs.Common.{◌≡◌, ℕ, ◌+◌, ◌-◌, ◌≤◌, List, [], ◌++◌, length, take, drop, Option, Some, None, Result, Ok, Err, OnOk, refl, sym, ap}
 use Rattle.std.proofs.Common.{◌∙◌, append_assoc, arith}
 use Rattle.std.proofs.Common.{length-append, length-take-le, subst, take-add, take-take, take_at, drop_at}

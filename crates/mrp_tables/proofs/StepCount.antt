@@ -1,4 +1,4 @@
--- How many steps there were at a fault.
+-- Reading a table: how many steps there were at a fault.
 use Rattle.std.proofs.Common.{◌≡◌, inl, inr, ℕ, ◌+◌, ◌≤◌, max, List, length, Option, Some, None, Result, Ok, Err, IfErr, sym, ap, ◌∙◌, arith}
 use Rattle.mrp_master_data.specs.Table.{Table}
 use Rattle.mrp_master_data.specs.Turns.{row_count}

@@ -1,4 +1,4 @@
--- What a read of a record takes off the rows that a reader has left.
+-- Reading a table: what a read of a record takes off the rows that are left.
 use Rattle.std.proofs.Common.{◌≡◌, inl, inr, ℕ, Bool, true, false, ◌&&◌, List, [], ◌∷◌, Option, Some, None, option_map, refl, sym, ap, subst, ◌∙◌}
 use Rattle.std.specs.List.{list_all}
 use Rattle.std.specs.Str.{is_utf8}

@@ -1,4 +1,4 @@
--- How many rows a table may have.
+-- The reader of tables: how many rows a table may have.
 use Rattle.std.proofs.Common.{◌≤◌, Bool, true, false, if◌then◌else◌, length, arith}
 use Rattle.mrp_cal.proofs.BegunFacts.{begun-few}
 use Rattle.mrp_tables.specs.declared.draft.Draft.{Draft}

@@ -1,4 +1,4 @@
--- What a vendor row says of its pair: none that the rows so far allow, or that pair.
+-- The reader of tables: what a vendor row says of its pair, which is one that the rows so far allow, or none.
 use Rattle.std.proofs.Common.{◌≡◌, ℕ, true, false, not, Option, is_some, option_map, Result, Ok, Err, ok_or, refl, ap, sym, ◌∙◌}
 use Rattle.mrp_master_data.specs.declared.numbers.PairNo.{PairNo}
 use Rattle.mrp_master_data.specs.declared.numbers.PlantNo.{PlantNo}

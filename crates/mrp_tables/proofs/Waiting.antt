@@ -1,4 +1,4 @@
--- The test that waits for the last row.
+-- Reading a table: at its end, the test that waits for the last row.
 use Rattle.std.proofs.Common.{◌≡◌, ℕ, zero, suc, ◌<◌, ◌≤◌, true, false, List, [], ◌∷◌, length, get_or, position, Some, None, Ok, Err, refl, sym, ap, ◌∙◌, arith}
 use Rattle.std.proofs.lemmas.List.Quantifiers.{position-Some}
 use Rattle.mrp_validation.specs.declared.fault.TableFaultKind.TheVariants as fault

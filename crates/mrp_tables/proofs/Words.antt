@@ -1,4 +1,4 @@
--- Names are equal where their keys are.
+-- The reader of tables: by its keys, names are equal where their keys are.
 use Rattle.std.proofs.Common.{◌≡◌, ◌<◌, ◌≤◌, ℕ, Bool, true, false, nat_le, ◌==◌, ◌&&◌, eq-eqb, if◌then◌else◌, Option, Some, None, zero, suc, ◌+◌, ◌*◌, List, []}
 use Rattle.std.proofs.Common.{◌∷◌, ◌++◌, length, take, drop, get_or, refl, ap, sym, ◌∙◌, subst, arith, Fits, w8}
 use Rattle.std.specs.List.{All}

@@ -1,4 +1,4 @@
--- What a bill, a demand or a receipt row says of pairs.
+-- The reader of tables: what it finds that a bill, a demand or a receipt row says of pairs.
 use Rattle.std.specs.Prelude.{ℕ, List, [], Result, Ok}
 use Rattle.mrp_master_data.specs.declared.numbers.PairNo.{PairNo}
 use Rattle.mrp_master_data.specs.Table.{Table, horizon}

@@ -1,5 +1,6 @@
--- Bills, demands, receipts and shipments: what such a row says is of pairs and lanes alone, not of one another. It is
--- read of the table before it, and taken into the table later, where a bill row may be a second one of its pairs.
+-- The reader of tables: rows that it may read apart. What bills, demands, receipts and shipments say is of pairs and lanes
+-- alone, not of one another. It is read of the table before it, and taken into the table later, where a bill row may be a
+-- second one of its pairs.
 use Rattle.std.specs.Prelude.{◌≡◌, ℕ, List, [], ◌∷◌, length, nat_lt, not, Some, Result, Ok, Err}
 use Rattle.mrp_qty.specs.declared.limits.TheConstants.{MOST_BILLS, MOST_OF_A_KIND}
 use Rattle.mrp_master_data.specs.Growing.{with_bill, with_demand, with_receipt, with_ship}

@@ -1,4 +1,4 @@
--- What the steps of reading answer, in the words of the grammar.
+-- Reading a table: what its steps answer, in the words of the grammar.
 use Rattle.std.specs.Prelude.{◌≡◌, ℕ, ◌<◌, true, List, ◌++◌, length, map, All, Some, None, Result, Ok, Err}
 use Rattle.mrp_tables.specs.declared.draft.Draft.{Draft}
 use Rattle.mrp_validation.specs.declared.fault.TableFault.{TableFault}

@@ -1,4 +1,4 @@
--- Names as numbers, and what finds a plant, an item or a pair by them.
+-- The reader of tables: names as the numbers by which it finds a plant, an item or a pair.
 use Rattle.std.specs.Prelude.{◌≡◌, ℕ, ◌+◌, ◌*◌, ◌%◌, ◌∷◌, [], List, map, take, drop, All}
 use Rattle.std.specs.List.{IsDistinct, slice_index_or}
 use Rattle.std.specs.Str.{bytes_eq}

@@ -1,3 +1,4 @@
+-- The reader of tables: what its contracts cite.
 pub mod Amounts
 pub mod Bulk
 pub mod Drafts

@@ -1,4 +1,4 @@
--- What is true of the rows while they are read.
+-- Reading a table: what is true of the draft while its rows are read.
 use Rattle.std.specs.Prelude.{◌≡◌, ℕ, ◌+◌, ◌*◌, ◌≤◌, ◌<◌, ◌==◌, ◌&&◌, ◌||◌, ◌∷◌, [], List, length, map, IfSome, OnSome}
 use Rattle.std.specs.Prelude.{Bool, true, not, nat_lt}
 use Rattle.std.specs.Prelude.{Option, Some, None, is_some, option_map, position, ok_or, Result, Ok}

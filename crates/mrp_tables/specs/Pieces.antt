@@ -1,4 +1,4 @@
--- A table's text in pieces, each cut behind a line feed: what is read of a piece alone is read of it within the text.
+-- Reading a table in pieces, each cut behind a line feed: what is read of a piece alone is read of it within the text.
 use Rattle.std.specs.Prelude.{◌≡◌, ℕ, ◌+◌, ◌==◌, All, Bool, true, false, List, [], ◌∷◌, ◌++◌, drop, Option, Some, None, option_map, Result, Ok, Err}
 use Rattle.std.specs.List.{list_any}
 use Rattle.std.specs.Io.KnownBytes.{Keeps}

@@ -1,4 +1,4 @@
--- What a reader with bytes in front of it has left.
+-- The reader of tables: what it has left where it reads bytes in front and a reader behind them.
 use Rattle.std.specs.Prelude.{ℕ, List, [], drop, if◌then◌else◌, Option, Some}
 use Rattle.std.specs.Io.KnownBytes.{prepend_known}
 use Rattle.mrp_tables.specs.declared.source.Source.{Source}

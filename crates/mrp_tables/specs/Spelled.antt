@@ -1,4 +1,4 @@
--- What a row spells.
+-- The reader of tables: what it finds that a row spells.
 use Rattle.std.specs.Prelude.{ℕ, ◌≤◌, List}
 use Rattle.mrp_lot.specs.Lot.{IsRule}
 use Rattle.mrp_lot.specs.declared.rule.TheConstants.{LONGEST_LEAD}

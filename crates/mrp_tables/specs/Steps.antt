@@ -1,4 +1,4 @@
--- How many steps reading has taken where it answers a fault.
+-- Reading a table: how many steps it has taken where it answers a fault.
 use Rattle.std.specs.Prelude.{◌≡◌, ◌⊎◌, ℕ, ◌+◌, max, List, length}
 use Rattle.mrp_master_data.specs.Table.{Table}
 use Rattle.mrp_master_data.specs.Turns.{row_count}

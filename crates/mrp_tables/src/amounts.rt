@@ -1,5 +1,5 @@
-//! Bill, demand and receipt rows, tested against the rows before them. Names that find a pair aren't tested for being
-//! names.
+//! The reader of tables: bill, demand and receipt rows, tested against the rows before them. Names that find a pair
+//! aren't tested for being names.
 
 use crate::draft::{BillKey, Draft};
 use crate::spelled::{spelled_amount, spelled_bill};

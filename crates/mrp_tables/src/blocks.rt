@@ -1,4 +1,4 @@
-//! A table read by blocks, which are cut into pieces and read side by side.
+//! Reading a table by blocks, which are cut into pieces and read side by side.
 //!
 //! The rows up to the last pair are read on the calling thread, a piece at a time. Behind them threads read a piece
 //! each, beside the table as it stands, and the calling thread takes what they noted in order. A piece has what a read

@@ -1,6 +1,6 @@
-//! Bills, demands, receipts and shipments: most rows of a table. What they say is of pairs and lanes alone and not of
-//! one another, so they may be read in any order. They are taken into the table in theirs, where a bill row may be a
-//! second one of its pairs.
+//! The reader of tables: bills, demands, receipts and shipments, most rows of a table. What they say is of pairs and lanes
+//! alone and not of one another, so they may be read in any order. They are taken into the table in theirs, where a bill
+//! row may be a second one of its pairs.
 
 ghost use Rattle.std.specs.Prelude.{◌≡◌};
 ghost use Rattle.mrp_tables.specs.Bulk.{kind_of_bulk};

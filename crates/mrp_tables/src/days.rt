@@ -1,4 +1,4 @@
-//! The dates on which periods begin, each tested against the day rows before it.
+//! The reader of tables: the dates on which periods begin, each tested against the day rows before it.
 
 use crate::draft::Draft;
 use crate::spelling::ranged;

@@ -1,4 +1,4 @@
-//! The table as far as it is read.
+//! The reader of tables: its draft, the table as far as it is read.
 
 ghost use Rattle.std.specs.Prelude.{◌≡◌, ◌+◌, OnOk, IfOk};
 

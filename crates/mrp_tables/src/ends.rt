@@ -1,4 +1,4 @@
-//! The end of the table, which says how many rows stand above it.
+//! The reader of tables: the end row, which says how many rows stand above it.
 
 use crate::draft::Draft;
 use crate::spelling::ranged;

@@ -1,4 +1,5 @@
-//! Firm planned orders, tested against the rows before them. Names that find a pair aren't tested for being names.
+//! The reader of tables: firm planned orders, tested against the rows before them. Names that find a pair aren't tested
+//! for being names.
 
 use crate::draft::Draft;
 use crate::spelled::spelled_firm;

@@ -1,5 +1,5 @@
-//! Shipment, cumulative and reset rows, tested against the rows before them. Names that find a plant and a pair aren't
-//! tested for being names.
+//! The reader of tables: shipment, cumulative and reset rows, tested against the rows before them. Names that find a
+//! plant and a pair aren't tested for being names.
 
 ghost use Rattle.std.specs.Prelude.{◌≡◌, IfOk};
 ghost use Rattle.mrp_tables.specs.Lists.{key_between};

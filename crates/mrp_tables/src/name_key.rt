@@ -1,4 +1,4 @@
-//! The keys by which names and pairs are found.
+//! The reader of tables: the keys by which it finds names and pairs.
 
 ghost use Rattle.std.specs.Prelude.{◌≡◌, ◌≤◌, length, nat_le, if◌then◌else◌, Some, None};
 ghost use Rattle.mrp_tables.specs.Keys.{key_of, mixed, mixed_with, word_of};

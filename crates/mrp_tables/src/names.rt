@@ -1,4 +1,4 @@
-//! The plants, the items and the pairs of the rows so far, found by their names.
+//! The reader of tables: the plants, the items and the pairs of the rows so far, found by their names.
 
 ghost use Rattle.std.specs.Prelude.{◌≡◌, ℕ, List, position};
 ghost use Rattle.std.specs.Str.{bytes_eq};

@@ -1,4 +1,4 @@
-//! Plant and pair rows, tested against the rows before them.
+//! The reader of tables: plant and pair rows, tested against the rows before them.
 
 ghost use Rattle.std.specs.Prelude.{◌≡◌, map};
 ghost use Rattle.mrp_master_data.specs.SupplyParsing.{named_sources};

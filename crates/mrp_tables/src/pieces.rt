@@ -1,4 +1,4 @@
-//! A piece of a table's text: what its rows say, read by a csv reader of its own, where each of them is a bill, a
+//! Reading a table in pieces: what the rows of one say, read by a csv reader of its own, where each of them is a bill, a
 //! demand, a receipt or a shipment without a fault. What isn't so plain is read again by the one loop.
 
 ghost use Rattle.std.specs.Prelude.{◌≡◌, ◌≤◌, [], false, true, IfOk, OnOk, length, option_map};

@@ -1,4 +1,5 @@
-//! Policies of pairs, tested against the rows before them. Names that find a pair aren't tested for being names.
+//! The reader of tables: policies of pairs, tested against the rows before them. Names that find a pair aren't tested
+//! for being names.
 
 use crate::draft::Draft;
 use crate::spelled::spelled_policy;

@@ -1,4 +1,4 @@
-//! A table read from a text of csv rows.
+//! Reading a table from a text of csv rows.
 
 ghost use Rattle.std.specs.Prelude.{◌≡◌, ◌+◌, ◌≤◌, ◌<◌, max, true, false, [], length, Ok, Err, MatchResult, IfOk};
 ghost use Rattle.std.specs.Prelude.{◌&&◌, not, IfErr, OnOk, option_map};

@@ -1,4 +1,5 @@
-//! A reader with bytes in front of it: those that were taken of it, and are to be read again.
+//! The reader of tables: what it reads from, bytes in front, those that were taken and are to be read
+//! again, and a reader behind them.
 
 ghost use Rattle.std.specs.Prelude.{◌≤◌, length};
 

@@ -1,4 +1,4 @@
-//! What the fields of a row spell.
+//! The reader of tables: what the fields of a row spell, kind by kind.
 
 ghost use Rattle.std.specs.Prelude.{◌≡◌, ◌≤◌, ◌<◌, true, IfOk};
 ghost use Rattle.mrp_qty.specs.declared.horizon.TheConstants.{LONGEST};

@@ -1,4 +1,4 @@
-//! Fields of a row: names and numbers in their ranges.
+//! The reader of tables: fields of a row that are names, and numbers in their ranges.
 
 ghost use Rattle.std.specs.Prelude.{◌≡◌, ◌≤◌, IfOk};
 ghost use Rattle.mrp_master_data.specs.Table.{IsName};

@@ -1,4 +1,4 @@
-//! The steps of reading, counted for contracts alone.
+//! Reading a table: its steps, counted for contracts alone.
 
 ghost use Rattle.std.specs.Prelude.{◌≡◌, ◌+◌, ◌<◌, ℕ};
 

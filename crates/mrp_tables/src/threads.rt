@@ -1,4 +1,4 @@
-//! A table read by threads, from its first row to its last.
+//! Reading a table by threads, from its first row to its last.
 
 ghost use Rattle.std.specs.Prelude.{◌≡◌, ◌≤◌, ◌<◌, true, Some, None, IfOk, IfErr, IfSome, OnOk, length, option_map};
 ghost use Rattle.std.specs.Io.KnownBytes.{Consumes, prepend_known};

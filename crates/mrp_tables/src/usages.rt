@@ -1,4 +1,5 @@
-//! Usages of components, tested against the rows before them. Names that find a pair aren't tested for being names.
+//! The reader of tables: usages of components, tested against the rows before them. Names that find a pair aren't
+//! tested for being names.
 
 ghost use Rattle.std.specs.Prelude.{◌≡◌, ◌≤◌, ◌<◌, true, IfOk};
 ghost use Rattle.mrp_qty.specs.declared.limits.TheConstants.{MOST_PER};

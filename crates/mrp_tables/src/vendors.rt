@@ -1,4 +1,5 @@
-//! Vendors of bought pairs, tested against the rows before them. Names that find a pair aren't tested for being names.
+//! The reader of tables: vendors of bought pairs, tested against the rows before them. Names that find a pair aren't
+//! tested for being names.
 
 ghost use Rattle.std.specs.Prelude.{◌≡◌, ◌-◌, ◌≤◌, ◌<◌, true, IfOk, IfSome};
 ghost use Rattle.mrp_qty.specs.declared.quantity.TheConstants.{MOST};

@@ -1,4 +1,4 @@
--- What every accepted table says, and that what is read is one.
+-- What validation accepts is a table, and what every accepted one says.
 use Rattle.std.proofs.Common.{◌≡◌, ℕ, ◌+◌, ◌<◌, Bool, true, false, not, ltb, List, [], ◌∷◌, position, if◌then◌else◌, Option, Some, None, Result, Ok, Err, refl}
 use Rattle.std.proofs.Common.{ap, sym, subst, arith}
 use Rattle.std.specs.List.{All}

@@ -1,4 +1,4 @@
--- What follows from how rows are to be read.
+-- What follows for validation from how rows are to be read: whole, or any.
 use Rattle.std.proofs.Common.{◌≡◌, ℕ, ◌+◌, ◌&&◌, Bool, true, false, not, if◌then◌else◌, List, [], ◌∷◌, length, Option, Some, None, Result, Ok, Err, IfErr}
 use Rattle.std.proofs.Common.{refl, ap, sym, ◌∙◌, subst}
 use Rattle.mrp_commands.specs.declared.reading.Reading.{Reading}

@@ -1,4 +1,4 @@
--- Day rows that are written of a table are read as its own, one after the other.
+-- A valid table read back: the day rows that are written of it are read as its own, one after the other.
 use Rattle.std.proofs.Common.{◌≡◌, ◌≤◌, ◌<◌, ◌^◌, ℕ, ◌+◌, ◌-◌, true, List, [], ◌∷◌, ◌++◌, codes, map, Some, Ok, false, refl, sym, arith}
 use Rattle.std.specs.List.{list_all}
 use Rattle.std.specs.Prelude.{decimal}

@@ -1,4 +1,4 @@
--- The end row that is written of a table is read as its own, behind all the others.
+-- A valid table read back: the end row that is written of it is read as its own, behind all the others.
 use Rattle.std.proofs.Common.{◌≡◌, ◌≤◌, ◌<◌, ◌^◌, ℕ, Bool, true, false, if◌then◌else◌, List, [], ◌∷◌, codes, length, Some, Ok, refl, ap, sym, subst}
 use Rattle.std.proofs.Common.{arith}
 use Rattle.std.specs.List.{list_all}

@@ -1,4 +1,4 @@
--- What stands at a place of a table is found there by its names.
+-- A valid table read back: what stands at a place of it is found there by its names.
 use Rattle.std.proofs.Common.{◌≡◌, ◌<◌, ℕ, ◌==◌, ◌&&◌, ◌||◌, Bool, true, false, get_or, List, [], ◌∷◌, ◌++◌, length, Some, option_map, position, slice_get}
 use Rattle.std.proofs.Common.{unwrap_or, refl, ap, sym, ◌∙◌, subst, arith}
 use Rattle.std.specs.List.{All, IsDistinct, list_any}

@@ -1,4 +1,4 @@
--- A pair row that is written of a table is read as its pair, with its item and its sources.
+-- A valid table read back: a pair row that is written of it is read as its pair, with its item and its sources.
 use Rattle.std.proofs.Common.{◌≡◌, ◌≤◌, ◌<◌, ◌^◌, ℕ, zero, suc, ◌+◌, ◌==◌, ◌&&◌, ◌⊎◌, inl, inr, ⊎_elim, Bool, true, false, ltb, if◌then◌else◌, get_or, max}
 use Rattle.std.proofs.Common.{List, [], ◌∷◌, ◌++◌, codes, length, map, Option, Some, None, option_map, position, slice_get, unwrap_or, Ok, refl, ap, sym, ◌∙◌}
 use Rattle.std.proofs.Common.{subst, append_assoc, append-nil, arith}

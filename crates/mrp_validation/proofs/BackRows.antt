@@ -1,4 +1,5 @@
--- Bill, demand, receipt, ship, cum, reset, firm, policy and usage rows that are written of a table are read as its own, one after the other.
+-- A valid table read back: the bill, demand, receipt, ship, cum, reset, firm, policy and usage rows that are written of
+-- it are read as its own, one after the other.
 use Rattle.std.proofs.Common.{◌≡◌, ◌≤◌, ◌<◌, ◌^◌, ℕ, ◌+◌, ◌-◌, ◌==◌, ◌&&◌, Bool, true, false, leb, ltb, List, [], ◌∷◌, ◌++◌, codes, length, map, Option, Some, None}
 use Rattle.std.proofs.Common.{option_map, slice_get, unwrap_or, Ok, refl, ap, sym, ◌∙◌, subst, append_assoc, append-nil, arith}
 use Rattle.std.specs.List.{list_all}

@@ -1,4 +1,4 @@
--- A table that is written out is read as it.
+-- A valid table read back: written out, it is read as itself.
 use Rattle.std.proofs.Common.{◌≡◌, ◌≤◌, ◌<◌, ◌^◌, ℕ, ◌+◌, ◌-◌, ◌*◌, pos, ◌↔◌, true, false, ltb, List, [], ◌∷◌, ◌++◌, codes, length, map, Some, Ok, refl}
 use Rattle.std.proofs.Common.{ap, sym, ◌∙◌, subst, arith}
 use Rattle.std.specs.List.{list_all, list_any}

@@ -1,4 +1,4 @@
--- What is written of names, numbers, days, rules and supplies is ASCII, so that it is text.
+-- A valid table read back: what is written of names, numbers, days, rules and supplies is ASCII, so that it is text.
 use Rattle.std.proofs.Common.{◌≡◌, ◌<◌, ℕ, ◌-◌, zero, suc, Bool, true, ltb, List, [], ◌∷◌, codes, refl, arith}
 use Rattle.std.specs.Char.{is_ascii_digit}
 use Rattle.std.specs.List.{All, join_with_byte, list_all}

@@ -1,4 +1,4 @@
--- Vendor rows that are written of a table are read as its own, one after the other.
+-- A valid table read back: the vendor rows that are written of it are read as its own, one after the other.
 use Rattle.std.proofs.Common.{◌≡◌, ◌≤◌, ◌<◌, ◌^◌, ℕ, ◌-◌, true, false, get_or, List, [], ◌∷◌, ◌++◌, codes, length, map, Option}
 use Rattle.std.proofs.Common.{Some, None, IfSome, option_map, slice_get, unwrap_or, Ok, refl, ap, sym, ◌∙◌, arith}
 use Rattle.std.specs.List.{list_any}

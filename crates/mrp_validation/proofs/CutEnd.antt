@@ -1,5 +1,5 @@
--- A table that ends with its `end` row is no other table cut off: nothing stands behind that row, and a row cut off in it,
--- yet of eight fields, is the whole row.
+-- A valid table that ends with its `end` row is no other one cut off: nothing stands behind that row, and a row cut off
+-- in it, yet of eight fields, is the whole row.
 use Rattle.std.proofs.Common.{◌≡◌, inl, inr, ℕ, ◌+◌, ◌<◌, true, List, [], ◌∷◌, ◌++◌, length, Some, Result, Ok, Err, ap, arith, length-append, refl, sym}
 use Rattle.std.proofs.Common.{subst, ◌∙◌}
 use Rattle.std.proofs.lemmas.List.{nil_from_length}

@@ -1,4 +1,5 @@
--- The rows of a text cut off begin the rows of the whole text; the last may be cut off too.
+-- For valid tables that are whole: the rows of a text cut off begin the rows of the whole text; the last may be cut off
+-- too.
 use Rattle.std.proofs.Common.{◌≡◌, ◌⊎◌, inl, inr, ℕ, zero, suc, ◌+◌, ◌==◌, Bool, true, false, if◌then◌else◌, List, [], ◌∷◌, ◌++◌, length, Option, Some, None}
 use Rattle.std.proofs.Common.{append_assoc, ap, arith, length-append, refl, ◌∙◌}
 use Rattle.std.proofs.lemmas.List.{append-nil}

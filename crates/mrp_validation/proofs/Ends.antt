@@ -1,4 +1,4 @@
--- The end row of a table stands behind all its other rows, and says how many they are.
+-- The end row of a valid table stands behind all its other rows, and says how many they are.
 use Rattle.std.proofs.Common.{◌≡◌, ℕ, ◌+◌, Bool, true, false, if◌then◌else◌, List, [], ◌∷◌, ◌++◌, codes, length, map, Result, Ok, Err, refl, ap, sym}
 use Rattle.std.proofs.Common.{◌∙◌, subst, append_assoc, arith}
 use Rattle.std.specs.Str.{bytes_eq}

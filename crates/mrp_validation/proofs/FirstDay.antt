@@ -1,4 +1,4 @@
--- The first test that a day row fails is the fault that it has.
+-- The first of validation's tests that a day row fails is the fault that it has.
 use Rattle.std.proofs.Common.{◌≡◌, ℕ, ◌+◌, ◌-◌, ◌&&◌, Bool, true, false, cond, if◌then◌else◌, not, nat_le, nat_lt, List, Option, Some, None}
 use Rattle.std.proofs.Common.{is_some, unwrap_or, Ok, Err, ok_or, refl, sym, ap, ◌∙◌, arith}
 use Rattle.std.specs.Result.{result_err}

@@ -1,4 +1,4 @@
--- The test that an end row fails is the fault that it has.
+-- The test of validation that an end row fails is the fault that it has.
 use Rattle.std.proofs.Common.{◌≡◌, ℕ, cond, not, List, Option, Some, None, is_some, ok_or, refl}
 use Rattle.std.specs.Result.{result_err}
 use Rattle.mrp_master_data.specs.Parsing.{number_within}

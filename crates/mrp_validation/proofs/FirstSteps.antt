@@ -1,4 +1,4 @@
--- A test and those after it, and the fault of the first that isn't passed.
+-- Validation's lists of tests: a test and those after it, and the fault of the first that isn't passed.
 use Rattle.std.proofs.Common.{◌≡◌, ℕ, Bool, true, false, cond, if◌then◌else◌, not, List, [], ◌∷◌, ◌++◌, Some, None}
 use Rattle.std.proofs.Common.{Result, Ok, Err, refl, sym, ◌∙◌}
 use Rattle.std.specs.Result.{result_err}

@@ -1,4 +1,4 @@
--- The first test that a usage row fails is the fault that it has.
+-- The first of validation's tests that a usage row fails is the fault that it has.
 use Rattle.std.proofs.Common.{◌≡◌, ℕ, ◌-◌, ◌&&◌, Bool, true, false, cond, if◌then◌else◌, not, nat_lt, List, [], ◌∷◌, length, Option, Some, None}
 use Rattle.std.proofs.Common.{is_some, Ok, Err, ok_or, refl, sym, ap, ◌∙◌}
 use Rattle.std.specs.Result.{result_err}

@@ -1,4 +1,4 @@
--- The first test that a vendor row fails is the fault that it has.
+-- The first of validation's tests that a vendor row fails is the fault that it has.
 use Rattle.std.proofs.Common.{◌≡◌, ℕ, ◌-◌, ◌&&◌, ◌||◌, Bool, true, false, cond, if◌then◌else◌, not, List, [], ◌∷◌, Option, Some, None}
 use Rattle.std.proofs.Common.{is_some, option_map, unwrap_or, Result, Ok, Err, ok_or, refl, sym, ap, ◌∙◌}
 use Rattle.std.specs.Result.{result_err}

@@ -1,4 +1,4 @@
--- What each row kept keeps.
+-- A valid row more keeps a table valid.
 use Rattle.std.proofs.Common.{◌≡◌, ◌≤◌, ◌<◌, ◌&&◌, ℕ, ltb, leb, true, List, Result, Ok, refl, subst, arith}
 use Rattle.std.proofs.lemmas.Bool.{and_parts}
 use Rattle.std.proofs.lemmas.Bool.Decides.{nat_tests}

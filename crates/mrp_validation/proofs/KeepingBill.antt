@@ -1,4 +1,4 @@
--- A bill row more: its parent is made at the plant of its component, and no other has both.
+-- A valid bill row more: its parent is made at the plant of its component, and no other has both.
 use Rattle.std.proofs.Common.{◌≡◌, ℕ, ◌==◌, ◌&&◌, true, false, List, [], ◌∷◌, Option, Some, None, option_map, position, slice_get, unwrap_or, Ok}
 use Rattle.std.proofs.Common.{refl, ap, sym, ◌∙◌, subst}
 use Rattle.std.specs.List.{list_any}

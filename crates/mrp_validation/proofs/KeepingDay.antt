@@ -1,4 +1,4 @@
--- A day row more: the calendar has one period more whose first day is given, and nothing else changes.
+-- A valid day row more: the calendar has one period more whose first day is given, and nothing else changes.
 use Rattle.std.proofs.Common.{◌≡◌, ℕ, ◌+◌, ◌-◌, List, Result, Ok, Err, ap, arith}
 use Rattle.mrp_cal.specs.Begins.{begins, latest_begun}
 use Rattle.mrp_cal.specs.Calendar.{CalendarTerms, IsCalendar}

@@ -1,4 +1,4 @@
--- An end row: the table says that it ends, and nothing else changes.
+-- A valid end row: the table says that it ends, and nothing else changes.
 use Rattle.mrp_master_data.specs.Growing.{with_end}
 use Rattle.mrp_master_data.specs.Table.{IsOnce, IsSourced, Table}
 

@@ -1,4 +1,5 @@
--- Rows whose numbers are below n, no two of them equal, are at most n.
+-- For how many rows of a kind a valid table has at most: rows whose numbers are below n, no two of them equal, are at
+-- most n.
 use Rattle.std.proofs.Common.{◌≡◌, ◌≤◌, ◌<◌, ℕ, eqb, ◌||◌, Bool, true, false, List, [], ◌∷◌, map, length, refl, arith}
 use Rattle.std.specs.List.{All, AllByRecursion, IsDistinct, list_any}
 use Rattle.std.proofs.lemmas.Bool.{eqb-true}

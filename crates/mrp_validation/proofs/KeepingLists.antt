@@ -1,4 +1,4 @@
--- Lists with elements more: what is distinct, ordered, found or kept.
+-- For valid rows that a table has more: lists with elements more, and what of them is distinct, ordered, found or kept.
 use Rattle.std.proofs.Common.{◌≡◌, ◌≤◌, ◌<◌, ℕ, get_or, ◌+◌, ◌-◌, Bool, true, false, List, [], ◌∷◌, ◌++◌, length, position, slice_get, Option, None, Some, refl}
 use Rattle.std.proofs.Common.{ap, sym, ◌∙◌, ⊎_elim, arith}
 use Rattle.std.specs.List.{All, list_any, filter}

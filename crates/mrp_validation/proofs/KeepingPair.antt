@@ -1,4 +1,4 @@
--- A pair row more, with its item and its sources.
+-- A valid pair row more, with its item and its sources.
 use Rattle.std.proofs.Common.{◌≡◌, ◌≤◌, ◌<◌, ℕ, ◌+◌, ◌*◌, ◌==◌, ◌&&◌, ◌||◌, Bool, true, false, not, ltb, if◌then◌else◌, get_or, List, [], ◌∷◌, ◌++◌, map}
 use Rattle.std.proofs.Common.{length, Option, Some, None, is_some, option_map, position, slice_get, unwrap_or, Ok, refl, ap, sym, ◌∙◌, subst, ⊎_elim, arith}
 use Rattle.std.specs.List.{All, IsDistinct, filter, list_all, list_any}

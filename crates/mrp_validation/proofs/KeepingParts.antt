@@ -1,4 +1,4 @@
--- What is read of a row that is kept: what its fields spell, and each test of its grammar.
+-- What is read of a valid row: what its fields spell, and each test of the grammar.
 use Rattle.std.proofs.Common.{◌-◌, ◌≡◌, ℕ, Bool, true, false, not, ltb, List, length, Some, is_some, Ok}
 use Rattle.std.proofs.lemmas.Bool.{not-true}
 use Rattle.mrp_qty.specs.declared.limits.TheConstants.{MOST_BILLS, MOST_OF_A_KIND, MOST_USAGES}

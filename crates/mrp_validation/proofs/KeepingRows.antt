@@ -1,4 +1,4 @@
--- Rows of one list more: plants, demands, receipts, and rows on what one plant ships to another.
+-- One valid row more of a list: plants, demands, receipts, and rows on what one plant ships to another.
 use Rattle.std.proofs.Common.{◌≡◌, ℕ, true, false, not, List, [], Option, Some, length, ltb, Ok, refl, ap, sym, ◌∙◌, subst, arith}
 use Rattle.std.specs.List.{list_any}
 use Rattle.std.proofs.lemmas.Bool.{not-true}

@@ -1,4 +1,4 @@
--- What a table keeps whose items, pairs and sources stay: each fact of the other lists is given anew.
+-- What a valid table keeps whose items, pairs and sources stay: each fact of the other lists is given anew.
 use Rattle.std.proofs.Common.{◌≡◌, true, false, sym, subst}
 use Rattle.std.specs.List.{All, IsDistinct, list_any}
 use Rattle.std.specs.Str.{bytes_eq}

@@ -1,5 +1,5 @@
--- What a pair row spells: a name, numbers in their ranges, and sources that are other plants each, with
--- shares that follow one another to the whole.
+-- What a valid pair row spells: a name, numbers in their ranges, and sources that are other plants each, with shares
+-- that follow one another to the whole.
 use Rattle.std.proofs.Common.{◌≡◌, ◌≤◌, ℕ, List, [], ◌∷◌, length, map, Ok, Some, sym, subst, arith}
 use Rattle.std.specs.List.{All}
 use Rattle.std.proofs.lemmas.List.Elements.{All-nil}

@@ -1,4 +1,5 @@
--- What a chain of tests says of each where it answers a value, and of its fault where it doesn't, whatever the faults are.
+-- Validation by a chain of tests: what it says of each where it answers a value, and of its fault where it doesn't,
+-- whatever the faults are.
 use Rattle.std.proofs.Common.{◌≡◌, Bool, true, false, Option, Some, None, Result, Ok, Err, ok_or, if◌then◌else◌, IfErr, refl}
 use Rattle.std.specs.Result.{IsErrAnd}
 use Rattle.mrp_validation.specs.Grammar.{◌>>=◌, check}

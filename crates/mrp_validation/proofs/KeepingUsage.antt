@@ -1,4 +1,4 @@
--- A usage row more: a bill row joins its parent and its component, and no other is of both from its period on.
+-- A valid usage row more: a bill row joins its parent and its component, and no other is of both from its period on.
 use Rattle.std.proofs.Common.{◌≡◌, ℕ, ◌==◌, ◌&&◌, true, false, List, Option, Some, Ok, refl, ap, sym, ◌∙◌, subst}
 use Rattle.std.specs.List.{list_any}
 use Rattle.std.proofs.lemmas.List.Elements.{All-push}

@@ -1,3 +1,4 @@
+-- The laws of validation, proved: first faults, rows kept, and valid tables written out and read back.
 pub mod Accept
 pub mod Asked
 pub mod BackDay

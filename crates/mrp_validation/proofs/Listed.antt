@@ -1,4 +1,4 @@
--- Each fault that a row may have stands in the list of its kind.
+-- Each fault that validation may find in a row stands in the list of its kind.
 use Rattle.std.proofs.Common.{◌≡◌, ℕ, ◌-◌, Bool, true, false, List, length, Some, is_some, not, nat_lt, ◌==◌, Result, Ok, Err, IfErr, refl, sym, ap, ◌∙◌, subst}
 use Rattle.std.proofs.Common.{if◌then◌else◌, Option, None, arith}
 use Rattle.std.specs.List.{Contains, list_all}

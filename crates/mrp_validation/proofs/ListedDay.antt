@@ -1,4 +1,4 @@
--- Each fault that a day row may have stands in its list.
+-- Each fault that validation may find in a day row stands in its list.
 use Rattle.std.proofs.Common.{ℕ, ◌+◌, ◌-◌, Bool, true, false, if◌then◌else◌, nat_lt, List, Option, Some, None, Ok, Err, IfErr}
 use Rattle.mrp_cal.specs.Begins.{begins, begun_on, begun_with, day_spelled, latest_begun}
 use Rattle.mrp_cal.specs.Calendar.{CalendarTerms, first_day, last_date, last_day}

@@ -1,4 +1,4 @@
--- The first source that takes from a pair without a row.
+-- Validation's last test: the first source that takes from a pair without a row.
 use Rattle.std.proofs.Common.{◌≡◌, true, false, not, List, [], ◌∷◌, ◌++◌, Some, None, refl, ap, ◌∙◌, arith}
 use Rattle.std.specs.List.{All}
 use Rattle.std.proofs.lemmas.Bool.{lt-ltb, le-ltb}

@@ -1,4 +1,4 @@
--- Rows are read one way: their terms have one calendar or one fault, and so one answer follows.
+-- Validation has one answer: rows are read one way, and their terms have one calendar or one fault.
 use Rattle.std.proofs.Common.{◌≡◌, ◌≤◌, ℕ, List, [], ◌∷◌, Result, Ok, Err, pos, refl, sym, ap, ◌∙◌, subst, arith}
 use Rattle.std.proofs.lemmas.Int.{ints}
 use Rattle.mrp_cal.proofs.Days.{one_day}

@@ -1,4 +1,5 @@
--- The records of a text: each but one at the very end eats a byte, so those that are counted are all.
+-- For the validation of a text: each of its records but one at the very end eats a byte, so those that are counted are
+-- all.
 use Rattle.std.proofs.Common.{◌≡◌, ◌⊎◌, inl, inr, ℕ, zero, suc, ◌+◌, ◌<◌, Bool, true, false, if◌then◌else◌, List, [], ◌∷◌, length, Option, Some, None, refl, ap}
 use Rattle.std.proofs.Common.{arith, add-one}
 use Rattle.csv.specs.Machine.{Read, ends_at_end, field_after, fields_after, is_end, next_record, step}

@@ -1,4 +1,4 @@
--- The whole table: the first row, the rows after it, and the test that waits for the last.
+-- Validation of the whole table: the first row, the rows after it, and the test that waits for the last.
 use Rattle.std.proofs.Common.{◌≡◌, ℕ, false, List, [], ◌∷◌, Option, Some, None, Result, Ok, Err, IfErr, MatchResult, refl, sym, ap, ◌∙◌, subst, option_map}
 use Rattle.std.proofs.Common.{arith}
 use Rattle.std.specs.List.{list_all}

@@ -1,4 +1,4 @@
--- A day row is what is written of the period whose first day it gives.
+-- A valid table written out: a day row is what is written of the period whose first day it gives.
 use Rattle.std.proofs.Common.{◌≡◌, ℕ, ◌+◌, ◌-◌, List, [], ◌∷◌, ◌++◌, Ok, refl}
 use Rattle.std.specs.Prelude.{decimal}
 use Rattle.mrp_cal.specs.declared.begun.Begun.{Begun}

@@ -1,4 +1,4 @@
--- The first day of a calendar has one text.
+-- A valid table written out: the first day of its calendar has one text.
 use Rattle.std.proofs.Common.{◌≡◌, ℕ, List, pos}
 use Rattle.mrp_cal.specs.Calendar.{CalendarTerms}
 use Rattle.mrp_cal.specs.DateText.{SpellsDay}

@@ -1,4 +1,4 @@
--- An end row is what is written of the number of rows above it.
+-- A valid table written out: an end row is what is written of the number of rows above it.
 use Rattle.std.proofs.Common.{◌≡◌, ℕ, ◌+◌, Bool, true, false, if◌then◌else◌, List, [], ◌∷◌, ◌++◌, Ok, ap, ◌∙◌, sym, arith}
 use Rattle.std.specs.Prelude.{decimal}
 use Rattle.mrp_master_data.specs.Growing.{with_end}

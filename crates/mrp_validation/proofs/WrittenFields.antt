@@ -1,4 +1,4 @@
--- What the fields of a row that was read spell, and the names of what it names.
+-- A valid row written out: what its fields spell, and the names of what it names.
 use Rattle.std.proofs.Common.{◌≡◌, ℕ, ◌==◌, ◌&&◌, Bool, true, false, if◌then◌else◌, get_or, List, [], ◌∷◌, length, codes, Option, Some, None, option_map}
 use Rattle.std.proofs.Common.{position, unwrap_or, Result, Ok, Err, ok_or, refl, ap, sym, ◌∙◌, subst, arith}
 use Rattle.std.specs.List.{list_all}

@@ -1,5 +1,5 @@
--- A pair row is what is written of the pair that it adds, its item and its sources; and what is written of the pairs
--- before it stays.
+-- A valid table written out: a pair row is what is written of the pair that it adds, its item and its sources; and what
+-- is written of the pairs before it stays.
 use Rattle.std.proofs.Common.{◌≡◌, ◌≤◌, ◌<◌, ℕ, ◌+◌, Bool, true, false, if◌then◌else◌, get_or, max, List, [], ◌∷◌, ◌++◌, map, length, Option, position}
 use Rattle.std.proofs.Common.{slice_index_or, unwrap_or, Ok, refl, ap, sym, ◌∙◌, subst, arith}
 use Rattle.std.specs.List.{All, list_any}

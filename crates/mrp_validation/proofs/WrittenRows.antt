@@ -1,4 +1,4 @@
--- Each row but a pair's is what is written of what it adds.
+-- A valid table written out: each row but a pair's is what is written of what it adds.
 use Rattle.std.proofs.Common.{◌≡◌, ℕ, ◌-◌, Bool, ltb, not, true, List, [], ◌∷◌, length, Option, Some, Ok, refl, ap, sym, ◌∙◌, subst}
 use Rattle.std.specs.Prelude.{decimal}
 use Rattle.mrp_cal.specs.Calendar.{CalendarTerms, IsCalendar}

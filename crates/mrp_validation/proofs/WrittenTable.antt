@@ -1,4 +1,4 @@
--- Rows that are read are the table written out.
+-- A valid table written out: the rows that were read are that.
 use Rattle.std.proofs.Common.{◌≡◌, ◌≤◌, ◌<◌, ℕ, ◌+◌, false, List, [], ◌∷◌, ◌++◌, length, map, Result, Ok, Err, refl, ap, sym, ◌∙◌, subst, append_assoc, append-nil}
 use Rattle.std.proofs.Common.{arith}
 use Rattle.mrp_cal.specs.Calendar.{CalendarTerms}

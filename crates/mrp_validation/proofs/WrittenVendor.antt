@@ -1,4 +1,4 @@
--- A vendor row is what is written of the vendor that it adds.
+-- A valid table written out: a vendor row is what is written of the vendor that it adds.
 use Rattle.std.proofs.Common.{◌≡◌, ℕ, ◌-◌, Bool, true, false, if◌then◌else◌, List, [], Option, Some, None, Result, Ok, refl, ap, ◌∙◌, subst}
 use Rattle.std.specs.Option.{option_map_or}
 use Rattle.std.specs.Prelude.{decimal}

@@ -1,4 +1,4 @@
--- What follows from how a table is to be read.
+-- Validation as is asked: by the grammar of a table that has to be whole, or of any.
 use Rattle.std.specs.Prelude.{◌≡◌, ◌↔◌, ℕ, ◌+◌, true, false, List, [], ◌∷◌, ◌++◌, length, Result, Ok, Err}
 use Rattle.mrp_commands.specs.declared.reading.Reading.{Reading}
 use Rattle.mrp_master_data.specs.Table.{Table}

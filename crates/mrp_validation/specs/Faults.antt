@@ -1,4 +1,5 @@
--- The faults that a row may have, for each kind of row a list in the order in which its tests are made.
+-- The faults for which validation may refuse a row, for each kind of row a list in the order in which its tests are
+-- made.
 use Rattle.std.specs.Prelude.{ℕ, ◌<◌, List, [], ◌∷◌, ◌++◌, Result, Ok, Err, IfErr}
 use Rattle.std.specs.List.{Contains}
 use Rattle.mrp_cal.specs.declared.fault.CalFault.TheVariants as cal

@@ -1,5 +1,5 @@
--- The grammar of a table, row by row. Each row is tested against the table of the rows before it, in
--- the order of the faults, and then adds to it.
+-- The grammar that validates a table, row by row. Each row is tested against the table of the rows before it, in the
+-- order of the faults, and then adds to it.
 use Rattle.std.specs.Prelude.{◌≡◌, ℕ, ◌+◌, ◌-◌, ◌==◌, ◌&&◌, ◌||◌, not, nat_lt, nat_le, Bool, true}
 use Rattle.std.specs.Prelude.{false, if◌then◌else◌, List, [], ◌∷◌, ◌++◌, length, map, codes, Option, Some}
 use Rattle.std.specs.Prelude.{None, is_some, option_map, position, slice_get, unwrap_or, Result, Ok, Err, ok_or}

@@ -1,4 +1,4 @@
--- The rows that a reader has left, and what the steps of the reading answer of them.
+-- Validation while rows are read: those that a reader has left, and what the steps of the reading answer of them.
 use Rattle.std.specs.Prelude.{◌≡◌, ℕ, ◌+◌, Bool, true, false, List, [], ◌∷◌, ◌++◌, length, Option, Some, None}
 use Rattle.std.specs.Prelude.{option_map, Result, Ok, Err}
 use Rattle.std.specs.List.{list_all}

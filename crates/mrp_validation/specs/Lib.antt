@@ -1,3 +1,4 @@
+-- The grammar that validates a table: its rows, their tests and their faults.
 pub mod Asked
 pub mod Faults
 pub mod Grammar

@@ -1,4 +1,5 @@
--- The test that waits for the last row, said once more: each source is to have a row of the pair that it takes from.
+-- Validation's test that waits for the last row, said once more: each source is to have a row of the pair that it takes
+-- from.
 use Rattle.std.specs.Prelude.{◌≡◌, List, ◌∷◌, ◌++◌, All, Ok, Err}
 use Rattle.mrp_master_data.specs.declared.rows.SourceRow.{SourceRow}
 use Rattle.mrp_master_data.specs.Table.{IsPair, source_pair, Table}

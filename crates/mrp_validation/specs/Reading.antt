@@ -1,4 +1,4 @@
--- The grammar of a whole table: its rows one after the other, and the test that waits for the last.
+-- The grammar that validates a whole table: its rows one after the other, and the test that waits for the last.
 use Rattle.std.specs.Prelude.{◌≡◌, ℕ, ◌+◌, ◌*◌, ◌≤◌, ◌<◌, ◌&&◌, not, Bool, true, false, if◌then◌else◌, List, [], ◌∷◌, ◌++◌, length}
 use Rattle.std.specs.Prelude.{Option, Some, None, Result}
 use Rattle.std.specs.Prelude.{Ok, Err}

@@ -1,6 +1,6 @@
--- The tests of a row, one for each fault that it may have, whatever the others answer; of what isn't there a test says
--- anything, since an earlier one tells that it isn't. The first test of the list that a row fails is the fault that it
--- has.
+-- Validation's tests of a row, one for each fault that it may have, whatever the others answer; of what isn't there a
+-- test says anything, since an earlier one tells that it isn't. The first test of the list that a row fails is the
+-- fault that it has.
 use Rattle.std.specs.Prelude.{◌≡◌, ℕ, ◌+◌, ◌-◌, ◌==◌, ◌&&◌, ◌||◌, not, nat_le, nat_lt, Bool, true, false}
 use Rattle.std.specs.Prelude.{List, [], ◌∷◌, ◌++◌, length, find, Option, Some, None, is_some, option_map, unwrap_or}
 use Rattle.std.specs.Result.{result_err}

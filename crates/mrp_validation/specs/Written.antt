@@ -1,5 +1,5 @@
--- A table written out: the rows that say it, kind by kind, each kind in the order of its list, field by
--- field. Nothing here speaks of reading.
+-- A valid table written out: the rows that say it, kind by kind, each kind in the order of its list, field by field.
+-- Nothing here speaks of reading.
 use Rattle.std.specs.Prelude.{◌≡◌, ◌≤◌, ℕ, ◌+◌, max, List, [], ◌∷◌, ◌++◌, codes, map, Option, Some, decimal}
 use Rattle.std.specs.Prelude.{None, if◌then◌else◌}
 use Rattle.std.specs.Option.{option_map_or}

@@ -1,4 +1,4 @@
-//! Why a table is refused, and at which row.
+//! Why validation refuses a table, and at which row.
 
 ghost use Rattle.mrp_validation.specs.declared.fault.TableFaultKind.TheVariants.{Memory};
 ghost use Rattle.std.specs.Prelude.{◌≡◌};

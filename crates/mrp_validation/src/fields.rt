@@ -1,4 +1,4 @@
-//! Fields of a row of comma-separated text, for the grammar of tables and for those of other texts.
+//! Fields of a row of comma-separated text, for the validation of tables and for the grammars of other texts.
 
 ghost use Rattle.std.specs.Prelude.{◌≡◌};
 ghost use Rattle.csv.specs.Records.{fields_of};

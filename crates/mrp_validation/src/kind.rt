@@ -1,4 +1,4 @@
-//! The kinds of rows, by their first field, and what the kind says of a row's fields and of its place.
+//! The kinds of rows of a valid table, by their first field, and what the kind says of a row's fields and of its place.
 
 ghost use Rattle.std.specs.Prelude.{◌≡◌};
 ghost use Rattle.mrp_validation.specs.Grammar.{used, may_follow};

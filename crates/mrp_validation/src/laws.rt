@@ -1,4 +1,4 @@
-//! Laws of the grammar of tables, each the contract of a function that does nothing.
+//! Laws of the grammar that validates tables, each the contract of a function that does nothing.
 ghost use Rattle.std.specs.Prelude.{◌≡◌, ◌↔◌, ◌++◌, ◌+◌, ◌*◌, ℕ, length, List, Ok, Result, true};
 ghost use Rattle.csv.specs.Reading.{AreRecords, default_config, records};
 ghost use Rattle.csv.specs.declared.parser.State.TheVariants.{StartRecord};

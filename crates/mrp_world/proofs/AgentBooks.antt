@@ -1,4 +1,5 @@
--- An agent books what continues a lane's form, so the first record of a mailbox, and nothing else.
+-- The world, event by event: a plant's agent books what continues a lane's form, so the first record
+-- of a mailbox, and nothing else.
 use Rattle.std.proofs.Common.{◌≡◌, ℕ, ◌<◌, Bool, Some, List, [], ◌∷◌, ◌++◌, length, sym, ap, ◌∙◌, subst, append_assoc}
 use Rattle.mrp_master_data.specs.Table.{Table}
 use Rattle.mrp_net.specs.declared.lane.Lane.{Lane}

@@ -1,4 +1,4 @@
--- The plans that an agent gives once all its pairs are planned.
+-- The world at its end: the plans that a plant's agent gives once all its pairs are planned.
 use Rattle.std.proofs.Common.{◌≡◌, ℕ, ◌<◌, ◌==◌, List, length, get_or, map, refl, sym, ap, ◌∙◌, subst, arith}
 use Rattle.std.specs.List.{All, filter, range_with_len}
 use Rattle.std.proofs.lemmas.Bool.{eq-eqb}

@@ -1,4 +1,4 @@
--- The lanes and pairs of a plant stand in what it sees, and no others do.
+-- The world's plants and lanes: those of a plant stand in what its agent sees, and no others do.
 use Rattle.std.proofs.Common.{◌≡◌, ℕ, length, sym, subst, Contains}
 use Rattle.std.specs.List.{filter}
 use Rattle.mrp_master_data.specs.Table.{Table}

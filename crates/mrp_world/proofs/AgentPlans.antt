@@ -1,4 +1,4 @@
--- An agent can plan what its plant can plan.
+-- The world, event by event: a plant's agent can plan what the plant can plan.
 use Rattle.std.proofs.Common.{◌≡◌, ◌↔◌, ℕ, Bool, true, false, List, [], ◌∷◌, Option, None, Some, slice_get, refl, sym, ◌∙◌, subst, Contains, All, arith}
 use Rattle.std.specs.Prelude.{IfSome, IfNone, IsTrue}
 use Rattle.std.specs.Bool.{OnTrue}

@@ -1,4 +1,4 @@
--- What an agent says of its plans and of what it has received.
+-- The world: what it reads of a plant's agent, its plans, and what it has received.
 use Rattle.std.proofs.Common.{◌≡◌, ◌↔◌, ℕ, inl, inr, Bool, true, false, Option, None, Some, unwrap_or, refl, sym, ap, ◌∙◌, subst, Contains}
 use Rattle.std.specs.Prelude.{IfSome, IfNone, IsSome, IsTrue}
 use Rattle.std.proofs.lemmas.Bool.{cases_Bool}

@@ -1,4 +1,4 @@
--- What an agent sends is the next record of its lane.
+-- The world, event by event: what a plant's agent sends next is the next record of its lane.
 use Rattle.std.proofs.Common.{◌≡◌, ℕ, ◌<◌, Bool, true, List, [], ◌∷◌, ◌++◌, length, get_or, refl, sym, ap, ◌∙◌, subst, arith, All}
 use Rattle.std.proofs.lemmas.Bool.{eqb-true, false≢true}
 use Rattle.std.proofs.lemmas.List.{get_or-map, length-map}

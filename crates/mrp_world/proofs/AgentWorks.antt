@@ -1,4 +1,4 @@
--- At each moment of a run an agent works in the network.
+-- The world: at each moment of its run a plant's agent works in the network.
 use Rattle.std.proofs.Common.{ℕ, sym, subst}
 use Rattle.mrp_plant_view.specs.Seen.{IsView}
 use Rattle.mrp_plant_view.specs.View.{PlantRows}

@@ -1,4 +1,4 @@
--- What a lane carries of an item, added up by the plan.
+-- The world: the figures at the end of its run. What a lane carries of an item, added up by the plan.
 use Rattle.std.proofs.Common.{◌≡◌, ℕ, suc, ◌+◌, ◌-◌, ◌<◌, ◌≤◌, length, ap, subst, sym, ◌∙◌, arith, Contains, All}
 use Rattle.std.specs.List.{range_with_len, sum_by}
 use Rattle.std.proofs.lemmas.List.Sums.{sum_by-cons}

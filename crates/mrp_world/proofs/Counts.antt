@@ -1,4 +1,4 @@
--- How the records of a network's lanes are counted.
+-- The world: how its steps are counted before the first, by the records of each lane, item by item.
 use Rattle.std.proofs.Common.{◌^◌, ◌≡◌, inl, inr, ℕ, ◌+◌, ◌*◌, ◌<◌, ◌≤◌, ◌==◌, not, Bool, true, false, cond, List, [], ◌∷◌, ◌++◌, length, ap, subst, ◌∙◌, arith}
 use Rattle.std.proofs.Common.{length-append, Contains, slice_index}
 use Rattle.std.proofs.lemmas.Bool.{cases_Bool, eqb-true, eq-eqb}

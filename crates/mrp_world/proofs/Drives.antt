@@ -1,4 +1,4 @@
--- How plants and mailboxes are driven until nothing moves.
+-- The world: how its plants and mailboxes are driven until nothing moves.
 use Rattle.std.proofs.Common.{◌≡◌, ℕ, ◌+◌, ◌≤◌, Bool, true, false, ◌||◌, List, [], ◌∷◌, ◌++◌, inl, inr, refl, sym, ap, subst, ◌∙◌, arith}
 use Rattle.std.specs.Prelude.{MatchBool}
 use Rattle.mrp_master_data.specs.Table.{Table}

@@ -1,4 +1,4 @@
--- How many events of a run are enabled: as many as its steps become fewer.
+-- The world: how many events of a list it takes, which is as many as its steps become fewer.
 use Rattle.std.proofs.Common.{◌≡◌, ℕ, ◌+◌, ◌-◌, ◌≤◌, inl, inr, List, [], ◌∷◌, refl, ap, arith}
 use Rattle.mrp_master_data.specs.Table.{Table}
 use Rattle.mrp_protocol.specs.declared.event.Event.{Event}

@@ -1,4 +1,4 @@
--- What plants of a finished network give.
+-- The world: what its plants give to the plan once it has finished.
 use Rattle.std.proofs.Common.{◌≡◌, ℕ, ◌<◌, List, [], ◌∷◌, ◌++◌, length, get_or, Vec, Global, sym, ap, subst, ◌∙◌, refl, arith, append_assoc, append-nil}
 use Rattle.std.proofs.Common.{length-append}
 use Rattle.std.proofs.lemmas.List.{get_or_at}

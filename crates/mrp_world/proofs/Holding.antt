@@ -1,4 +1,4 @@
--- What holds in each state that a world shows: the laws of runs and of local plans, at its network.
+-- The world: what holds in each state that it shows, the laws of runs and of local plans, at its network.
 use Rattle.std.proofs.Common.{◌≡◌, ℕ, ◌<◌, inl, inr, List, length, refl, sym, subst, arith}
 use Rattle.std.specs.Prelude.{slice_get, Option, IsSomeAnd}
 use Rattle.std.proofs.lemmas.Option.{slice_get_cases}

@@ -1,4 +1,4 @@
--- The figures of lanes in each reached state, and in a finished one.
+-- The world: the cumulative figures of lanes in each of its states, and in a finished one.
 use Rattle.std.proofs.Common.{◌≡◌, ℕ, ◌+◌, ◌<◌, List, [], ◌∷◌, ◌++◌, inl, inr, length, map, refl, sym, ap, subst, ◌∙◌, arith, append-nil, All, Contains, zero}
 use Rattle.std.proofs.Common.{suc}
 use Rattle.std.specs.List.{flat_map, range_with_len, filter_map}

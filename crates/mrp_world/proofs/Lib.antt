@@ -1,3 +1,4 @@
+-- The world of all plants on one thread, proofs.
 pub mod Counts
 pub mod Drives
 pub mod Enabling

@@ -1,4 +1,4 @@
--- What is found where an event is looked for.
+-- The world: what is found where its next event is looked for, plant by plant and lane by lane.
 use Rattle.std.proofs.Common.{◌≡◌, ℕ, ◌+◌, ◌<◌, ◌≤◌, Bool, true, false, List, ◌∷◌, ◌⊎◌, inl, inr, length, get_or, drop, slice_get, Option, None, Some, refl}
 use Rattle.std.proofs.Common.{sym, ap, subst, ◌∙◌, arith}
 use Rattle.std.specs.Prelude.{IfNone, MatchBool}

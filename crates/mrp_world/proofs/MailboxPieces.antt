@@ -1,4 +1,4 @@
--- The pieces of the records that wait in a mailbox.
+-- The world: the pieces of the records that wait in one of its mailboxes.
 use Rattle.std.proofs.Common.{◌≡◌, ℕ, ◌+◌, ◌<◌, ◌≤◌, List, [], ◌∷◌, ◌++◌, length, get_or, take, drop, sym, ap, subst, ◌∙◌, arith}
 use Rattle.std.specs.List.{sum_by}
 use Rattle.std.proofs.lemmas.List.{take_more, take-append-drop, map-append}

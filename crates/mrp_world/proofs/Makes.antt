@@ -1,4 +1,4 @@
--- How the plants and mailboxes of a world are made one by one.
+-- The world: how its plants and mailboxes are made one by one.
 use Rattle.std.proofs.Common.{◌≡◌, ℕ, ◌<◌, ◌≤◌, min, List, [], ◌∷◌, ◌++◌, ◌⊎◌, inl, inr, length, get_or, refl, sym, ap, subst, ◌∙◌, arith, length-append}
 use Rattle.std.proofs.lemmas.List.{get_or_append_left, get_or_at}
 use Rattle.mrp_master_data.specs.Table.{Table}

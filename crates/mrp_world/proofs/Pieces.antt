@@ -1,4 +1,4 @@
--- The figures of a lane, by what its receiver says and what waits in its mailbox.
+-- The world: the figures of one of its lanes, by what the receiver says and what waits in the mailbox.
 use Rattle.std.proofs.Common.{◌≡◌, ℕ, ◌+◌, ◌<◌, ◌≤◌, List, [], ◌∷◌, ◌++◌, length, get_or, take, map, sym, ap, subst, ◌∙◌, arith, append_assoc, Contains}
 use Rattle.std.specs.List.{flat_map, range_with_len}
 use Rattle.mrp_net.proofs.Routing.{flat_map-range-more}

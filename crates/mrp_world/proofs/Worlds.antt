@@ -1,4 +1,4 @@
--- What events do to a world.
+-- The world: what events do to it.
 use Rattle.std.proofs.Common.{◌≡◌, Option, None, Some, get_or, take, ℕ, ◌+◌, ◌-◌, ◌<◌, ◌≤◌, ◌==◌, Bool, true, false, List, [], ◌∷◌, ◌++◌, inl, inr, length}
 use Rattle.std.proofs.Common.{refl, sym, ap, subst, ◌∙◌, arith}
 use Rattle.std.specs.Prelude.{slice_get, MatchBool, IfNone, IsSome, IsSomeAnd}

@@ -1,4 +1,4 @@
--- Where plants and mailboxes are driven to.
+-- The world: where its plants and mailboxes are driven to, event by event.
 use Rattle.std.specs.Prelude.{ℕ, ◌+◌, ◌≤◌, Bool, List, MatchBool}
 use Rattle.mrp_master_data.specs.Table.{Table}
 use Rattle.mrp_protocol.specs.declared.event.Event.{Event}

@@ -1,4 +1,4 @@
--- How many events of a list are enabled, each in its turn.
+-- The world: how many events of a list it takes, those that are enabled, each in its turn.
 use Rattle.std.specs.Prelude.{◌≡◌, ℕ, ◌+◌, List, [], ◌∷◌, ◌⊎◌}
 use Rattle.mrp_master_data.specs.Table.{Table}
 use Rattle.mrp_protocol.specs.declared.event.Event.{Event}

@@ -1,4 +1,4 @@
--- The cumulative figures of all lanes in a state.
+-- The world: the cumulative figures of all lanes in a state that it shows.
 use Rattle.std.specs.Prelude.{◌≡◌, ℕ, ◌+◌, List, length, map, All}
 use Rattle.std.specs.List.{flat_map, range_with_len}
 use Rattle.mrp_master_data.specs.declared.numbers.ItemNo.{ItemNo}

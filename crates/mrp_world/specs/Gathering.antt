@@ -1,4 +1,4 @@
--- The plans that plants give.
+-- The world: the plans that its plants give once it has been driven to its end.
 use Rattle.std.specs.Prelude.{◌≡◌, ℕ, true, List, length}
 use Rattle.mrp_netting.specs.PlanRows.{PlanRows}
 use Rattle.mrp_master_data.specs.Table.{Table}

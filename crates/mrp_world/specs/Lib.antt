@@ -1,3 +1,4 @@
+-- The world of all plants on one thread: what its contracts cite.
 pub mod Driving
 pub mod Enabled
 pub mod Figures

@@ -1,4 +1,4 @@
--- What waits in the mailbox of a lane.
+-- The world: what waits in a lane's mailbox.
 use Rattle.std.specs.Prelude.{ℕ, List}
 use Rattle.mrp_record.specs.declared.record.Record.{Record}
 

@@ -1,4 +1,4 @@
--- What a plant shows of a run over a network, and what it can do at a moment of the run.
+-- The world: what one of its plants shows of a run over a network, and what it can do at a moment of the run.
 use Rattle.std.specs.Prelude.{◌≡◌, ℕ, ◌<◌, [], ◌∷◌, ◌++◌, length}
 use Rattle.mrp_master_data.specs.Table.{Table}
 use Rattle.mrp_net.specs.Lanes.{lane_at}

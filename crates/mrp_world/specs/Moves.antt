@@ -1,4 +1,4 @@
--- What calls over plants and mailboxes answer, and what follows for a world.
+-- The world: what calls over its plants and mailboxes answer, and what follows for the world that is made of them.
 use Rattle.std.specs.Prelude.{◌≡◌, ℕ, ◌<◌, ◌≤◌, min, Bool, List, ◌++◌, length, MatchBool}
 use Rattle.mrp_master_data.specs.Table.{Table}
 use Rattle.mrp_net.specs.Lanes.{lanes, lane_at}

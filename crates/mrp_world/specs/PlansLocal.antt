@@ -1,4 +1,4 @@
--- What the plans that plants keep are made of.
+-- The world: what the plans that its plants keep are made of.
 use Rattle.std.specs.Prelude.{ℕ, ◌<◌, length, slice_get, IsSomeAnd}
 use Rattle.mrp_plant_view.specs.View.{plant_rows}
 use Rattle.mrp_protocol.specs.State.{State}

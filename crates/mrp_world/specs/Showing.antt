@@ -1,4 +1,4 @@
--- Which states of a network a plant shows.
+-- The world: which states of a network one of its plants shows.
 use Rattle.std.specs.Prelude.{ℕ}
 use Rattle.mrp_master_data.specs.Table.{Table}
 use Rattle.mrp_protocol.specs.State.{State}

@@ -1,4 +1,4 @@
-//! One event over plants and mailboxes.
+//! The world: one event, done to its plants and mailboxes on one thread.
 ghost use Rattle.std.specs.Prelude.{◌<◌, List, length};
 ghost use Rattle.mrp_master_data.specs.Table.{IsPair};
 ghost use Rattle.mrp_net.specs.Lanes.{lanes};

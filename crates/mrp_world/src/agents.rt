@@ -1,4 +1,4 @@
-//! An agent is a plant.
+//! The world: its plants are agents, and what it asks of a plant an agent answers.
 
 use crate::plant::Plant;
 use mrp_agent::Agent;

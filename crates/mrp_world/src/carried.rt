@@ -1,4 +1,4 @@
-//! What a lane carries of an item, by the plan of the network.
+//! The world: what a lane carries of an item, by the plan, which is what the world's run ends with.
 ghost use Rattle.std.specs.Prelude.{◌≡◌, ◌<◌, ◌≤◌, Contains, length, slice_index};
 ghost use Rattle.mrp_qty.specs.declared.quantity.TheConstants.{MOST};
 ghost use Rattle.mrp_master_data.specs.Table.{IsPair, horizon};

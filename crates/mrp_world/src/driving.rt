@@ -1,4 +1,4 @@
-//! Plants and mailboxes, driven until nothing moves.
+//! The world driven on one thread: its plants plan, and records go by its mailboxes, until nothing moves.
 ghost use Rattle.std.specs.Prelude.{◌<◌, List, length};
 ghost use Rattle.mrp_net.specs.Lanes.{lanes};
 ghost use Rattle.mrp_world.specs.Driving.{LeadOn, Tried};

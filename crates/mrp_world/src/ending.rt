@@ -1,4 +1,4 @@
-//! The cumulative figures of the lanes at the end of every run, by the plan of the network.
+//! The world: the cumulative figures of the lanes at the end of every run of it, by the plan.
 ghost use Rattle.std.specs.Prelude.{◌≡◌, ◌<◌, ◌++◌, All, Contains, IfOk, OnOk, length};
 ghost use Rattle.mrp_net.specs.Lanes.{lanes, lane_at, lane_items};
 ghost use Rattle.mrp_net.specs.Plan.{plan_of};

@@ -1,4 +1,4 @@
-//! The cumulative figures of the lanes, read off plants and mailboxes.
+//! The world: the cumulative figures of the lanes at a moment of it, read off its plants and mailboxes.
 ghost use Rattle.std.specs.Prelude.{◌≡◌, ◌<◌, ◌++◌, ℕ, Contains, IfOk, OnOk, length};
 ghost use Rattle.mrp_net.specs.Lanes.{lanes, lane_at, lane_items};
 ghost use Rattle.mrp_protocol.specs.State.{State};

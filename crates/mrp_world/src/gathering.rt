@@ -1,4 +1,4 @@
-//! What the plants give to the plan of the network.
+//! The world: what its plants give to the plan once it has been driven to its end.
 ghost use Rattle.std.specs.Prelude.{◌<◌, ℕ, IfOk, List, length};
 ghost use Rattle.mrp_protocol.specs.State.{State, IsFinished};
 ghost use Rattle.mrp_agent.specs.Given.{HaveGiven};

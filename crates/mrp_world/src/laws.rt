@@ -1,5 +1,5 @@
-//! What every world says, whatever has happened in it. Each law is the contract of a function that does
-//! nothing.
+//! The world: what every world says, whatever has happened in it. Each law is the contract
+//! of a function that does nothing.
 ghost use Rattle.mrp_protocol.specs.State.{State, IsFinished};
 ghost use Rattle.mrp_world.specs.Figures.{FiguresAreOfLanes, FinishedFiguresAreLast};
 ghost use Rattle.mrp_world.specs.Headline.{OrderIsKept, NothingIsLost, ClosedLanesAreWhole, PlansAreThePlan};

@@ -1,10 +1,10 @@
-//! **The headline.** On every network without a loop and within the bound, where memory was there to make the
-//! world, for capacities of 1 to 65,536 and every list of events: each lane books its sender's records in order, at
-//! most once, and none after the closing record; one whose closing record is booked has brought its whole text.
-//! Cumulative shipped less cumulative received is the sum in the mailbox, for each lane and each of its items. What a
-//! plant keeps as the plan of a planned pair is that of the whole network. In a finished run every line of every lane
-//! was booked once, and every pair is planned. As long as the run isn't finished some event is enabled, and a run
-//! that is driven ends finished.
+//! The world, its **headline**. On every network without a loop and within the bound, where memory was there to make
+//! the world, for capacities of 1 to 65,536 and every list of events: each lane books its sender's records in order,
+//! at most once, and none after the closing record; one whose closing record is booked has brought its whole text.
+//! Cumulative shipped less cumulative received is the sum in the mailbox, for each lane and each of its items. What
+//! a plant keeps as the plan of a planned pair is that of the whole network. In a finished run every line of every
+//! lane was booked once, and every pair is planned. As long as the run isn't finished some event is enabled, and a
+//! run that is driven ends finished.
 //!
 //! A [`Plant`] plans from what it sees and from the records that come to it, and an agent is one; its contract speaks
 //! of every moment of a run at which it can be. Between two plants records wait in a [`Mailbox`], in order.

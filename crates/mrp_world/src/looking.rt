@@ -1,4 +1,4 @@
-//! Which event is enabled, looked for from a place on.
+//! The world: which of its events is enabled, looked for from a place on.
 ghost use Rattle.std.specs.Prelude.{◌<◌, ◌≤◌, length, IfSome, IfNone};
 ghost use Rattle.mrp_net.specs.Lanes.{lanes};
 ghost use Rattle.mrp_world.specs.Moves.{AreSomewhere, MayLead, LaneRests, LanesRest, PlantsRest, AllRests};

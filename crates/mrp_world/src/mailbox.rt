@@ -1,4 +1,4 @@
-//! The mailbox of a lane: records wait in it in the order in which they were sent.
+//! The world: its mailbox of a lane, where on the one thread records wait in the order in which they were sent.
 ghost use Rattle.std.specs.Prelude.{◌≡◌, ◌<◌, ◌++◌, ◌^◌, [], ◌∷◌, length, nat_lt, IfOk, slice_get, drop};
 ghost use Rattle.mrp_record.specs.Entries.{contents, moved};
 

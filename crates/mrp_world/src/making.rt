@@ -1,4 +1,4 @@
-//! How the plants and the mailboxes of a world are made.
+//! The world: how its plants and mailboxes are made.
 ghost use Rattle.std.specs.Prelude.{◌≡◌, ◌≤◌, IfOk};
 ghost use Rattle.mrp_protocol.specs.State.{opening_state};
 ghost use Rattle.mrp_world.specs.World.{PlantsShow};

@@ -1,4 +1,4 @@
-//! What a world asks of a plant.
+//! The world: what it asks of a plant.
 
 use mrp_book::BookFault;
 use mrp_net::{ItemNo, LaneNo, PairNo};

@@ -1,5 +1,5 @@
-//! Tables read by blocks of every size, in any number of pieces, beside the one loop: the same rows, or the same fault at
-//! the same row.
+//! Tests of the library: tables read by blocks of every size, in any number of pieces, beside the one loop: the same rows,
+//! or the same fault at the same row.
 
 use super::READ_ALL;
 use mrp_master_data::{BillRow, DemandRow, ReceiptRow, RowLists, ShipRow, Tables};

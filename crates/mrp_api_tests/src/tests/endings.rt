@@ -1,4 +1,4 @@
-//! How the program ends: the line that is reported, that it was written whole, and the status.
+//! Tests of the library: how a program ends, with the line that is reported, that it was written whole, and the status.
 
 use mrp_api::{Ending, ReportFault, TextFault, after_help, ended, unread};
 use mrp_validation::{TableFault, TableFaultKind};

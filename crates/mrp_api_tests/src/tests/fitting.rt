@@ -1,4 +1,4 @@
-//! The plan of a bicycle, which is the only one that fits: no command asks what fits.
+//! Tests of the library: the plan of a bicycle, which is the only one that fits. No command asks what fits.
 
 ghost use Rattle.std.specs.Prelude.{◌≡◌, ◌≤◌, length};
 ghost use Rattle.mrp_lot.specs.declared.rule.TheConstants.{LONGEST_LEAD};

@@ -1,4 +1,5 @@
-//! Gates of plans by threads: which plants and workers they are asked for, and what is answered where they are shut.
+//! Tests of the library: gates of plans by threads, for which plants and workers they are asked, and what
+//! is answered where they are shut.
 
 use super::is_report;
 use super::outcomes::outcome;

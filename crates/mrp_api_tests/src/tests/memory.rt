@@ -1,4 +1,4 @@
-//! Texts where memory is refused: what is written is the right text, or a prefix of it.
+//! Tests of the library: texts where memory is refused. What is written is the right text, or a prefix of it.
 
 use super::reports::{
     EARLY, EARLY_ADVICE, EARLY_ADVICE_WITHIN, LACKING, LACKING_SHORTAGES, MOTORS, MOTORS_SCHEDULE,

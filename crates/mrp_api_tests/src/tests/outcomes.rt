@@ -1,4 +1,4 @@
-//! What a text function leaves of a table, as one text.
+//! Tests of the library: what a text function leaves of a table, as one text.
 
 use mrp_api::{TextFault, status, write_fault};
 use std::alloc::{AllocError, Global};

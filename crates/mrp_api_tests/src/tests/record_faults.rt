@@ -1,4 +1,4 @@
-//! What is read of texts of records that are damaged, too long or not read to their end.
+//! Tests of the library: what is read of texts of records that are damaged, too long or not read to their end.
 
 use crate::tests::network_of;
 use crate::tests::records::DESPATCHES;

@@ -1,4 +1,4 @@
-//! Records of lanes: their texts, read, booked and written again, whole and damaged.
+//! Tests of the library: records of lanes, their texts, read, booked and written again, whole and damaged.
 
 ghost use Rattle.std.specs.Prelude.{◌≡◌, All};
 ghost use Rattle.mrp_record_csv.specs.Rows.{HasRow};

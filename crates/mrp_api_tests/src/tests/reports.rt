@@ -1,4 +1,4 @@
-//! The reports of tables that were worked by hand.
+//! Tests of the library: the reports of tables that were worked by hand.
 
 /// The plan of the bicycle.
 pub(super) const BICYCLE_PLAN: &str = "plan,P1,BIKE,0,2026-01-05,0,0,0,0,0\n\

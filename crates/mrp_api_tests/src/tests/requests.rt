@@ -1,4 +1,4 @@
-//! Tables with their end and without it, read as is asked.
+//! Tests of the library: tables with their end and without it, read as is asked.
 
 use super::is_report;
 use super::outcomes::outcome;

@@ -1,4 +1,4 @@
-//! Readers and writers that give little, fail or end early.
+//! Tests of the library: readers and writers that give little, fail or end early.
 
 ghost use Rattle.mrp_commands.specs.Range.{IsInRange};
 

@@ -1,5 +1,5 @@
-//! Vendors, and periods whose first days are given: from the text of a table to its reports, and the lines of rows that
-//! are refused.
+//! Tests of the library: vendors, and periods whose first days are given, from the text of a table to its reports, and
+//! the lines of rows that are refused.
 
 use super::is_report;
 use super::outcomes::outcome;

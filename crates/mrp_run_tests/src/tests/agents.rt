@@ -1,4 +1,4 @@
-//! Agents alone, over tables that were worked by hand.
+//! Tests of runs: agents alone, over tables that were worked by hand.
 
 mod deeds;
 mod handing;

@@ -1,4 +1,4 @@
-//! The thread of a plant whose network has no lanes: it has no ends, and is done in one turn.
+//! Tests of runs: the thread of a plant whose network has no lanes. It has no ends, and is done in one turn.
 
 ghost use Rattle.std.specs.Prelude.{◌≡◌, [], IfOk, length};
 ghost use Rattle.mrp_net.specs.Lanes.{lanes};

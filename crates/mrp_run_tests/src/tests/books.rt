@@ -1,4 +1,4 @@
-//! What a book says of the records that it takes.
+//! Tests of runs: what a book says of the records that it takes.
 
 use mrp_book::{Book, BookFault, BookItem};
 use mrp_net::{ItemNo, LaneKind};

@@ -1,4 +1,4 @@
-//! Crews at work on the agent of a plant, over tables that were worked by hand.
+//! Tests of runs: crews at work on the agent of a plant, over tables that were worked by hand.
 
 ghost use Rattle.std.specs.Prelude.{◌≡◌, IfOk, length};
 ghost use Rattle.mrp_crew.specs.Planning.{IsPlannable};

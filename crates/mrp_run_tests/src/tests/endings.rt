@@ -1,5 +1,5 @@
-//! What runs come to, for many numbers of workers and rooms of mailboxes: the plan of the network, and lanes
-//! that carried their whole texts.
+//! Tests of runs: what they come to, for many numbers of workers and rooms of mailboxes, the plan of the network, and
+//! lanes that carried their whole texts.
 
 ghost use Rattle.std.specs.Prelude.{◌≡◌, length};
 

@@ -1,5 +1,5 @@
-//! Firms by lists of events, by `drive` and by events in random order, over tables that were worked by
-//! hand.
+//! Tests of runs: firms by lists of events, by `drive` and by events in random order, over
+//! tables that were worked by hand.
 
 ghost use Rattle.std.specs.Prelude.{◌≡◌, length};
 

@@ -1,4 +1,4 @@
-//! What gates see of a run, and the faults that are answered: a shut gate, and turns that are used up.
+//! Tests of runs: what gates see of one, and the faults that are answered, a shut gate, and turns that are used up.
 //!
 //! Gates that wait for one another show that plants, and the workers of a plant, are at work at the same
 //! time: on one thread the first would wait in vain.

@@ -1,4 +1,4 @@
-//! Lanes between plants: the two ends in one thread, and each in a thread of its own. With an allocation
+//! Tests of runs: lanes between plants, the two ends in one thread, and each in a thread of its own. With an allocation
 //! refused, a test in one thread passes or ends in an error for want of memory; its assertion never fails.
 
 ghost use Rattle.std.specs.Prelude.{◌≡◌, ◌<◌, ◌≤◌, ◌-◌, ◌*◌, ◌/◌, length, Contains, IfOk};

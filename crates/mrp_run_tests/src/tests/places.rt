@@ -1,4 +1,4 @@
-//! Runs that are broken off at each place: by a gate that is shut at one look of all that are taken, or from
+//! Tests of runs that are broken off at each place: by a gate that is shut at one look of all that are taken, or from
 //! that look on, for one turn of a plant or for one of its workers, and by turns that run out.
 //!
 //! Each run answers what was met, or else ends as an undisturbed one does: nothing between the two. How many

@@ -1,4 +1,4 @@
-//! Runs that one plant stops while the others are at work: these end too, the fault is that of the one, and
+//! Tests of runs that one plant stops while the others are at work: these end too, the fault is that of the one, and
 //! nobody looks at the gate after the call.
 //!
 //! The plant that stops a run is one without which no other is done: each of the ring, whose plants wait for

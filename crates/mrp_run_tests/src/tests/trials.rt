@@ -1,5 +1,5 @@
-//! What is tried on the network of a table, each by its name. A function holds one of the network, its codes and
-//! the checked network.
+//! Tests of runs: what is tried on the network of a table, each by its name. A function holds one of the network, its
+//! codes and the checked network.
 
 ghost use Rattle.mrp_loops.specs.Codes.{AreCodes};
 

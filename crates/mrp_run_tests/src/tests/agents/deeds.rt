@@ -1,4 +1,4 @@
-//! What is done with the agents of a firm, or seen of them, one after the other.
+//! Tests of runs: what is done with the agents of a firm, or seen of them, one after the other.
 
 ghost use Rattle.mrp_run_tests.specs.Hands.{AreAlone};
 

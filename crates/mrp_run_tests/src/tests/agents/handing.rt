@@ -1,4 +1,4 @@
-//! Firms agent by agent, with each record handed over.
+//! Tests of runs: firms agent by agent, with each record handed over.
 
 use super::deeds::{Deed, go};
 use crate::{

@@ -1,4 +1,4 @@
-//! The agents of a network, each alone: what one sends is handed to the agent of the other plant.
+//! Tests of runs: the agents of a network, each alone. What one sends is handed to the agent of the other plant.
 
 ghost use Rattle.std.specs.Prelude.{◌≡◌, ◌<◌, true, length, IfOk, IfSome, IfNone};
 ghost use Rattle.mrp_master_data.specs.Table.{IsPair};

@@ -1,4 +1,4 @@
-//! Agents for which memory is refused: once they are made they need none.
+//! Tests of runs: agents for which memory is refused. Once they are made they need none.
 
 use super::deeds::{Deed, takes};
 use super::hands::agents_of;

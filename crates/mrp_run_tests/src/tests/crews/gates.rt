@@ -1,4 +1,4 @@
-//! The gates that workers meet.
+//! Tests of runs: the gates that workers of a crew meet.
 
 use mrp_agent::Gate;
 use std::sync::atomic::{AtomicU64, Ordering};

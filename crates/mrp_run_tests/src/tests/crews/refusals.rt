@@ -1,4 +1,4 @@
-//! Crews whose allocations are refused: each answer is that memory is out, or the true one.
+//! Tests of runs: crews whose allocations are refused. Each answer is that memory is out, or the true one.
 
 use super::plans;
 use crate::FIVE_ARTICLES;

@@ -1,4 +1,4 @@
-//! What crews plan, and what they answer.
+//! Tests of runs: what crews plan, and what they answer.
 
 use super::gates::{Counting, Meeting, ShutTo};
 use super::plans;

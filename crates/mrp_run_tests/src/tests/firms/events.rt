@@ -1,4 +1,4 @@
-//! What plants do at each event, and how firms end.
+//! Tests of runs: what plants do at each event, and how firms end.
 
 ghost use Rattle.std.specs.Prelude.{◌≡◌, length};
 

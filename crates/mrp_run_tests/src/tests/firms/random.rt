@@ -1,4 +1,4 @@
-//! Firms of several plants by events in random order, enabled or not.
+//! Tests of runs: firms of several plants by events in random order, enabled or not.
 
 ghost use Rattle.std.specs.Prelude.{◌≡◌, length};
 

@@ -1,4 +1,4 @@
-//! Firms whose allocations are refused: each answer is that memory is out, or the true one.
+//! Tests of runs: firms whose allocations are refused. Each answer is that memory is out, or the true one.
 
 use super::shows;
 use super::trials::{Trial, holds_of};
