@@ -103,3 +103,15 @@ def test_threads_tell_the_fault_that_one_thread_tells(room, program):
             by_pipe: through_pipe(program, [by_pipe], text, size),
         }
         assert said == {it: (1, b"", fault) if fault else right[it] for it in said}, fault
+
+
+def test_bad_row_is_told_while_more_may_come(program):
+    """Through a pipe that stays open behind the bad row, among bills and among shipments."""
+    table = long_table()
+    for kind in (b"\nbill,", b"\nship,"):
+        at = table.rfind(kind) + 1
+        text, fault = damaged(table, at, "number")
+        with subprocess.Popen([program, "check"], stdin=subprocess.PIPE, stderr=subprocess.PIPE) as run:
+            run.stdin.write(text[: text.find(b"\n", at) + 1])
+            run.stdin.flush()
+            assert (run.wait(timeout=60), run.stderr.read()) == (1, fault)
