@@ -22,7 +22,7 @@ use std::thread::Threads;
 /// # Errors
 ///
 /// As [`TextFault`] says. Nothing is written after a fault of the input; of a report that isn't a plan nothing after
-/// any fault but [`TextFault::WriteFault`]. A plan by threads may wait.
+/// any fault but [`TextFault::WriteFault`]. Each may wait for threads, but for a plan that is made on one thread alone.
 pub fn answer<T: Threads + Wait + Sync, R: Read + Drop, W: Write>(
     rt: &T,
     alloc: Global,

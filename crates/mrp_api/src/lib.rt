@@ -9,8 +9,8 @@
 //! between plants, [`orders_text`] the planned and firm orders, [`schedule_text`] the delivery schedules of plants and vendors,
 //! [`advice_text`] which open orders to move, [`shortages_text`] which requirements lack parts, and [`reach_text`] until
 //! when requirements and releases are whole. [`report_text`] writes the report that a [`Request`] asks for on one thread,
-//! and [`answer`] that and a plan by threads; a request says too whether the table has to end with an `end` row. A
-//! [`Heading`] says whether the names of the columns stand above the rows; for codes, terms and figures a `Choice` has one.
+//! and [`answer`] by threads, but for a plan on one thread; a request says too whether the table has to end with an `end`
+//! row. A [`Heading`] says whether the names of the columns stand above the rows; for codes, terms and figures a `Choice` has one.
 //! Where a text was not written whole, a [`TextFault`] says why: [`write_fault`] writes the line that
 //! reports it, and [`status`] and [`exit_status`] are the statuses with which a program ends. [`ended`]
 //! does both after the work, [`after_help`] after help or the version, and [`unread`] where the arguments

@@ -2,8 +2,8 @@
 //!
 //! The rows up to the last pair are read on the calling thread, a piece at a time. Behind them threads read a piece
 //! each, beside the table as it stands, and the calling thread takes what they noted in order. A piece has what a read
-//! gives, so a row is looked at as soon as it came. From the first piece that isn't good the one loop reads the rest, so
-//! faults, their rows and what waits for the last row are its own.
+//! gives, and where that is less than a piece no more is read before its rows are looked at. From the first piece that
+//! isn't good the one loop reads the rest, so faults, their rows and what waits for the last row are its own.
 
 ghost use Rattle.std.specs.Prelude.{◌≡◌, ◌≤◌, ◌<◌, ◌+◌, take, drop, IfOk, OnOk, length};
 ghost use Rattle.std.specs.Io.KnownBytes.{Consumes, prepend_known};

@@ -38,7 +38,8 @@ const MOST_PIECES: usize = 8;
 /// Reads a table as [`read_tables_as`](crate::read_tables_as) does, and tells no count of its steps. Where there are
 /// several processors, and the text comes by many rows at once, threads read those of bills, demands, receipts and
 /// shipments side by side, as many as there are processors and at most eight; where a thread can't be started, the
-/// calling one reads its piece. A row is looked at as soon as it came. No clause speaks of time or memory.
+/// calling one reads its piece. Where a read gives less than a piece, up to a line feed, its rows are looked at before
+/// more is read. No clause speaks of time or memory.
 ///
 /// # Errors
 ///
