@@ -1,6 +1,8 @@
 //! Tests of the library: tables read by blocks of every size, in any number of pieces, beside the one loop: the same rows,
 //! or the same fault at the same row.
 
+ghost use Rattle.std.specs.Prelude.{◌<◌};
+
 use super::READ_ALL;
 use mrp_master_data::{BillRow, DemandRow, ReceiptRow, RowLists, ShipRow, Tables};
 use mrp_tables::{TableFault, read_tables_by_blocks, read_tables_uncounted};
