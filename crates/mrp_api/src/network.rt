@@ -15,11 +15,16 @@ ghost use Rattle.mrp_api.specs.Checks.{NetworkAnswers};
 use crate::fault::{PairName, TextFault};
 use mrp_commands::Reading;
 use mrp_loops::{BoundFault, Levels, LoopFault, SizedNet, bound, check};
+use mrp_master_data::Tables;
 use mrp_net::{Network, PairNo};
+use mrp_qty::Memory;
 use mrp_tables::{read_tables_by_threads, read_tables_uncounted};
 use std::alloc::{AllocError, Global};
 use std::io::Read;
 use std::thread::Threads;
+
+/// The network of a table with fewer bill rows is made by one thread.
+const MANY_BILLS: usize = 10_000;
 
 /// The network of the table, which is read as is asked.
 pub(crate) fn network_of<R: Read + Drop>(
@@ -50,10 +55,20 @@ pub(crate) fn network_by_threads<T: Threads + Sync, R: Read + Drop>(
     ensures refusal { IfErr result (NetworkAnswers reading (R.remaining reader)) }
 {
     let tables = read_tables_by_threads(rt, alloc, reading, reader)?;
-    let network = Network::of(alloc, tables)?;
+    let network = network_beside(rt, alloc, tables)?;
     // Every network is that of a table.
     let _pairs = network.pairs();
     Ok(network)
+}
+
+/// The network of a table: where that has many bill rows a thread makes its edges.
+fn network_beside<T: Threads>(rt: &T, alloc: Global, tables: Tables) -> Result<Network, Memory>
+    ensures { IfOk result (λ network. network ≡ tables) }
+{
+    if tables.rows().bills().len() < MANY_BILLS {
+        return Network::of(alloc, tables);
+    }
+    Network::by_threads(rt, alloc, tables)
 }
 
 /// The low-level codes of a network without loops.

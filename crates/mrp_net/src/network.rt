@@ -40,6 +40,7 @@ use std::alloc::Global;
 use std::marker::Model;
 use std::mem;
 use std::ops::Range;
+use std::thread::{Threads, join};
 
 /// The network.
 ///
@@ -88,6 +89,23 @@ impl Parts {
     {
         let edges = build::edges_of(alloc, tables)?;
         let amounts = build::amounts_of(alloc, tables)?;
+        Parts::of_built(alloc, tables, edges, amounts)
+    }
+
+    /// The edges and the sums of a table, its lanes, and what is of each plant.
+    fn of_built(
+        alloc: Global,
+        tables: &Tables,
+        edges: Edges,
+        amounts: Amounts,
+    ) -> Result<Parts, Memory>
+        requires edges { AreEdges tables.now edges }
+        requires amounts { AreAmounts tables.now amounts }
+        ensures edges { IfOk result (λ p. AreEdges tables.now p.edges) }
+        ensures amounts { IfOk result (λ p. AreAmounts tables.now p.amounts) }
+        ensures lanes { IfOk result (λ p. AreLaneLists tables.now p.lanes) }
+        ensures plants { IfOk result (λ p. ArePlantLists tables.now p.plants) }
+    {
         let lanes = lanes::lane_lists_of(alloc, tables)?;
         let plants = plant_lists_of(alloc, tables, lanes.lanes.as_slice())?;
         Ok(Parts {
@@ -96,6 +114,25 @@ impl Parts {
             lanes,
             plants,
         })
+    }
+
+    /// As [`Parts::of`], edges and sums side by side.
+    fn by_threads<T: Threads>(rt: &T, alloc: Global, tables: &Tables) -> Result<Parts, Memory>
+        ensures edges { IfOk result (λ p. AreEdges tables.now p.edges) }
+        ensures amounts { IfOk result (λ p. AreAmounts tables.now p.amounts) }
+        ensures lanes { IfOk result (λ p. AreLaneLists tables.now p.lanes) }
+        ensures plants { IfOk result (λ p. ArePlantLists tables.now p.plants) }
+    {
+        let (edges, amounts) = join(
+            rt,
+            || -> Result<Edges, Memory>
+                ensures { IfOk result (AreEdges tables.entry.now) }
+            { build::edges_of(alloc, tables) },
+            || -> Result<Amounts, Memory>
+                ensures { IfOk result (AreAmounts tables.entry.now) }
+            { build::amounts_of(alloc, tables) },
+        );
+        Parts::of_built(alloc, tables, edges?, amounts?)
     }
 
     /// The network of the table that they were built of.
@@ -128,6 +165,25 @@ impl Network {
     {
         let _rows = tables.rows();
         match Parts::of(alloc, &tables) {
+            Ok(parts) => Ok(parts.join(alloc, tables)),
+            Err(memory) => {
+                mem::drop(tables);
+                Err(memory)
+            }
+        }
+    }
+
+    /// As [`Network::of`], its edges beside its sums: a thread makes the edges, or the calling one where none can be
+    /// started. No clause speaks of time.
+    ///
+    /// # Errors
+    ///
+    /// [`Memory`] where a growth is refused.
+    pub fn by_threads<T: Threads>(rt: &T, alloc: Global, tables: Tables) -> Result<Network, Memory>
+        ensures { IfOk result (λ n. n ≡ tables) }
+    {
+        let _rows = tables.rows();
+        match Parts::by_threads(rt, alloc, &tables) {
             Ok(parts) => Ok(parts.join(alloc, tables)),
             Err(memory) => {
                 mem::drop(tables);
