@@ -1,8 +1,9 @@
 -- The network: the records of each of its lanes' texts fit 64 bits.
-use Rattle.std.proofs.Common.{◌≡◌, ℕ, ◌≤◌, ◌&&◌, Bool, true, false, cond, eqb, length, refl, ap, arith}
+use Rattle.std.proofs.Common.{◌≡◌, ℕ, ◌+◌, ◌≤◌, ◌&&◌, Bool, true, false, cond, eqb, length, refl, ap, arith}
 use Rattle.std.specs.Option.{is_some}
 use Rattle.std.proofs.lemmas.List.{length-map}
 use Rattle.std.proofs.lemmas.List.Sums.{length-filter, count_by-le-length}
+use Rattle.mrp_qty.specs.declared.limits.TheConstants.{MOST_OF_A_KIND, MOST_SOURCES}
 use Rattle.mrp_master_data.specs.declared.numbers.ItemNo.{ItemNo}
 use Rattle.mrp_master_data.specs.declared.rows.ShipRow.{ShipRow}
 use Rattle.mrp_master_data.specs.declared.rows.SourceRow.{SourceRow}
@@ -14,7 +15,7 @@ use Rattle.mrp_net.specs.Lanes.{lane_items, shipments, shipment_of, ships_from, 
 use Rattle.mrp_net.specs.Sums.{pair_at}
 use Rattle.mrp_net.specs.Texts.{most_lines, longest_block}
 
-lines_by_kind : (N : Table) (lane : Lane) (item : ItemNo) (kind : LaneKind) → lane.kind ≡ kind → IsTable N → most_lines N lane item ≤ 1000000
+lines_by_kind : (N : Table) (lane : Lane) (item : ItemNo) (kind : LaneKind) → lane.kind ≡ kind → IsTable N → most_lines N lane item ≤ MOST_OF_A_KIND
 lines_by_kind N lane item Despatch e is =
     let x : ℕ = pair_on N lane item in
     let test = λ (s : ShipRow). eqb s.pair.0 x && eqb s.from.0 (supplier_of lane) in
@@ -37,10 +38,10 @@ one_at_most : (b : Bool) → cond b 1 0 ≤ 1
 one_at_most true = omega arith
 one_at_most false = omega arith
 
-pub block_is_short : (N : Table) (lane : Lane) (item : ItemNo) → IsTable N → longest_block N lane item ≤ 1000002
+pub block_is_short : (N : Table) (lane : Lane) (item : ItemNo) → IsTable N → longest_block N lane item ≤ MOST_OF_A_KIND + 2
 block_is_short N lane item is = omega (arith, lines_by_kind N lane item lane.kind refl is, one_at_most (is_some (reset N lane item)))
 
-pub lane_items_are_few : (N : Table) (lane : Lane) → IsTable N → length (lane_items N lane) ≤ 80000
+pub lane_items_are_few : (N : Table) (lane : Lane) → IsTable N → length (lane_items N lane) ≤ MOST_SOURCES
 lane_items_are_few N lane is =
     let test = λ (s : SourceRow). eqb (pair_at N s.pair.0).plant.0 (customer_of lane) && eqb s.plant.0 (supplier_of lane) in
     omega (

@@ -18,6 +18,7 @@ pub mod Twos
 pub mod EdgesOnce
 pub mod Arriving
 pub mod Lengths
+pub mod Parting
 pub mod Ends
 pub mod Growing
 pub mod Awaiting

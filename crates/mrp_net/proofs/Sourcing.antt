@@ -1,7 +1,8 @@
 -- The network: the sources of a pair stand together, and each is found by its pair and plant.
-use Rattle.std.proofs.Common.{◌≡◌, ◌≢◌, ℕ, suc, zero, ◌+◌, ◌<◌, ◌≤◌, ◌&&◌, Bool, true, cond, eqb, ltb, List, [], ◌∷◌, inl, inr, length, get_or, slice_index}
+use Rattle.std.proofs.Common.{◌≡◌, ◌≢◌, ℕ, suc, zero, ◌+◌, ◌*◌, ◌<◌, ◌≤◌, ◌&&◌, Bool, true, cond, eqb, ltb, List, [], ◌∷◌, inl, inr, length, get_or, slice_index}
 use Rattle.std.proofs.Common.{slice_range, map, refl, sym, ap, ◌∙◌, arith, ◌^◌, subst}
 use Rattle.std.specs.List.{All, Contains, filter, sum_by}
+use Rattle.mrp_qty.specs.declared.limits.TheConstants.{MOST_IN_ROW, MOST_OF_A_KIND}
 use Rattle.std.specs.List.Sorted.{IsNonDecreasingBy}
 use Rattle.std.proofs.lemmas.Bool.{cases_lt, cases_eq, eq-eqb, eqb-true, ne_eqb, and_from, and_parts, true≢false, false_from_ne_true}
 use Rattle.std.proofs.lemmas.Bool.Decides.{nat_tests}
@@ -196,7 +197,7 @@ item_is_taken N lane item is contains =
 sums_by_source : {R : Type 0} (source amount : R → ℕ) (sums : ℕ → ℕ → ℕ) (N : Table) (rows : List R) (totals : List ℕ)
     → AreTotalsOf source amount (length N.sources) rows totals
     → ((x p : ℕ) → is_taken_from N x p ≡ true → sum_by (λ r. cond (eqb (source r) (source_no N x p)) (amount r) 0) rows ≡ sums x p)
-    → ((x p : ℕ) → sums x p ≤ 10 ^ 18) → AreSent N sums totals
+    → ((x p : ℕ) → sums x p ≤ MOST_OF_A_KIND * MOST_IN_ROW) → AreSent N sums totals
 sums_by_source source amount sums N rows totals totals_are are few = record {
   size = totals_are.size;
   each = λ x p taken. omega (arith, totals_are.each (source_no N x p) (source_within N x p taken), are x p taken, few x p);

@@ -30,29 +30,29 @@ use Rattle.mrp_net.specs.Lanes.{figure, shipped_from}
 use Rattle.mrp_net.specs.Built.{AreTotals, ArePeriods, capped_supply}
 use Rattle.mrp_net.proofs.Sharing.{sum_map}
 
--- some of at most 10^6 amounts of at most 10^12 are at most 10^18
+-- some of as many amounts as there may be rows of a kind, each within what a row may have
 some_within : {R : Type 0} (test : R → Bool) (amount : R → ℕ) (rows : List R) → All (λ r. amount r ≤ MOST_IN_ROW) rows → length rows ≤ MOST_OF_A_KIND
-    → sum_by (λ r. cond (test r) (amount r) 0) rows ≤ 10 ^ 18
+    → sum_by (λ r. cond (test r) (amount r) 0) rows ≤ MOST_OF_A_KIND * MOST_IN_ROW
 some_within test amount rows small few =
     let each : All (λ r. cond (test r) (amount r) 0 ≤ MOST_IN_ROW) rows =
     λ k d h. cond_both (test (get_or rows k d)) (amount (get_or rows k d)) 0 (λ n. n ≤ MOST_IN_ROW) (λ _. small k d h) (λ _. omega arith) in
     omega (arith, sum_by-le (λ r. cond (test r) (amount r) 0) MOST_IN_ROW rows each)
 
-pub demand_within : (N : Table) → IsTable N → (x t : ℕ) → demand N x t ≤ 10 ^ 18
+pub demand_within : (N : Table) → IsTable N → (x t : ℕ) → demand N x t ≤ MOST_OF_A_KIND * MOST_IN_ROW
 demand_within N is x t = some_within (λ d. eqb d.pair.0 x && eqb d.period t) (λ d. d.quantity) N.demands
     (λ k d h. (is.read.demands k d h).quantity) is.read.limits.demands
 
-pub demand_total_within : (N : Table) → IsTable N → (x : ℕ) → demand_total N x ≤ 10 ^ 18
+pub demand_total_within : (N : Table) → IsTable N → (x : ℕ) → demand_total N x ≤ MOST_OF_A_KIND * MOST_IN_ROW
 demand_total_within N is x = some_within (λ d. eqb d.pair.0 x) (λ d. d.quantity) N.demands (λ k d h. (is.read.demands k d h).quantity) is.read.limits.demands
 
-pub firm_total_within : (N : Table) → IsTable N → (x : ℕ) → firm_total N x ≤ 10 ^ 18
+pub firm_total_within : (N : Table) → IsTable N → (x : ℕ) → firm_total N x ≤ MOST_OF_A_KIND * MOST_IN_ROW
 firm_total_within N is x = some_within (λ f. eqb f.pair.0 x) (λ f. f.quantity) N.firms (λ k d h. (is.read.firms k d h).quantity) is.read.limits.firms
 
-pub received_within : (N : Table) → IsTable N → (x t : ℕ) → received N x t ≤ 10 ^ 18
+pub received_within : (N : Table) → IsTable N → (x t : ℕ) → received N x t ≤ MOST_OF_A_KIND * MOST_IN_ROW
 received_within N is x t = some_within (λ r. eqb r.pair.0 x && eqb r.period t) (λ r. r.quantity) N.receipts
     (λ k d h. (is.read.receipts k d h).quantity) is.read.limits.receipts
 
-pub shipped_within : (N : Table) → IsTable N → (x t : ℕ) → shipped N x t ≤ 10 ^ 18
+pub shipped_within : (N : Table) → IsTable N → (x t : ℕ) → shipped N x t ≤ MOST_OF_A_KIND * MOST_IN_ROW
 shipped_within N is x t = some_within (λ s. eqb s.pair.0 x && eqb s.period t) (λ s. s.quantity) N.ships
     (λ k d h. (is.read.ships k d h).quantity) is.read.limits.ships
 
@@ -115,7 +115,7 @@ total_read N M amount totals x v is are pair read =
 -- what is added to zeros, in a slice of a list that is put back, are the sums
 pub sums_built : {R : Type 0} (pair period amount : R → ℕ) (N : Table) (periods : ℕ) (rows : List R) (first slice after : List ℕ) (n : ℕ)
     → first ≡ replicate (length N.pairs * horizon N) 0 → periods ≡ horizon N → slice ≡ first → length after ≡ length slice → length after ≡ n
-    → AddsAmounts pair period amount periods rows slice after → ((x t : ℕ) → sum_in pair period amount x t rows ≤ 10 ^ 18)
+    → AddsAmounts pair period amount periods rows slice after → ((x t : ℕ) → sum_in pair period amount x t rows ≤ MOST_OF_A_KIND * MOST_IN_ROW)
     → ArePeriods N (λ x t. sum_in pair period amount x t rows) (take n (after ++ drop (length after) first))
 sums_built pair period amount N periods rows first slice after n zeros width same long back adds few =
     let room : length first ≡ length N.pairs * horizon N = ap length zeros ∙ length-replicate (length N.pairs * horizon N) 0 in
@@ -196,7 +196,7 @@ supplies_built N before with_receipts with_ships with_cums with_firms after vend
           );
     }
 
-pub shipped_from_within : (N : Table) → IsTable N → (x p : ℕ) → shipped_from N x p ≤ 10 ^ 18
+pub shipped_from_within : (N : Table) → IsTable N → (x p : ℕ) → shipped_from N x p ≤ MOST_OF_A_KIND * MOST_IN_ROW
 shipped_from_within N is x p = some_within (λ s. eqb s.pair.0 x && eqb s.from.0 p) (λ s. s.quantity) N.ships
     (λ k d h. (is.read.ships k d h).quantity) is.read.limits.ships
 

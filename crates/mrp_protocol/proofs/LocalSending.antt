@@ -1,5 +1,6 @@
 -- The protocol: what a plant has to send by it is what its lanes carry in the network.
 use Rattle.std.proofs.Common.{◌≡◌, ℕ, ◌+◌, ◌-◌, ◌^◌, ◌<◌, ◌≤◌, Bool, true, Some, List, length, get_or, refl, sym, ap, ◌∙◌, subst, arith, All, Contains}
+use Rattle.mrp_qty.specs.declared.limits.TheConstants.{MOST_OF_A_KIND}
 use Rattle.std.proofs.Common.{slice_index}
 use Rattle.std.specs.List.{filter}
 use Rattle.std.proofs.lemmas.List.{get_or-map, length-map}
@@ -156,7 +157,7 @@ lines_are_few N lane item Schedule e =
 record FitsCursor (load : Load) : Type 0 where
   lines : length load.lines < 2 ^ 64
   figures : load.opening + total load.lines < 2 ^ 64
-  short : block_length load ≤ 1000002
+  short : block_length load ≤ MOST_OF_A_KIND + 2
 
 load_fits : (N : Table) → IsSized N → (lane : Lane) (item : ItemNo) → Contains (lane_items N lane) item → FitsCursor (load_of N lane item)
 load_fits N sized lane item there =
@@ -192,7 +193,7 @@ module _ (N : Table) (sized : IsSized N) (plant : ℕ) (taken : ℕ → List Rec
   goods_bounded o sent queue shows =
       let few = lane_items_are_few N (lane_at N l) sized.table in
       let same = length-map (lane_items N (lane_at N l)) (outgoing_item N (lane_at N l)) in
-      small_are_bounded goods o sent 1000002 shows
+      small_are_bounded goods o sent (MOST_OF_A_KIND + 2) shows
       (λ place there. let sendable = queue.each place there in (goods_small place sendable, (goods_fit place sendable).short))
       (omega (arith, queue.size, same, few))
 

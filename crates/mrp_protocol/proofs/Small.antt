@@ -2,14 +2,15 @@
 use Rattle.std.proofs.Common.{◌≡◌, ℕ, ◌+◌, ◌*◌, ◌<◌, ◌≤◌, ◌==◌, ◌&&◌, Bool, true, false, cond, Some, inl, inr, List, [], ◌∷◌, length, get_or, map, refl, sym}
 use Rattle.std.proofs.Common.{ap, subst, ◌∙◌, arith, All, Contains}
 use Rattle.std.specs.Prelude.{is_some, option_map}
-use Rattle.std.specs.List.{AllByRecursion, IsDistinct, find, flat_map, range_with_len}
+use Rattle.std.specs.List.{AllByRecursion, IsDistinct, find, flat_map, range_with_len, sum_by}
 use Rattle.std.specs.List.Sorted.{IsNonDecreasingBy}
 use Rattle.std.proofs.lemmas.Bool.{cases_Bool, and_parts, eqb-true, false≢true}
 use Rattle.std.proofs.lemmas.List.{get_or-map, length-map}
 use Rattle.std.proofs.lemmas.List.Elements.{All-filter, All-map, filter_agree, Contains-get_or}
 use Rattle.std.proofs.lemmas.List.Concat.{length-flat_map}
 use Rattle.std.proofs.lemmas.List.FromFn.{length-range_with_len}
-use Rattle.std.proofs.lemmas.List.Sums.{sum_by-le, sum_by-le-sum_by}
+use Rattle.std.proofs.lemmas.List.Sums.{sum_by-cons, sum_by-le, sum_by-le-sum_by}
+use Rattle.mrp_qty.specs.declared.limits.TheConstants.{MOST_OF_A_KIND, MOST_PLANTS, MOST_SOURCES}
 use Rattle.mrp_qty.specs.declared.quantity.TheConstants.{MOST}
 use Rattle.mrp_master_data.specs.declared.numbers.ItemNo.{ItemNo}
 use Rattle.mrp_master_data.specs.declared.rows.ResetRow.{ResetRow}
@@ -30,6 +31,7 @@ use Rattle.mrp_net.proofs.Behind.{items_have_sources}
 use Rattle.mrp_net.proofs.Covering.{lane_items_stand_once}
 use Rattle.mrp_net.proofs.Lengths.{block_is_short, lane_items_are_few}
 use Rattle.mrp_net.proofs.Members.{In, In-from_contains, Contains-from_in, In-map, All-in}
+use Rattle.mrp_net.proofs.Parting.{items_are_few}
 use Rattle.mrp_net.proofs.Routing.{opening_despatch, map-map}
 use Rattle.mrp_net.proofs.Sharing.{sum_map}
 use Rattle.mrp_grouping.proofs.Kept.{sum_filter}
@@ -94,10 +96,15 @@ pub beginnings_are_no_longer : LaneBeginningsAreNoLonger
 beginnings_are_no_longer N lane records h =
     omega (arith, beginnings.beginnings_are_no_longer (loads N lane) records h, texts_are_no_longer N lane)
 
-length_is_short : (N : Table) (lane : Lane) → IsTable N → length_of_text (loads N lane) ≤ 80000 * 1000002 + 1
-length_is_short N lane is =
-    let each : All (λ item. longest_block N lane item ≤ 1000002) (lane_items N lane) = λ k d h. block_is_short N lane (get_or (lane_items N lane) k d) is in
-    omega (arith, texts_are_no_longer N lane, sum_by-le (longest_block N lane) 1000002 (lane_items N lane) each, lane_items_are_few N lane is)
+-- a text is its closing line and the blocks of its items
+length_by_items : (N : Table) (lane : Lane) → IsTable N → length_of_text (loads N lane) ≤ length (lane_items N lane) * (MOST_OF_A_KIND + 2) + 1
+length_by_items N lane is =
+    let each : All (λ item. longest_block N lane item ≤ MOST_OF_A_KIND + 2) (lane_items N lane) =
+    λ k d h. block_is_short N lane (get_or (lane_items N lane) k d) is in
+    omega (arith, texts_are_no_longer N lane, sum_by-le (longest_block N lane) (MOST_OF_A_KIND + 2) (lane_items N lane) each)
+
+length_is_short : (N : Table) (lane : Lane) → IsTable N → length_of_text (loads N lane) ≤ MOST_SOURCES * (MOST_OF_A_KIND + 2) + 1
+length_is_short N lane is = omega (arith, length_by_items N lane is, lane_items_are_few N lane is)
 
 -- ---- how long a run is
 
@@ -107,20 +114,32 @@ between_are_two N customer supplier = elim (cases_Bool (length (taken_over N cus
   | inr some ↦ rw some (omega arith)
 ]
 
-lanes_are_few : (N : Table) → IsTable N → length (lanes N) ≤ 64 * 128
+lanes_are_few : (N : Table) → IsTable N → length (lanes N) ≤ MOST_PLANTS * (2 * MOST_PLANTS)
 lanes_are_few N is =
     let plants : List ℕ = range_with_len 0 (length N.plants) in
     let size : length plants ≡ length N.plants = length-range_with_len 0 (length N.plants) in
     let pieces : (f : ℕ → List Lane) (most : ℕ) → ((k : ℕ) → length (f k) ≤ most) → length (flat_map f plants) ≤ length plants * most =
     λ f most each. omega (arith, length-flat_map f plants, sum_by-le (λ k. length (f k)) most plants (λ k d h. each (get_or plants k d))) in
-    let of_one : (customer : ℕ) → length (lanes_of N customer) ≤ 128 =
+    let of_one : (customer : ℕ) → length (lanes_of N customer) ≤ 2 * MOST_PLANTS =
     λ customer. omega (arith, pieces (lanes_between N customer) 2 (between_are_two N customer), size, is.read.limits.plants) in
-    omega (arith, pieces (lanes_of N) 128 of_one, size, is.read.limits.plants)
+    omega (arith, pieces (lanes_of N) (2 * MOST_PLANTS) of_one, size, is.read.limits.plants)
+
+-- the texts of lanes together: their closing lines, and the blocks of their items
+texts_by_items : (N : Table) (ls : List Lane) → IsTable N
+    → sum_by (λ (lane : Lane). length_of_text (loads N lane)) ls
+    ≤ sum_by (λ (lane : Lane). length (lane_items N lane)) ls * (MOST_OF_A_KIND + 2) + length ls
+texts_by_items N [] is = omega arith
+texts_by_items N (lane ∷ ls) is =
+    omega (
+      arith,
+      sum_by-cons (λ (lane : Lane). length_of_text (loads N lane)) lane ls,
+      sum_by-cons (λ (lane : Lane). length (lane_items N lane)) lane ls,
+      length_by_items N lane is,
+      texts_by_items N ls is,
+    )
 
 pub steps_are_few : StepsAreFew
-steps_are_few N is =
-    let each : All (λ lane. length_of_text (loads N lane) ≤ 80000 * 1000002 + 1) (lanes N) = λ k d h. length_is_short N (get_or (lanes N) k d) is in
-    omega (arith, sum_by-le (λ (lane : Lane). length_of_text (loads N lane)) (80000 * 1000002 + 1) (lanes N) each, lanes_are_few N is, is.read.limits.pairs)
+steps_are_few N is = omega (arith, texts_by_items N (lanes N) is, items_are_few N, lanes_are_few N is, is.read.limits.sources)
 
 -- ---- shipments
 

@@ -1,5 +1,6 @@
-use Rattle.std.proofs.Common.{rules, ◌≤◌, List, length, get_or, arith, ap}
+use Rattle.std.proofs.Common.{rules, ◌+◌, ◌≤◌, List, length, get_or, arith, ap}
 use Rattle.std.proofs.lemmas.List.Sums.{sum_by_more}
+use Rattle.mrp_qty.specs.declared.limits.TheConstants.{MOST_OF_A_KIND, MOST_SOURCES}
 use Rattle.mrp_master_data.specs.declared.numbers.ItemNo.{ItemNo}
 use Rattle.mrp_net.specs.declared.lane.Lane.{Lane}
 use Rattle.mrp_net.specs.Lanes.{lane_at}
@@ -12,9 +13,9 @@ overflow_add-records c =
     let M = c.args.self.now in
     let lane : Lane = lane_at M c.args.l.0 in
     let item : ItemNo = get_or c.lane_items-item-items.result.now c.loop-item.item-index (record { 0 = 0 }) in
-    let few : length c.lane_items-item-items.result.now ≤ 80000 =
+    let few : length c.lane_items-item-items.result.now ≤ MOST_SOURCES =
     omega (arith, ap length c.lane_items-item-items.ensures.value, lane_items_are_few M lane c.pairs-pairs.ensures.table) in
-    let short : c.longest_block-records.result ≤ 1000002 = omega
+    let short : c.longest_block-records.result ≤ MOST_OF_A_KIND + 2 = omega
     (arith, c.longest_block-records.ensures, block_is_short M lane item c.pairs-pairs.ensures.table) in
     omega (arith, few, short, c.loop-item.invariant.few, c.loop-item-test.true)
 
@@ -24,7 +25,7 @@ loop-item-preserved c =
     let lane : Lane = lane_at M c.args.l.0 in
     let items : List ItemNo = c.lane_items-item-items.result.now in
     let item : ItemNo = get_or items c.loop-item.item-index (record { 0 = 0 }) in
-    let short : c.longest_block-records.result ≤ 1000002 = omega
+    let short : c.longest_block-records.result ≤ MOST_OF_A_KIND + 2 = omega
     (arith, c.longest_block-records.ensures, block_is_short M lane item c.pairs-pairs.ensures.table) in
     record {
       sum = omega (
