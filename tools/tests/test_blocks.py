@@ -2,7 +2,10 @@
 import contextlib
 import itertools
 import os
+import struct
 import subprocess
+
+from support import wants
 
 # About so many bytes are read first, and then blocks of about so many, cut into a piece for each processor.
 FIRST, BLOCK = 4096, 4_194_304
@@ -66,12 +69,20 @@ def damages(table):
     yield late, f"mrp: row {row}: ResetOrder\n".encode()
 
 
-def from_file(program, words, table, room):
-    """Returns status, output and errors of the program, which reads a file."""
+def from_file(program, words, table, room, variables=(), processors=None):
+    """Returns status, output and errors of the program, which reads a file, on these processors where they are named."""
     with open(f"{room.folder}/table.csv", "wb") as file:
         file.write(table)
     with open(file.name, "rb") as file:
-        done = subprocess.run([program, *words], stdin=file, capture_output=True, timeout=60, check=False)
+        done = subprocess.run(
+            [program, *words],
+            stdin=file,
+            capture_output=True,
+            timeout=60,
+            check=False,
+            env={**os.environ, **dict(variables)},
+            preexec_fn=processors and (lambda: os.sched_setaffinity(0, processors)),
+        )
     return done.returncode, done.stdout, done.stderr
 
 
@@ -115,3 +126,29 @@ def test_bad_row_is_told_while_more_may_come(program):
             run.stdin.write(text[: text.find(b"\n", at) + 1])
             run.stdin.flush()
             assert (run.wait(timeout=60), run.stderr.read()) == (1, fault)
+
+
+def threads_asked(program, words, table, room, refused="", processors=None):
+    """Returns the answer of the program, which is refused those threads, and how many it asked for."""
+    counts = f"{room.folder}/counts"
+    with open(counts, "wb") as file:
+        file.write(bytes(32))
+    variables = {"LD_PRELOAD": f"{room.folder}/refuse.so", "COUNTS": counts, "REFUSE": refused}
+    answer = from_file(program, words, table, room, variables, processors)
+    with open(counts, "rb") as file:
+        return answer, struct.unpack("4q", file.read())[3]
+
+
+def test_threads_that_are_refused_are_done_without(room, program):
+    """Each in turn, alone and with all behind it: those that read a piece of a block, and the one that makes the edges,
+    which is the only one where there is one processor."""
+    room.run(f"{wants('cc')} -O2 -shared -fPIC tools/refuse.c -o refuse.so -ldl")
+    table, words, all_of_them = long_table(), ["orders", "--until", "3"], os.sched_getaffinity(0)
+    right = from_file(program, words, table, room)
+    assert right[0] == 0 and right[1].count(b"\norder,") > 600
+    for processors in ({min(all_of_them)}, all_of_them):
+        said, asked = threads_asked(program, words, table, room, processors=processors)
+        assert said == right and (asked == 1 if len(processors) == 1 else asked > 1)
+        for place, last in ((it, end) for it in range(1, asked + 1) for end in (it, 10**9)):
+            said, tried = threads_asked(program, words, table, room, f"thread {place} {last} fail 0", processors)
+            assert said == right and tried >= place, (place, last)
