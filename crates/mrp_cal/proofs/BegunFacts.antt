@@ -173,9 +173,9 @@ latest_last (a ∷ rest) b e =
 
 -- an array has room for one more first day
 pub room : (c : CalendarTerms) (period given : ℕ) (array : List Begun) → IsCalendar c → latest_begun c < period → period < c.periods
-    → take given array ≡ c.begun → given ≤ length array → given < 103
+    → take given array ≡ c.begun → given ≤ length array → given < 519
 room c period given array h later within e fits =
-    let longest : c.periods ≤ 104 = h.periods.1 in
+    let longest : c.periods ≤ 520 = h.periods.1 in
     let long : length (take given array) ≡ given = length-take-le given array fits in
     let same : length (take given array) ≡ length c.begun = ap length e in
     omega (arith, longest, long, same, later, within, latest-counts c.days c.periods 0 c.first c.begun h.begun)

@@ -46,7 +46,7 @@ AreBegun days periods since day (b ∷ later) =
     EndsInTime days periods since day × (since < b.period) × (b.period < periods)
     × (day + (b.period - 1 - since) * days < b.day) × AreBegun days periods b.period b.day later
 
--- what every calendar says: 1 to 104 periods, each of 1 to 31 days where none is given, first days that are given in
+-- what every calendar says: 1 to 520 periods, each of 1 to 31 days where none is given, first days that are given in
 -- rising order, and no day after 2199-12-31
 pub record IsCalendar (c : CalendarTerms) : Type 0 where
   pub length : IsPeriodLength c.days

@@ -17,7 +17,7 @@ use std::marker::Model;
 const ALL_DAYS: u64 = 84_006;
 
 /// The most periods whose first days are given: all but the first.
-const MOST_BEGUN: usize = 103;
+const MOST_BEGUN: usize = 519;
 
 /// The days of a plan: a first day, and periods of as many days each but where their first days are given.
 #[derive(Debug, Drop)]

@@ -1,5 +1,7 @@
 -- Commands: what their values may be.
-use Rattle.std.specs.Prelude.{◌≤◌, IfSome}
+use Rattle.std.specs.Prelude.{ℕ, ◌<◌, ◌≤◌, IfSome, None, Option, Some}
+use Rattle.mrp_qty.specs.Limits.{limits_of}
+use Rattle.mrp_commands.specs.declared.request.Request.{Request}
 use Rattle.mrp_commands.specs.declared.choice.Choice.{Choice}
 use Rattle.mrp_commands.specs.declared.choice.Choice.TheVariants.{Plan, Check, Reach, Peg, Cums}
 use Rattle.mrp_commands.specs.declared.choice.Choice.TheVariants.{Orders, Schedule, Pegs, Advice, Shortages}
@@ -18,3 +20,15 @@ IsInRange (Schedule from to heading) = Unit {0}
 IsInRange (Pegs heading) = Unit {0}
 IsInRange (Advice until reach heading) = IfSome until (λ period. period ≤ LAST_PERIOD)
 IsInRange (Shortages heading) = Unit {0}
+
+-- the period that is asked about, if one is
+abbrev pub asked_period : Choice → Option ℕ
+asked_period (Peg plant item period heading) = Some period
+asked_period (Orders until heading) = until
+asked_period (Advice until reach heading) = until
+asked_period _ = None
+
+-- a table of the limits may have it
+abbrev pub IsWithinLimits : Request → Type 0
+IsWithinLimits request =
+    IfSome (asked_period request.choice) (λ period. period < (limits_of request.reading.limits).periods)

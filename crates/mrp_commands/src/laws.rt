@@ -5,9 +5,9 @@ ghost use Rattle.mrp_commands.specs.declared.choice.TheConstants.{MOST_WORKERS, 
 use crate::{LAST_PERIOD, MOST_CAPACITY, MOST_WORKERS};
 
 /// The limits as numbers: a plant has at most 64 workers, a mailbox between two plants holds at
-/// most 65,536 records, and the last period that may be asked about is 103.
+/// most 65,536 records, and the last period that may be asked about is 519.
 pub fn limits_are_numbers()
     ensures workers { MOST_WORKERS ≡ 64 }
     ensures capacity { MOST_CAPACITY ≡ 65536 }
-    ensures period { LAST_PERIOD ≡ 103 }
+    ensures period { LAST_PERIOD ≡ 519 }
 {}

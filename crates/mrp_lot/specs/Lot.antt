@@ -9,12 +9,16 @@ use Rattle.mrp_qty.specs.declared.horizon.TheConstants.{LONGEST}
 abbrev pub IsRuleQuantity : ℕ → Type 0
 IsRuleQuantity q = (1 ≤ q) × (q ≤ MOST_IN_RULE)
 
+-- the rule's numbers are in their ranges, and it covers so many periods at most
+abbrev pub IsRuleWithin : ℕ → Rule → Type 0
+IsRuleWithin longest LotForLot = Unit {0}
+IsRuleWithin longest (Fixed q) = IsRuleQuantity q
+IsRuleWithin longest (Periods k) = (1 ≤ k) × (k ≤ longest)
+IsRuleWithin longest (MinMultiple m k) = IsRuleQuantity m × IsRuleQuantity k
+
 -- the rule's numbers are in their ranges
 abbrev pub IsRule : Rule → Type 0
-IsRule LotForLot = Unit {0}
-IsRule (Fixed q) = IsRuleQuantity q
-IsRule (Periods k) = (1 ≤ k) × (k ≤ LONGEST)
-IsRule (MinMultiple m k) = IsRuleQuantity m × IsRuleQuantity k
+IsRule rule = IsRuleWithin LONGEST rule
 
 -- the rule's own quantities together
 abbrev pub rule_quantities : Rule → ℕ

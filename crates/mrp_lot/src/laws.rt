@@ -31,13 +31,13 @@ pub fn lot_covers()
     ensures { LotCovers }
 {}
 
-/// The limits as numbers: a lead time is at most 104 periods, the quantities of a rule are 1 to 10^12
-/// pieces, and its periods of supply are 1 to 104.
+/// The limits as numbers: a lead time is at most 520 periods, the quantities of a rule are 1 to 10^12
+/// pieces, and its periods of supply are 1 to 520.
 pub fn limits_are_numbers()
-    ensures lead { LONGEST_LEAD ≡ 104 }
+    ensures lead { LONGEST_LEAD ≡ 520 }
     ensures most { MOST_IN_RULE ≡ 1000000000000 }
     ensures fixed { (q : ℕ) → IsRule (Fixed q) ↔ ((1 ≤ q) × (q ≤ 1000000000000)) }
     ensures multiple { (m k : ℕ) → IsRule (MinMultiple m k) ↔
         ((1 ≤ m) × (m ≤ 1000000000000) × (1 ≤ k) × (k ≤ 1000000000000)) }
-    ensures periods { (k : ℕ) → IsRule (Periods k) ↔ ((1 ≤ k) × (k ≤ 104)) }
+    ensures periods { (k : ℕ) → IsRule (Periods k) ↔ ((1 ≤ k) × (k ≤ 520)) }
 {}

@@ -3,7 +3,7 @@
 //! `specs/` has the definitions of the lot rules, in the terms of the APICS Dictionary: lot for lot, fixed order
 //! quantity, period order quantity, minimum and multiple.
 //!
-//! Quantities are 0 to 10^15 pieces, and periods of supply 1 to 104.
+//! Quantities are 0 to 10^15 pieces, and periods of supply 1 to 520.
 //!
 //! Used by the plan of one pair, and by all that speak of lot rules.
 //! Keeps true: whatever the rule, an order covers its need, as it is sized.

@@ -6,9 +6,12 @@ use Rattle.std.specs.Str.{bytes_eq}
 use Rattle.std.proofs.lemmas.List.Elements.{All-push, All-weaker}
 use Rattle.std.proofs.lemmas.List.{length_push}
 use Rattle.mrp_cal.specs.Calendar.{CalendarTerms, IsCalendar}
-use Rattle.mrp_qty.specs.declared.limits.TheConstants.{MOST_BILLS, MOST_OF_A_KIND, MOST_PAIRS, MOST_PLANTS, MOST_SOURCES, MOST_USAGES}
+use Rattle.mrp_lot.specs.Lot.{IsRuleWithin}
+use Rattle.mrp_qty.specs.Limits.{limits_of}
+use Rattle.mrp_qty.specs.declared.limits.LimitSet.{LimitSet}
+use Rattle.mrp_qty.specs.declared.limits.Limits.{Limits}
 use Rattle.mrp_master_data.specs.Rows.{Vendor}
-use Rattle.mrp_master_data.specs.Table.{Table, IsName, IsRead, horizon, IsPairRow, IsSourceRow}
+use Rattle.mrp_master_data.specs.Table.{Table, IsName, IsRead, horizon, most, IsPairRow, IsSourceRow}
 use Rattle.mrp_master_data.specs.Table.{IsBillRow, IsDemandRow, IsReceiptRow, IsShipRow, IsCumRow, IsResetRow, IsFirmRow, IsPolicyRow, IsUsageRow, IsVendorRow}
 use Rattle.mrp_master_data.specs.Growing.{add_item, with_plant, with_item, with_pair, with_source, with_bill, with_demand, with_receipt, with_ship, with_cum}
 use Rattle.mrp_master_data.specs.Growing.{with_calendar, with_end, with_firm, with_policy, with_reset, with_usage, with_vendor}
@@ -27,14 +30,16 @@ use Rattle.mrp_master_data.specs.declared.rows.UsageRow.{UsageRow}
 
 -- as many periods, of a calendar that is one, and at least as many names and pairs
 pub record Grows (N M : Table) : Type 0 where
+  pub limits : M.limits ≡ N.limits
   pub calendar : IsCalendar N.calendar → IsCalendar M.calendar
   pub periods : horizon M ≡ horizon N
   pub plants : length N.plants ≤ length M.plants
   pub items : length N.items ≤ length M.items
   pub pairs : length N.pairs ≤ length M.pairs
 
-pub same_names : (N M : Table) → M.calendar ≡ N.calendar → M.plants ≡ N.plants → M.items ≡ N.items → M.pairs ≡ N.pairs → Grows N M
-same_names N M calendar plants items pairs = record {
+pub same_names : (N M : Table) → M.limits ≡ N.limits → M.calendar ≡ N.calendar → M.plants ≡ N.plants → M.items ≡ N.items → M.pairs ≡ N.pairs → Grows N M
+same_names N M limits calendar plants items pairs = record {
+  limits = limits;
   calendar = λ is. subst IsCalendar (sym calendar) is;
   periods = ap (λ (c : CalendarTerms). c.periods) calendar;
   plants = omega (arith, ap length plants);
@@ -49,12 +54,16 @@ module _ {N M : Table} (g : Grows N M) where
   same_periods : horizon M ≡ horizon N
   same_periods = g.periods
 
+  -- what is within the limits of the one is within those of the other
+  kept : (limit : Limits → ℕ) (n : ℕ) → n ≤ limit (most N) → n ≤ limit (most M)
+  kept limit n h = omega (arith, h, ap (λ (s : LimitSet). limit (limits_of s)) g.limits)
+
   pair_grows : (x : PairRow) → IsPairRow N x → IsPairRow M x
   pair_grows x h = record {
     plant = omega (arith, g.plants, h.plant);
     item = omega (arith, g.items, h.item);
-    rule = h.rule;
-    lead = h.lead;
+    rule = subst (λ (s : LimitSet). IsRuleWithin (limits_of s).periods x.rule) (sym g.limits) h.rule;
+    lead = kept (λ l. l.lead) x.lead h.lead;
     on_hand =
         h.on_hand;
     safety = h.safety;
@@ -101,8 +110,8 @@ module _ {N M : Table} (g : Grows N M) where
   policy_grows x h = record {
     pair = omega (arith, g.pairs, h.pair);
     fence = omega (arith, same_periods, h.fence);
-    sooner = h.sooner;
-    cover = h.cover;
+    sooner = kept (λ l. l.lead) x.policy.sooner h.sooner;
+    cover = kept (λ l. l.lead) x.policy.cover h.cover;
     least = h.least;
     multiple = h.multiple;
   }
@@ -145,36 +154,36 @@ one_more {P = P} {xs = xs} x row room = record { each = λ all. All-push P xs x 
 
 -- each list stays or changes, in the order of the table
 pub read_grows : (N M : Table) → IsRead N → Grows N M
-    → Changes IsName MOST_PLANTS N.plants M.plants → Changes IsName MOST_PAIRS N.items M.items
-    → Changes (IsPairRow M) MOST_PAIRS N.pairs M.pairs → Changes (IsSourceRow M) MOST_SOURCES N.sources M.sources
-    → Changes (IsBillRow M) MOST_BILLS N.bills M.bills
-    → Changes (IsDemandRow M) MOST_OF_A_KIND N.demands M.demands → Changes (IsReceiptRow M) MOST_OF_A_KIND N.receipts M.receipts
-    → Changes (IsShipRow M) MOST_OF_A_KIND N.ships M.ships → Changes (IsCumRow M) MOST_OF_A_KIND N.cums M.cums
-    → Changes (IsResetRow M) MOST_SOURCES N.resets M.resets → Changes (IsFirmRow M) MOST_OF_A_KIND N.firms M.firms
-    → Changes (IsPolicyRow M) MOST_PAIRS N.policies M.policies → Changes (IsUsageRow M) MOST_USAGES N.usages M.usages
-    → Changes (IsVendorRow M) MOST_PAIRS N.vendors M.vendors
+    → Changes IsName (most N).plants N.plants M.plants → Changes IsName (most N).pairs N.items M.items
+    → Changes (IsPairRow M) (most N).pairs N.pairs M.pairs → Changes (IsSourceRow M) (most N).sources N.sources M.sources
+    → Changes (IsBillRow M) (most N).bills N.bills M.bills
+    → Changes (IsDemandRow M) (most N).demands N.demands M.demands → Changes (IsReceiptRow M) (most N).of_a_kind N.receipts M.receipts
+    → Changes (IsShipRow M) (most N).of_a_kind N.ships M.ships → Changes (IsCumRow M) (most N).of_a_kind N.cums M.cums
+    → Changes (IsResetRow M) (most N).sources N.resets M.resets → Changes (IsFirmRow M) (most N).of_a_kind N.firms M.firms
+    → Changes (IsPolicyRow M) (most N).pairs N.policies M.policies → Changes (IsUsageRow M) (most N).bills N.usages M.usages
+    → Changes (IsVendorRow M) (most N).pairs N.vendors M.vendors
     → IsRead M
 read_grows N M read g plants items pairs sources bills demands receipts ships cums resets firms policies usages vendors =
-    let most = read.limits in
+    let few = read.limits in
     record {
       calendar = g.calendar read.calendar;
       limits = record {
-        some_periods = omega (arith, same_periods g, most.some_periods);
-        periods = omega (arith, same_periods g, most.periods);
-        plants = plants.few most.plants;
-        items = items.few most.items;
-        pairs = pairs.few most.pairs;
-        sources = sources.few most.sources;
-        bills = bills.few most.bills;
-        demands = demands.few most.demands;
-        receipts = receipts.few most.receipts;
-        ships = ships.few most.ships;
-        cums = cums.few most.cums;
-        resets = resets.few most.resets;
-        firms = firms.few most.firms;
-        policies = policies.few most.policies;
-        usages = usages.few most.usages;
-        vendors = vendors.few most.vendors;
+        some_periods = omega (arith, same_periods g, few.some_periods);
+        periods = kept g (λ l. l.periods) (horizon M) (omega (arith, same_periods g, few.periods));
+        plants = kept g (λ l. l.plants) (length M.plants) (plants.few few.plants);
+        items = kept g (λ l. l.pairs) (length M.items) (items.few few.items);
+        pairs = kept g (λ l. l.pairs) (length M.pairs) (pairs.few few.pairs);
+        sources = kept g (λ l. l.sources) (length M.sources) (sources.few few.sources);
+        bills = kept g (λ l. l.bills) (length M.bills) (bills.few few.bills);
+        demands = kept g (λ l. l.demands) (length M.demands) (demands.few few.demands);
+        receipts = kept g (λ l. l.of_a_kind) (length M.receipts) (receipts.few few.receipts);
+        ships = kept g (λ l. l.of_a_kind) (length M.ships) (ships.few few.ships);
+        cums = kept g (λ l. l.of_a_kind) (length M.cums) (cums.few few.cums);
+        resets = kept g (λ l. l.sources) (length M.resets) (resets.few few.resets);
+        firms = kept g (λ l. l.of_a_kind) (length M.firms) (firms.few few.firms);
+        policies = kept g (λ l. l.pairs) (length M.policies) (policies.few few.policies);
+        usages = kept g (λ l. l.bills) (length M.usages) (usages.few few.usages);
+        vendors = kept g (λ l. l.pairs) (length M.vendors) (vendors.few few.vendors);
       };
       plants = plants.each read.plants;
       items = items.each read.items;
@@ -194,9 +203,9 @@ read_grows N M read g plants items pairs sources bills demands receipts ships cu
 
 -- ---- one row more
 
-pub read-with_plant : (N : Table) (x : List ℕ) → IsRead N → IsName x → length N.plants < MOST_PLANTS → IsRead (with_plant N x)
+pub read-with_plant : (N : Table) (x : List ℕ) → IsRead N → IsName x → length N.plants < (most N).plants → IsRead (with_plant N x)
 read-with_plant N x read named room =
-    let g : Grows N (with_plant N x) = record { calendar = λ is. is; periods = refl; plants = omega (arith, length_push N.plants x); items = omega arith; pairs = omega arith } in
+    let g : Grows N (with_plant N x) = record { limits = refl; calendar = λ is. is; periods = refl; plants = omega (arith, length_push N.plants x); items = omega arith; pairs = omega arith } in
     read_grows N (with_plant N x) read g (one_more x named room) same_rows same_rows same_rows same_rows same_rows same_rows same_rows same_rows same_rows same_rows same_rows
     same_rows same_rows
 
@@ -207,89 +216,89 @@ on_ok (Err _) h = tt
 
 -- the plants after one more was pushed, whether it found room or not
 pub read-pushed_plant : {E : Type 0} (N : Table) (x : List ℕ) (plants : List (List ℕ)) (pushed : Result (Unit {0}) E) → IsRead N → IsName x
-    → length N.plants < MOST_PLANTS
+    → length N.plants < (most N).plants
     → OnOk pushed (plants ≡ N.plants ++ x ∷ []) → OnErr pushed (plants ≡ N.plants) → (let M : Table = record N { plants = plants } in IsRead M)
 read-pushed_plant N x plants (Ok _) read named room more same =
     subst (λ (ps : List (List ℕ)). let M : Table = record N { plants = ps } in IsRead M) (sym more) (read-with_plant N x read named room)
 read-pushed_plant N x plants (Err _) read named room more same =
     subst (λ (ps : List (List ℕ)). let M : Table = record N { plants = ps } in IsRead M) (sym same) read
 
-pub read-with_pair : (N : Table) (x : PairRow) → IsRead N → IsPairRow N x → length N.pairs < MOST_PAIRS → IsRead (with_pair N x)
+pub read-with_pair : (N : Table) (x : PairRow) → IsRead N → IsPairRow N x → length N.pairs < (most N).pairs → IsRead (with_pair N x)
 read-with_pair N x read row room =
-    let g : Grows N (with_pair N x) = record { calendar = λ is. is; periods = refl; plants = omega arith; items = omega arith; pairs = omega (arith, length_push N.pairs x) } in
+    let g : Grows N (with_pair N x) = record { limits = refl; calendar = λ is. is; periods = refl; plants = omega arith; items = omega arith; pairs = omega (arith, length_push N.pairs x) } in
     read_grows N (with_pair N x) read g same_rows same_rows (one_more x (pair_grows g x row) room) same_rows same_rows same_rows same_rows same_rows same_rows
     same_rows same_rows same_rows same_rows same_rows
 
-pub read-with_source : (N : Table) (x : SourceRow) → IsRead N → IsSourceRow N x → length N.sources < MOST_SOURCES → IsRead (with_source N x)
+pub read-with_source : (N : Table) (x : SourceRow) → IsRead N → IsSourceRow N x → length N.sources < (most N).sources → IsRead (with_source N x)
 read-with_source N x read row room =
-    let g = same_names N (with_source N x) refl refl refl refl in
+    let g = same_names N (with_source N x) refl refl refl refl refl in
     read_grows N (with_source N x) read g same_rows same_rows same_rows
     (one_more x (source_grows g x row) room) same_rows same_rows same_rows same_rows same_rows same_rows same_rows same_rows same_rows same_rows
 
-pub read-with_bill : (N : Table) (x : BillRow) → IsRead N → IsBillRow N x → length N.bills < MOST_BILLS → IsRead (with_bill N x)
+pub read-with_bill : (N : Table) (x : BillRow) → IsRead N → IsBillRow N x → length N.bills < (most N).bills → IsRead (with_bill N x)
 read-with_bill N x read row room =
-    let g = same_names N (with_bill N x) refl refl refl refl in
+    let g = same_names N (with_bill N x) refl refl refl refl refl in
     read_grows N (with_bill N x) read g same_rows same_rows same_rows same_rows
     (one_more x (bill_grows g x row) room) same_rows same_rows same_rows same_rows same_rows same_rows same_rows same_rows same_rows
 
-pub read-with_demand : (N : Table) (x : DemandRow) → IsRead N → IsDemandRow N x → length N.demands < MOST_OF_A_KIND → IsRead (with_demand N x)
+pub read-with_demand : (N : Table) (x : DemandRow) → IsRead N → IsDemandRow N x → length N.demands < (most N).demands → IsRead (with_demand N x)
 read-with_demand N x read row room =
-    let g = same_names N (with_demand N x) refl refl refl refl in
+    let g = same_names N (with_demand N x) refl refl refl refl refl in
     read_grows N (with_demand N x) read g same_rows same_rows same_rows same_rows same_rows
     (one_more x (demand_grows g x row) room) same_rows same_rows same_rows same_rows same_rows same_rows same_rows same_rows
 
-pub read-with_receipt : (N : Table) (x : ReceiptRow) → IsRead N → IsReceiptRow N x → length N.receipts < MOST_OF_A_KIND → IsRead (with_receipt N x)
+pub read-with_receipt : (N : Table) (x : ReceiptRow) → IsRead N → IsReceiptRow N x → length N.receipts < (most N).of_a_kind → IsRead (with_receipt N x)
 read-with_receipt N x read row room =
-    let g = same_names N (with_receipt N x) refl refl refl refl in
+    let g = same_names N (with_receipt N x) refl refl refl refl refl in
     read_grows N (with_receipt N x) read g same_rows same_rows same_rows same_rows same_rows same_rows
     (one_more x (receipt_grows g x row) room) same_rows same_rows same_rows same_rows same_rows same_rows same_rows
 
-pub read-with_ship : (N : Table) (x : ShipRow) → IsRead N → IsShipRow N x → length N.ships < MOST_OF_A_KIND → IsRead (with_ship N x)
+pub read-with_ship : (N : Table) (x : ShipRow) → IsRead N → IsShipRow N x → length N.ships < (most N).of_a_kind → IsRead (with_ship N x)
 read-with_ship N x read row room =
-    let g = same_names N (with_ship N x) refl refl refl refl in
+    let g = same_names N (with_ship N x) refl refl refl refl refl in
     read_grows N (with_ship N x) read g same_rows same_rows same_rows same_rows same_rows same_rows same_rows
     (one_more x (ship_grows g x row) room) same_rows same_rows same_rows same_rows same_rows same_rows
 
-pub read-with_cum : (N : Table) (x : CumRow) → IsRead N → IsCumRow N x → length N.cums < MOST_OF_A_KIND → IsRead (with_cum N x)
+pub read-with_cum : (N : Table) (x : CumRow) → IsRead N → IsCumRow N x → length N.cums < (most N).of_a_kind → IsRead (with_cum N x)
 read-with_cum N x read row room =
-    let g = same_names N (with_cum N x) refl refl refl refl in
+    let g = same_names N (with_cum N x) refl refl refl refl refl in
     read_grows N (with_cum N x) read g same_rows same_rows same_rows same_rows same_rows same_rows same_rows same_rows
     (one_more x (cum_grows g x row) room) same_rows same_rows same_rows same_rows same_rows
 
-pub read-with_reset : (N : Table) (x : ResetRow) → IsRead N → IsResetRow N x → length N.resets < MOST_SOURCES → IsRead (with_reset N x)
+pub read-with_reset : (N : Table) (x : ResetRow) → IsRead N → IsResetRow N x → length N.resets < (most N).sources → IsRead (with_reset N x)
 read-with_reset N x read row room =
-    let g = same_names N (with_reset N x) refl refl refl refl in
+    let g = same_names N (with_reset N x) refl refl refl refl refl in
     read_grows N (with_reset N x) read g same_rows same_rows same_rows same_rows same_rows same_rows same_rows same_rows same_rows
     (one_more x (reset_grows g x row) room) same_rows same_rows same_rows same_rows
 
-pub read-with_firm : (N : Table) (x : FirmRow) → IsRead N → IsFirmRow N x → length N.firms < MOST_OF_A_KIND → IsRead (with_firm N x)
+pub read-with_firm : (N : Table) (x : FirmRow) → IsRead N → IsFirmRow N x → length N.firms < (most N).of_a_kind → IsRead (with_firm N x)
 read-with_firm N x read row room =
-    let g = same_names N (with_firm N x) refl refl refl refl in
+    let g = same_names N (with_firm N x) refl refl refl refl refl in
     read_grows N (with_firm N x) read g same_rows same_rows same_rows same_rows same_rows same_rows same_rows same_rows same_rows same_rows
     (one_more x (firm_grows g x row) room) same_rows same_rows same_rows
 
-pub read-with_policy : (N : Table) (x : PolicyRow) → IsRead N → IsPolicyRow N x → length N.policies < MOST_PAIRS → IsRead (with_policy N x)
+pub read-with_policy : (N : Table) (x : PolicyRow) → IsRead N → IsPolicyRow N x → length N.policies < (most N).pairs → IsRead (with_policy N x)
 read-with_policy N x read row room =
-    let g = same_names N (with_policy N x) refl refl refl refl in
+    let g = same_names N (with_policy N x) refl refl refl refl refl in
     read_grows N (with_policy N x) read g same_rows same_rows same_rows same_rows same_rows same_rows same_rows same_rows same_rows same_rows
     same_rows (one_more x (policy_grows g x row) room) same_rows same_rows
 
-pub read-with_usage : (N : Table) (x : UsageRow) → IsRead N → IsUsageRow N x → length N.usages < MOST_USAGES → IsRead (with_usage N x)
+pub read-with_usage : (N : Table) (x : UsageRow) → IsRead N → IsUsageRow N x → length N.usages < (most N).bills → IsRead (with_usage N x)
 read-with_usage N x read row room =
-    let g = same_names N (with_usage N x) refl refl refl refl in
+    let g = same_names N (with_usage N x) refl refl refl refl refl in
     read_grows N (with_usage N x) read g same_rows same_rows same_rows same_rows same_rows same_rows same_rows same_rows same_rows same_rows
     same_rows same_rows (one_more x (usage_grows g x row) room) same_rows
 
-pub read-with_vendor : (N : Table) (x : Vendor) → IsRead N → IsVendorRow N x → length N.vendors < MOST_PAIRS → IsRead (with_vendor N x)
+pub read-with_vendor : (N : Table) (x : Vendor) → IsRead N → IsVendorRow N x → length N.vendors < (most N).pairs → IsRead (with_vendor N x)
 read-with_vendor N x read row room =
-    let g = same_names N (with_vendor N x) refl refl refl refl in
+    let g = same_names N (with_vendor N x) refl refl refl refl refl in
     read_grows N (with_vendor N x) read g same_rows same_rows same_rows same_rows same_rows same_rows same_rows same_rows same_rows same_rows
     same_rows same_rows same_rows (one_more x (vendor_grows g x row) room)
 
 -- with another calendar of as many periods
 pub read-with_calendar : (N : Table) (c : CalendarTerms) → IsRead N → IsCalendar c → c.periods ≡ horizon N → IsRead (with_calendar N c)
 read-with_calendar N c read is periods =
-    let g : Grows N (with_calendar N c) = record { calendar = λ _. is; periods = periods; plants = omega arith; items = omega arith; pairs = omega arith } in
+    let g : Grows N (with_calendar N c) = record { limits = refl; calendar = λ _. is; periods = periods; plants = omega arith; items = omega arith; pairs = omega arith } in
     read_grows N (with_calendar N c) read g same_rows same_rows same_rows same_rows same_rows same_rows same_rows same_rows same_rows same_rows
     same_rows same_rows same_rows same_rows
 
@@ -310,19 +319,19 @@ names-add_item items name names named =
       | false ↦ All-push IsName items name names named
     ]
 
-pub name_added : (items : List (List ℕ)) (name : List ℕ) → IsName name → length items < MOST_PAIRS → Changes IsName MOST_PAIRS items (add_item items name)
-name_added items name named room =
+pub name_added : (most_items : ℕ) (items : List (List ℕ)) (name : List ℕ) → IsName name → length items < most_items → Changes IsName most_items items (add_item items name)
+name_added most_items items name named room =
     record { each = λ all. names-add_item items name all named; few = λ _. omega (arith, (length-add_item-le items name).1, room) }
 
-pub read-with_item : (N : Table) (name : List ℕ) → IsRead N → IsName name → length N.items < MOST_PAIRS → IsRead (with_item N name)
+pub read-with_item : (N : Table) (name : List ℕ) → IsRead N → IsName name → length N.items < (most N).pairs → IsRead (with_item N name)
 read-with_item N name read named room =
-    let g : Grows N (with_item N name) = record { calendar = λ is. is; periods = refl; plants = omega arith; items = (length-add_item-le N.items name).0; pairs = omega arith } in
-    read_grows N (with_item N name) read g same_rows (name_added N.items name named room) same_rows same_rows same_rows same_rows same_rows same_rows same_rows
+    let g : Grows N (with_item N name) = record { limits = refl; calendar = λ is. is; periods = refl; plants = omega arith; items = (length-add_item-le N.items name).0; pairs = omega arith } in
+    read_grows N (with_item N name) read g same_rows (name_added (most N).pairs N.items name named room) same_rows same_rows same_rows same_rows same_rows same_rows same_rows
     same_rows same_rows same_rows same_rows same_rows
 
 -- the items after one more was pushed, whether it found room or not
 pub read-pushed_item : {E : Type 0} (N : Table) (x : List ℕ) (items : List (List ℕ)) (pushed : Result (Unit {0}) E) → IsRead N → IsName x
-    → length N.items < MOST_PAIRS
+    → length N.items < (most N).pairs
     → list_any (bytes_eq x) N.items ≡ false → OnOk pushed (items ≡ N.items ++ x ∷ []) → OnErr pushed (items ≡ N.items)
     → (let M : Table = record N { items = items } in IsRead M)
 read-pushed_item N x items (Ok _) read named room fresh more same = subst IsRead (sym (item_added N x items fresh more)) (read-with_item N x read named room)
@@ -332,6 +341,6 @@ read-pushed_item N x items (Err _) read named room fresh more same =
 -- with its `end` row
 pub read-with_end : (N : Table) → IsRead N → IsRead (with_end N)
 read-with_end N read =
-    let g = same_names N (with_end N) refl refl refl refl in
+    let g = same_names N (with_end N) refl refl refl refl refl in
     read_grows N (with_end N) read g same_rows same_rows same_rows same_rows same_rows same_rows same_rows same_rows same_rows same_rows
     same_rows same_rows same_rows same_rows

@@ -15,3 +15,4 @@ pub mod Grow
 pub mod Keys
 pub mod Lists
 pub mod Naming
+pub mod LimitFacts

@@ -1,19 +1,15 @@
 -- Master data: names of plants and items of which one more came, and where they stand.
-use Rattle.std.proofs.Common.{if◌then◌else◌, unwrap_or, ◌≡◌, ◌<◌, ℕ, true, false, get_or, List, [], ◌∷◌, ◌++◌, map, length, position, Option, None, Some}
-use Rattle.std.proofs.Common.{IfSome, String, Global, ap, sym, subst, ◌∙◌}
+use Rattle.std.proofs.Common.{if◌then◌else◌, ◌≡◌, ◌<◌, ℕ, false, List, [], ◌∷◌, ◌++◌, map, length, position, Option, None, Some}
+use Rattle.std.proofs.Common.{IfSome, String, Global, ap, sym, ◌∙◌}
 use Rattle.std.specs.Cmp.Lexicographic.{nat_list_eq_equiv}
 use Rattle.std.specs.List.{IsDistinct, list_any}
 use Rattle.std.specs.Str.{bytes_eq}
 use Rattle.std.specs.String.{string_bytes}
 use Rattle.std.proofs.lemmas.List.{map-append}
 use Rattle.std.proofs.lemmas.List.Quantifiers.{position-Some}
-use Rattle.std.proofs.lemmas.Map.Keys.{apart_from_distinct}
-use Rattle.std.proofs.lemmas.Slice.Eq.{bytes_eq-Decides}
 use Rattle.mrp_master_data.proofs.SpelledLists.{distinct_push}
-use Rattle.mrp_grouping.proofs.Finding.{last_passes}
 use Rattle.mrp_master_data.specs.Growing.{with_item}
 use Rattle.mrp_master_data.specs.Table.{Table}
-use Rattle.mrp_master_data.proofs.Keys.{any-from_no_position, any-from_position, position_is}
 
 -- a name more stands apart from the others
 pub distinct_name : (names : List (List ℕ)) (name : List ℕ) → IsDistinct bytes_eq names → list_any (bytes_eq name) names ≡ false

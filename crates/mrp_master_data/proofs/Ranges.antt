@@ -7,11 +7,10 @@ use Rattle.std.proofs.lemmas.Bool.{and_from}
 use Rattle.std.proofs.lemmas.Bool.Decides.{nat_tests}
 use Rattle.std.specs.Prelude.{codes}
 use Rattle.std.specs.Str.{bytes_eq}
-use Rattle.mrp_qty.specs.declared.horizon.TheConstants.{LONGEST}
 use Rattle.mrp_lot.specs.declared.rule.Rule.{Rule}
 use Rattle.mrp_lot.specs.declared.rule.Rule.TheVariants.{LotForLot, Fixed, Periods, MinMultiple}
 use Rattle.mrp_lot.specs.declared.rule.TheConstants.{MOST_IN_RULE}
-use Rattle.mrp_lot.specs.Lot.{IsRule}
+use Rattle.mrp_lot.specs.Lot.{IsRuleWithin}
 use Rattle.mrp_master_data.specs.Parsing.{cut, kept_within, min_rule, min_rule_of, spelled_number, number_within, numbered_rule, rule_in, rule_of}
 use Rattle.mrp_master_data.proofs.Decimals.{number-spelled, number-written}
 
@@ -57,44 +56,44 @@ number_written low high n some few small =
 
 -- ---- rules
 
-rule_of_one : (f : ℕ → Rule) (o : Option ℕ) (r : Rule) → ((n : ℕ) → o ≡ Some n → IsRule (f n)) → option_map f o ≡ Some r → IsRule r
-rule_of_one f (Some n) r is e = subst IsRule (same_Some (f n) r e) (is n refl)
-rule_of_one f None r is e = absurd (cc)
+rule_of_one : (longest : ℕ) (f : ℕ → Rule) (o : Option ℕ) (r : Rule) → ((n : ℕ) → o ≡ Some n → IsRuleWithin longest (f n)) → option_map f o ≡ Some r → IsRuleWithin longest r
+rule_of_one longest f (Some n) r is e = subst (IsRuleWithin longest) (same_Some (f n) r e) (is n refl)
+rule_of_one longest f None r is e = absurd (cc)
 
-rule_of_two : (a b : Option ℕ) (r : Rule) → ((n : ℕ) → a ≡ Some n → Within 1 MOST_IN_RULE n) → ((n : ℕ) → b ≡ Some n → Within 1 MOST_IN_RULE n)
-    → min_rule a b ≡ Some r → IsRule r
-rule_of_two (Some m) (Some k) r is also e = subst IsRule (same_Some (MinMultiple m k) r e) (is m refl, also k refl)
-rule_of_two (Some m) None r is also e = absurd (cc)
-rule_of_two None b r is also e = absurd (cc)
+rule_of_two : (longest : ℕ) (a b : Option ℕ) (r : Rule) → ((n : ℕ) → a ≡ Some n → Within 1 MOST_IN_RULE n) → ((n : ℕ) → b ≡ Some n → Within 1 MOST_IN_RULE n)
+    → min_rule a b ≡ Some r → IsRuleWithin longest r
+rule_of_two longest (Some m) (Some k) r is also e = subst (IsRuleWithin longest) (same_Some (MinMultiple m k) r e) (is m refl, also k refl)
+rule_of_two longest (Some m) None r is also e = absurd (cc)
+rule_of_two longest None b r is also e = absurd (cc)
 
-min_is : (o : Option (List ℕ × List ℕ)) (r : Rule) → min_rule_of o ≡ Some r → IsRule r
-min_is (Some p) r e = rule_of_two (number_within p.0 1 MOST_IN_RULE) (number_within p.1 1 MOST_IN_RULE) r (within_range p.0 1 MOST_IN_RULE)
+min_is : (longest : ℕ) (o : Option (List ℕ × List ℕ)) (r : Rule) → min_rule_of o ≡ Some r → IsRuleWithin longest r
+min_is longest (Some p) r e = rule_of_two longest (number_within p.0 1 MOST_IN_RULE) (number_within p.1 1 MOST_IN_RULE) r (within_range p.0 1 MOST_IN_RULE)
     (within_range p.1 1 MOST_IN_RULE) e
-min_is None r e = absurd (cc)
+min_is longest None r e = absurd (cc)
 
-numbered_is : (word numbers : List ℕ) (r : Rule) → numbered_rule word numbers ≡ Some r → IsRule r
+numbered_is : (longest : ℕ) (word numbers : List ℕ) (r : Rule) → numbered_rule longest word numbers ≡ Some r → IsRuleWithin longest r
 unfolding numbered_rule
-numbered_is word numbers r e = by (bytes_eq word (codes "fixed")) (bytes_eq word (codes "periods")) (bytes_eq word (codes "min")) e
+numbered_is longest word numbers r e = by (bytes_eq word (codes "fixed")) (bytes_eq word (codes "periods")) (bytes_eq word (codes "min")) e
   where
     by : (fixed periods min : Bool)
         → ◌≡◌ {A = Option Rule} (if fixed then option_map Fixed (number_within numbers 1 MOST_IN_RULE)
-        else if periods then option_map Periods (number_within numbers 1 LONGEST)
+        else if periods then option_map Periods (number_within numbers 1 longest)
         else if min then min_rule_of (cut numbers)
-        else None) (Some r) → IsRule r
-    by true periods min e = rule_of_one Fixed (number_within numbers 1 MOST_IN_RULE) r (within_range numbers 1 MOST_IN_RULE) e
-    by false true min e = rule_of_one Periods (number_within numbers 1 LONGEST) r (within_range numbers 1 LONGEST) e
-    by false false true e = min_is (cut numbers) r e
+        else None) (Some r) → IsRuleWithin longest r
+    by true periods min e = rule_of_one longest Fixed (number_within numbers 1 MOST_IN_RULE) r (within_range numbers 1 MOST_IN_RULE) e
+    by false true min e = rule_of_one longest Periods (number_within numbers 1 longest) r (within_range numbers 1 longest) e
+    by false false true e = min_is longest (cut numbers) r e
     by false false false e = absurd (cc)
 
-rule_in_is : (text : List ℕ) (o : Option (List ℕ × List ℕ)) (r : Rule) → rule_in text o ≡ Some r → IsRule r
-rule_in_is text None r e = by (bytes_eq text (codes "lot")) e
+rule_in_is : (longest : ℕ) (text : List ℕ) (o : Option (List ℕ × List ℕ)) (r : Rule) → rule_in longest text o ≡ Some r → IsRuleWithin longest r
+rule_in_is longest text None r e = by (bytes_eq text (codes "lot")) e
   where
-    by : (b : Bool) → ◌≡◌ {A = Option Rule} (if b then Some LotForLot else None) (Some r) → IsRule r
-    by true e = subst IsRule (same_Some LotForLot r e) tt
+    by : (b : Bool) → ◌≡◌ {A = Option Rule} (if b then Some LotForLot else None) (Some r) → IsRuleWithin longest r
+    by true e = subst (IsRuleWithin longest) (same_Some LotForLot r e) tt
     by false e = absurd (cc)
-rule_in_is text (Some p) r e = numbered_is p.0 p.1 r e
+rule_in_is longest text (Some p) r e = numbered_is longest p.0 p.1 r e
 
 -- the numbers of a rule are in their ranges
-pub rule_is : (text : List ℕ) (r : Rule) → rule_of text ≡ Some r → IsRule r
+pub rule_is : (longest : ℕ) (text : List ℕ) (r : Rule) → rule_of longest text ≡ Some r → IsRuleWithin longest r
 unfolding rule_of
-rule_is text r e = rule_in_is text (cut text) r e
+rule_is longest text r e = rule_in_is longest text (cut text) r e

@@ -2,6 +2,7 @@
 use Rattle.std.specs.Prelude.{ℕ, ◌∷◌, ◌++◌, [], List, length, if◌then◌else◌, Bool, true, false, not, nat_lt}
 use Rattle.std.specs.List.{list_any}
 use Rattle.std.specs.Str.{bytes_eq}
+use Rattle.mrp_qty.specs.declared.limits.LimitSet.{LimitSet}
 use Rattle.mrp_cal.specs.Calendar.{CalendarTerms}
 use Rattle.mrp_master_data.specs.Rows.{Vendor}
 use Rattle.mrp_master_data.specs.Table.{Table, source_pair}
@@ -18,12 +19,13 @@ use Rattle.mrp_master_data.specs.declared.rows.PolicyRow.{PolicyRow}
 use Rattle.mrp_master_data.specs.declared.rows.UsageRow.{UsageRow}
 
 -- the table of these rows
-abbrev pub table_of : CalendarTerms → List (List ℕ) → List (List ℕ) → List PairRow → List SourceRow → List BillRow
+abbrev pub table_of : LimitSet → CalendarTerms → List (List ℕ) → List (List ℕ) → List PairRow → List SourceRow → List BillRow
     → List DemandRow
     → List ReceiptRow → List ShipRow → List CumRow → List ResetRow → List FirmRow → List PolicyRow → List UsageRow
     → List Vendor → Bool → Table
-table_of calendar plants items pairs sources bills demands receipts ships cums resets firms policies usages vendors ended
-    = record {
+table_of limits calendar plants items pairs sources bills demands receipts ships cums resets firms policies usages
+    vendors ended = record {
+      limits = limits;
       calendar = calendar;
       plants = plants;
       items = items;
@@ -102,5 +104,5 @@ abbrev pub with_calendar : Table → CalendarTerms → Table
 with_calendar N c = record N { calendar = c }
 
 -- the table of a calendar without any row
-abbrev pub empty_table : CalendarTerms → Table
-empty_table c = table_of c [] [] [] [] [] [] [] [] [] [] [] [] [] [] false
+abbrev pub empty_table : LimitSet → CalendarTerms → Table
+empty_table limits c = table_of limits c [] [] [] [] [] [] [] [] [] [] [] [] [] [] false

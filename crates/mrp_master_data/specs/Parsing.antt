@@ -5,7 +5,6 @@ use Rattle.std.specs.Prelude.{slice_index, codes, Option, Some, None, option_map
 use Rattle.std.specs.Char.{is_ascii_digit}
 use Rattle.std.specs.List.{before_first, after_first, position_or_len, list_all}
 use Rattle.std.specs.Str.{bytes_eq}
-use Rattle.mrp_qty.specs.declared.horizon.TheConstants.{LONGEST}
 use Rattle.mrp_lot.specs.declared.rule.Rule.{Rule}
 use Rattle.mrp_lot.specs.declared.rule.Rule.TheVariants.{LotForLot, Fixed, Periods, MinMultiple}
 use Rattle.mrp_lot.specs.declared.rule.TheConstants.{MOST_IN_RULE}
@@ -53,18 +52,18 @@ abbrev pub min_rule_of : Option (List ℕ × List ℕ) → Option Rule
 min_rule_of None = None
 min_rule_of (Some p) = min_rule (number_within p.0 1 MOST_IN_RULE) (number_within p.1 1 MOST_IN_RULE)
 
--- the rule of a word and the numbers after it
-unfoldable pub numbered_rule : List ℕ → List ℕ → Option Rule
-numbered_rule word numbers =
+-- the rule of a word and the numbers after it, which covers so many periods at most
+unfoldable pub numbered_rule : ℕ → List ℕ → List ℕ → Option Rule
+numbered_rule longest word numbers =
     if bytes_eq word (codes "fixed") then option_map Fixed (number_within numbers 1 MOST_IN_RULE)
-    else if bytes_eq word (codes "periods") then option_map Periods (number_within numbers 1 LONGEST)
+    else if bytes_eq word (codes "periods") then option_map Periods (number_within numbers 1 longest)
     else if bytes_eq word (codes "min") then min_rule_of (cut numbers)
     else None
 
-abbrev pub rule_in : List ℕ → Option (List ℕ × List ℕ) → Option Rule
-rule_in text None = if bytes_eq text (codes "lot") then Some LotForLot else None
-rule_in text (Some p) = numbered_rule p.0 p.1
+abbrev pub rule_in : ℕ → List ℕ → Option (List ℕ × List ℕ) → Option Rule
+rule_in longest text None = if bytes_eq text (codes "lot") then Some LotForLot else None
+rule_in longest text (Some p) = numbered_rule longest p.0 p.1
 
--- `lot`, `fixed:Q`, `periods:K` or `min:M:K`
-unfoldable pub rule_of : List ℕ → Option Rule
-rule_of text = rule_in text (cut text)
+-- `lot`, `fixed:Q`, `periods:K` or `min:M:K`, where K is at most the longest number of periods
+unfoldable pub rule_of : ℕ → List ℕ → Option Rule
+rule_of longest text = rule_in longest text (cut text)

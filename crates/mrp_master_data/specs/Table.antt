@@ -6,13 +6,12 @@ use Rattle.std.specs.List.{IsDistinct, list_any}
 use Rattle.std.specs.List.Sorted.{IsNonDecreasingBy}
 use Rattle.std.specs.Str.{bytes_eq}
 use Rattle.mrp_qty.specs.declared.quantity.TheConstants.{MOST}
-use Rattle.mrp_qty.specs.declared.horizon.TheConstants.{LONGEST}
+use Rattle.mrp_qty.specs.declared.limits.LimitSet.{LimitSet}
+use Rattle.mrp_qty.specs.declared.limits.Limits.{Limits}
+use Rattle.mrp_qty.specs.Limits.{limits_of}
 use Rattle.mrp_cal.specs.Calendar.{CalendarTerms, IsCalendar}
-use Rattle.mrp_lot.specs.Lot.{IsRule}
-use Rattle.mrp_lot.specs.declared.rule.TheConstants.{LONGEST_LEAD}
-use Rattle.mrp_qty.specs.declared.limits.TheConstants.{MOST_BILLS, MOST_IN_ROW, MOST_OF_A_KIND, MOST_PAIRS, MOST_PER}
-use Rattle.mrp_qty.specs.declared.limits.TheConstants.{MOST_PLANTS, MOST_SOURCES, MOST_USAGES}
-use Rattle.mrp_qty.specs.declared.limits.TheConstants.{MOST_SHARE, MOST_SOURCES_OF_PAIR}
+use Rattle.mrp_lot.specs.Lot.{IsRuleWithin}
+use Rattle.mrp_qty.specs.declared.limits.TheConstants.{MOST_IN_ROW, MOST_PER, MOST_SHARE, MOST_SOURCES_OF_PAIR}
 use Rattle.mrp_master_data.specs.declared.rows.BillRow.{BillRow}
 use Rattle.mrp_master_data.specs.declared.rows.CumRow.{CumRow}
 use Rattle.mrp_master_data.specs.declared.rows.DemandRow.{DemandRow}
@@ -32,6 +31,8 @@ use Rattle.mrp_master_data.specs.Spelling.{is_name}
 -- The lists of rows, each in table order. A name is the list of its bytes; everywhere else a plant,
 -- an item or a pair is its place in its list.
 pub record Table : Type 0 where
+  -- how great the table may be
+  pub limits : LimitSet
   pub calendar : CalendarTerms
   pub plants : List (List ℕ)
   pub items : List (List ℕ)
@@ -54,6 +55,10 @@ pub record Table : Type 0 where
 abbrev pub horizon : Table → ℕ
 horizon N = N.calendar.periods
 
+-- the limits of the table as numbers
+abbrev pub most : Table → Limits
+most N = limits_of N.limits
+
 -- the place of the pair of that plant and item, or past the end where there is none
 abbrev pub pair_no : Table → ℕ → ℕ → ℕ
 pair_no N plant item = unwrap_or (position (λ p. (p.plant.0 == plant) && (p.item.0 == item)) N.pairs) (length N.pairs)
@@ -73,8 +78,8 @@ IsAmount quantity = quantity ≤ MOST_IN_ROW
 pub record IsPairRow (N : Table) (p : PairRow) : Type 0 where
   pub plant : p.plant.0 < length N.plants
   pub item : p.item.0 < length N.items
-  pub rule : IsRule p.rule
-  pub lead : p.lead ≤ LONGEST_LEAD
+  pub rule : IsRuleWithin (most N).periods p.rule
+  pub lead : p.lead ≤ (most N).lead
   pub on_hand : IsAmount p.on_hand
   pub safety : IsAmount p.safety
 
@@ -127,12 +132,12 @@ pub record IsFirmRow (N : Table) (f : FirmRow) : Type 0 where
   pub some : 1 ≤ f.quantity
   pub quantity : IsAmount f.quantity
 
--- a planning time fence within the horizon, at most 104 periods of each kind, and pieces as a row may have them
+-- a planning time fence within the horizon, no more periods of each kind than a lead time may have, and pieces as a row may have them
 pub record IsPolicyRow (N : Table) (p : PolicyRow) : Type 0 where
   pub pair : IsPair N p.pair.0
   pub fence : p.policy.fence < horizon N
-  pub sooner : p.policy.sooner ≤ LONGEST_LEAD
-  pub cover : p.policy.cover ≤ LONGEST_LEAD
+  pub sooner : p.policy.sooner ≤ (most N).lead
+  pub cover : p.policy.cover ≤ (most N).lead
   pub least : IsAmount p.policy.least
   pub multiple : IsAmount p.policy.multiple
 
@@ -153,24 +158,24 @@ pub record IsVendorRow (N : Table) (v : Vendor) : Type 0 where
   pub transit : v.transit ≤ MOST
   pub reset : IfSome v.reset (λ period. period < horizon N)
 
--- the table has a period, and no more periods, names and rows of each kind than a table may have
+-- the table has a period, and no more periods, names and rows of each kind than its limits say
 pub record IsLimited (N : Table) : Type 0 where
   pub some_periods : 1 ≤ horizon N
-  pub periods : horizon N ≤ LONGEST
-  pub plants : length N.plants ≤ MOST_PLANTS
-  pub items : length N.items ≤ MOST_PAIRS
-  pub pairs : length N.pairs ≤ MOST_PAIRS
-  pub sources : length N.sources ≤ MOST_SOURCES
-  pub bills : length N.bills ≤ MOST_BILLS
-  pub demands : length N.demands ≤ MOST_OF_A_KIND
-  pub receipts : length N.receipts ≤ MOST_OF_A_KIND
-  pub ships : length N.ships ≤ MOST_OF_A_KIND
-  pub cums : length N.cums ≤ MOST_OF_A_KIND
-  pub resets : length N.resets ≤ MOST_SOURCES
-  pub firms : length N.firms ≤ MOST_OF_A_KIND
-  pub policies : length N.policies ≤ MOST_PAIRS
-  pub usages : length N.usages ≤ MOST_USAGES
-  pub vendors : length N.vendors ≤ MOST_PAIRS
+  pub periods : horizon N ≤ (most N).periods
+  pub plants : length N.plants ≤ (most N).plants
+  pub items : length N.items ≤ (most N).pairs
+  pub pairs : length N.pairs ≤ (most N).pairs
+  pub sources : length N.sources ≤ (most N).sources
+  pub bills : length N.bills ≤ (most N).bills
+  pub demands : length N.demands ≤ (most N).demands
+  pub receipts : length N.receipts ≤ (most N).of_a_kind
+  pub ships : length N.ships ≤ (most N).of_a_kind
+  pub cums : length N.cums ≤ (most N).of_a_kind
+  pub resets : length N.resets ≤ (most N).sources
+  pub firms : length N.firms ≤ (most N).of_a_kind
+  pub policies : length N.policies ≤ (most N).pairs
+  pub usages : length N.usages ≤ (most N).bills
+  pub vendors : length N.vendors ≤ (most N).pairs
 
 -- the calendar is one, there are no more rows than a table may have, names are names, and each row is in range and
 -- names plants, items and pairs of the table

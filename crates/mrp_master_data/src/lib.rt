@@ -23,8 +23,8 @@ mod texts;
 
 pub use mrp_netting::Policy;
 pub use mrp_qty::{
-    MOST_BILLS, MOST_IN_ROW, MOST_OF_A_KIND, MOST_PAIRS, MOST_PER, MOST_PLANTS, MOST_SHARE,
-    MOST_SOURCES, MOST_SOURCES_OF_PAIR, MOST_USAGES,
+    LimitSet, MOST_BILLS, MOST_DEMANDS, MOST_IN_ROW, MOST_OF_A_KIND, MOST_PAIRS, MOST_PER,
+    MOST_PLANTS, MOST_SHARE, MOST_SOURCES, MOST_SOURCES_OF_PAIR,
 };
 pub use numbers::{ItemNo, PairNo, PlantNo};
 pub use row_lists::RowLists;
@@ -34,7 +34,7 @@ pub use rows::{
 };
 pub use spelled_names::is_name;
 pub use spelled_numbers::{number, number_within};
-pub use spelled_rules::rule;
+pub use spelled_rules::{rule, rule_within};
 pub use spelled_supplies::{SpelledSource, SpelledSupply, SupplyFault, names_plant, supply};
 pub use spelling_laws::{
     numbers_have_one_text, rules_have_one_text, supplies_are_whole, supplies_have_one_text,

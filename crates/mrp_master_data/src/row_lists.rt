@@ -6,6 +6,7 @@ use crate::{
     ResetRow, ShipRow, SourceRow, UsageRow, VendorRow,
 };
 use mrp_cal::{CalFault, Calendar};
+use mrp_qty::{LimitSet, Limits};
 use std::alloc::{AllocError, Global};
 use std::collections::HashMap;
 use std::marker::Model;
@@ -21,6 +22,7 @@ pub(crate) struct PlantItem {
 /// no call says what the lists hold then: drop them.
 #[derive(Drop)]
 pub struct RowLists {
+    limits: LimitSet,
     calendar: Calendar,
     plants: Vec<String>,
     items: Vec<String>,
@@ -51,13 +53,13 @@ impl Model for RowLists {
 
     ghost Value = { Table };
 
-    ghost view = { λ r. table_of r.calendar (map string_bytes r.plants.items)
+    ghost view = { λ r. table_of r.limits r.calendar (map string_bytes r.plants.items)
         (map string_bytes r.items.items) r.pairs.items r.sources.items
         r.bills.items r.demands.items r.receipts.items r.ships.items r.cums.items r.resets.items
         r.firms.items r.policies.items r.usages.items (map vendor_of r.vendors.items) r.ended };
 
     // the rows are in range, and each pair is found
-    ghost invariant = { λ r. IsRead (table_of r.calendar (map string_bytes r.plants.items)
+    ghost invariant = { λ r. IsRead (table_of r.limits r.calendar (map string_bytes r.plants.items)
         (map string_bytes r.items.items) r.pairs.items r.sources.items
         r.bills.items r.demands.items r.receipts.items r.ships.items r.cums.items r.resets.items
         r.firms.items r.policies.items r.usages.items (map vendor_of r.vendors.items) r.ended)
@@ -67,8 +69,7 @@ impl Model for RowLists {
 impl RowLists {
     ghost use Rattle.std.specs.Prelude.{◌≡◌, ◌≤◌, ◌<◌, ◌==◌, ◌&&◌, length, map, option_map, position};
     ghost use Rattle.std.specs.Prelude.{Err, Ok, IfErr, IfOk, IfSome, OnErr, OnOk};
-    ghost use Rattle.mrp_qty.specs.declared.limits.TheConstants.{MOST_BILLS, MOST_OF_A_KIND, MOST_PAIRS, MOST_PLANTS};
-    ghost use Rattle.mrp_qty.specs.declared.limits.TheConstants.{MOST_SOURCES, MOST_USAGES};
+    ghost use Rattle.mrp_qty.specs.Limits.{limits_of};
     ghost use Rattle.std.specs.Prelude.{false, slice_get, Some};
     ghost use Rattle.std.specs.List.{list_any};
     ghost use Rattle.std.specs.Str.{bytes_eq};
@@ -82,14 +83,16 @@ impl RowLists {
     ghost use Rattle.mrp_master_data.specs.Table.{item_at, IsName, IsRead, IsPairRow, IsSourceRow, IsBillRow};
     ghost use Rattle.mrp_master_data.specs.Growing.{empty_table};
     ghost use Rattle.mrp_master_data.specs.Table.{IsDemandRow, IsReceiptRow, IsShipRow, IsCumRow, IsResetRow};
-    ghost use Rattle.mrp_master_data.specs.Table.{horizon, IsFirmRow, IsPolicyRow, IsUsageRow, IsVendorRow};
+    ghost use Rattle.mrp_master_data.specs.Table.{horizon, most, IsFirmRow, IsPolicyRow, IsUsageRow, IsVendorRow};
 
-    /// The lists after the run row.
-    pub fn new(alloc: Global, calendar: Calendar) -> RowLists
+    /// The lists after the run row, of a calendar that has no more periods than the limits say.
+    pub fn new(alloc: Global, limits: LimitSet, calendar: Calendar) -> RowLists
+        requires within { calendar.periods ≤ (limits_of limits).periods }
         ensures rows { IsRead result }
-        ensures table { result ≡ empty_table calendar }
+        ensures table { result ≡ empty_table limits calendar }
     {
         RowLists {
+            limits,
             calendar,
             plants: Vec::new(alloc),
             items: Vec::new(alloc),
@@ -117,7 +120,7 @@ impl RowLists {
     /// [`AllocError`] where a growth is refused.
     pub fn add_plant(&mut self, alloc: Global, name: &str) -> Result<(), AllocError>
         requires named { IsName name.now }
-        requires room { length self.old.plants < MOST_PLANTS }
+        requires room { length self.old.plants < (most self.old).plants }
         ensures rows { OnOk result (IsRead self.new) }
         ensures table { OnOk result (self.new ≡ with_plant self.old name.now) }
     {
@@ -132,7 +135,7 @@ impl RowLists {
     pub fn add_item(&mut self, alloc: Global, name: &str) -> Result<(), AllocError>
         requires named { IsName name.now }
         requires fresh { list_any (bytes_eq name.now) self.old.items ≡ false }
-        requires room { length self.old.items < MOST_PAIRS }
+        requires room { length self.old.items < (most self.old).pairs }
         ensures rows { OnOk result (IsRead self.new) }
         ensures table { OnOk result (self.new ≡ with_item self.old name.now) }
     {
@@ -147,7 +150,7 @@ impl RowLists {
     pub fn add_pair(&mut self, row: PairRow) -> Result<(), AllocError>
         requires row { IsPairRow self.old row }
         requires fresh { list_any (λ p. (p.plant.0 == row.plant.0) && (p.item.0 == row.item.0)) self.old.pairs ≡ false }
-        requires room { length self.old.pairs < MOST_PAIRS }
+        requires room { length self.old.pairs < (most self.old).pairs }
         ensures rows { OnOk result (IsRead self.new) }
         ensures table { OnOk result (self.new ≡ with_pair self.old row) }
     {
@@ -171,7 +174,7 @@ impl RowLists {
     /// [`AllocError`] where a growth is refused.
     pub fn add_source(&mut self, row: SourceRow) -> Result<(), AllocError>
         requires row { IsSourceRow self.old row }
-        requires room { length self.old.sources < MOST_SOURCES }
+        requires room { length self.old.sources < (most self.old).sources }
         ensures rows { OnOk result (IsRead self.new) }
         ensures table { OnOk result (self.new ≡ with_source self.old row) }
     {
@@ -186,7 +189,7 @@ impl RowLists {
     /// [`AllocError`] where a growth is refused.
     pub fn add_bill(&mut self, row: BillRow) -> Result<(), AllocError>
         requires row { IsBillRow self.old row }
-        requires room { length self.old.bills < MOST_BILLS }
+        requires room { length self.old.bills < (most self.old).bills }
         ensures rows { OnOk result (IsRead self.new) }
         ensures table { OnOk result (self.new ≡ with_bill self.old row) }
     {
@@ -201,7 +204,7 @@ impl RowLists {
     /// [`AllocError`] where a growth is refused.
     pub fn add_demand(&mut self, row: DemandRow) -> Result<(), AllocError>
         requires row { IsDemandRow self.old row }
-        requires room { length self.old.demands < MOST_OF_A_KIND }
+        requires room { length self.old.demands < (most self.old).demands }
         ensures rows { OnOk result (IsRead self.new) }
         ensures table { OnOk result (self.new ≡ with_demand self.old row) }
     {
@@ -216,7 +219,7 @@ impl RowLists {
     /// [`AllocError`] where a growth is refused.
     pub fn add_receipt(&mut self, row: ReceiptRow) -> Result<(), AllocError>
         requires row { IsReceiptRow self.old row }
-        requires room { length self.old.receipts < MOST_OF_A_KIND }
+        requires room { length self.old.receipts < (most self.old).of_a_kind }
         ensures rows { OnOk result (IsRead self.new) }
         ensures table { OnOk result (self.new ≡ with_receipt self.old row) }
     {
@@ -231,7 +234,7 @@ impl RowLists {
     /// [`AllocError`] where a growth is refused.
     pub fn add_ship(&mut self, row: ShipRow) -> Result<(), AllocError>
         requires row { IsShipRow self.old row }
-        requires room { length self.old.ships < MOST_OF_A_KIND }
+        requires room { length self.old.ships < (most self.old).of_a_kind }
         ensures rows { OnOk result (IsRead self.new) }
         ensures table { OnOk result (self.new ≡ with_ship self.old row) }
     {
@@ -246,7 +249,7 @@ impl RowLists {
     /// [`AllocError`] where a growth is refused.
     pub fn add_cum(&mut self, row: CumRow) -> Result<(), AllocError>
         requires row { IsCumRow self.old row }
-        requires room { length self.old.cums < MOST_OF_A_KIND }
+        requires room { length self.old.cums < (most self.old).of_a_kind }
         ensures rows { OnOk result (IsRead self.new) }
         ensures table { OnOk result (self.new ≡ with_cum self.old row) }
     {
@@ -261,7 +264,7 @@ impl RowLists {
     /// [`AllocError`] where a growth is refused.
     pub fn add_reset(&mut self, row: ResetRow) -> Result<(), AllocError>
         requires row { IsResetRow self.old row }
-        requires room { length self.old.resets < MOST_SOURCES }
+        requires room { length self.old.resets < (most self.old).sources }
         ensures rows { OnOk result (IsRead self.new) }
         ensures table { OnOk result (self.new ≡ with_reset self.old row) }
     {
@@ -276,7 +279,7 @@ impl RowLists {
     /// [`AllocError`] where a growth is refused.
     pub fn add_firm(&mut self, row: FirmRow) -> Result<(), AllocError>
         requires row { IsFirmRow self.old row }
-        requires room { length self.old.firms < MOST_OF_A_KIND }
+        requires room { length self.old.firms < (most self.old).of_a_kind }
         ensures rows { OnOk result (IsRead self.new) }
         ensures table { OnOk result (self.new ≡ with_firm self.old row) }
     {
@@ -291,7 +294,7 @@ impl RowLists {
     /// [`AllocError`] where a growth is refused.
     pub fn add_policy(&mut self, row: PolicyRow) -> Result<(), AllocError>
         requires row { IsPolicyRow self.old row }
-        requires room { length self.old.policies < MOST_PAIRS }
+        requires room { length self.old.policies < (most self.old).pairs }
         ensures rows { OnOk result (IsRead self.new) }
         ensures table { OnOk result (self.new ≡ with_policy self.old row) }
     {
@@ -306,7 +309,7 @@ impl RowLists {
     /// [`AllocError`] where a growth is refused.
     pub fn add_usage(&mut self, row: UsageRow) -> Result<(), AllocError>
         requires row { IsUsageRow self.old row }
-        requires room { length self.old.usages < MOST_USAGES }
+        requires room { length self.old.usages < (most self.old).bills }
         ensures rows { OnOk result (IsRead self.new) }
         ensures table { OnOk result (self.new ≡ with_usage self.old row) }
     {
@@ -321,7 +324,7 @@ impl RowLists {
     /// [`AllocError`] where a growth is refused.
     pub fn add_vendor(&mut self, row: VendorRow) -> Result<(), AllocError>
         requires row { IsVendorRow self.old (vendor_of row) }
-        requires room { length self.old.vendors < MOST_PAIRS }
+        requires room { length self.old.vendors < (most self.old).pairs }
         ensures rows { OnOk result (IsRead self.new) }
         ensures table { OnOk result (self.new ≡ with_vendor self.old (vendor_of row)) }
     {
@@ -398,6 +401,20 @@ impl RowLists {
         ensures place { result ≡ position (lacks_pair self.now) self.now.sources }
     {
         self.sources.iter().position(|source| self.lacks(source))
+    }
+
+    /// How great the table may be.
+    pub fn limit_set(&self) -> LimitSet
+        ensures value { result ≡ self.now.limits }
+    {
+        self.limits
+    }
+
+    /// The limits of the table as numbers.
+    pub fn limits(&self) -> Limits
+        ensures value { result ≡ most self.now }
+    {
+        self.limits.limits()
     }
 
     /// The days of the periods.

@@ -1,7 +1,9 @@
 //! Master data: laws of how they are spelled, each the contract of a function that does nothing.
 ghost use Rattle.std.specs.Prelude.{◌≡◌, ℕ, List, Some, decimal};
 ghost use Rattle.mrp_lot.specs.declared.rule.Rule.{Rule};
-ghost use Rattle.mrp_lot.specs.Lot.{IsRule};
+ghost use Rattle.mrp_lot.specs.Lot.{IsRuleWithin};
+ghost use Rattle.mrp_qty.specs.Limits.{limits_of};
+ghost use Rattle.mrp_qty.specs.declared.limits.LimitSet.{LimitSet};
 ghost use Rattle.mrp_master_data.specs.Spelling.{rule_text};
 ghost use Rattle.mrp_master_data.specs.Parsing.{IsShort, spelled_number, rule_of};
 ghost use Rattle.mrp_master_data.specs.Supplies.{supply_text, SupplyTerms};
@@ -21,11 +23,13 @@ pub fn supplies_have_one_text()
         → (text ≡ supply_text supply) × IsWholeSupply supply }
 {}
 
-/// A lot rule has one text, `lot`, `fixed:Q`, `periods:K` or `min:M:K` with its own numbers, and that
-/// text is read as it: the minimum stands before the multiple.
+/// Within each set of limits a lot rule has one text, `lot`, `fixed:Q`, `periods:K` or `min:M:K` with its own numbers,
+/// and that text is read as it: the minimum stands before the multiple.
 pub fn rules_have_one_text()
-    ensures read { (rule : Rule) → IsRule rule → rule_of (rule_text rule) ≡ Some rule }
-    ensures text { (text : List ℕ) (rule : Rule) → rule_of text ≡ Some rule → (text ≡ rule_text rule) × IsRule rule }
+    ensures read { (limits : LimitSet) (rule : Rule) → IsRuleWithin (limits_of limits).periods rule
+        → rule_of (limits_of limits).periods (rule_text rule) ≡ Some rule }
+    ensures text { (limits : LimitSet) (text : List ℕ) (rule : Rule) → rule_of (limits_of limits).periods text ≡ Some rule
+        → (text ≡ rule_text rule) × IsRuleWithin (limits_of limits).periods rule }
 {}
 
 /// A number has one text, and that text is read as it.

@@ -10,10 +10,10 @@ use std::alloc::Global;
 /// For so many plans the memory grows at once.
 const AT_ONCE: usize = 16;
 
-/// A plan of 104 periods takes fewer bytes.
+/// A plan of 520 periods takes fewer bytes.
 const ROOM: usize = 4_500;
 
-/// So many plans of zeros with no late order, each as [`PairPlan::new`] makes it. The horizon is 1 to 104 periods.
+/// So many plans of zeros with no late order, each as [`PairPlan::new`] makes it. The horizon is 1 to 520 periods.
 ///
 /// # Errors
 ///

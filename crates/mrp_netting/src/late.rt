@@ -9,8 +9,8 @@ use mrp_qty::Qty;
 /// Writes into `late` the periods before `lead` that have an order, by rising period: `lead` is the first period that
 /// can be met, the lead time where there is no fence.
 ///
-/// There are at most 104 orders, and `late` has room for as many periods.
-pub fn note_late(lead: u64, order: &[Qty], late: &mut Vec<u8>)
+/// There are at most 520 orders, and `late` has room for as many periods.
+pub fn note_late(lead: u64, order: &[Qty], late: &mut Vec<u16>)
     requires short { length order.now ≤ LONGEST }
     requires room { length order.now ≤ vec_capacity late.old }
     ensures periods { late.new.items ≡ late_periods lead order.now (length order.now) }
@@ -20,7 +20,7 @@ pub fn note_late(lead: u64, order: &[Qty], late: &mut Vec<u8>)
     let end = order.len().min(lead as usize);
     for t in 0..end {
         if is_order(order[t]) {
-            let _ = late.push(t as u8);
+            let _ = late.push(t as u16);
         }
     }
 }

@@ -8,7 +8,7 @@ use mrp_qty::Qty;
 pub struct PairParams {
     /// How its orders are sized.
     pub rule: Rule,
-    /// Periods from release to receipt, 0 to 104.
+    /// Periods from release to receipt, 0 to 520.
     pub lead: u64,
     /// Pieces on hand before period 0, 0 to 10^15; of a pair of a table 0 to 10^12.
     pub on_hand: Qty,
@@ -20,10 +20,10 @@ pub struct PairParams {
 /// An order that is due before the first period that can be met: within the lead time, or inside the fence.
 #[derive(Clone, Copy, Debug, PartialEq, Eq)]
 pub struct Late {
-    /// The period of the order's receipt, 0 to 103 and below the horizon.
+    /// The period of the order's receipt, 0 to 519 and below the horizon.
     pub period: usize,
     /// How many pieces are ordered, 1 to 10^15.
     pub quantity: Qty,
-    /// How many periods are missing: the lead time, or the fence where that is longer, less period, 1 to 104.
+    /// How many periods are missing: the lead time, or the fence where that is longer, less period, 1 to 520.
     pub by: u64,
 }

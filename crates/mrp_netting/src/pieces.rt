@@ -73,12 +73,12 @@ pub(crate) fn put_pieces(row: &mut Row, pieces: &[u64])
     add_pieces(row, pieces);
 }
 
-/// The quantities of a row of at most 104 periods as pieces, in the first places of an array.
-pub(crate) fn pieces_of(row: &[Qty]) -> [u64; 104]
+/// The quantities of a row of at most 520 periods as pieces, in the first places of an array.
+pub(crate) fn pieces_of(row: &[Qty]) -> [u64; 520]
     requires { length row.now ≤ LONGEST }
     ensures { take (length row.now) result ≡ row.now }
 {
-    let mut pieces = [0; 104];
+    let mut pieces = [0; 520];
     for t in 0..row.len() {
         pieces[t] = row[t].get();
     }

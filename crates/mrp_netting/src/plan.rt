@@ -15,7 +15,7 @@ use crate::orders::order_all;
 use crate::pieces::pieces_of;
 use crate::releasing::{earliest_period, release_all};
 use crate::{Late, PairParams, PlanningData};
-use mrp_qty::{Horizon, Memory, Row};
+use mrp_qty::{Horizon, LimitSet, Memory, Row};
 use std::alloc::Global;
 use std::marker::Model;
 use std::mem;
@@ -26,7 +26,7 @@ use std::mem;
 /// for its rows: gross requirements, scheduled receipts, planned order receipts, planned order
 /// releases and projected available balance. Net requirements are not kept: they are what the orders
 /// were sized for. Quantities are 0 to 10^15 pieces, and periods are numbered from 0 to the horizon,
-/// 1 to 104, less 1.
+/// 1 to 520, less 1.
 #[derive(Debug, Drop)]
 pub struct PairPlan {
     gross: Row,
@@ -35,7 +35,7 @@ pub struct PairPlan {
     release: Row,
     available: Row,
     lead: u64,
-    late: Vec<u8>,
+    late: Vec<u16>,
 }
 
 impl Model for PairPlan {
@@ -57,7 +57,7 @@ impl Model for PairPlan {
 }
 
 impl PairPlan {
-    /// A plan of zeros with no late order, and with room for one a period. The horizon is 1 to 104
+    /// A plan of zeros with no late order, and with room for one a period. The horizon is 1 to 520
     /// periods.
     ///
     /// # Errors
@@ -83,7 +83,7 @@ impl PairPlan {
         })
     }
 
-    /// How many periods are planned, 1 to 104. All five rows have as many.
+    /// How many periods are planned, 1 to 520. All five rows have as many.
     pub fn len(&self) -> usize
         ensures value { result ≡ length self.now.gross }
         ensures rows { AreRows self.now }
@@ -134,7 +134,7 @@ impl PairPlan {
         &self.available
     }
 
-    /// How many orders are late, 0 to 104.
+    /// How many orders are late, 0 to 520.
     pub fn late_count(&self) -> usize
         ensures { result ≡ length self.now.late }
     {
@@ -142,7 +142,7 @@ impl PairPlan {
     }
 
     /// The late order number `i`, from 0 and below [`late_count`](PairPlan::late_count), by rising
-    /// period. Its period is 0 to 103, its missing periods are 1 to 104, and together they are the
+    /// period. Its period is 0 to 519, its missing periods are 1 to 520, and together they are the
     /// lead time, or of a plan of [`plan_from`] the first period that planned orders can be released for.
     pub fn late(&self, i: usize) -> Late
         requires { i < length self.now.late }
@@ -164,7 +164,7 @@ impl PairPlan {
     pub fn copy(&self, alloc: Global) -> Result<PairPlan, Memory>
         ensures { IfOk result (λ plan. plan ≡ self.now) }
     {
-        let horizon = Horizon::new(self.gross.len() as u64).unwrap();
+        let horizon = Horizon::within(LimitSet::Large, self.gross.len() as u64).unwrap();
         let mut copy = PairPlan::new(alloc, horizon)?;
         copy.copy_from(self);
         Ok(copy)
@@ -190,8 +190,8 @@ impl PairPlan {
 /// Plans one pair: writes into `into` the rows and the late orders that follow from `params`, the
 /// scheduled receipts and the gross requirements, whatever `into` held.
 ///
-/// The three horizons are equal. The lead time is 0 to 104 periods; the rule's quantities are 1 to
-/// 10^12 pieces each and its periods of supply 1 to 104. On hand, safety stock, the rule's quantities,
+/// The three horizons are equal. The lead time is 0 to 520 periods; the rule's quantities are 1 to
+/// 10^12 pieces each and its periods of supply 1 to 520. On hand, safety stock, the rule's quantities,
 /// all receipts and all gross requirements together are at most 10^15 pieces. Nothing is allocated
 /// (by construction; no clause says so).
 pub fn plan_pair(params: &PairParams, incoming: &Row, gross: &Row, into: &mut PairPlan)
@@ -210,7 +210,7 @@ pub fn plan_pair(params: &PairParams, incoming: &Row, gross: &Row, into: &mut Pa
 /// row of gross requirements that `into` had: room for the next pair.
 ///
 /// The horizons of `gross` and `into` are equal, and no row of the planning data is longer. The fence is below the
-/// horizon; lead time, SOONER and COVER are 0 to 104 periods; the rule's periods of supply are 1 to 104, its quantities
+/// horizon; lead time, SOONER and COVER are 0 to 520 periods; the rule's periods of supply are 1 to 520, its quantities
 /// 1 to 10^12 pieces each, LEAST and MULTIPLE 0 to 10^12. Firm planned orders are as many pieces by release as by due
 /// period. On hand, safety stock, the rule's quantities, LEAST, MULTIPLE, all receipts, arrivals, firm planned orders
 /// and gross requirements together are at most 10^15 pieces. Nothing is allocated (by construction; no clause says so).
@@ -247,8 +247,8 @@ fn plan_rows(given: &PlanningData<'_>, into: &mut PairPlan)
 /// Whether the plan is the one that follows from `params`, its scheduled receipts and its gross
 /// requirements: each order, release, projected available and late order.
 ///
-/// The lead time is 0 to 104 periods; the rule's quantities are 1 to 10^12 pieces each and its periods
-/// of supply 1 to 104. On hand, safety stock, the rule's quantities, all receipts and all gross
+/// The lead time is 0 to 520 periods; the rule's quantities are 1 to 10^12 pieces each and its periods
+/// of supply 1 to 520. On hand, safety stock, the rule's quantities, all receipts and all gross
 /// requirements together are at most 10^15 pieces. Nothing is allocated
 /// (by construction; no clause says so).
 pub fn is_plan(params: &PairParams, plan: &PairPlan) -> bool

@@ -8,9 +8,9 @@ pub struct Policy {
     /// The planning time fence: no planned order is released that would come in before this period, 0 to the horizon
     /// less 1.
     pub fence: u64,
-    /// By how many periods scheduled receipts may be counted sooner than they come, 0 to 104.
+    /// By how many periods scheduled receipts may be counted sooner than they come, 0 to 520.
     pub sooner: u64,
-    /// How many periods of gross requirements are to be in stock ahead, beside safety stock, 0 to 104.
+    /// How many periods of gross requirements are to be in stock ahead, beside safety stock, 0 to 520.
     pub cover: u64,
     /// The least planned order in pieces, 0 to 10^12.
     pub least: u64,

@@ -1,2 +1,3 @@
--- Quantities: rows of them, as contracts see them.
+-- Quantities: rows of them, and the limits of tables, as contracts see them.
+pub mod Limits
 pub mod Row

@@ -1,25 +1,20 @@
 //! Quantities and limits: laws of the limits of quantities, tables and runs, each the contract
 //! of a function that does nothing.
-ghost use Rattle.std.specs.Prelude.{◌≡◌, ◌+◌, ◌-◌, ◌*◌, ◌^◌};
+ghost use Rattle.std.specs.Prelude.{◌≡◌, ◌+◌, ◌*◌, ◌^◌};
 ghost use Rattle.mrp_qty.specs.declared.horizon.TheConstants.{LONGEST};
 ghost use Rattle.mrp_qty.specs.declared.quantity.TheConstants.{MOST};
-ghost use Rattle.mrp_qty.specs.declared.limits.TheConstants.{MAX_TURNS, MOST_BILLS, MOST_IN_ROW, MOST_OF_A_KIND};
-ghost use Rattle.mrp_qty.specs.declared.limits.TheConstants.{MOST_PAIRS, MOST_PER, MOST_PLANTS};
+ghost use Rattle.mrp_qty.specs.declared.limits.LimitSet.{LimitSet};
+ghost use Rattle.mrp_qty.specs.declared.limits.TheConstants.{LARGE, USUAL, MAX_TURNS, MOST_BILLS, MOST_DEMANDS, MOST_IN_ROW};
+ghost use Rattle.mrp_qty.specs.declared.limits.TheConstants.{MOST_OF_A_KIND, MOST_PAIRS, MOST_PER, MOST_PLANTS};
 ghost use Rattle.mrp_qty.specs.declared.limits.TheConstants.{MOST_RECORDS, MOST_ROOM, MOST_SHARE, MOST_SOURCES};
-ghost use Rattle.mrp_qty.specs.declared.limits.TheConstants.{MOST_SOURCES_OF_PAIR, MOST_TURNS, MOST_USAGES, MOST_WORKERS};
+ghost use Rattle.mrp_qty.specs.declared.limits.TheConstants.{MOST_SOURCES_OF_PAIR, MOST_TURNS, MOST_WORKERS};
+ghost use Rattle.mrp_qty.specs.Limits.{limits_of, rows_within};
 
-/// The limits as numbers: a quantity is at most 10^15 pieces, a horizon has at most 104 periods, and
-/// the others are those of a table, of a text of records and of a run.
+/// The limits that are the same for every table, as numbers: a quantity is at most 10^15 pieces, and the others are those
+/// of a row, of a text of records and of a run.
 pub fn limits_are_numbers()
     ensures most { MOST ≡ 1000000000000000 }
-    ensures longest { LONGEST ≡ 104 }
-    ensures plants { MOST_PLANTS ≡ 64 }
-    ensures pairs { MOST_PAIRS ≡ 20000 }
     ensures sources_of_pair { MOST_SOURCES_OF_PAIR ≡ 4 }
-    ensures sources { MOST_SOURCES ≡ MOST_SOURCES_OF_PAIR * MOST_PAIRS }
-    ensures bills { MOST_BILLS ≡ 200000 }
-    ensures usages { MOST_USAGES ≡ 200000 }
-    ensures of_a_kind { MOST_OF_A_KIND ≡ 1000000 }
     ensures in_row { MOST_IN_ROW ≡ 1000000000000 }
     ensures per { MOST_PER ≡ 1000000 }
     ensures share { MOST_SHARE ≡ 1000 }
@@ -29,9 +24,33 @@ pub fn limits_are_numbers()
     ensures turns { MOST_TURNS ≡ 2 ^ 62 }
 {}
 
-/// The most turns of reading: the run, each other kind of row up to its limit (first days of all periods but the first
-/// one), the `end` row, and the end.
+/// The usual limits of a table as numbers.
+pub fn usual_limits_are_numbers()
+    ensures plants { USUAL.plants ≡ 64 }
+    ensures pairs { USUAL.pairs ≡ 20000 }
+    ensures sources { USUAL.sources ≡ MOST_SOURCES_OF_PAIR * USUAL.pairs }
+    ensures bills { USUAL.bills ≡ 200000 }
+    ensures demands { USUAL.demands ≡ 1000000 }
+    ensures of_a_kind { USUAL.of_a_kind ≡ 1000000 }
+    ensures periods { USUAL.periods ≡ 104 }
+    ensures lead { USUAL.lead ≡ 104 }
+    ensures turns { USUAL.turns ≡ MAX_TURNS }
+{}
+
+/// The limits of any table as numbers.
+pub fn large_limits_are_numbers()
+    ensures plants { (LARGE.plants ≡ MOST_PLANTS) × (MOST_PLANTS ≡ 1000) }
+    ensures pairs { (LARGE.pairs ≡ MOST_PAIRS) × (MOST_PAIRS ≡ 1000000) }
+    ensures sources { (LARGE.sources ≡ MOST_SOURCES) × (MOST_SOURCES ≡ MOST_SOURCES_OF_PAIR * MOST_PAIRS) }
+    ensures bills { (LARGE.bills ≡ MOST_BILLS) × (MOST_BILLS ≡ 10000000) }
+    ensures demands { (LARGE.demands ≡ MOST_DEMANDS) × (MOST_DEMANDS ≡ 18000000) }
+    ensures of_a_kind { (LARGE.of_a_kind ≡ MOST_OF_A_KIND) × (MOST_OF_A_KIND ≡ 9000000) }
+    ensures periods { (LARGE.periods ≡ LONGEST) × (LONGEST ≡ 520) }
+    ensures lead { LARGE.lead ≡ LONGEST }
+{}
+
+/// The most turns of reading, within each set of limits: the run, each other kind of row up to its limit (first days of
+/// all periods but the first one), the `end` row, and the end.
 pub fn turns_are_rows()
-    ensures { MAX_TURNS ≡ 1 + MOST_PLANTS + 3 * MOST_PAIRS + MOST_BILLS + MOST_USAGES + 5 * MOST_OF_A_KIND + MOST_SOURCES
-        + (LONGEST - 1) + 1 + 1 }
+    ensures { (set : LimitSet) → (limits_of set).turns ≡ rows_within (limits_of set) + 1 }
 {}

@@ -114,7 +114,7 @@ firm_of_none N row t e is refused = rw (is, unseen (known_pair N t.plant t.item)
 
 -- ---- a policy row of no pair, and one of a pair
 
-pub policy_of_none : (N : Table) (row : List (List ℕ)) (t : PolicyTerms) (e : TableFaultKind) → policy_terms row (horizon N) ≡ Ok t
+pub policy_of_none : (N : Table) (row : List (List ℕ)) (t : PolicyTerms) (e : TableFaultKind) → policy_terms N.limits row (horizon N) ≡ Ok t
     → has_policy N (pair_named N (plant_no N t.plant) t.item) ≡ false
     → ◌≡◌ {A = Result PairNo TableFaultKind} (Err e) (seen (λ (f : PlantNo × PairNo). f.1) (known_pair N t.plant t.item))
     → policy_of N row ≡ Err e

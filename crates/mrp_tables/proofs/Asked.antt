@@ -14,6 +14,7 @@ use Rattle.mrp_validation.specs.Reading.{first_lacking, go_on, IsSoundAbove, OfR
 use Rattle.mrp_validation.specs.Reading.{unless_lacking, waiting}
 use Rattle.mrp_validation.specs.Written.{OfRecords}
 use Rattle.mrp_validation.proofs.Whole.{whole}
+use Rattle.mrp_qty.specs.declared.limits.LimitSet.TheVariants as set
 
 -- ---- what follows from what is said of the rows, follows too where it is said of them alone
 
@@ -29,22 +30,22 @@ of_left (Some rows) says more go h = go rows h
 
 -- ---- a fault of the rows is one however they are read
 
-fault_as : (reading : Reading) (e : TableFault) (rows : List (List (List ℕ))) → TellsRows (Err e) rows → TellsRowsAs reading (Err e) rows
-fault_as reading e rows = of_rows e.kind (IsSoundAbove e.row rows) (Reads rows (Err e)) (ReadsAs reading rows (Err e)) (λ reads. (Err e, reads, refl))
+fault_as : (reading : Reading) (e : TableFault) (rows : List (List (List ℕ))) → TellsRows reading.limits (Err e) rows → TellsRowsAs reading (Err e) rows
+fault_as reading e rows = of_rows e.kind (IsSoundAbove reading.limits e.row rows) (Reads reading.limits rows (Err e)) (ReadsAs reading rows (Err e)) (λ reads. (Err e, reads, refl))
 
-pub left_as : (reading : Reading) (left : Option (List (List (List ℕ)))) (e : TableFault) → OfLeft left (TellsRows (Err e))
+pub left_as : (reading : Reading) (left : Option (List (List (List ℕ)))) (e : TableFault) → OfLeft left (TellsRows reading.limits (Err e))
     → OfLeft left (TellsRowsAs reading (Err e))
-left_as reading left e = of_left left (TellsRows (Err e)) (TellsRowsAs reading (Err e)) (fault_as reading e)
+left_as reading left e = of_left left (TellsRows reading.limits (Err e)) (TellsRowsAs reading (Err e)) (fault_as reading e)
 
 -- ---- the rows are all there
 
-tells_end : (reading : Reading) (N : Table) (rows : List (List (List ℕ))) (b : Bool) → Reads rows (Ok N)
+tells_end : (reading : Reading) (N : Table) (rows : List (List (List ℕ))) (b : Bool) → Reads reading.limits rows (Ok N)
     → uncut reading N ≡ (if b then Err (record { row = row_count N + 1; kind = fault.Cut }) else Ok N)
     → TellsRowsAs reading (if b then Err (record { row = row_count N + 1; kind = fault.Cut }) else Ok N) rows
 tells_end reading N rows true reads same = (Ok N, reads, sym same)
 tells_end reading N rows false reads same = (Ok N, reads, sym same)
 
-tells_waiting : (reading : Reading) (N : Table) (o : Option ℕ) (rows : List (List (List ℕ))) → TellsRows (unless_lacking N o) rows
+tells_waiting : (reading : Reading) (N : Table) (o : Option ℕ) (rows : List (List (List ℕ))) → TellsRows reading.limits (unless_lacking N o) rows
     → TellsRowsAs reading (go_on (unless_lacking N o) (uncut reading)) rows
 tells_waiting reading N None rows reads = tells_end reading N rows (reading.whole && not N.ended) reads refl
 tells_waiting reading N (Some x) rows reads = (unless_lacking N (Some x), reads, refl)
@@ -55,12 +56,12 @@ matches (Err e) = refl
 
 pub whole_as : (reading : Reading) (left after : Option (List (List (List ℕ)))) (row : List (List ℕ)) (M : Table) (k : Kind) (N : Table)
     (result : Result Table TableFault)
-    → TakesRow left after row → Starts row (Ok M) × (k ≡ kind.Run)
+    → TakesRow left after row → Starts reading.limits row (Ok M) × (k ≡ kind.Run)
     → OfLeft after (λ rows. rows_after 2 (M, k) rows ≡ Ok N) → result ≡ go_on (waiting N) (uncut reading)
     → OfLeft left (TellsRowsAs reading result)
 whole_as reading left after row M k N result takes tells rest same =
-    let all = whole left after row M k N (waiting N) takes tells rest (matches (waiting N)) in
-    rw same (of_left left (TellsRows (waiting N)) (TellsRowsAs reading (go_on (waiting N) (uncut reading)))
+    let all = whole reading.limits left after row M k N (waiting N) takes tells rest (matches (waiting N)) in
+    rw same (of_left left (TellsRows reading.limits (waiting N)) (TellsRowsAs reading (go_on (waiting N) (uncut reading)))
     (tells_waiting reading N (first_lacking N N.sources)) all)
 
 -- a missing pair is told first
@@ -98,19 +99,19 @@ whole_ends reading N (Err e) same = tt
 -- ---- a table that need not be whole is read as it stands
 
 abbrev plainly : Reading
-plainly = record { whole = false }
+plainly = record { whole = false; limits = set.Usual }
 
 plain_is : (r : Result Table TableFault) → go_on r (uncut plainly) ≡ r
 plain_is (Ok N) = refl
 plain_is (Err e) = refl
 
-reads_plainly : (r : Result Table TableFault) (rows : List (List (List ℕ))) → ReadsAs plainly rows r → Reads rows r
-reads_plainly r rows h = subst (Reads rows) (sym (h.2 ∙ plain_is h.0)) h.1
+reads_plainly : (r : Result Table TableFault) (rows : List (List (List ℕ))) → ReadsAs plainly rows r → Reads set.Usual rows r
+reads_plainly r rows h = subst (Reads set.Usual rows) (sym (h.2 ∙ plain_is h.0)) h.1
 
-tells_plainly : (r : Result Table TableFault) (rows : List (List (List ℕ))) → TellsRowsAs plainly r rows → TellsRows r rows
+tells_plainly : (r : Result Table TableFault) (rows : List (List (List ℕ))) → TellsRowsAs plainly r rows → TellsRows set.Usual r rows
 tells_plainly (Ok N) rows h = reads_plainly (Ok N) rows h
-tells_plainly (Err e) rows h = of_rows e.kind (IsSoundAbove e.row rows) (ReadsAs plainly rows (Err e)) (Reads rows (Err e)) (reads_plainly (Err e) rows) h
+tells_plainly (Err e) rows h = of_rows e.kind (IsSoundAbove set.Usual e.row rows) (ReadsAs plainly rows (Err e)) (Reads set.Usual rows (Err e)) (reads_plainly (Err e) rows) h
 
-pub plain : (text : Option (List ℕ)) (r : Result Table TableFault) → OfRecords text (TellsRowsAs plainly r) → OfRecords text (TellsRows r)
+pub plain : (text : Option (List ℕ)) (r : Result Table TableFault) → OfRecords text (TellsRowsAs plainly r) → OfRecords text (TellsRows set.Usual r)
 plain None r h = tt
 plain (Some bytes) r h = tells_plainly r _ h

@@ -20,6 +20,10 @@ use Rattle.mrp_tables.specs.Bulk.{KeepsNames, with_bulk}
 use Rattle.mrp_tables.specs.Lists.{FindsParts}
 use Rattle.mrp_tables.specs.Spelled.{terms_of_bill}
 use Rattle.mrp_tables.specs.declared.bulk.BulkRow.TheVariants as bulk
+use Rattle.mrp_master_data.specs.Table.{most}
+use Rattle.mrp_qty.specs.Limits.{limits_of}
+use Rattle.mrp_qty.specs.declared.limits.LimitSet.{LimitSet}
+use Rattle.mrp_qty.specs.declared.limits.LimitSet.TheVariants as set
 
 -- ---- the tests of a bill row
 
@@ -38,7 +42,7 @@ fitting repeated there parent component makes room per =
 
 fits_are : (N : Table) (t : BillTerms) → bill_fits N t
     ≡ fitting (has_bill N (parent_in N t) (component_in N t)) (is_some (plant_no N t.plant)) (parent_in N t) (component_in N t) (is_made N)
-    (nat_lt (length N.bills) MOST_BILLS) t.per
+    (nat_lt (length N.bills) (most N).bills) t.per
 unfolding bill_fits
 fits_are N t = refl
 
@@ -48,12 +52,18 @@ no_bills N None y = refl
 no_bills N (Some x) None = refl
 no_bills N (Some x) (Some y) = refl
 
+-- and there is room for one
+room_for_one : (s : LimitSet) → nat_lt 0 (limits_of s).bills ≡ true
+room_for_one set.Usual = refl
+room_for_one set.Large = refl
+
 pub fits_alone : (N : Table) (t : BillTerms) → bill_fits (without_bills N) t
     ≡ fitting false (is_some (plant_no N t.plant)) (parent_in N t) (component_in N t) (is_made N) true t.per
 fits_alone N t =
     fits_are (without_bills N) t
-    ∙ ap (λ (b : Bool). fitting b (is_some (plant_no N t.plant)) (parent_in N t) (component_in N t) (is_made N) true t.per)
+    ∙ ap (λ (b : Bool). fitting b (is_some (plant_no N t.plant)) (parent_in N t) (component_in N t) (is_made N) (nat_lt 0 (most N).bills) t.per)
     (no_bills N (parent_in N t) (component_in N t))
+    ∙ ap (λ (b : Bool). fitting false (is_some (plant_no N t.plant)) (parent_in N t) (component_in N t) (is_made N) b t.per) (room_for_one N.limits)
 
 -- whether it is repeated, what it says whatever bill rows there are, and whether there is room
 abbrev pub taking : {A : Type 0} → Bool → Result BillRow TableFaultKind → Bool → (BillRow → A) → Result A TableFaultKind
@@ -78,13 +88,13 @@ by_parts false true room (Some x) (Some y) makes per = by (makes x)
     by false = refl
 
 fits_apart : (N : Table) (t : BillTerms) → bill_fits N t
-    ≡ taking (has_bill N (parent_in N t) (component_in N t)) (bill_fits (without_bills N) t) (nat_lt (length N.bills) MOST_BILLS) (λ b. b)
+    ≡ taking (has_bill N (parent_in N t) (component_in N t)) (bill_fits (without_bills N) t) (nat_lt (length N.bills) (most N).bills) (λ b. b)
 fits_apart N t =
     fits_are N t
-    ∙ by_parts (has_bill N (parent_in N t) (component_in N t)) (is_some (plant_no N t.plant)) (nat_lt (length N.bills) MOST_BILLS) (parent_in N t)
+    ∙ by_parts (has_bill N (parent_in N t) (component_in N t)) (is_some (plant_no N t.plant)) (nat_lt (length N.bills) (most N).bills) (parent_in N t)
     (component_in N t) (is_made N) t.per
     ∙ ap (λ (r : Result BillRow TableFaultKind). let s : Result BillRow TableFaultKind = taking (has_bill N (parent_in N t) (component_in N t)) r
-    (nat_lt (length N.bills) MOST_BILLS) (λ b. b) in s) (sym (fits_alone N t))
+    (nat_lt (length N.bills) (most N).bills) (λ b. b) in s) (sym (fits_alone N t))
 
 -- ---- what the row makes of the table
 
@@ -97,25 +107,25 @@ then_made false false (Ok b) with = refl
 
 module _ (N : Table) (row : List (List ℕ)) (t : BillTerms) (terms : bill_terms row ≡ Ok t) where
   row_takes : bill_row N row
-      ≡ taking (has_bill N (parent_in N t) (component_in N t)) (bill_fits (without_bills N) t) (nat_lt (length N.bills) MOST_BILLS) (with_bill N)
+      ≡ taking (has_bill N (parent_in N t) (component_in N t)) (bill_fits (without_bills N) t) (nat_lt (length N.bills) (most N).bills) (with_bill N)
   row_takes =
       ap (λ (r : Result BillTerms TableFaultKind). let s : Result Table TableFaultKind = (r >>= bill_fits N) >>= λ b. Ok (with_bill N b) in s) terms
       ∙ ap (λ (r : Result BillRow TableFaultKind). let s : Result Table TableFaultKind = r >>= λ b. Ok (with_bill N b) in s) (fits_apart N t)
-      ∙ then_made (has_bill N (parent_in N t) (component_in N t)) (nat_lt (length N.bills) MOST_BILLS) (bill_fits (without_bills N) t) (with_bill N)
+      ∙ then_made (has_bill N (parent_in N t) (component_in N t)) (nat_lt (length N.bills) (most N).bills) (bill_fits (without_bills N) t) (with_bill N)
 
   -- of pairs that have a bill row
   pub row_repeated : has_bill N (parent_in N t) (component_in N t) ≡ true → bill_row N row ≡ Err fault.Repeated
   row_repeated has =
       row_takes
-      ∙ ap (λ (b : Bool). taking b (bill_fits (without_bills N) t) (nat_lt (length N.bills) MOST_BILLS) (with_bill N)) has
+      ∙ ap (λ (b : Bool). taking b (bill_fits (without_bills N) t) (nat_lt (length N.bills) (most N).bills) (with_bill N)) has
 
   -- of pairs that have none, and with a fault
   pub row_refused : (e : TableFaultKind) → has_bill N (parent_in N t) (component_in N t) ≡ false → bill_fits (without_bills N) t ≡ Err e
       → bill_row N row ≡ Err e
   row_refused e has fits =
       row_takes
-      ∙ ap (λ (b : Bool). taking b (bill_fits (without_bills N) t) (nat_lt (length N.bills) MOST_BILLS) (with_bill N)) has
-      ∙ ap (λ (r : Result BillRow TableFaultKind). taking false r (nat_lt (length N.bills) MOST_BILLS) (with_bill N)) fits
+      ∙ ap (λ (b : Bool). taking b (bill_fits (without_bills N) t) (nat_lt (length N.bills) (most N).bills) (with_bill N)) has
+      ∙ ap (λ (r : Result BillRow TableFaultKind). taking false r (nat_lt (length N.bills) (most N).bills) (with_bill N)) fits
 
   -- that says something
   pub row_says : (b : BillRow) → bill_fits (without_bills N) t ≡ Ok b → bill_row N row ≡ with_bulk N (bulk.Bill b)
@@ -125,9 +135,9 @@ module _ (N : Table) (row : List (List ℕ)) (t : BillTerms) (terms : bill_terms
       let component : component_in N t ≡ Some b.component.0 = p.component ∙ ap (λ (c : BillRow). Some c.component.0) p.same in
       row_takes
       ∙ ap (λ (r : Result BillRow TableFaultKind).
-      taking (has_bill N (parent_in N t) (component_in N t)) r (nat_lt (length N.bills) MOST_BILLS) (with_bill N)) fits
-      ∙ ap (λ (x : Option ℕ). taking (has_bill N x (component_in N t)) (Ok b) (nat_lt (length N.bills) MOST_BILLS) (with_bill N)) parent
-      ∙ ap (λ (y : Option ℕ). taking (has_bill N (Some b.parent.0) y) (Ok b) (nat_lt (length N.bills) MOST_BILLS) (with_bill N)) component
+      taking (has_bill N (parent_in N t) (component_in N t)) r (nat_lt (length N.bills) (most N).bills) (with_bill N)) fits
+      ∙ ap (λ (x : Option ℕ). taking (has_bill N x (component_in N t)) (Ok b) (nat_lt (length N.bills) (most N).bills) (with_bill N)) parent
+      ∙ ap (λ (y : Option ℕ). taking (has_bill N (Some b.parent.0) y) (Ok b) (nat_lt (length N.bills) (most N).bills) (with_bill N)) component
 
 -- so by the pairs that were found
 pub has_found : (N : Table) (row : List (List ℕ)) (x y : Option PairNo) (per : ℕ) (has : Bool) → FindsParts N row x y
@@ -159,6 +169,6 @@ pub is_second : (N : Table) (b : BillRow) → has_bill N (Some b.parent.0) (Some
 is_second N b has = rw has refl
 
 pub is_first : (N : Table) (b : BillRow) (room : Bool) → has_bill N (Some b.parent.0) (Some b.component.0) ≡ false
-    → nat_lt (length N.bills) MOST_BILLS ≡ room
+    → nat_lt (length N.bills) (most N).bills ≡ room
     → with_bulk N (bulk.Bill b) ≡ (check room fault.TooMany >>= λ u. Ok (with_bill N b))
 is_first N b room has is = rw (has, is) refl

@@ -25,6 +25,9 @@ use Rattle.mrp_validation.proofs.KeepingSteps.{after, after_check, same_Ok}
 use Rattle.mrp_tables.proofs.AmountFacts.{amount_made}
 use Rattle.mrp_tables.proofs.BillFacts.{bill_says}
 use Rattle.mrp_tables.proofs.Starting.{tells_fault, text_kind}
+use Rattle.mrp_master_data.specs.Table.{most}
+use Rattle.mrp_qty.specs.Limits.{limits_of}
+use Rattle.mrp_qty.specs.declared.limits.LimitSet.{LimitSet}
 
 -- ---- a step of taking
 
@@ -72,23 +75,23 @@ is_bulk-kept N M b kept is = subst (λ (T : Table). IsBulk T b) (sym kept) (is_b
 -- what is taken keeps them
 with-kept : (M P : Table) (b : BulkRow) → with_bulk M b ≡ Ok P → KeepsNames M P
 with-kept M P (bulk.Bill b) made =
-    by (not (has_bill M (Some b.parent.0) (Some b.component.0))) (nat_lt (length M.bills) MOST_BILLS) made
+    by (not (has_bill M (Some b.parent.0) (Some b.component.0))) (nat_lt (length M.bills) (most M).bills) made
   where
     by : (first room : Bool) → (check first fault.Repeated >>= λ u. check room fault.TooMany >>= λ u. Ok (with_bill M b)) ≡ Ok P → KeepsNames M P
     by true true made = subst (KeepsNames M) (same_Ok _ P made) refl
     by true false made = absurd (cc)
     by false room made = absurd (cc)
-with-kept M P (bulk.Demand d) made = by (nat_lt (length M.demands) MOST_OF_A_KIND) made
+with-kept M P (bulk.Demand d) made = by (nat_lt (length M.demands) (most M).demands) made
   where
     by : (room : Bool) → (check room fault.TooMany >>= λ u. Ok (with_demand M d)) ≡ Ok P → KeepsNames M P
     by true made = subst (KeepsNames M) (same_Ok _ P made) refl
     by false made = absurd (cc)
-with-kept M P (bulk.Receipt r) made = by (nat_lt (length M.receipts) MOST_OF_A_KIND) made
+with-kept M P (bulk.Receipt r) made = by (nat_lt (length M.receipts) (most M).of_a_kind) made
   where
     by : (room : Bool) → (check room fault.TooMany >>= λ u. Ok (with_receipt M r)) ≡ Ok P → KeepsNames M P
     by true made = subst (KeepsNames M) (same_Ok _ P made) refl
     by false made = absurd (cc)
-with-kept M P (bulk.Ship s place) made = by (nat_lt (length M.ships) MOST_OF_A_KIND) made
+with-kept M P (bulk.Ship s place) made = by (nat_lt (length M.ships) (most M).of_a_kind) made
   where
     by : (room : Bool) → (check room fault.TooMany >>= λ u. Ok (with_ship M s)) ≡ Ok P → KeepsNames M P
     by true made = subst (KeepsNames M) (same_Ok _ P made) refl
@@ -127,19 +130,23 @@ amount-room {A} N M row room more made x kept is =
 
 ship-room-of : (N : Table) (bs : List BillRow) (ds : List DemandRow) (rs : List ReceiptRow) (ss : List ShipRow) (row : List (List ℕ)) (x : ShipRow)
     → ship_of N row ≡ Ok x
-    → ship_of (record N { bills = bs; demands = ds; receipts = rs; ships = ss }) row ≡ (check (nat_lt (length ss) MOST_OF_A_KIND) fault.TooMany >>= λ u. Ok x)
+    → ship_of (record N { bills = bs; demands = ds; receipts = rs; ships = ss }) row ≡ (check (nat_lt (length ss) (most N).of_a_kind) fault.TooMany >>= λ u. Ok x)
 unfolding ship_of
 ship-room-of N bs ds rs ss row x is =
     let terms = after (ship_terms row (horizon N)) _ x is in
     let lane = after (known_lane N terms.0.0) _ x terms.2 in
-    let last = after_check (nat_lt (length N.ships) MOST_OF_A_KIND) fault.TooMany _ x lane.2 in
+    let last = after_check (nat_lt (length N.ships) (most N).of_a_kind) fault.TooMany _ x lane.2 in
     rw (terms.1, lane-same N bs ds rs ss terms.0.0, lane.1)
-    (ap (λ (y : ShipRow). let s : Result ShipRow TableFaultKind = check (nat_lt (length ss) MOST_OF_A_KIND) fault.TooMany >>= λ u. Ok y in s)
+    (ap (λ (y : ShipRow). let s : Result ShipRow TableFaultKind = check (nat_lt (length ss) (most N).of_a_kind) fault.TooMany >>= λ u. Ok y in s)
     (same_Ok _ x last.1))
 
 ship-room : (N M : Table) (row : List (List ℕ)) (x : ShipRow) → KeepsNames N M → ship_of N row ≡ Ok x
-    → ship_of M row ≡ (check (nat_lt (length M.ships) MOST_OF_A_KIND) fault.TooMany >>= λ u. Ok x)
-ship-room N M row x kept is = ap (λ (T : Table). ship_of T row) kept ∙ ship-room-of N M.bills M.demands M.receipts M.ships row x is
+    → ship_of M row ≡ (check (nat_lt (length M.ships) (most M).of_a_kind) fault.TooMany >>= λ u. Ok x)
+ship-room N M row x kept is =
+    ap (λ (T : Table). ship_of T row) kept
+    ∙ ship-room-of N M.bills M.demands M.receipts M.ships row x is
+    ∙ ap (λ (s : LimitSet). let r : Result ShipRow TableFaultKind = check (nat_lt (length M.ships) (limits_of s).of_a_kind) fault.TooMany >>= λ u. Ok x in r)
+    (sym (ap (λ (T : Table). T.limits) kept))
 
 -- a row of a kind, after others
 after-kind : (s : Table × Kind) (row : List (List ℕ)) (k : Kind) (made : Result Table TableFaultKind) → kind_of_row row ≡ Ok k → row_of_kind k s.0 row ≡ made
@@ -162,17 +169,17 @@ says-after N s row (bulk.Demand d) kept says =
     let M = s.0 in
     after-kind s row kind.Demand (with_bulk M (bulk.Demand d)) says.0
     (ap (λ (r : Result DemandRow TableFaultKind). let t : Result Table TableFaultKind = r >>= λ x. Ok (with_demand M x) in t)
-    (amount-room N M row (nat_lt (length N.demands) MOST_OF_A_KIND) (nat_lt (length M.demands) MOST_OF_A_KIND) demand_made d kept says.1)
-    ∙ then_with (nat_lt (length M.demands) MOST_OF_A_KIND) d (with_demand M))
+    (amount-room N M row (nat_lt (length N.demands) (most N).demands) (nat_lt (length M.demands) (most M).demands) demand_made d kept says.1)
+    ∙ then_with (nat_lt (length M.demands) (most M).demands) d (with_demand M))
 says-after N s row (bulk.Receipt r) kept says =
     let M = s.0 in
     after-kind s row kind.Receipt (with_bulk M (bulk.Receipt r)) says.0
     (ap (λ (r : Result ReceiptRow TableFaultKind). let t : Result Table TableFaultKind = r >>= λ x. Ok (with_receipt M x) in t)
-    (amount-room N M row (nat_lt (length N.receipts) MOST_OF_A_KIND) (nat_lt (length M.receipts) MOST_OF_A_KIND) receipt_made r kept says.1)
-    ∙ then_with (nat_lt (length M.receipts) MOST_OF_A_KIND) r (with_receipt M))
+    (amount-room N M row (nat_lt (length N.receipts) (most N).of_a_kind) (nat_lt (length M.receipts) (most M).of_a_kind) receipt_made r kept says.1)
+    ∙ then_with (nat_lt (length M.receipts) (most M).of_a_kind) r (with_receipt M))
 says-after N s row (bulk.Ship x place) kept says =
     let M = s.0 in
     after-kind s row kind.Ship (with_bulk M (bulk.Ship x place)) says.0
     (ap (λ (r : Result ShipRow TableFaultKind). let t : Result Table TableFaultKind = r >>= λ x. Ok (with_ship M x) in t)
     (ship-room N M row x kept says.1)
-    ∙ then_with (nat_lt (length M.ships) MOST_OF_A_KIND) x (with_ship M))
+    ∙ then_with (nat_lt (length M.ships) (most M).of_a_kind) x (with_ship M))

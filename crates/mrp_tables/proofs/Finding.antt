@@ -17,6 +17,7 @@ use Rattle.mrp_validation.specs.Grammar.{cum_between, cum_of, lane_number, has_c
 use Rattle.mrp_validation.specs.Grammar.{ship_of, ship_terms}
 use Rattle.mrp_tables.specs.Lists.{Finds, known_found, source_at, source_named}
 use Rattle.mrp_master_data.proofs.Keys.{any-from_no_position, any-from_position}
+use Rattle.mrp_master_data.specs.Table.{most}
 
 -- a lane without the place of its source
 abbrev pub lane_ends : KnownLane → PlantNo × PairNo
@@ -82,19 +83,19 @@ pub cum_unknown : (N : Table) (row : List (List ℕ)) (t : LaneTerms × ℕ) (l 
 unfolding cum_of
 cum_unknown N row t l e spelled finds new is = rw (← spelled, cum_is N t.0 l false finds new, known_err N t.0 l e finds is) refl
 
-full : (count most : ℕ) → most ≤ count → nat_lt count most ≡ false
-full count most le = grind (arith, nat_tests)
+full : (count limit : ℕ) → limit ≤ count → nat_lt count limit ≡ false
+full count limit le = grind (arith, nat_tests)
 
 pub cum_full : (N : Table) (row : List (List ℕ)) (t : LaneTerms × ℕ) (l : NamedLane) (k : KnownLane) → Ok t ≡ lane_number row MOST → Finds N t.0 l
-    → false ≡ cum_between N (option_map (λ p. p.0) l.from) (option_map (λ x. x.0) l.pair) → Ok k ≡ known_found l → MOST_OF_A_KIND ≤ length N.cums
+    → false ≡ cum_between N (option_map (λ p. p.0) l.from) (option_map (λ x. x.0) l.pair) → Ok k ≡ known_found l → (most N).of_a_kind ≤ length N.cums
     → Err fault.TooMany ≡ cum_of N row
 unfolding cum_of
-cum_full N row t l k spelled finds new is most = rw (
+cum_full N row t l k spelled finds new is many = rw (
   ← spelled,
   cum_is N t.0 l false finds new,
   known_ok N t.0 l k finds is,
   full
-      (length N.cums) MOST_OF_A_KIND most,
+      (length N.cums) (most N).of_a_kind many,
 ) refl
 
 reset_is : (N : Table) (t : LaneTerms) (l : NamedLane) (b : Bool) → Finds N t l
@@ -126,27 +127,27 @@ reset_unknown N row periods t l e spelled same finds new is =
 
 -- ---- rows of a lane that is there
 
-few : (count most : ℕ) → count < most → nat_lt count most ≡ true
-few count most lt = grind (arith, nat_tests)
+few : (count limit : ℕ) → count < limit → nat_lt count limit ≡ true
+few count limit lt = grind (arith, nat_tests)
 
 pub ship_full : (N : Table) (row : List (List ℕ)) (periods : ℕ) (t : LaneTerms × ℕ × ℕ) (l : NamedLane) (k : KnownLane) → Ok t ≡ ship_terms row periods
     → periods ≡ horizon N → Finds N t.0 l
-    → Ok k ≡ known_found l → MOST_OF_A_KIND ≤ length N.ships → Err fault.TooMany ≡ ship_of N row
+    → Ok k ≡ known_found l → (most N).of_a_kind ≤ length N.ships → Err fault.TooMany ≡ ship_of N row
 unfolding ship_of
-ship_full N row periods t l k spelled same finds is most =
+ship_full N row periods t l k spelled same finds is many =
     let terms = spelled ∙ ap (ship_terms row) same in
-    rw (← terms, known_ok N t.0 l k finds is, full (length N.ships) MOST_OF_A_KIND most) refl
+    rw (← terms, known_ok N t.0 l k finds is, full (length N.ships) (most N).of_a_kind many) refl
 
 pub ship_known : (N : Table) (row : List (List ℕ)) (periods : ℕ) (t : LaneTerms × ℕ × ℕ) (l : NamedLane) (k : KnownLane) → Ok t ≡ ship_terms row periods
     → periods ≡ horizon N → Finds N t.0 l
-    → Ok k ≡ known_found l → length N.ships < MOST_OF_A_KIND → Ok (record { from = k.from; pair = k.pair; period = t.1; quantity = t.2 }) ≡ ship_of N row
+    → Ok k ≡ known_found l → length N.ships < (most N).of_a_kind → Ok (record { from = k.from; pair = k.pair; period = t.1; quantity = t.2 }) ≡ ship_of N row
 unfolding ship_of
 ship_known N row periods t l k spelled same finds is room =
     let terms = spelled ∙ ap (ship_terms row) same in
-    rw (← terms, known_ok N t.0 l k finds is, few (length N.ships) MOST_OF_A_KIND room) refl
+    rw (← terms, known_ok N t.0 l k finds is, few (length N.ships) (most N).of_a_kind room) refl
 
 pub cum_known : (N : Table) (row : List (List ℕ)) (t : LaneTerms × ℕ) (l : NamedLane) (k : KnownLane) → Ok t ≡ lane_number row MOST → Finds N t.0 l
-    → false ≡ cum_between N (option_map (λ p. p.0) l.from) (option_map (λ x. x.0) l.pair) → Ok k ≡ known_found l → length N.cums < MOST_OF_A_KIND
+    → false ≡ cum_between N (option_map (λ p. p.0) l.from) (option_map (λ x. x.0) l.pair) → Ok k ≡ known_found l → length N.cums < (most N).of_a_kind
     → Ok (record { from = k.from; pair = k.pair; figure = t.1 }) ≡ cum_of N row
 unfolding cum_of
 cum_known N row t l k spelled finds new is room = rw (
@@ -154,7 +155,7 @@ cum_known N row t l k spelled finds new is room = rw (
   cum_is N t.0 l false finds new,
   known_ok N t.0 l k finds is,
   few
-      (length N.cums) MOST_OF_A_KIND room,
+      (length N.cums) (most N).of_a_kind room,
 ) refl
 
 pub reset_known : (N : Table) (row : List (List ℕ)) (periods : ℕ) (t : LaneTerms × ℕ) (l : NamedLane) (k : KnownLane) → Ok t ≡ lane_number row (periods - 1)

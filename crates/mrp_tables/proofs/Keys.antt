@@ -29,6 +29,7 @@ use Rattle.mrp_master_data.specs.declared.numbers.PlantNo.{PlantNo}
 use Rattle.mrp_master_data.specs.declared.numbers.PairNo.{PairNo}
 use Rattle.mrp_master_data.proofs.Mapped.{list_any_keys}
 use Rattle.mrp_master_data.proofs.Keys.{position_keys, same_test, swap}
+use Rattle.mrp_master_data.specs.Table.{most}
 
 -- whether there is a bill row of two pairs
 pub any_bill : (x y : PairNo) (keys : List BillKey) (bills : List BillRow) → keys ≡ map bill_key_of bills
@@ -114,7 +115,7 @@ place k = k.0
 -- there is room for a row of a pair that has none: each pair has one at most
 pairs_room : {R : Type 0} (key : R → PairNo) (N : Table) (rows : List R) (x : PairNo) (keys new : List PairNo) → IsRead N → keys ≡ map key rows
     → All (λ r. (key r).0 < length N.pairs) rows → new ≡ keys ++ x ∷ [] → IsDistinct pair.eq-value.it new → x.0 < length N.pairs
-    → length rows < MOST_PAIRS
+    → length rows < (most N).pairs
 pairs_room key N rows x keys new read are each with_it apart within =
     let old : All (HasBelow place (length N.pairs)) (map key rows) = All-map (HasBelow place (length N.pairs)) key rows each in
     let all = All-push (HasBelow place (length N.pairs)) keys x (subst (All (HasBelow place (length N.pairs))) (sym are) old) within in
@@ -122,13 +123,13 @@ pairs_room key N rows x keys new read are each with_it apart within =
     omega (arith, le, length_push keys x, ap length are, length-map rows key, read.limits.pairs)
 
 pub policies_room : (N : Table) (x : PairNo) (keys new : List PairNo) → IsRead N → keys ≡ map policy_key_of N.policies → new ≡ keys ++ x ∷ []
-    → IsDistinct pair.eq-value.it new → x.0 < length N.pairs → length N.policies < MOST_PAIRS
+    → IsDistinct pair.eq-value.it new → x.0 < length N.pairs → length N.policies < (most N).pairs
 policies_room N x keys new read are with_it apart within =
     let each = All-weaker (IsPolicyRow N) (λ p. p.pair.0 < length N.pairs) (λ p h. h.pair) N.policies read.policies in
     pairs_room policy_key_of N N.policies x keys new read are each with_it apart within
 
 pub vendors_room : (N : Table) (x : PairNo) (keys new : List PairNo) → IsRead N → keys ≡ map vendor_key_of N.vendors → new ≡ keys ++ x ∷ []
-    → IsDistinct pair.eq-value.it new → x.0 < length N.pairs → length N.vendors < MOST_PAIRS
+    → IsDistinct pair.eq-value.it new → x.0 < length N.pairs → length N.vendors < (most N).pairs
 vendors_room N x keys new read are with_it apart within =
     let each = All-weaker (IsVendorRow N) (λ v. v.pair.0 < length N.pairs) (λ v h. h.pair) N.vendors read.vendors in
     pairs_room vendor_key_of N N.vendors x keys new read are each with_it apart within

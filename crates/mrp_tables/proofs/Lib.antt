@@ -26,3 +26,4 @@ pub mod VendorFacts
 pub mod ThreadFacts
 pub mod Waiting
 pub mod Words
+pub mod Room

@@ -18,6 +18,7 @@ use Rattle.mrp_cal.specs.declared.fault.CalFault.{CalFault}
 use Rattle.mrp_master_data.specs.Table.{Table}
 use Rattle.mrp_validation.specs.Grammar.{◌>>=◌, kind_place, may_follow, row_kind, run_terms, RunTerms, TellsFault}
 use Rattle.mrp_validation.specs.Reading.{first_terms, IsCalendarOf, is_run, kind_of_row, row_after, row_of_kind, started, Starts, StartsWith, UnlessMemory}
+use Rattle.mrp_qty.specs.declared.limits.LimitSet.{LimitSet}
 
 -- fields that are text pass the test for it
 pub all_text : (fs : List (List ℕ)) → AllText fs → list_all is_utf8 fs ≡ true
@@ -40,47 +41,47 @@ told fault.Memory read h = tt
 told _ read h = h
 
 module _ (row : List (List ℕ)) (text : AllText row) where
-  first-misread : (e : TableFaultKind) → row_kind row ≡ Err e → first_terms row ≡ Err e
+  first-misread : (limits : LimitSet) (e : TableFaultKind) → row_kind row ≡ Err e → first_terms limits row ≡ Err e
   unfolding first_terms
-  first-misread e is = rw (text_kind row text, is) refl
+  first-misread limits e is = rw (text_kind row text, is) refl
 
-  first-other : (k : Kind) → row_kind row ≡ Ok k → is_run k ≡ false → first_terms row ≡ Err fault.KindOrder
+  first-other : (limits : LimitSet) (k : Kind) → row_kind row ≡ Ok k → is_run k ≡ false → first_terms limits row ≡ Err fault.KindOrder
   unfolding first_terms
-  first-other k is other = rw (text_kind row text, is, other) refl
+  first-other limits k is other = rw (text_kind row text, is, other) refl
 
-  first-run : (k : Kind) → row_kind row ≡ Ok k → is_run k ≡ true → first_terms row ≡ run_terms row
+  first-run : (limits : LimitSet) (k : Kind) → row_kind row ≡ Ok k → is_run k ≡ true → first_terms limits row ≡ run_terms limits row
   unfolding first_terms
-  first-run k is run = rw (text_kind row text, is, run) refl
+  first-run limits k is run = rw (text_kind row text, is, run) refl
 
 -- the first days that a table has given, where it is one
 abbrev given : Result Table TableFaultKind → List Begun
 given (Ok N) = N.calendar.begun
 given (Err e) = []
 
-no_days-by : (t : RunTerms) (N : Table) (c : Result CalendarTerms CalFault) → IsCalendarOf t c → Ok N ≡ started c → N.calendar.begun ≡ []
-no_days-by t N (Ok c) is same = ap given same ∙ is.0.begun
-no_days-by t N (Err e) is same = ap given same
+no_days-by : (limits : LimitSet) (t : RunTerms) (N : Table) (c : Result CalendarTerms CalFault) → IsCalendarOf t c → Ok N ≡ started limits c → N.calendar.begun ≡ []
+no_days-by limits t N (Ok c) is same = ap given same ∙ is.0.begun
+no_days-by limits t N (Err e) is same = ap given same
 
 -- a run gives no first day but its own
-pub no_days : (terms : Result RunTerms TableFaultKind) (N : Table) → StartsWith terms (Ok N) → N.calendar.begun ≡ []
-no_days (Ok t) N starts = no_days-by t N starts.0 starts.1 starts.2
-no_days (Err e) N starts = ap given starts
+pub no_days : (limits : LimitSet) (terms : Result RunTerms TableFaultKind) (N : Table) → StartsWith limits terms (Ok N) → N.calendar.begun ≡ []
+no_days limits (Ok t) N starts = no_days-by limits t N starts.0 starts.1 starts.2
+no_days limits (Err e) N starts = ap given starts
 
 -- terms that are refused make no table
-starts-refused : (terms : Result RunTerms TableFaultKind) (e : TableFaultKind) → terms ≡ Err e → StartsWith terms (Err e)
-starts-refused terms e is = subst (λ (r : Result RunTerms TableFaultKind). StartsWith r (Err e)) (sym is) refl
+starts-refused : (limits : LimitSet) (terms : Result RunTerms TableFaultKind) (e : TableFaultKind) → terms ≡ Err e → StartsWith limits terms (Err e)
+starts-refused limits terms e is = subst (λ (r : Result RunTerms TableFaultKind). StartsWith limits r (Err e)) (sym is) refl
 
 -- the first row's fault, or its calendar
 module _ (row : List (List ℕ)) (text : AllText row) where
-  pub first-bad_kind : (e : TableFaultKind) → row_kind row ≡ Err e → Starts row (Err e)
-  first-bad_kind e is = starts-refused (first_terms row) e (first-misread row text e is)
+  pub first-bad_kind : (limits : LimitSet) (e : TableFaultKind) → row_kind row ≡ Err e → Starts limits row (Err e)
+  first-bad_kind limits e is = starts-refused limits (first_terms limits row) e (first-misread row text limits e is)
 
-  pub first-bad_order : (k : Kind) → row_kind row ≡ Ok k → is_run k ≡ false → Starts row (Err fault.KindOrder)
-  first-bad_order k is other = starts-refused (first_terms row) fault.KindOrder (first-other row text k is other)
+  pub first-bad_order : (limits : LimitSet) (k : Kind) → row_kind row ≡ Ok k → is_run k ≡ false → Starts limits row (Err fault.KindOrder)
+  first-bad_order limits k is other = starts-refused limits (first_terms limits row) fault.KindOrder (first-other row text limits k is other)
 
-  pub first-calendar : (k : Kind) (start : Result Table TableFaultKind) → row_kind row ≡ Ok k → is_run k ≡ true → StartsWith (run_terms row) start
-      → Starts row start
-  first-calendar k start is run with_run = subst (λ (r : Result RunTerms TableFaultKind). StartsWith r start) (sym (first-run row text k is run)) with_run
+  pub first-calendar : (limits : LimitSet) (k : Kind) (start : Result Table TableFaultKind) → row_kind row ≡ Ok k → is_run k ≡ true → StartsWith limits (run_terms limits row) start
+      → Starts limits row start
+  first-calendar limits k start is run with_run = subst (λ (r : Result RunTerms TableFaultKind). StartsWith limits r start) (sym (first-run row text limits k is run)) with_run
 
 -- a derived test for the run
 same_run : (k : Kind) → sameb kind_type k kind.Run ≡ is_run k

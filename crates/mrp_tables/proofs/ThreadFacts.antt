@@ -20,6 +20,7 @@ use Rattle.mrp_tables.specs.Pieces.{BeginsWith, HasBegun, IsPlain, none_left_of,
 use Rattle.mrp_tables.proofs.Asked.{left_as, whole_as}
 use Rattle.mrp_tables.proofs.SourceFacts.{given_none}
 use Rattle.mrp_tables.proofs.BlockFacts.{apart_rows, fault_then, fault_then_more, Faulty, goes_then_more}
+use Rattle.mrp_qty.specs.declared.limits.LimitSet.{LimitSet}
 
 abbrev Rows : Type 0
 Rows = List (List (List ℕ))
@@ -40,40 +41,40 @@ bad_more rows more e bad = record {
 }
 
 -- a first row that isn't text
-pub begun_bad : (left : Option Rows) (e : TableFault) → e.row ≡ 1 → OfRows e.kind (Unit {0}) (OfLeft left (λ rows. StartsBadly 1 rows e))
-    → OfLeft left (λ rows. TellsBegun rows (Err e))
-begun_bad None e one bad = tt
-begun_bad (Some rows) e one bad = λ more. bad_first (Some (rows ++ more)) e one
+pub begun_bad : (limits : LimitSet) (left : Option Rows) (e : TableFault) → e.row ≡ 1 → OfRows e.kind (Unit {0}) (OfLeft left (λ rows. StartsBadly 1 rows e))
+    → OfLeft left (λ rows. TellsBegun limits rows (Err e))
+begun_bad limits None e one bad = tt
+begun_bad limits (Some rows) e one bad = λ more. bad_first limits (Some (rows ++ more)) e one
     (of_rows_from e.kind (Unit {0}) (Unit {0}) (StartsBadly 1 rows e) (StartsBadly 1 (rows ++ more) e) (λ u. u) (bad_more rows more e) bad)
 
 takes_more : (rows rest more : Rows) (row : List (List ℕ)) → rows ≡ row ∷ rest → rows ++ more ≡ row ∷ (rest ++ more)
 takes_more rows rest more row takes = ap (λ (l : Rows). l ++ more) takes
 
 -- a first row with a fault
-pub begun_fault : (left after : Option Rows) (row : List (List ℕ)) (e : TableFault) → TakesRow left after row
-    → UnlessMemory e.kind (Starts row (Err e.kind)) × (e.row ≡ 1) → OfLeft left (λ rows. TellsBegun rows (Err e))
-begun_fault None after row e takes tells = tt
-begun_fault (Some rows) None row e takes tells = absurd takes
-begun_fault (Some rows) (Some rest) row e takes tells = λ more.
-    first_fault (Some (rows ++ more)) (Some (rest ++ more)) row e (takes_more rows rest more row takes) tells
+pub begun_fault : (limits : LimitSet) (left after : Option Rows) (row : List (List ℕ)) (e : TableFault) → TakesRow left after row
+    → UnlessMemory e.kind (Starts limits row (Err e.kind)) × (e.row ≡ 1) → OfLeft left (λ rows. TellsBegun limits rows (Err e))
+begun_fault limits None after row e takes tells = tt
+begun_fault limits (Some rows) None row e takes tells = absurd takes
+begun_fault limits (Some rows) (Some rest) row e takes tells = λ more.
+    first_fault limits (Some (rows ++ more)) (Some (rest ++ more)) row e (takes_more rows rest more row takes) tells
 
 -- the first row starts a table, and those behind it
-module _ (row : List (List ℕ)) (made d : Draft) (starts : Starts row (Ok made.lists) × (made.last ≡ kind.Run)) (one : made.rows ≡ 1) where
+module _ (limits : LimitSet) (row : List (List ℕ)) (made d : Draft) (starts : Starts limits row (Ok made.lists) × (made.last ≡ kind.Run)) (one : made.rows ≡ 1) where
   second : made.rows + 1 ≡ 2
   second = omega (arith, one)
 
   pub begun_rest_fault : (left after : Option Rows) (e : TableFault) → TakesRow left after row → Faulty after made e
-      → OfLeft left (λ rows. TellsBegun rows (Err e))
+      → OfLeft left (λ rows. TellsBegun limits rows (Err e))
   begun_rest_fault None after e takes bad = tt
   begun_rest_fault (Some rows) None e takes bad = absurd takes
   begun_rest_fault (Some rows) (Some rest) e takes bad = λ more.
-      rest_fault (Some (rows ++ more)) (Some (rest ++ more)) row made.lists made.last e (takes_more rows rest more row takes) starts
+      rest_fault limits (Some (rows ++ more)) (Some (rest ++ more)) row made.lists made.last e (takes_more rows rest more row takes) starts
       (subst (λ (n : ℕ). OfRows e.kind (IsSoundTo n (draft_state made) e.row (rest ++ more)) (rows_after n (draft_state made) (rest ++ more) ≡ Err e)) second
       (fault_then_more (made.rows + 1) (draft_state made) rest more e bad))
 
   pub begun_rest : (left after : Option Rows) → TakesRow left after row
       → ReadsOn after (none_left_of after) (made.rows + 1) (draft_state made) (d.rows + 1) (draft_state d)
-      → OfLeft left (λ rows. TellsBegun rows (Ok (Some d)))
+      → OfLeft left (λ rows. TellsBegun limits rows (Ok (Some d)))
   begun_rest None after takes goes = tt
   begun_rest (Some rows) None takes goes = absurd takes
   begun_rest (Some rows) (Some rest) takes goes = λ more. record {
@@ -88,14 +89,14 @@ module _ (row : List (List ℕ)) (made d : Draft) (starts : Starts row (Ok made.
         (goes_then_more rest more (made.rows + 1) (d.rows + 1) (draft_state made) (draft_state d) goes);
   }
 
-pub begun_none : (left : Option Rows) → OfLeft left (λ rows. TellsBegun rows (Ok None))
-begun_none None = tt
-begun_none (Some rows) = tt
+pub begun_none : (limits : LimitSet) (left : Option Rows) → OfLeft left (λ rows. TellsBegun limits rows (Ok None))
+begun_none limits None = tt
+begun_none limits (Some rows) = tt
 
 -- of the rows of a plain text
-pub begun_of : (left : Option Rows) (text : List ℕ) (r : Result (Option Draft) TableFault) → left ≡ Some (rows_in text)
-    → OfLeft left (λ rows. TellsBegun rows r) → TellsBegun (rows_in text) r
-begun_of left text r is tells = subst (λ (l : Option Rows). OfLeft l (λ rows. TellsBegun rows r)) is tells
+pub begun_of : (limits : LimitSet) (left : Option Rows) (text : List ℕ) (r : Result (Option Draft) TableFault) → left ≡ Some (rows_in text)
+    → OfLeft left (λ rows. TellsBegun limits rows r) → TellsBegun limits (rows_in text) r
+begun_of limits left text r is tells = subst (λ (l : Option Rows). OfLeft l (λ rows. TellsBegun limits rows r)) is tells
 
 -- ---- the first block
 
@@ -103,53 +104,53 @@ first_apart : (xs ys text : List ℕ) → xs ≡ text ++ ys → IsPlain text →
 first_apart xs ys text taken plain =
     sym (apart_rows text ys plain) ∙ ap rows_in (sym (plain.mark ys)) ∙ ap (λ (t : List ℕ). rows_in (strip_bom t)) (sym taken)
 
-pub beginning : (before after : Option (List ℕ)) (text : List ℕ) (d : Draft) → Consumes before after text → IsPlain text
-    → TellsBegun (rows_in text) (Ok (Some d)) → TellsBeginning before after (Ok (Some d))
-beginning None after text d taken plain tells = tt
-beginning (Some xs) None text d taken plain tells = absurd taken
-beginning (Some xs) (Some ys) text d taken plain tells =
-    subst (λ (rows : Rows). HasBegun rows (rows_in ys) d) (first_apart xs ys text taken plain) (tells (rows_in ys))
+pub beginning : (limits : LimitSet) (before after : Option (List ℕ)) (text : List ℕ) (d : Draft) → Consumes before after text → IsPlain text
+    → TellsBegun limits (rows_in text) (Ok (Some d)) → TellsBeginning limits before after (Ok (Some d))
+beginning limits None after text d taken plain tells = tt
+beginning limits (Some xs) None text d taken plain tells = absurd taken
+beginning limits (Some xs) (Some ys) text d taken plain tells =
+    subst (λ (rows : Rows). HasBegun limits rows (rows_in ys) d) (first_apart xs ys text taken plain) (tells (rows_in ys))
 
-pub beginning_fault : (before after : Option (List ℕ)) (text : List ℕ) (e : TableFault) → Consumes before after text → IsPlain text
-    → TellsBegun (rows_in text) (Err e) → TellsBeginning before after (Err e)
-beginning_fault None after text e taken plain tells = tt
-beginning_fault (Some xs) None text e taken plain tells = absurd taken
-beginning_fault (Some xs) (Some ys) text e taken plain tells =
-    subst (λ (rows : Rows). TellsRows (Err e) rows) (first_apart xs ys text taken plain) (tells (rows_in ys))
+pub beginning_fault : (limits : LimitSet) (before after : Option (List ℕ)) (text : List ℕ) (e : TableFault) → Consumes before after text → IsPlain text
+    → TellsBegun limits (rows_in text) (Err e) → TellsBeginning limits before after (Err e)
+beginning_fault limits None after text e taken plain tells = tt
+beginning_fault limits (Some xs) None text e taken plain tells = absurd taken
+beginning_fault limits (Some xs) (Some ys) text e taken plain tells =
+    subst (λ (rows : Rows). TellsRows limits (Err e) rows) (first_apart xs ys text taken plain) (tells (rows_in ys))
 
-sound_first : (left : Option Rows) → OfLeft left (TellsRows (Err (record { row = 1; kind = fault.Memory })))
-sound_first None = tt
-sound_first (Some rows) = record { above = []; rest = rows; rows_are = refl; number_is = omega arith; no_fault = tt }
+sound_first : (limits : LimitSet) (left : Option Rows) → OfLeft left (TellsRows limits (Err (record { row = 1; kind = fault.Memory })))
+sound_first limits None = tt
+sound_first limits (Some rows) = record { above = []; rest = rows; rows_are = refl; number_is = omega arith; no_fault = tt }
 
-pub beginning_refused : (before after : Option (List ℕ)) (e : TableFault) → e ≡ record { row = 1; kind = fault.Memory } → TellsBeginning before after (Err e)
-beginning_refused before after e is =
-    subst (λ (f : TableFault). OfLeft (rows_of_bytes (option_map strip_bom before)) (TellsRows (Err f))) (sym is)
-    (sound_first (rows_of_bytes (option_map strip_bom before)))
+pub beginning_refused : (limits : LimitSet) (before after : Option (List ℕ)) (e : TableFault) → e ≡ record { row = 1; kind = fault.Memory } → TellsBeginning limits before after (Err e)
+beginning_refused limits before after e is =
+    subst (λ (f : TableFault). OfLeft (rows_of_bytes (option_map strip_bom before)) (TellsRows limits (Err f))) (sym is)
+    (sound_first limits (rows_of_bytes (option_map strip_bom before)))
 
 -- where the bytes left stay as they are
-pub keeps_beginning : (before mid after : Option (List ℕ)) (r : Result (Option Draft) TableFault) → Keeps before mid → TellsBeginning mid after r
-    → TellsBeginning before after r
-keeps_beginning None mid after (Ok None) kept tells = tt
-keeps_beginning None mid after (Ok (Some d)) kept tells = tt
-keeps_beginning None mid after (Err e) kept tells = tt
-keeps_beginning (Some xs) None after r kept tells = absurd kept
-keeps_beginning (Some xs) (Some ys) after r kept tells = subst (λ (t : List ℕ). TellsBeginning (Some t) after r) kept tells
+pub keeps_beginning : (limits : LimitSet) (before mid after : Option (List ℕ)) (r : Result (Option Draft) TableFault) → Keeps before mid → TellsBeginning limits mid after r
+    → TellsBeginning limits before after r
+keeps_beginning limits None mid after (Ok None) kept tells = tt
+keeps_beginning limits None mid after (Ok (Some d)) kept tells = tt
+keeps_beginning limits None mid after (Err e) kept tells = tt
+keeps_beginning limits (Some xs) None after r kept tells = absurd kept
+keeps_beginning limits (Some xs) (Some ys) after r kept tells = subst (λ (t : List ℕ). TellsBeginning limits (Some t) after r) kept tells
 
 -- what was taken of the bytes left was read in front of the others
-pub begun_front : (before mid after : Option (List ℕ)) (text : List ℕ) (r : Result (Option Draft) TableFault) → Consumes before mid text
-    → TellsBeginning (prepend_known text mid) after r → TellsBeginning before after r
-begun_front None mid after text (Ok None) taken tells = tt
-begun_front None mid after text (Ok (Some d)) taken tells = tt
-begun_front None mid after text (Err e) taken tells = tt
-begun_front (Some xs) None after text r taken tells = absurd taken
-begun_front (Some xs) (Some ys) after text r taken tells = subst (λ (t : List ℕ). TellsBeginning (Some t) after r) (sym taken) tells
+pub begun_front : (limits : LimitSet) (before mid after : Option (List ℕ)) (text : List ℕ) (r : Result (Option Draft) TableFault) → Consumes before mid text
+    → TellsBeginning limits (prepend_known text mid) after r → TellsBeginning limits before after r
+begun_front limits None mid after text (Ok None) taken tells = tt
+begun_front limits None mid after text (Ok (Some d)) taken tells = tt
+begun_front limits None mid after text (Err e) taken tells = tt
+begun_front limits (Some xs) None after text r taken tells = absurd taken
+begun_front limits (Some xs) (Some ys) after text r taken tells = subst (λ (t : List ℕ). TellsBeginning limits (Some t) after r) (sym taken) tells
 
-pub beginning_none : (before mid after : Option (List ℕ)) (text : List ℕ) (r : Result (Option Draft) TableFault) → Consumes before mid text
+pub beginning_none : (limits : LimitSet) (before mid after : Option (List ℕ)) (text : List ℕ) (r : Result (Option Draft) TableFault) → Consumes before mid text
     → OnOk r (after ≡ prepend_known text mid) → IfOk r (λ begun. begun ≡ None) → IfErr r (λ e. e ≡ record { row = 1; kind = fault.Memory })
-    → TellsBeginning before after r
-beginning_none before mid after text (Ok (Some d)) taken given none refused = absurd (cc)
-beginning_none before mid after text (Ok None) taken given none refused = given_none before mid after text taken given
-beginning_none before mid after text (Err e) taken given none refused = beginning_refused before after e refused
+    → TellsBeginning limits before after r
+beginning_none limits before mid after text (Ok (Some d)) taken given none refused = absurd (cc)
+beginning_none limits before mid after text (Ok None) taken given none refused = given_none before mid after text taken given
+beginning_none limits before mid after text (Err e) taken given none refused = beginning_refused limits before after e refused
 
 -- what is said of bytes that were given back, is said of them as they were
 pub kept_records : (before after : Option (List ℕ)) (says : Rows → Type 0) → Keeps before after → OfRecords (option_map strip_bom after) says
@@ -165,7 +166,7 @@ unfolding rows_after
 read_whole later n m s t goes = ap (rows_after n s) goes.rows_are ∙ goes.goes []
 
 finished : (reading : Reading) (rows rest : Rows) (old new : Draft) (answer : Result (Unit {0}) TableFault) (r : Result Table TableFault)
-    → HasBegun rows rest old
+    → HasBegun reading.limits rows rest old
     → TellsRead (Some rest) (Some []) old new answer
     → MatchResult answer (λ u. r ≡ go_on (waiting new.lists) (uncut reading)) (λ e. r ≡ Err e) → TellsRowsAs reading r rows
 finished reading rows rest old new (Ok u) r begun tells same =
@@ -176,11 +177,11 @@ finished reading rows rest old new (Ok u) r begun tells same =
 finished reading rows rest old new (Err e) r begun tells same =
     subst (λ (s : Result Table TableFault). TellsRowsAs reading s rows) (sym same)
     (left_as reading (Some rows) e
-    (rest_fault (Some rows) (Some begun.later) begun.row begun.made begun.last e begun.rows_are begun.starts
+    (rest_fault reading.limits (Some rows) (Some begun.later) begun.row begun.made begun.last e begun.rows_are begun.starts
     (fault_then (Some begun.later) (Some rest) 2 (old.rows + 1) (begun.made, begun.last) (draft_state old) e begun.goes tells)))
 
 pub finished_all : (reading : Reading) (rows left : Option Rows) (old new : Draft) (answer : Result (Unit {0}) TableFault) (r : Result Table TableFault)
-    → BeginsWith rows left old → TellsRead left (none_left_of left) old new answer
+    → BeginsWith reading.limits rows left old → TellsRead left (none_left_of left) old new answer
     → MatchResult answer (λ u. r ≡ go_on (waiting new.lists) (uncut reading)) (λ e. r ≡ Err e) → OfLeft rows (TellsRowsAs reading r)
 finished_all reading None left old new answer r begun tells same = tt
 finished_all reading (Some rows) None old new answer r begun tells same = absurd begun

@@ -2,9 +2,8 @@
 -- alone, not of one another. It is read of the table before it, and taken into the table later, where a bill row may be a
 -- second one of its pairs.
 use Rattle.std.specs.Prelude.{◌≡◌, ℕ, List, [], ◌∷◌, length, nat_lt, not, Some, Result, Ok, Err}
-use Rattle.mrp_qty.specs.declared.limits.TheConstants.{MOST_BILLS, MOST_OF_A_KIND}
 use Rattle.mrp_master_data.specs.Growing.{with_bill, with_demand, with_receipt, with_ship}
-use Rattle.mrp_master_data.specs.Table.{IsBillRow, IsDemandRow, IsReceiptRow, IsShipRow, Table}
+use Rattle.mrp_master_data.specs.Table.{IsBillRow, IsDemandRow, IsReceiptRow, IsShipRow, most, Table}
 use Rattle.mrp_validation.specs.Grammar.{◌>>=◌, bill_of, check, demand_of, has_bill, may_follow, receipt_of, ship_of}
 use Rattle.mrp_validation.specs.Grammar.{TellsFault}
 use Rattle.mrp_validation.specs.Reading.{kind_of_row}
@@ -52,10 +51,10 @@ SayAll N (row ∷ rows) (b ∷ said) = Says N row b × IsBulk N b × SayAll N ro
 abbrev pub with_bulk : Table → BulkRow → Result Table TableFaultKind
 with_bulk N (bulk.Bill b) =
     check (not (has_bill N (Some b.parent.0) (Some b.component.0))) fault.Repeated >>= λ u.
-    check (nat_lt (length N.bills) MOST_BILLS) fault.TooMany >>= λ u. Ok (with_bill N b)
-with_bulk N (bulk.Demand d) = check (nat_lt (length N.demands) MOST_OF_A_KIND) fault.TooMany >>= λ u. Ok (with_demand N d)
-with_bulk N (bulk.Receipt r) = check (nat_lt (length N.receipts) MOST_OF_A_KIND) fault.TooMany >>= λ u. Ok (with_receipt N r)
-with_bulk N (bulk.Ship s place) = check (nat_lt (length N.ships) MOST_OF_A_KIND) fault.TooMany >>= λ u. Ok (with_ship N s)
+    check (nat_lt (length N.bills) (most N).bills) fault.TooMany >>= λ u. Ok (with_bill N b)
+with_bulk N (bulk.Demand d) = check (nat_lt (length N.demands) (most N).demands) fault.TooMany >>= λ u. Ok (with_demand N d)
+with_bulk N (bulk.Receipt r) = check (nat_lt (length N.receipts) (most N).of_a_kind) fault.TooMany >>= λ u. Ok (with_receipt N r)
+with_bulk N (bulk.Ship s place) = check (nat_lt (length N.ships) (most N).of_a_kind) fault.TooMany >>= λ u. Ok (with_ship N s)
 
 -- the table and the kind of its last row, where this kind may follow
 unfoldable pub bulk_after : Table × Kind → BulkRow → Result (Table × Kind) TableFaultKind

@@ -7,8 +7,8 @@ use Rattle.mrp_validation.specs.declared.kind.Kind.{Kind}
 use Rattle.mrp_validation.specs.declared.kind.Kind.TheVariants as kind
 use Rattle.mrp_cal.specs.Calendar.{CalendarTerms}
 use Rattle.mrp_master_data.specs.declared.numbers.PlantNo.{PlantNo}
-use Rattle.mrp_qty.specs.declared.limits.TheConstants.{MOST_PAIRS}
-use Rattle.mrp_master_data.specs.Table.{Table}
+use Rattle.mrp_qty.specs.declared.limits.LimitSet.{LimitSet}
+use Rattle.mrp_master_data.specs.Table.{most, Table}
 use Rattle.mrp_master_data.specs.Growing.{empty_table}
 use Rattle.mrp_master_data.specs.Supplies.{SourceTerms}
 use Rattle.mrp_validation.specs.Grammar.{knows_sources, PairTerms, run_terms, seen, source_row, TellsFault}
@@ -22,7 +22,7 @@ pub record FitsPair (N : Table) (p : PlantNo) (t : PairTerms) : Type 0 where
   pub within : p.0 < length N.plants
   pub fresh : pair_named N (Some p.0) t.item ≡ None
   pub known : knows_sources N (named_sources t.supply) ≡ true
-  pub room : length N.pairs < MOST_PAIRS
+  pub room : length N.pairs < (most N).pairs
 
 -- no row of a source or a shipment names the pair at that place, or one after it
 pub record IsNewPair (N : Table) (x : ℕ) : Type 0 where
@@ -34,13 +34,13 @@ abbrev pub with_sources : Table → ℕ → List SourceTerms → Table
 with_sources N x sources = record N { sources = N.sources ++ map (source_row N x) sources }
 
 -- the calendar of a run row, or why there is none
-abbrev pub TellsRun : Result CalendarTerms TableFaultKind → List (List ℕ) → Type 0
-TellsRun calendar row = StartsWith (run_terms row) (seen empty_table calendar)
+abbrev pub TellsRun : LimitSet → Result CalendarTerms TableFaultKind → List (List ℕ) → Type 0
+TellsRun limits calendar row = StartsWith limits (run_terms limits row) (seen (empty_table limits) calendar)
 
 -- what the first row makes
-abbrev pub TellsFirst : Result Draft TableFaultKind → List (List ℕ) → Type 0
-TellsFirst (Ok d) row = Starts row (Ok d.lists) × (d.last ≡ kind.Run)
-TellsFirst (Err e) row = UnlessMemory e (Starts row (Err e))
+abbrev pub TellsFirst : LimitSet → Result Draft TableFaultKind → List (List ℕ) → Type 0
+TellsFirst limits (Ok d) row = Starts limits row (Ok d.lists) × (d.last ≡ kind.Run)
+TellsFirst limits (Err e) row = UnlessMemory e (Starts limits row (Err e))
 
 -- what one row more makes
 abbrev pub TellsAdded : Draft → Draft → Result (Unit {0}) TableFaultKind → List (List ℕ) → Type 0
@@ -48,9 +48,9 @@ TellsAdded old new (Ok u) row = row_after (old.lists, old.last) row ≡ Ok (new.
 TellsAdded old new (Err e) row = TellsFault (row_after (old.lists, old.last) row) e
 
 -- what the first row makes, or its fault
-abbrev pub TellsFirstAt : Result Draft TableFault → List (List ℕ) → Type 0
-TellsFirstAt (Ok d) row = Starts row (Ok d.lists) × (d.last ≡ kind.Run)
-TellsFirstAt (Err e) row = UnlessMemory e.kind (Starts row (Err e.kind)) × (e.row ≡ 1)
+abbrev pub TellsFirstAt : LimitSet → Result Draft TableFault → List (List ℕ) → Type 0
+TellsFirstAt limits (Ok d) row = Starts limits row (Ok d.lists) × (d.last ≡ kind.Run)
+TellsFirstAt limits (Err e) row = UnlessMemory e.kind (Starts limits row (Err e.kind)) × (e.row ≡ 1)
 
 -- the table so far and the kind of its last row
 abbrev pub draft_state : Draft → Table × Kind

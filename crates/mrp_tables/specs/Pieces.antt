@@ -14,6 +14,7 @@ use Rattle.mrp_tables.specs.declared.draft.Draft.{Draft}
 use Rattle.mrp_tables.specs.declared.pieces.Piece.{Piece}
 use Rattle.mrp_tables.specs.Bulk.{IsBulk, KeepsNames, SayAll, Says}
 use Rattle.mrp_tables.specs.Drafts.{draft_state}
+use Rattle.mrp_qty.specs.declared.limits.LimitSet.{LimitSet}
 
 -- ---- a piece
 
@@ -96,28 +97,29 @@ TellsPieces pieces old new (Err e) = (tail : List ℕ) → TellsRead {A = ℕ} (
 -- ---- the first rows
 
 -- the first of the rows starts a table, and those behind it were read up to the rest
-pub record HasBegun (rows rest : List (List (List ℕ))) (d : Draft) : Type 0 where
+pub record HasBegun (limits : LimitSet) (rows rest : List (List (List ℕ))) (d : Draft) : Type 0 where
   pub row : List (List ℕ)
   pub later : List (List (List ℕ))
   pub made : Table
   pub last : Kind
   pub rows_are : rows ≡ row ∷ later
-  pub starts : Starts row (Ok made) × (last ≡ kind.Run)
+  pub starts : Starts limits row (Ok made) × (last ≡ kind.Run)
   pub goes : HasReadOn later rest 2 (made, last) (d.rows + 1) (draft_state d)
 
-abbrev pub BeginsWith : Option (List (List (List ℕ))) → Option (List (List (List ℕ))) → Draft → Type 0
-BeginsWith None after d = Unit {0}
-BeginsWith (Some rows) None d = ⊥
-BeginsWith (Some rows) (Some rest) d = HasBegun rows rest d
+abbrev pub BeginsWith : LimitSet → Option (List (List (List ℕ))) → Option (List (List (List ℕ))) → Draft → Type 0
+BeginsWith limits None after d = Unit {0}
+BeginsWith limits (Some rows) None d = ⊥
+BeginsWith limits (Some rows) (Some rest) d = HasBegun limits rows rest d
 
 -- what reading the first rows answers, whatever rows stand behind them: a table, nothing where there is no row, or a fault
-abbrev pub TellsBegun : List (List (List ℕ)) → Result (Option Draft) TableFault → Type 0
-TellsBegun rows (Ok None) = Unit {0}
-TellsBegun rows (Ok (Some d)) = (more : List (List (List ℕ))) → HasBegun (rows ++ more) more d
-TellsBegun rows (Err e) = (more : List (List (List ℕ))) → TellsRows (Err e) (rows ++ more)
+abbrev pub TellsBegun : LimitSet → List (List (List ℕ)) → Result (Option Draft) TableFault → Type 0
+TellsBegun limits rows (Ok None) = Unit {0}
+TellsBegun limits rows (Ok (Some d)) = (more : List (List (List ℕ))) → HasBegun limits (rows ++ more) more d
+TellsBegun limits rows (Err e) = (more : List (List (List ℕ))) → TellsRows limits (Err e) (rows ++ more)
 
 -- so of the bytes left before it and behind it
-abbrev pub TellsBeginning : Option (List ℕ) → Option (List ℕ) → Result (Option Draft) TableFault → Type 0
-TellsBeginning before after (Ok None) = Keeps before after
-TellsBeginning before after (Ok (Some d)) = BeginsWith (rows_of_bytes (option_map strip_bom before)) (rows_of_bytes after) d
-TellsBeginning before after (Err e) = OfLeft (rows_of_bytes (option_map strip_bom before)) (TellsRows (Err e))
+abbrev pub TellsBeginning : LimitSet → Option (List ℕ) → Option (List ℕ) → Result (Option Draft) TableFault → Type 0
+TellsBeginning limits before after (Ok None) = Keeps before after
+TellsBeginning limits before after (Ok (Some d)) =
+    BeginsWith limits (rows_of_bytes (option_map strip_bom before)) (rows_of_bytes after) d
+TellsBeginning limits before after (Err e) = OfLeft (rows_of_bytes (option_map strip_bom before)) (TellsRows limits (Err e))

@@ -1,7 +1,8 @@
 -- The reader of tables: what it finds that a row spells.
 use Rattle.std.specs.Prelude.{ℕ, ◌≤◌, List}
-use Rattle.mrp_lot.specs.Lot.{IsRule}
-use Rattle.mrp_lot.specs.declared.rule.TheConstants.{LONGEST_LEAD}
+use Rattle.mrp_lot.specs.Lot.{IsRuleWithin}
+use Rattle.mrp_qty.specs.Limits.{limits_of}
+use Rattle.mrp_qty.specs.declared.limits.LimitSet.{LimitSet}
 use Rattle.mrp_qty.specs.declared.limits.TheConstants.{MOST_IN_ROW}
 use Rattle.mrp_master_data.specs.Spelled.{HasSources, supply_view}
 use Rattle.mrp_tables.specs.declared.spelled.SpelledFirm.{SpelledFirm}
@@ -13,12 +14,12 @@ use Rattle.mrp_master_data.specs.Table.{IsName}
 use Rattle.mrp_validation.specs.Grammar.{field, AmountTerms, BillTerms, FirmTerms, LaneTerms, PairTerms, PolicyTerms, RunTerms}
 use Rattle.mrp_validation.specs.Grammar.{UsageTerms, VendorTerms}
 
--- a pair row whose item is a name, and whose numbers are in their ranges
-pub record IsSpelledPair (p : SpelledPair) : Type 0 where
+-- a pair row whose item is a name, and whose numbers are in their ranges within these limits
+pub record IsSpelledPair (limits : LimitSet) (p : SpelledPair) : Type 0 where
   pub item : IsName p.item.now
   pub supply : HasSources p.supply
-  pub rule : IsRule p.rule
-  pub lead : p.lead ≤ LONGEST_LEAD
+  pub rule : IsRuleWithin (limits_of limits).periods p.rule
+  pub lead : p.lead ≤ (limits_of limits).lead
   pub on_hand : p.on_hand ≤ MOST_IN_ROW
   pub safety : p.safety ≤ MOST_IN_ROW
 

@@ -4,7 +4,7 @@
 use crate::draft::{BillKey, Draft};
 use crate::spelled::{spelled_amount, spelled_bill};
 use csv::StringRecord;
-use mrp_master_data::{BillRow, DemandRow, MOST_OF_A_KIND, PairNo, ReceiptRow, Supply};
+use mrp_master_data::{BillRow, DemandRow, PairNo, ReceiptRow, Supply};
 use mrp_qty::Qty;
 use mrp_validation::{TableFaultKind, field};
 
@@ -28,8 +28,10 @@ struct KnownAmount {
 impl Draft {
     ghost use Rattle.std.specs.Prelude.{◌≡◌, ◌≤◌, ◌<◌, length, option_map, OnOk, IfOk};
     ghost use Rattle.csv.specs.Records.{fields_of};
-    ghost use Rattle.mrp_qty.specs.declared.limits.TheConstants.{MOST_IN_ROW, MOST_OF_A_KIND};
+    ghost use Rattle.mrp_qty.specs.declared.limits.TheConstants.{MOST_IN_ROW};
+    ghost use Rattle.mrp_master_data.specs.Table.{most};
     ghost use Rattle.mrp_qty.specs.declared.limits.TheConstants.{MOST_PER};
+    ghost use Rattle.mrp_master_data.specs.Table.{most};
     ghost use Rattle.mrp_validation.specs.Grammar.{bill_fits, bill_of, bill_row, bill_terms, demand_of, demand_row};
     ghost use Rattle.mrp_validation.specs.Grammar.{has_bill, is_made, receipt_of, receipt_row, seen, TellsMade};
     ghost use Rattle.mrp_tables.specs.Amounts.{known_amount, without_bills};
@@ -167,10 +169,10 @@ impl Draft {
         requires draft { IsDraft self.now }
         ensures exact { result ≡ demand_of self.now.lists (fields_of row.now) }
         ensures row { IfOk result (IsDemandRow self.now.lists) }
-        ensures room { OnOk result (length self.now.lists.demands < MOST_OF_A_KIND) }
+        ensures room { OnOk result (length self.now.lists.demands < (most self.now.lists).demands) }
     {
         let amount = self.known_amount(row)?;
-        if self.lists.demands().len() >= MOST_OF_A_KIND {
+        if self.lists.demands().len() >= self.lists.limits().demands {
             return Err(TableFaultKind::TooMany);
         }
         Ok(DemandRow {
@@ -196,10 +198,10 @@ impl Draft {
         requires draft { IsDraft self.now }
         ensures exact { result ≡ receipt_of self.now.lists (fields_of row.now) }
         ensures row { IfOk result (IsReceiptRow self.now.lists) }
-        ensures room { OnOk result (length self.now.lists.receipts < MOST_OF_A_KIND) }
+        ensures room { OnOk result (length self.now.lists.receipts < (most self.now.lists).of_a_kind) }
     {
         let amount = self.known_amount(row)?;
-        if self.lists.receipts().len() >= MOST_OF_A_KIND {
+        if self.lists.receipts().len() >= self.lists.limits().of_a_kind {
             return Err(TableFaultKind::TooMany);
         }
         Ok(ReceiptRow {

@@ -19,7 +19,7 @@ use crate::pieces::{Piece, is_plain, rows_of};
 use crate::reading::read_next;
 use crate::source::{LINE_FEED, Source};
 use csv::{Reader, StringRecord};
-use mrp_qty::MAX_TURNS;
+use mrp_qty::LARGE;
 use mrp_validation::{Kind, TableFault, TableFaultKind, may_follow};
 use std::alloc::{AllocError, Global};
 use std::io::Read;
@@ -39,8 +39,9 @@ pub(crate) fn read_on<R: Read>(
         draft.old draft.new result }
     ensures draft { OnOk result (IsDraft draft.new) }
     ensures kept { OnOk result (IsDraftKept draft.new) }
+    ensures limits { OnOk result (draft.new.lists.limits ≡ draft.old.lists.limits) }
 {
-    for number in draft.rows + 1..MAX_TURNS + 1 {
+    for number in draft.rows + 1..LARGE.turns + 1 {
         if !read_next(alloc, rows, row, draft, number)? {
             return Ok(());
         }
@@ -56,6 +57,7 @@ fn read_text(alloc: Global, text: &[u8], draft: &mut Draft) -> Result<(), TableF
     ensures exact { TellsThem (rows_in text.now) draft.old draft.new result }
     ensures draft { OnOk result (IsDraft draft.new) }
     ensures kept { OnOk result (IsDraftKept draft.new) }
+    ensures limits { OnOk result (draft.new.lists.limits ≡ draft.old.lists.limits) }
 {
     let mut rows = rows_of(alloc, text);
     let mut row = StringRecord::new(alloc);
@@ -74,6 +76,7 @@ fn read_left<R: Read>(
         (none_left_of (rows_of_bytes (left_of R.remaining source.old))) draft.old draft.new result }
     ensures draft { OnOk result (IsDraft draft.new) }
     ensures kept { OnOk result (IsDraftKept draft.new) }
+    ensures limits { OnOk result (draft.new.lists.limits ≡ draft.old.lists.limits) }
 {
     // A line feed is no row, and behind it no bytes are taken for a byte order mark.
     match source.give_back(&[LINE_FEED]) {
@@ -157,6 +160,7 @@ fn take_pieces(pieces: &[Piece], draft: &mut Draft) -> Result<usize, TableFault>
     ensures exact { TellsPieces pieces.now draft.old draft.new result }
     ensures draft { OnOk result (IsDraft draft.new) }
     ensures kept { OnOk result (IsDraftKept draft.new) }
+    ensures limits { OnOk result (draft.new.lists.limits ≡ draft.old.lists.limits) }
 {
     for k in 0..pieces.len() {
         let piece = &pieces[k];
@@ -202,6 +206,7 @@ fn read_block<T: Threads + Sync, R: Read>(
         (rows_of_bytes (left_of R.remaining source.new)) draft.old draft.new result }
     ensures draft { OnOk result (IsDraft draft.new) }
     ensures kept { OnOk result (IsDraftKept draft.new) }
+    ensures limits { OnOk result (draft.new.lists.limits ≡ draft.old.lists.limits) }
 {
     read_pieces(rt, alloc, pieces, draft);
     let taken = take_pieces(pieces, draft)?;
@@ -224,6 +229,7 @@ fn read_piece<R: Read>(
         (rows_of_bytes (left_of R.remaining source.new)) draft.old draft.new result }
     ensures draft { OnOk result (IsDraft draft.new) }
     ensures kept { OnOk result (IsDraftKept draft.new) }
+    ensures limits { OnOk result (draft.new.lists.limits ≡ draft.old.lists.limits) }
 {
     if is_plain(text) {
         read_text(alloc, text, draft)?;
@@ -251,6 +257,7 @@ fn read_filled<T: Threads + Sync, R: Read>(
         (rows_of_bytes (left_of R.remaining source.new)) draft.old draft.new result }
     ensures draft { OnOk result (IsDraft draft.new) }
     ensures kept { OnOk result (IsDraftKept draft.new) }
+    ensures limits { OnOk result (draft.new.lists.limits ≡ draft.old.lists.limits) }
 {
     if pieces.len() == 1 {
         read_piece(alloc, source, pieces[0].text(), draft)
@@ -276,6 +283,7 @@ fn read_some<T: Threads + Sync, R: Read>(
         (rows_of_bytes (left_of R.remaining source.new)) draft.old draft.new result }
     ensures draft { OnOk result (IsDraft draft.new) }
     ensures kept { OnOk result (IsDraftKept draft.new) }
+    ensures limits { OnOk result (draft.new.lists.limits ≡ draft.old.lists.limits) }
 {
     let most = at_once(draft, pieces.len());
     match fill_pieces(source, pieces, most, size) {
@@ -300,8 +308,9 @@ fn read_blocks<T: Threads + Sync, R: Read>(
         (rows_of_bytes (left_of R.remaining source.new)) draft.old draft.new result }
     ensures draft { OnOk result (IsDraft draft.new) }
     ensures kept { OnOk result (IsDraftKept draft.new) }
+    ensures limits { OnOk result (draft.new.lists.limits ≡ draft.old.lists.limits) }
 {
-    'turns: for _ in 0..MAX_TURNS {
+    'turns: for _ in 0..LARGE.turns {
         if !read_some(rt, alloc, source, pieces, size, draft)? {
             return Ok(());
         }
@@ -325,6 +334,7 @@ pub(crate) fn read_behind<T: Threads + Sync, R: Read>(
         (none_left_of (rows_of_bytes (left_of R.remaining source.old))) draft.old draft.new result }
     ensures draft { OnOk result (IsDraft draft.new) }
     ensures kept { OnOk result (IsDraftKept draft.new) }
+    ensures limits { OnOk result (draft.new.lists.limits ≡ draft.old.lists.limits) }
 {
     read_blocks(rt, alloc, source, pieces, size, draft)?;
     read_left(alloc, source, draft)

@@ -8,7 +8,7 @@ ghost use Rattle.mrp_tables.specs.Bulk.{kind_of_bulk};
 use crate::draft::{BillKey, Draft};
 use crate::spelled::row_kind;
 use csv::StringRecord;
-use mrp_master_data::{BillRow, DemandRow, MOST_BILLS, MOST_OF_A_KIND, ReceiptRow, ShipRow};
+use mrp_master_data::{BillRow, DemandRow, ReceiptRow, ShipRow};
 use mrp_validation::{Kind, TableFaultKind, may_follow};
 
 /// What a bill, a demand, a receipt or a shipment says; of a shipment with the place of its source.
@@ -37,7 +37,6 @@ impl BulkRow {
 impl Draft {
     ghost use Rattle.std.specs.Prelude.{◌≡◌, ◌+◌, ◌<◌, false, Some, IfOk, OnOk};
     ghost use Rattle.csv.specs.Records.{AllText, fields_of};
-    ghost use Rattle.mrp_qty.specs.declared.limits.TheConstants.{MAX_TURNS};
     ghost use Rattle.mrp_master_data.specs.Table.{IsBillRow, IsDemandRow, IsReceiptRow, IsShipRow};
     ghost use Rattle.mrp_validation.specs.Grammar.{TellsMade};
     ghost use Rattle.mrp_tables.specs.Bulk.{IsBulk, Says, TellsAfter, bulk_after, with_bulk};
@@ -68,7 +67,6 @@ impl Draft {
     pub(crate) fn take(&mut self, row: BulkRow) -> Result<(), TableFaultKind>
         requires draft { IsDraft self.old }
         requires kept { IsDraftKept self.old }
-        requires room { self.old.rows < MAX_TURNS }
         requires row { IsBulk self.old.lists row }
         ensures exact { TellsAfter (bulk_after (draft_state self.old) row) self.new result }
         ensures draft { OnOk result (IsDraft self.new) }
@@ -113,7 +111,7 @@ impl Draft {
         if !self.bill_keys.insert(key)? {
             return Err(TableFaultKind::Repeated);
         }
-        if self.lists.bills().len() >= MOST_BILLS {
+        if self.lists.bills().len() >= self.lists.limits().bills {
             return Err(TableFaultKind::TooMany);
         }
         self.lists.add_bill(bill)?;
@@ -127,7 +125,7 @@ impl Draft {
         ensures exact { TellsMade result (with_bulk self.old.lists (bulk.Demand demand)) self.new.lists }
         ensures adds { OnOk result (AddsRow self.old self.new) }
     {
-        if self.lists.demands().len() >= MOST_OF_A_KIND {
+        if self.lists.demands().len() >= self.lists.limits().demands {
             return Err(TableFaultKind::TooMany);
         }
         self.lists.add_demand(demand)?;
@@ -141,7 +139,7 @@ impl Draft {
         ensures exact { TellsMade result (with_bulk self.old.lists (bulk.Receipt receipt)) self.new.lists }
         ensures adds { OnOk result (AddsRow self.old self.new) }
     {
-        if self.lists.receipts().len() >= MOST_OF_A_KIND {
+        if self.lists.receipts().len() >= self.lists.limits().of_a_kind {
             return Err(TableFaultKind::TooMany);
         }
         self.lists.add_receipt(receipt)?;
@@ -156,7 +154,7 @@ impl Draft {
         ensures exact { TellsMade result (with_bulk self.old.lists (bulk.Ship ship place)) self.new.lists }
         ensures adds { OnOk result (AddsRow self.old self.new) }
     {
-        if self.lists.ships().len() >= MOST_OF_A_KIND {
+        if self.lists.ships().len() >= self.lists.limits().of_a_kind {
             return Err(TableFaultKind::TooMany);
         }
         let period = ship.period;

@@ -6,7 +6,7 @@ use crate::names::KnownNames;
 use crate::spelled::{row_kind, spelled_run};
 use csv::StringRecord;
 use indexmap::IndexSet;
-use mrp_master_data::{PairNo, PlantNo, RowLists};
+use mrp_master_data::{LimitSet, PairNo, PlantNo, RowLists};
 use mrp_validation::{Kind, TableFaultKind, may_follow};
 use std::alloc::Global;
 
@@ -81,25 +81,29 @@ pub(crate) struct Draft {
 impl Draft {
     ghost use Rattle.std.specs.Prelude.{◌≡◌, ◌+◌, ◌<◌, false, OnOk, IfOk};
     ghost use Rattle.csv.specs.Records.{AllText, fields_of};
-    ghost use Rattle.mrp_qty.specs.declared.limits.TheConstants.{MAX_TURNS};
     ghost use Rattle.mrp_validation.specs.Grammar.{TellsMade};
     ghost use Rattle.mrp_tables.specs.Lists.{IsDraft, AddsRow};
     ghost use Rattle.mrp_validation.specs.Reading.{row_of_kind};
     ghost use Rattle.mrp_tables.specs.Drafts.{IsDraftKept, TellsAdded, TellsFirst};
 
     /// What a first row makes.
-    pub(crate) fn first(alloc: Global, row: &StringRecord) -> Result<Draft, TableFaultKind>
+    pub(crate) fn first(
+        alloc: Global,
+        limits: LimitSet,
+        row: &StringRecord,
+    ) -> Result<Draft, TableFaultKind>
         requires text { AllText (fields_of row.now) }
-        ensures exact { TellsFirst result (fields_of row.now) }
+        ensures exact { TellsFirst limits result (fields_of row.now) }
         ensures draft { IfOk result IsDraft }
+        ensures limits { IfOk result (λ draft. draft.lists.limits ≡ limits) }
         ensures rows { IfOk result (λ draft. draft.rows ≡ 1) }
     {
         if row_kind(row)? != Kind::Run {
             return Err(TableFaultKind::KindOrder);
         }
-        let calendar = spelled_run(row)?;
+        let calendar = spelled_run(limits, row)?;
         Ok(Draft {
-            lists: RowLists::new(alloc, calendar),
+            lists: RowLists::new(alloc, limits, calendar),
             known: KnownNames::new(alloc),
             lane_keys: IndexSet::new(alloc),
             arrivals: Vec::new(alloc),
@@ -118,7 +122,6 @@ impl Draft {
     pub(crate) fn add(&mut self, alloc: Global, row: &StringRecord) -> Result<(), TableFaultKind>
         requires draft { IsDraft self.old }
         requires kept { IsDraftKept self.old }
-        requires room { self.old.rows < MAX_TURNS }
         requires text { AllText (fields_of row.now) }
         ensures exact { TellsAdded self.old self.new result (fields_of row.now) }
         ensures draft { OnOk result (IsDraft self.new) }

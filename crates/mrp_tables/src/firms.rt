@@ -4,14 +4,14 @@
 use crate::draft::Draft;
 use crate::spelled::spelled_firm;
 use csv::StringRecord;
-use mrp_master_data::{FirmRow, MOST_OF_A_KIND};
+use mrp_master_data::FirmRow;
 use mrp_qty::Qty;
 use mrp_validation::{TableFaultKind, field};
 
 impl Draft {
     ghost use Rattle.std.specs.Prelude.{◌≡◌, ◌<◌, length, OnOk, IfOk};
     ghost use Rattle.csv.specs.Records.{fields_of};
-    ghost use Rattle.mrp_qty.specs.declared.limits.TheConstants.{MOST_OF_A_KIND};
+    ghost use Rattle.mrp_master_data.specs.Table.{most};
     ghost use Rattle.mrp_validation.specs.Grammar.{firm_of, firm_row, TellsMade};
     ghost use Rattle.mrp_master_data.specs.Table.{IsFirmRow};
     ghost use Rattle.mrp_tables.specs.Lists.{AddsRow, IsDraft};
@@ -33,13 +33,13 @@ impl Draft {
         requires draft { IsDraft self.now }
         ensures exact { result ≡ firm_of self.now.lists (fields_of row.now) }
         ensures row { IfOk result (IsFirmRow self.now.lists) }
-        ensures room { OnOk result (length self.now.lists.firms < MOST_OF_A_KIND) }
+        ensures room { OnOk result (length self.now.lists.firms < (most self.now.lists).of_a_kind) }
     {
         let found = self.find_pair(field(row, 1), field(row, 2));
         let horizon = self.lists.calendar().horizon();
         let order = spelled_firm(row, horizon, found.is_some())?;
         let pair = self.known_pair(row, found)?;
-        if self.lists.firms().len() >= MOST_OF_A_KIND {
+        if self.lists.firms().len() >= self.lists.limits().of_a_kind {
             return Err(TableFaultKind::TooMany);
         }
         Ok(FirmRow {

@@ -7,7 +7,7 @@ ghost use Rattle.mrp_tables.specs.Lists.{key_between};
 use crate::draft::{Draft, LaneKey};
 use crate::spelled::{spelled_lane_number, spelled_ship};
 use csv::StringRecord;
-use mrp_master_data::{CumRow, MOST_OF_A_KIND, PairNo, PlantNo, ResetRow, ShipRow};
+use mrp_master_data::{CumRow, PairNo, PlantNo, ResetRow, ShipRow};
 use mrp_qty::{MOST, Qty};
 use mrp_validation::{TableFaultKind, field};
 
@@ -72,7 +72,7 @@ impl NamedLane {
 impl Draft {
     ghost use Rattle.std.specs.Prelude.{◌≡◌, ◌<◌, length, OnOk, IfOk, IfSome};
     ghost use Rattle.std.specs.Prelude.{option_map};
-    ghost use Rattle.mrp_qty.specs.declared.limits.TheConstants.{MOST_OF_A_KIND};
+    ghost use Rattle.mrp_master_data.specs.Table.{most};
     ghost use Rattle.mrp_master_data.specs.Table.{IsCumRow, IsResetRow, IsShipRow};
     ghost use Rattle.std.specs.Prelude.{◌&&◌, false, is_some, not, true, IsSome, Some};
     ghost use Rattle.csv.specs.Records.{fields_of};
@@ -131,13 +131,13 @@ impl Draft {
         ensures exact { seen (λ s. s.0) result ≡ ship_of self.now.lists (fields_of row.now) }
         ensures row { IfOk result (λ s. IsShipRow self.now.lists s.0) }
         ensures place { IfOk result (λ s. source_at self.now.lists s.0.from.0 s.0.pair.0 ≡ Some s.1) }
-        ensures room { OnOk result (length self.now.lists.ships < MOST_OF_A_KIND) }
+        ensures room { OnOk result (length self.now.lists.ships < (most self.now.lists).of_a_kind) }
     {
         let named = self.lane_named(row);
         let horizon = self.lists.calendar().horizon();
         let (period, quantity) = spelled_ship(row, horizon, named.is_named())?;
         let lane = named.known()?;
-        if self.lists.ships().len() >= MOST_OF_A_KIND {
+        if self.lists.ships().len() >= self.lists.limits().of_a_kind {
             return Err(TableFaultKind::TooMany);
         }
         let ship = ShipRow {
@@ -174,7 +174,7 @@ impl Draft {
         ensures exact { result ≡ cum_of self.now.lists (fields_of row.now) }
         ensures row { IfOk result (IsCumRow self.now.lists) }
         ensures fresh { IfOk result (λ c. cum_between self.now.lists (Some c.from.0) (Some c.pair.0) ≡ false) }
-        ensures room { OnOk result (length self.now.lists.cums < MOST_OF_A_KIND) }
+        ensures room { OnOk result (length self.now.lists.cums < (most self.now.lists).of_a_kind) }
     {
         let named = self.lane_named(row);
         let figure = spelled_lane_number(row, MOST, named.is_named())?;
@@ -182,7 +182,7 @@ impl Draft {
             return Err(TableFaultKind::Repeated);
         }
         let lane = named.known()?;
-        if self.lists.cums().len() >= MOST_OF_A_KIND {
+        if self.lists.cums().len() >= self.lists.limits().of_a_kind {
             return Err(TableFaultKind::TooMany);
         }
         Ok(CumRow {

@@ -27,7 +27,7 @@ impl KnownNames {
     ghost use Rattle.std.specs.List.{list_any};
     ghost use Rattle.std.specs.Str.{bytes_eq};
     ghost use Rattle.mrp_validation.specs.declared.fault.TableFaultKind.TheVariants.{Memory};
-    ghost use Rattle.mrp_qty.specs.declared.limits.TheConstants.{MOST_PAIRS, MOST_PLANTS};
+    ghost use Rattle.mrp_master_data.specs.Table.{most};
     ghost use Rattle.mrp_master_data.specs.Growing.{with_item, with_pair, with_plant};
     ghost use Rattle.mrp_master_data.specs.Names.{has_plant};
     ghost use Rattle.mrp_master_data.specs.Table.{IsName, IsPairRow, IsRead};
@@ -55,7 +55,7 @@ impl KnownNames {
         requires knows { Knows lists.old self.old }
         requires named { IsName name.now }
         requires fresh { has_plant lists.old name.now ≡ false }
-        requires room { length lists.old.plants < MOST_PLANTS }
+        requires room { length lists.old.plants < (most lists.old).plants }
         ensures memory { IfErr result (λ fault. fault ≡ Memory) }
         ensures rows { OnOk result (IsRead lists.new) }
         ensures table { OnOk result (lists.new ≡ with_plant lists.old name.now) }
@@ -81,7 +81,7 @@ impl KnownNames {
         requires rows { IsRead lists.old }
         requires knows { Knows lists.old self.old }
         requires named { IsName name.now }
-        requires room { length lists.old.items < MOST_PAIRS }
+        requires room { length lists.old.items < (most lists.old).pairs }
         ensures memory { IfErr result (λ fault. fault ≡ Memory) }
         ensures rows { OnOk result (IsRead lists.new) }
         ensures table { OnOk result (lists.new ≡ with_item lists.old name.now) }
@@ -111,7 +111,7 @@ impl KnownNames {
         requires row { IsPairRow lists.old row }
         requires fresh { list_any (λ p. (p.plant.0 == row.plant.0) && (p.item.0 == row.item.0)) lists.old.pairs
             ≡ false }
-        requires room { length lists.old.pairs < MOST_PAIRS }
+        requires room { length lists.old.pairs < (most lists.old).pairs }
         ensures memory { IfErr result (λ fault. fault ≡ Memory) }
         ensures rows { OnOk result (IsRead lists.new) }
         ensures table { OnOk result (lists.new ≡ with_pair lists.old row) }

@@ -9,8 +9,7 @@ use crate::draft::{Arrivals, Draft, LaneKey};
 use crate::spelled::{SpelledPair, spelled_pair, spelled_plant};
 use csv::StringRecord;
 use mrp_master_data::{
-    MOST_PAIRS, MOST_PLANTS, PairNo, PairRow, PlantNo, SourceRow, SpelledSource, SpelledSupply,
-    Supply, names_plant,
+    PairNo, PairRow, PlantNo, SourceRow, SpelledSource, SpelledSupply, Supply, names_plant,
 };
 use mrp_qty::Qty;
 use mrp_validation::TableFaultKind;
@@ -20,8 +19,9 @@ impl Draft {
     ghost use Rattle.std.specs.Prelude.{◌≡◌, ◌+◌, ◌*◌, ◌≤◌, ◌<◌, false, true, length, map, All, OnOk, IfErr, IfOk};
     ghost use Rattle.csv.specs.Records.{fields_of};
     ghost use Rattle.mrp_validation.specs.declared.fault.TableFaultKind.TheVariants.{Memory};
-    ghost use Rattle.mrp_qty.specs.declared.limits.TheConstants.{MOST_PLANTS};
+    ghost use Rattle.mrp_master_data.specs.Table.{most};
     ghost use Rattle.mrp_qty.specs.declared.limits.TheConstants.{MOST_SOURCES_OF_PAIR};
+    ghost use Rattle.mrp_master_data.specs.Table.{most};
     ghost use Rattle.mrp_tables.specs.Drafts.{FitsPair, IsNewPair, with_sources};
     ghost use Rattle.mrp_master_data.specs.Names.{has_plant};
     ghost use Rattle.mrp_validation.specs.Grammar.{knows_sources, pair_fits, pair_row, plant_in_row, plant_row, seen};
@@ -55,13 +55,13 @@ impl Draft {
         ensures exact { seen (λ name. name.now) result ≡ plant_in_row self.now.lists (fields_of row.now) }
         ensures named { IfOk result (λ name. IsName name.now) }
         ensures fresh { IfOk result (λ name. has_plant self.now.lists name.now ≡ false) }
-        ensures room { OnOk result (length self.now.lists.plants < MOST_PLANTS) }
+        ensures room { OnOk result (length self.now.lists.plants < (most self.now.lists).plants) }
     {
         let name = spelled_plant(row)?;
         if self.has_plant(name) {
             return Err(TableFaultKind::Repeated);
         }
-        if self.lists.plants() >= MOST_PLANTS {
+        if self.lists.plants() >= self.lists.limits().plants {
             return Err(TableFaultKind::TooMany);
         }
         Ok(name)
@@ -77,7 +77,7 @@ impl Draft {
         ensures exact { TellsMade result (pair_row self.old.lists (fields_of row.now)) self.new.lists }
         ensures adds { OnOk result (AddsRow self.old self.new) }
     {
-        let spelled = spelled_pair(alloc, row)?;
+        let spelled = spelled_pair(alloc, self.lists.limit_set(), row)?;
         let plant = self.pair_fits(&spelled)?;
         self.add_spelled(alloc, plant, &spelled)
     }
@@ -102,7 +102,7 @@ impl Draft {
         if names_plant(sources, spelled.plant) {
             return Err(TableFaultKind::SelfSource);
         }
-        if self.lists.pairs().len() >= MOST_PAIRS {
+        if self.lists.pairs().len() >= self.lists.limits().pairs {
             return Err(TableFaultKind::TooMany);
         }
         Ok(plant)
@@ -124,7 +124,7 @@ impl Draft {
         spelled: &SpelledPair<'_>,
     ) -> Result<(), TableFaultKind>
         requires draft { IsDraft self.old }
-        requires spelled { IsSpelledPair spelled.now }
+        requires spelled { IsSpelledPair self.old.lists.limits spelled.now }
         requires fits { FitsPair self.old.lists plant (pair_view spelled.now) }
         ensures memory { IfErr result (λ fault. fault ≡ Memory) }
         ensures table { OnOk result (self.new.lists ≡ with_pair_terms self.old.lists plant (pair_view spelled.now)) }

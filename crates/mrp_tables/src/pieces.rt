@@ -13,7 +13,7 @@ use crate::draft::Draft;
 use crate::reading::{at_row, next_row};
 use crate::source::{LINE_FEED, Source};
 use csv::{Reader, ReaderBuilder, StringRecord};
-use mrp_qty::MAX_TURNS;
+use mrp_qty::LARGE;
 use mrp_validation::TableFault;
 use std::alloc::{AllocError, Global};
 use std::io::Read;
@@ -101,6 +101,7 @@ impl Piece {
         ensures exact { TellsThem (rows_in self.now.text.items) draft.old draft.new result }
         ensures draft { OnOk result (IsDraft draft.new) }
         ensures kept { OnOk result (IsDraftKept draft.new) }
+        ensures limits { OnOk result (draft.new.lists.limits ≡ draft.old.lists.limits) }
         ensures names { OnOk result (KeepsNames draft.old.lists draft.new.lists) }
     {
         'rows: for row in &self.said {
@@ -175,7 +176,7 @@ fn note_rows<R: Read>(
     ensures { result ≡ true → OfLeft (rows_left R.remaining rows.old)
         (λ rows. SayAll draft.now.lists rows said.new.items) }
 {
-    'rows: for _ in 0..MAX_TURNS {
+    'rows: for _ in 0..LARGE.turns {
         match next_said(draft, rows, row) {
             Ok(Some(one)) => match said.push(one) {
                 Ok(()) => {}

@@ -38,7 +38,7 @@ impl Draft {
     {
         let found = self.find_pair(field(row, 1), field(row, 2));
         let horizon = self.lists.calendar().horizon();
-        let policy = spelled_policy(row, horizon, found.is_some())?;
+        let policy = spelled_policy(self.lists.limit_set(), row, horizon, found.is_some())?;
         if self.has_policy(found) {
             return Err(TableFaultKind::Repeated);
         }

@@ -5,6 +5,10 @@ ghost use Rattle.std.specs.Prelude.{◌&&◌, not, IfErr, OnOk, option_map};
 ghost use Rattle.csv.specs.Reading.{has_failed, strip_bom};
 ghost use Rattle.csv.specs.Records.{AllText, fields_of};
 ghost use Rattle.mrp_tables.specs.Lists.{IsDraft};
+ghost use Rattle.mrp_qty.specs.Limits.{limits_of};
+ghost use Rattle.mrp_qty.specs.declared.limits.LimitSet.TheVariants as set;
+ghost use Rattle.mrp_qty.specs.declared.limits.TheConstants.{MAX_TURNS};
+ghost use Rattle.mrp_master_data.specs.Table.{most};
 ghost use Rattle.mrp_validation.specs.Reading.{go_on, TellsRows, TellsRowsAs, uncut, waiting};
 ghost use Rattle.mrp_validation.specs.Written.{OfRecords};
 ghost use Rattle.mrp_tables.specs.Steps.{HasWaited, StepsTo, UnlessMissing};
@@ -18,7 +22,7 @@ use crate::draft::Draft;
 use csv::{ErrorKind, Reader, ReaderBuilder, StringRecord};
 use mrp_commands::Reading;
 use mrp_master_data::Tables;
-use mrp_qty::MAX_TURNS;
+use mrp_qty::LimitSet;
 use mrp_validation::{TableFault, TableFaultKind};
 use std::alloc::Global;
 use std::io::Read;
@@ -39,7 +43,8 @@ pub fn read_tables<R: Read + Drop, L: Ledger>(
     reader: R,
     steps: &mut Steps<L>,
 ) -> Result<Tables, TableFault>
-    ensures table { OfRecords (option_map strip_bom (R.remaining reader)) (TellsRows result) }
+    ensures table { OfRecords (option_map strip_bom (R.remaining reader)) (TellsRows set.Usual result) }
+    ensures limits { IfOk result (λ tables. tables.limits ≡ set.Usual) }
     ensures counted { IfOk result (λ tables. steps.new ≡ steps.old + row_count tables + 1) }
     ensures named { IfErr result (λ fault. UnlessMissing fault.kind (steps.new ≡ steps.old + max 1 fault.row)) }
     ensures ends { IfErr result (λ fault. OfRecords (option_map strip_bom (R.remaining reader))
@@ -47,7 +52,11 @@ pub fn read_tables<R: Read + Drop, L: Ledger>(
     ensures least { IfErr result (λ fault. steps.old + max 1 fault.row ≤ steps.new) }
     ensures turns { steps.new ≤ steps.old + MAX_TURNS }
 {
-    read_tables_as(alloc, Reading { whole: false }, reader, steps)
+    let reading = Reading {
+        whole: false,
+        limits: LimitSet::Usual,
+    };
+    read_tables_as(alloc, reading, reader, steps)
 }
 
 /// Reads a table as [`read_tables`] does, and as it is asked for: where it has to be whole, one that does not end with
@@ -64,12 +73,13 @@ pub fn read_tables_as<R: Read + Drop, L: Ledger>(
 ) -> Result<Tables, TableFault>
     ensures table { OfRecords (option_map strip_bom (R.remaining reader)) (TellsRowsAs reading result) }
     ensures whole { IfOk result (λ tables. reading.whole ≡ true → tables.ended ≡ true) }
+    ensures limits { IfOk result (λ tables. tables.limits ≡ reading.limits) }
     ensures counted { IfOk result (λ tables. steps.new ≡ steps.old + row_count tables + 1) }
     ensures named { IfErr result (λ fault. UnlessMissing fault.kind (steps.new ≡ steps.old + max 1 fault.row)) }
     ensures ends { IfErr result (λ fault. OfRecords (option_map strip_bom (R.remaining reader))
         (StepsTo steps.old steps.new fault.row)) }
     ensures least { IfErr result (λ fault. steps.old + max 1 fault.row ≤ steps.new) }
-    ensures turns { steps.new ≤ steps.old + MAX_TURNS }
+    ensures turns { steps.new ≤ steps.old + (limits_of reading.limits).turns }
 {
     let mut rows = ReaderBuilder::new()
         .has_headers(false)
@@ -90,6 +100,7 @@ pub fn read_tables_uncounted<R: Read + Drop>(
 ) -> Result<Tables, TableFault>
     ensures table { OfRecords (option_map strip_bom (R.remaining reader)) (TellsRowsAs reading result) }
     ensures whole { IfOk result (λ tables. reading.whole ≡ true → tables.ended ≡ true) }
+    ensures limits { IfOk result (λ tables. tables.limits ≡ reading.limits) }
 {
     read_with_blank::<R, Brand>(alloc, reading, reader, Blank::new(1))
 }
@@ -106,6 +117,7 @@ fn read_with_blank<R: Read + Drop, L: Ledger>(
     requires some { 0 < blank.parts }
     ensures table { OfRecords (option_map strip_bom (R.remaining reader)) (TellsRowsAs reading result) }
     ensures whole { IfOk result (λ tables. reading.whole ≡ true → tables.ended ≡ true) }
+    ensures limits { IfOk result (λ tables. tables.limits ≡ reading.limits) }
 {
     let mut steps: Steps<L> = Steps::new(blank);
     read_tables_as(alloc, reading, reader, &mut steps)
@@ -121,13 +133,14 @@ fn read_rows<R: Read, L: Ledger>(
     requires gives { GivesAll rows.old }
     ensures table { OfLeft (rows_left R.remaining rows.old) (TellsRowsAs reading result) }
     ensures whole { IfOk result (λ tables. reading.whole ≡ true → tables.ended ≡ true) }
+    ensures limits { IfOk result (λ tables. tables.limits ≡ reading.limits) }
     ensures failed { IfErr result (λ fault. fault.kind ≡ TableFaultKind.ReadFault → has_failed rows.new ≡ true) }
     ensures counted { IfOk result (λ tables. steps.new ≡ steps.old + row_count tables + 1) }
     ensures named { IfErr result (λ fault. UnlessMissing fault.kind (steps.new ≡ steps.old + max 1 fault.row)) }
     ensures ends { IfErr result (λ fault. OfLeft (rows_left R.remaining rows.old)
         (StepsTo steps.old steps.new fault.row)) }
     ensures least { IfErr result (λ fault. steps.old + max 1 fault.row ≤ steps.new) }
-    ensures turns { steps.new ≤ steps.old + MAX_TURNS }
+    ensures turns { steps.new ≤ steps.old + (limits_of reading.limits).turns }
 {
     let mut row = StringRecord::new(alloc);
     steps.tick();
@@ -137,7 +150,7 @@ fn read_rows<R: Read, L: Ledger>(
             kind: TableFaultKind::Empty,
         });
     }
-    let mut draft = first_draft(alloc, &row)?;
+    let mut draft = first_draft(alloc, reading.limits, &row)?;
     match read_rest(alloc, rows, &mut row, &mut draft, steps) {
         Ok(()) => accept(reading, draft),
         Err(fault) => {
@@ -154,6 +167,7 @@ pub(crate) fn accept(reading: Reading, draft: Draft) -> Result<Tables, TableFaul
     requires kept { IsDraftKept draft }
     ensures exact { result ≡ go_on (waiting draft.lists) (uncut reading) }
     ensures same { IfOk result (λ tables. tables ≡ draft.lists) }
+    ensures limits { IfOk result (λ tables. tables.limits ≡ draft.lists.limits) }
     ensures above { IfErr result (λ fault. fault.row ≤ row_count draft.lists + 1) }
     ensures waited { IfErr result (λ fault. HasWaited draft.lists fault) }
 {
@@ -186,14 +200,19 @@ fn is_cut(reading: Reading, draft: &Draft) -> bool
 }
 
 /// What the first row makes.
-pub(crate) fn first_draft(alloc: Global, row: &StringRecord) -> Result<Draft, TableFault>
+pub(crate) fn first_draft(
+    alloc: Global,
+    limits: LimitSet,
+    row: &StringRecord,
+) -> Result<Draft, TableFault>
     requires text { AllText (fields_of row.now) }
-    ensures exact { TellsFirstAt result (fields_of row.now) }
+    ensures exact { TellsFirstAt limits result (fields_of row.now) }
     ensures kept { IfOk result IsDraftKept }
+    ensures limits { IfOk result (λ draft. draft.lists.limits ≡ limits) }
     ensures draft { IfOk result IsDraft }
     ensures rows { IfOk result (λ draft. draft.rows ≡ 1) }
 {
-    match Draft::first(alloc, row) {
+    match Draft::first(alloc, limits, row) {
         Ok(draft) => Ok(draft),
         Err(kind) => Err(TableFault { row: 1, kind }),
     }
@@ -216,14 +235,16 @@ fn read_rest<R: Read, L: Ledger>(
     ensures failed { IfErr result (λ fault. fault.kind ≡ TableFaultKind.ReadFault → has_failed rows.new ≡ true) }
     ensures draft { OnOk result (IsDraft draft.new) }
     ensures kept { OnOk result (IsDraftKept draft.new) }
+    ensures limits { OnOk result (draft.new.lists.limits ≡ draft.old.lists.limits) }
     ensures counted { OnOk result (steps.new ≡ steps.old + draft.new.rows) }
     ensures all { OnOk result (OfLeft (rows_left R.remaining rows.old)
         (λ rows. steps.new ≡ steps.old + length rows + 1)) }
     ensures later { IfErr result (λ fault. 2 ≤ fault.row) }
     ensures least { IfErr result (λ fault. steps.new + 1 ≡ steps.old + fault.row) }
-    ensures turns { steps.new + 1 ≤ steps.old + MAX_TURNS }
+    ensures turns { steps.new + 1 ≤ steps.old + (most draft.old.lists).turns }
 {
-    for number in 2..MAX_TURNS + 1 {
+    let turns = draft.lists.limits().turns;
+    for number in 2..turns + 1 {
         steps.tick();
         if !read_next(alloc, rows, row, draft, number)? {
             return Ok(());
@@ -243,7 +264,6 @@ pub(crate) fn read_next<R: Read>(
     requires gives { GivesAll rows.old }
     requires draft { IsDraft draft.old }
     requires kept { IsDraftKept draft.old }
-    requires room { draft.old.rows < MAX_TURNS }
     ensures gives { OnOk result (GivesAll rows.new) }
     ensures exact { TellsNext (rows_left R.remaining rows.old) (rows_left R.remaining rows.new) number
         (draft_state draft.old) (draft_state draft.new) result }
@@ -255,6 +275,7 @@ pub(crate) fn read_next<R: Read>(
     ensures rows { IfOk result (λ found. found ≡ true → draft.new.rows ≡ draft.old.rows + 1) }
     ensures ended { IfOk result (λ found. found ≡ false → draft.new.rows ≡ draft.old.rows) }
     ensures same { IfOk result (λ found. found ≡ false → draft.new ≡ draft.old) }
+    ensures limits { OnOk result (draft.new.lists.limits ≡ draft.old.lists.limits) }
 {
     if !next_row(rows, row, number)? {
         return Ok(false);

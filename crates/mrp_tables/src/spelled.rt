@@ -1,9 +1,8 @@
 //! The reader of tables: what the fields of a row spell, kind by kind.
 
 ghost use Rattle.std.specs.Prelude.{◌≡◌, ◌≤◌, ◌<◌, true, IfOk};
-ghost use Rattle.mrp_qty.specs.declared.horizon.TheConstants.{LONGEST};
+ghost use Rattle.mrp_qty.specs.Limits.{limits_of};
 ghost use Rattle.mrp_qty.specs.declared.limits.TheConstants.{MOST_IN_ROW, MOST_PER};
-ghost use Rattle.mrp_lot.specs.declared.rule.TheConstants.{LONGEST_LEAD};
 ghost use Rattle.csv.specs.Records.{fields_of};
 ghost use Rattle.mrp_validation.specs.Grammar.{amount_terms, bill_terms, field, firm_terms, is_empty_from};
 ghost use Rattle.mrp_validation.specs.Grammar.{kind_of, lane_number, lane_terms, name_field, pair_terms, plant_terms};
@@ -18,11 +17,11 @@ ghost use Rattle.mrp_tables.specs.Drafts.{TellsRun};
 use crate::spelling::{name, ranged};
 use csv::StringRecord;
 use mrp_cal::Calendar;
-use mrp_lot::{LONGEST_LEAD, Rule};
+use mrp_lot::Rule;
 use mrp_master_data::{
-    MOST_IN_ROW, MOST_PER, Policy, SpelledSupply, is_same_text, number, rule, supply,
+    MOST_IN_ROW, MOST_PER, Policy, SpelledSupply, is_same_text, number, rule_within, supply,
 };
-use mrp_qty::{Horizon, LONGEST};
+use mrp_qty::{Horizon, LimitSet};
 use mrp_validation::{Kind, TableFaultKind, field, is_free, used};
 use std::alloc::Global;
 
@@ -107,12 +106,12 @@ struct SpelledRun<'r> {
 
 /// What a run row spells.
 #[tactic(auto, unfolding(mrp_validation::specs::Grammar::run_terms))]
-fn run_of(row: &StringRecord) -> Result<SpelledRun<'_>, TableFaultKind>
-    ensures exact { seen run_view result ≡ run_terms (fields_of row.now) }
-    ensures periods { IfOk result (λ run. (1 ≤ run.periods) × (run.periods ≤ LONGEST)) }
+fn run_of(limits: LimitSet, row: &StringRecord) -> Result<SpelledRun<'_>, TableFaultKind>
+    ensures exact { seen run_view result ≡ run_terms limits (fields_of row.now) }
+    ensures periods { IfOk result (λ run. (1 ≤ run.periods) × (run.periods ≤ (limits_of limits).periods)) }
 {
     let days = number(field(row, 2)).ok_or(TableFaultKind::BadNumber)?;
-    let periods = ranged(field(row, 3), 1, LONGEST)?;
+    let periods = ranged(field(row, 3), 1, limits.limits().periods)?;
     Ok(SpelledRun {
         first: field(row, 1),
         days,
@@ -121,11 +120,12 @@ fn run_of(row: &StringRecord) -> Result<SpelledRun<'_>, TableFaultKind>
 }
 
 /// The calendar of a run row.
-pub(crate) fn spelled_run(row: &StringRecord) -> Result<Calendar, TableFaultKind>
-    ensures exact { TellsRun result (fields_of row.now) }
+pub(crate) fn spelled_run(limits: LimitSet, row: &StringRecord) -> Result<Calendar, TableFaultKind>
+    ensures exact { TellsRun limits result (fields_of row.now) }
+    ensures within { IfOk result (λ calendar. calendar.periods ≤ (limits_of limits).periods) }
 {
-    let run = run_of(row)?;
-    let Some(horizon) = Horizon::new(run.periods) else {
+    let run = run_of(limits, row)?;
+    let Some(horizon) = Horizon::within(limits, run.periods) else {
         unreachable!();
     };
     match Calendar::new(run.first, run.days, horizon) {
@@ -158,17 +158,18 @@ pub(crate) struct SpelledPair<'r> {
 #[tactic(auto, unfolding(mrp_validation::specs::Grammar::pair_terms))]
 pub(crate) fn spelled_pair(
     alloc: Global,
+    limits: LimitSet,
     row: &StringRecord,
 ) -> Result<SpelledPair<'_>, TableFaultKind>
-    ensures exact { TellsSeen pair_view result (pair_terms (fields_of row.now)) }
-    ensures ranges { IfOk result IsSpelledPair }
+    ensures exact { TellsSeen pair_view result (pair_terms limits (fields_of row.now)) }
+    ensures ranges { IfOk result (IsSpelledPair limits) }
 {
     let plant = name(field(row, 1))?;
     let item = name(field(row, 2))?;
-    let lead = ranged(field(row, 5), 0, LONGEST_LEAD)?;
+    let lead = ranged(field(row, 5), 0, limits.limits().lead)?;
     let on_hand = ranged(field(row, 6), 0, MOST_IN_ROW)?;
     let safety = ranged(field(row, 7), 0, MOST_IN_ROW)?;
-    let rule = rule(field(row, 4)).ok_or(TableFaultKind::BadRule)?;
+    let rule = rule_within(limits, field(row, 4)).ok_or(TableFaultKind::BadRule)?;
     let supply = supply(alloc, field(row, 3))?;
     Ok(SpelledPair {
         plant,
@@ -262,21 +263,24 @@ pub(crate) fn spelled_firm(
 /// How a pair is planned by a policy row. Its names aren't tested where they are known.
 #[tactic(auto, unfolding(mrp_validation::specs::Grammar::policy_terms))]
 pub(crate) fn spelled_policy(
+    limits: LimitSet,
     row: &StringRecord,
     horizon: Horizon,
     are_known: bool,
 ) -> Result<Policy, TableFaultKind>
     requires known { are_known ≡ true → HasTwoNames (fields_of row.now) }
     ensures exact { seen (λ p. terms_of_policy (fields_of row.now) p.fence p.sooner p.cover p.least p.multiple) result
-        ≡ policy_terms (fields_of row.now) horizon }
-    ensures periods { IfOk result (λ p. (p.fence < horizon) × (p.sooner ≤ LONGEST_LEAD) × (p.cover ≤ LONGEST_LEAD)) }
+        ≡ policy_terms limits (fields_of row.now) horizon }
+    ensures fence { IfOk result (λ p. p.fence < horizon) }
+    ensures periods { IfOk result (λ p. (p.sooner ≤ (limits_of limits).lead) × (p.cover ≤ (limits_of limits).lead)) }
     ensures pieces { IfOk result (λ p. (p.least ≤ MOST_IN_ROW) × (p.multiple ≤ MOST_IN_ROW)) }
 {
     test_name(row, 1, are_known)?;
     test_name(row, 2, are_known)?;
     let fence = ranged(field(row, 3), 0, horizon.get() - 1)?;
-    let sooner = ranged(field(row, 4), 0, LONGEST_LEAD)?;
-    let cover = ranged(field(row, 5), 0, LONGEST_LEAD)?;
+    let longest = limits.limits().lead;
+    let sooner = ranged(field(row, 4), 0, longest)?;
+    let cover = ranged(field(row, 5), 0, longest)?;
     let least = ranged(field(row, 6), 0, MOST_IN_ROW)?;
     let multiple = ranged(field(row, 7), 0, MOST_IN_ROW)?;
     Ok(Policy {

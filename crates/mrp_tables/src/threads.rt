@@ -19,7 +19,7 @@ use crate::reading::{accept, first_draft, next_row, read_tables_uncounted};
 use crate::source::Source;
 use csv::{Reader, StringRecord};
 use mrp_commands::Reading;
-use mrp_master_data::Tables;
+use mrp_master_data::{LimitSet, Tables};
 use mrp_validation::{TableFault, TableFaultKind};
 use std::alloc::{AllocError, Global};
 use std::io::Read;
@@ -52,6 +52,7 @@ pub fn read_tables_by_threads<T: Threads + Sync, R: Read + Drop>(
 ) -> Result<Tables, TableFault>
     ensures table { OfRecords (option_map strip_bom (R.remaining reader)) (TellsRowsAs reading result) }
     ensures whole { IfOk result (λ tables. reading.whole ≡ true → tables.ended ≡ true) }
+    ensures limits { IfOk result (λ tables. tables.limits ≡ reading.limits) }
 {
     let count = pieces_at_once(rt);
     if count < 2 {
@@ -84,9 +85,10 @@ pub fn read_tables_by_blocks<T: Threads + Sync, R: Read + Drop>(
     requires some { 0 < count }
     ensures table { OfRecords (option_map strip_bom (R.remaining reader)) (TellsRowsAs reading result) }
     ensures whole { IfOk result (λ tables. reading.whole ≡ true → tables.ended ≡ true) }
+    ensures limits { IfOk result (λ tables. tables.limits ≡ reading.limits) }
 {
     let mut source = Source::new(alloc, reader);
-    match begin(alloc, &mut source, block.min(FIRST)) {
+    match begin(alloc, reading.limits, &mut source, block.min(FIRST)) {
         Ok(None) => read_tables_uncounted(alloc, reading, source),
         Ok(Some(draft)) => {
             let read = finish(rt, alloc, reading, &mut source, draft, block / count, count);
@@ -104,16 +106,18 @@ pub fn read_tables_by_blocks<T: Threads + Sync, R: Read + Drop>(
 /// it had.
 fn begin<R: Read>(
     alloc: Global,
+    limits: LimitSet,
     source: &mut Source<R>,
     size: usize,
 ) -> Result<Option<Draft>, TableFault>
-    ensures exact { TellsBeginning (left_of R.remaining source.old) (left_of R.remaining source.new) result }
+    ensures exact { TellsBeginning limits (left_of R.remaining source.old) (left_of R.remaining source.new) result }
     ensures draft { IfOk result (λ begun. IfSome begun IsDraft) }
     ensures kept { IfOk result (λ begun. IfSome begun IsDraftKept) }
+    ensures limits { IfOk result (λ begun. IfSome begun (λ draft. draft.lists.limits ≡ limits)) }
 {
     let mut piece = Piece::new(alloc);
     match fill_first(source, &mut piece, size) {
-        Ok(true) => begin_with(alloc, source, piece.text()),
+        Ok(true) => begin_with(alloc, limits, source, piece.text()),
         Ok(false) => leave(source, piece.text()),
         Err(_) => Err(no_memory_first()),
     }
@@ -135,18 +139,20 @@ fn fill_first<R: Read>(
 /// Reads the rows of a text that was taken of a source, where it is plain. Else it is given back.
 fn begin_with<R: Read>(
     alloc: Global,
+    limits: LimitSet,
     source: &mut Source<R>,
     text: &[u8],
 ) -> Result<Option<Draft>, TableFault>
-    ensures exact { TellsBeginning (prepend_known text.now (left_of R.remaining source.old))
+    ensures exact { TellsBeginning limits (prepend_known text.now (left_of R.remaining source.old))
         (left_of R.remaining source.new) result }
     ensures draft { IfOk result (λ begun. IfSome begun IsDraft) }
     ensures kept { IfOk result (λ begun. IfSome begun IsDraftKept) }
+    ensures limits { IfOk result (λ begun. IfSome begun (λ draft. draft.lists.limits ≡ limits)) }
 {
     if !is_plain(text) {
         return leave(source, text);
     }
-    match first_rows(alloc, text) {
+    match first_rows(alloc, limits, text) {
         Ok(Some(draft)) => Ok(Some(draft)),
         Ok(None) => leave(source, text),
         Err(fault) => Err(fault),
@@ -177,32 +183,35 @@ fn leave<R: Read>(source: &mut Source<R>, text: &[u8]) -> Result<Option<Draft>, 
 }
 
 /// Reads the rows of a plain text, the first of a table; none where it has no row.
-fn first_rows(alloc: Global, text: &[u8]) -> Result<Option<Draft>, TableFault>
+fn first_rows(alloc: Global, limits: LimitSet, text: &[u8]) -> Result<Option<Draft>, TableFault>
     requires plain { IsPlain text.now }
-    ensures exact { TellsBegun (rows_in text.now) result }
+    ensures exact { TellsBegun limits (rows_in text.now) result }
     ensures draft { IfOk result (λ begun. IfSome begun IsDraft) }
     ensures kept { IfOk result (λ begun. IfSome begun IsDraftKept) }
+    ensures limits { IfOk result (λ begun. IfSome begun (λ draft. draft.lists.limits ≡ limits)) }
 {
     let mut rows = rows_of(alloc, text);
     let mut row = StringRecord::new(alloc);
-    first_rows_of(alloc, &mut rows, &mut row)
+    first_rows_of(alloc, limits, &mut rows, &mut row)
 }
 
 /// Reads the rows of a reader, the first of a table; none where it has no row.
 fn first_rows_of<R: Read>(
     alloc: Global,
+    limits: LimitSet,
     rows: &mut Reader<R>,
     row: &mut StringRecord,
 ) -> Result<Option<Draft>, TableFault>
     requires gives { GivesAll rows.old }
-    ensures exact { OfLeft (rows_left R.remaining rows.old) (λ rows. TellsBegun rows result) }
+    ensures exact { OfLeft (rows_left R.remaining rows.old) (λ rows. TellsBegun limits rows result) }
     ensures draft { IfOk result (λ begun. IfSome begun IsDraft) }
     ensures kept { IfOk result (λ begun. IfSome begun IsDraftKept) }
+    ensures limits { IfOk result (λ begun. IfSome begun (λ draft. draft.lists.limits ≡ limits)) }
 {
     if !next_row(rows, row, 1)? {
         return Ok(None);
     }
-    let mut draft = first_draft(alloc, row)?;
+    let mut draft = first_draft(alloc, limits, row)?;
     match read_on(alloc, rows, row, &mut draft) {
         Ok(()) => Ok(Some(draft)),
         Err(fault) => {
@@ -225,9 +234,10 @@ fn finish<T: Threads + Sync, R: Read>(
     requires draft { IsDraft draft }
     requires kept { IsDraftKept draft }
     requires some { 0 < count }
-    ensures exact { (rows : _) → BeginsWith rows (rows_of_bytes (left_of R.remaining source.old)) draft
+    ensures exact { (rows : _) → BeginsWith reading.limits rows (rows_of_bytes (left_of R.remaining source.old)) draft
         → OfLeft rows (TellsRowsAs reading result) }
     ensures whole { IfOk result (λ tables. reading.whole ≡ true → tables.ended ≡ true) }
+    ensures limits { IfOk result (λ tables. tables.limits ≡ draft.lists.limits) }
 {
     let mut draft = draft;
     match read_by_pieces(rt, alloc, source, size, count, &mut draft) {
@@ -255,6 +265,7 @@ fn read_by_pieces<T: Threads + Sync, R: Read>(
         (none_left_of (rows_of_bytes (left_of R.remaining source.old))) draft.old draft.new result }
     ensures draft { OnOk result (IsDraft draft.new) }
     ensures kept { OnOk result (IsDraftKept draft.new) }
+    ensures limits { OnOk result (draft.new.lists.limits ≡ draft.old.lists.limits) }
 {
     match new_pieces(alloc, count) {
         Ok(pieces) => {

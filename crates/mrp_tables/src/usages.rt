@@ -3,6 +3,7 @@
 
 ghost use Rattle.std.specs.Prelude.{◌≡◌, ◌≤◌, ◌<◌, true, IfOk};
 ghost use Rattle.mrp_qty.specs.declared.limits.TheConstants.{MOST_PER};
+ghost use Rattle.mrp_master_data.specs.Table.{most};
 ghost use Rattle.csv.specs.Records.{fields_of};
 ghost use Rattle.mrp_validation.specs.Grammar.{seen, usage_terms};
 ghost use Rattle.mrp_tables.specs.Spelled.{HasThreeNames, terms_of_usage};
@@ -11,7 +12,7 @@ use crate::draft::{Draft, UsageKey};
 use crate::spelled::test_name;
 use crate::spelling::ranged;
 use csv::StringRecord;
-use mrp_master_data::{MOST_PER, MOST_USAGES, PairNo, Usage, UsageRow};
+use mrp_master_data::{MOST_PER, PairNo, Usage, UsageRow};
 use mrp_qty::Horizon;
 use mrp_validation::{TableFaultKind, field};
 
@@ -49,7 +50,8 @@ fn spelled_usage(
 impl Draft {
     ghost use Rattle.std.specs.Prelude.{◌≡◌, ◌≤◌, ◌<◌, false, length, option_map, Some, IfOk, OnOk};
     ghost use Rattle.csv.specs.Records.{fields_of};
-    ghost use Rattle.mrp_qty.specs.declared.limits.TheConstants.{MOST_PER, MOST_USAGES};
+    ghost use Rattle.mrp_qty.specs.declared.limits.TheConstants.{MOST_PER};
+    ghost use Rattle.mrp_master_data.specs.Table.{most};
     ghost use Rattle.mrp_validation.specs.Grammar.{has_usage, TellsMade, usage_fits, usage_of, usage_row};
     ghost use Rattle.mrp_master_data.specs.Table.{horizon, IsUsageRow};
     ghost use Rattle.mrp_tables.specs.Lists.{AddsRow, FindsParts, IsDraft};
@@ -80,7 +82,7 @@ impl Draft {
         ensures exact { result ≡ usage_of self.now.lists (fields_of row.now) }
         ensures row { IfOk result (IsUsageRow self.now.lists) }
         ensures fresh { IfOk result (λ u. has_usage self.now.lists (Some u.parent.0) (Some u.component.0) u.period ≡ false) }
-        ensures room { OnOk result (length self.now.lists.usages < MOST_USAGES) }
+        ensures room { OnOk result (length self.now.lists.usages < (most self.now.lists).bills) }
     {
         let parent = self.find_pair(field(row, 1), field(row, 2));
         let component = self.find_pair(field(row, 1), field(row, 3));
@@ -105,7 +107,7 @@ impl Draft {
         ensures exact { result ≡ usage_fits self.now.lists (terms_of_usage (fields_of row.now) spelled) }
         ensures row { IfOk result (IsUsageRow self.now.lists) }
         ensures fresh { IfOk result (λ u. has_usage self.now.lists (Some u.parent.0) (Some u.component.0) u.period ≡ false) }
-        ensures room { OnOk result (length self.now.lists.usages < MOST_USAGES) }
+        ensures room { OnOk result (length self.now.lists.usages < (most self.now.lists).bills) }
     {
         if self.has_usage(parent, component, spelled.period) {
             return Err(TableFaultKind::Repeated);
@@ -118,7 +120,7 @@ impl Draft {
         if !self.has_bill(Some(parent), Some(component)) {
             return Err(TableFaultKind::NotMade);
         }
-        if self.lists.usages().len() >= MOST_USAGES {
+        if self.lists.usages().len() >= self.lists.limits().bills {
             return Err(TableFaultKind::TooMany);
         }
         Ok(UsageRow {

@@ -15,6 +15,7 @@ use Rattle.mrp_validation.specs.declared.kind.Kind.TheVariants as kind
 use Rattle.mrp_validation.specs.Reading.{at_row, first_lacking, go_on, IsReadSoFar, read_from, Reads, row_after, rows_after, Starts, unless_lacking, waiting}
 use Rattle.mrp_validation.proofs.Keeping.{row_after_keeps}
 use Rattle.mrp_validation.proofs.Whole.{first_keeps}
+use Rattle.mrp_qty.specs.declared.limits.LimitSet.{LimitSet}
 
 has_pair : (b : Bool) (k n : ℕ) → ltb k n ≡ b → not b ≡ false → k < n
 has_pair true k n t e = grind (arith, nat_tests)
@@ -67,15 +68,15 @@ pub waited : (N M : Table) (o : Option ℕ) → unless_lacking N o ≡ Ok M → 
 waited N M None e = (refl, cc)
 waited N M (Some x) e = absurd (cc)
 
-read_is_table : (start : Result Table TableFaultKind) (row : List (List ℕ)) (rows : List (List (List ℕ))) (N : Table) → Starts row start
+read_is_table : (limits : LimitSet) (start : Result Table TableFaultKind) (row : List (List ℕ)) (rows : List (List (List ℕ))) (N : Table) → Starts limits row start
     → Ok N ≡ read_from start rows → IsTable N
-read_is_table (Ok first) row rows N starts e =
+read_is_table limits (Ok first) row rows N starts e =
     let a = went_on (rows_after 2 (first, kind.Run) rows) waiting N (sym e) in
-    let kept = rows_keep rows 2 (first, kind.Run) a.0 (first_keeps first row starts) a.1 in
+    let kept = rows_keep rows 2 (first, kind.Run) a.0 (first_keeps limits first row starts) a.1 in
     let w = waited a.0 N (first_lacking a.0 a.0.sources) a.2 in
     subst IsTable w.1 (complete a.0 kept.0 kept.1 (none_lacks a.0 a.0.sources w.0))
-read_is_table (Err k) row rows N starts e = absurd (cc)
+read_is_table limits (Err k) row rows N starts e = absurd (cc)
 
-pub what_is_read : (rows : List (List (List ℕ))) (N : Table) → Reads rows (Ok N) → IsTable N
-what_is_read [] N e = absurd (cc)
-what_is_read (row ∷ rows) N reads = read_is_table reads.0 row rows N reads.1 reads.2
+pub what_is_read : (limits : LimitSet) (rows : List (List (List ℕ))) (N : Table) → Reads limits rows (Ok N) → IsTable N
+what_is_read limits [] N e = absurd (cc)
+what_is_read limits (row ∷ rows) N reads = read_is_table limits reads.0 row rows N reads.1 reads.2

@@ -18,6 +18,7 @@ use Rattle.mrp_validation.proofs.KeepingSteps.{same_Ok}
 use Rattle.mrp_validation.proofs.Listed.{first-listed, later-listed, not_cut}
 use Rattle.mrp_validation.proofs.OneWay.{reads_one_way}
 use Rattle.mrp_validation.proofs.WrittenTable.{written_out}
+use Rattle.mrp_qty.specs.declared.limits.LimitSet.{LimitSet}
 
 -- ---- rows alone have no such fault
 
@@ -54,17 +55,17 @@ all_no_cut rows s e is cut = by (rows_after 2 s rows) refl is
     by (Ok N) read is = waits_no_cut N (first_lacking N N.sources) e is cut
     by (Err f) read is = rows_no_cut rows 2 s e (read ∙ is) cut
 
-start_no_cut : (row : List (List ℕ)) (rows : List (List (List ℕ))) (start : Result Table TableFaultKind) (e : TableFault) → Starts row start
+start_no_cut : (limits : LimitSet) (row : List (List ℕ)) (rows : List (List (List ℕ))) (start : Result Table TableFaultKind) (e : TableFault) → Starts limits row start
     → Err e ≡ read_from start rows → e.kind ≡ fault.Cut → ⊥
-start_no_cut row rows (Ok N) e starts is cut = all_no_cut rows (N, kind.Run) e (sym is) cut
-start_no_cut row rows (Err k) e starts is cut = row_no_cut row 1 k e (first-listed row k starts) (same_Err _ e (sym is)) cut
+start_no_cut limits row rows (Ok N) e starts is cut = all_no_cut rows (N, kind.Run) e (sym is) cut
+start_no_cut limits row rows (Err k) e starts is cut = row_no_cut row 1 k e (first-listed limits row k starts) (same_Err _ e (sym is)) cut
 
-reads_no_cut : (rows : List (List (List ℕ))) (e : TableFault) → Reads rows (Err e) → e.kind ≡ fault.Cut → ⊥
-reads_no_cut [] e is cut =
+reads_no_cut : (limits : LimitSet) (rows : List (List (List ℕ))) (e : TableFault) → Reads limits rows (Err e) → e.kind ≡ fault.Cut → ⊥
+reads_no_cut limits [] e is cut =
     let same : record { row = 0; kind = fault.Empty } ≡ e = cc in
     let other : fault.Empty ≡ fault.Cut = ap (λ (f : TableFault). f.kind) same ∙ cut in
     cc
-reads_no_cut (row ∷ rows) e reads cut = start_no_cut row rows reads.0 e reads.1 reads.2 cut
+reads_no_cut limits (row ∷ rows) e reads cut = start_no_cut limits row rows reads.0 e reads.1 reads.2 cut
 
 -- ---- what is asked of a table
 
@@ -102,7 +103,7 @@ cut_off false ended row M w e = absurd (cc)
 
 pub one_way_as : (reading : Reading) (rows : List (List (List ℕ))) (a b : Result Table TableFault) → ReadsAreOneAs reading rows a b
 one_way_as reading rows a b h k =
-    h.2 ∙ ap (λ (plain : Result Table TableFault). go_on plain (uncut reading)) (reads_one_way rows h.0 k.0 h.1 k.1) ∙ sym k.2
+    h.2 ∙ ap (λ (plain : Result Table TableFault). go_on plain (uncut reading)) (reads_one_way reading.limits rows h.0 k.0 h.1 k.1) ∙ sym k.2
 
 -- where nothing is asked a table stays
 nothing_asked : (reading : Reading) → reading.whole ≡ false → (plain : Result Table TableFault) → go_on plain (uncut reading) ≡ plain
@@ -111,15 +112,15 @@ nothing_asked reading none (Err e) = refl
 
 pub usual : (reading : Reading) (rows : List (List (List ℕ))) (read : Result Table TableFault) → UsualReadingAsksNothing reading rows read
 usual reading rows read none = (
-  λ h. subst (Reads rows) (sym (h.2 ∙ nothing_asked reading none h.0)) h.1,
+  λ h. subst (Reads reading.limits rows) (sym (h.2 ∙ nothing_asked reading none h.0)) h.1,
   λ reads. (read, reads, sym (nothing_asked reading none read)),
 )
 
-whole_is : (reading : Reading) (rows : List (List (List ℕ))) (N : Table) (plain : Result Table TableFault) → Reads rows plain
-    → Ok N ≡ go_on plain (uncut reading) → Reads rows (Ok N) × (reading.whole ≡ true → N.ended ≡ true)
+whole_is : (reading : Reading) (rows : List (List (List ℕ))) (N : Table) (plain : Result Table TableFault) → Reads reading.limits rows plain
+    → Ok N ≡ go_on plain (uncut reading) → Reads reading.limits rows (Ok N) × (reading.whole ≡ true → N.ended ≡ true)
 whole_is reading rows N (Ok M) reads is =
     let a = asked_ok reading.whole M.ended (row_count M + 1) M N (sym is) in
-    subst (λ (m : Table). Reads rows (Ok m) × (reading.whole ≡ true → m.ended ≡ true)) a.0 (reads, a.1)
+    subst (λ (m : Table). Reads reading.limits rows (Ok m) × (reading.whole ≡ true → m.ended ≡ true)) a.0 (reads, a.1)
 whole_is reading rows N (Err e) reads is = absurd (cc)
 
 pub whole_end : (reading : Reading) (rows : List (List (List ℕ))) (N : Table) → WholeTablesEnd reading rows N
@@ -129,24 +130,24 @@ whole_end reading rows N = (
 )
 
 -- the row behind the last
-row_behind : (rows : List (List (List ℕ))) (M : Table) → Reads rows (Ok M) → row_count M + 1 ≡ length rows + 1
-row_behind rows M reads = ap (λ (n : ℕ). n + 1) (sym (ap length (written_out rows M reads) ∙ rows_counted M))
+row_behind : (limits : LimitSet) (rows : List (List (List ℕ))) (M : Table) → Reads limits rows (Ok M) → row_count M + 1 ≡ length rows + 1
+row_behind limits rows M reads = ap (λ (n : ℕ). n + 1) (sym (ap length (written_out limits rows M reads) ∙ rows_counted M))
 
-cut_is : (reading : Reading) (rows : List (List (List ℕ))) (e : TableFault) → e.kind ≡ fault.Cut → (plain : Result Table TableFault) → Reads rows plain
-    → Err e ≡ go_on plain (uncut reading) → (reading.whole ≡ true) × LacksItsEnd rows e
+cut_is : (reading : Reading) (rows : List (List (List ℕ))) (e : TableFault) → e.kind ≡ fault.Cut → (plain : Result Table TableFault) → Reads reading.limits rows plain
+    → Err e ≡ go_on plain (uncut reading) → (reading.whole ≡ true) × LacksItsEnd reading.limits rows e
 cut_is reading rows e cut (Ok M) reads is =
     let c = asked_err reading.whole M.ended (row_count M + 1) M e (sym is) in
-    (c.whole_is, record { table = M; reads = reads; unended = c.ended_is; row = ap (λ (f : TableFault). f.row) c.fault_is ∙ row_behind rows M reads })
-cut_is reading rows e cut (Err f) reads is = absurd (reads_no_cut rows f reads (ap (λ (g : TableFault). g.kind) (sym (same_Err e f is)) ∙ cut))
+    (c.whole_is, record { table = M; reads = reads; unended = c.ended_is; row = ap (λ (f : TableFault). f.row) c.fault_is ∙ row_behind reading.limits rows M reads })
+cut_is reading rows e cut (Err f) reads is = absurd (reads_no_cut reading.limits rows f reads (ap (λ (g : TableFault). g.kind) (sym (same_Err e f is)) ∙ cut))
 
 same_fault : (e : TableFault) (row : ℕ) → e.kind ≡ fault.Cut → e.row ≡ row → e ≡ record { row = row; kind = fault.Cut }
 same_fault e row k r = rw (← k, ← r) refl
 
-lacks_end : (reading : Reading) (rows : List (List (List ℕ))) (e : TableFault) → e.kind ≡ fault.Cut → reading.whole ≡ true → LacksItsEnd rows e
+lacks_end : (reading : Reading) (rows : List (List (List ℕ))) (e : TableFault) → e.kind ≡ fault.Cut → reading.whole ≡ true → LacksItsEnd reading.limits rows e
     → ReadsAs reading rows (Err e)
 lacks_end reading rows e cut whole l =
     let M = l.table in
-    let fault_is = same_fault e (row_count M + 1) cut (l.row ∙ sym (row_behind rows M l.reads)) in
+    let fault_is = same_fault e (row_count M + 1) cut (l.row ∙ sym (row_behind reading.limits rows M l.reads)) in
     (Ok M, l.reads, ap (λ (f : TableFault). Err f) fault_is ∙ sym (cut_off reading.whole M.ended (row_count M + 1) M whole l.unended))
 
 pub cut_refused : (reading : Reading) (rows : List (List (List ℕ))) (e : TableFault) → CutTablesAreRefused reading rows e
@@ -155,12 +156,12 @@ cut_refused reading rows e cut = (
   λ h. lacks_end reading rows e cut h.0 h.1,
 )
 
-other_is : (reading : Reading) (rows : List (List (List ℕ))) (e : TableFault) → ¬ (e.kind ≡ fault.Cut) → (plain : Result Table TableFault) → Reads rows plain
-    → Err e ≡ go_on plain (uncut reading) → Reads rows (Err e)
+other_is : (reading : Reading) (rows : List (List (List ℕ))) (e : TableFault) → ¬ (e.kind ≡ fault.Cut) → (plain : Result Table TableFault) → Reads reading.limits rows plain
+    → Err e ≡ go_on plain (uncut reading) → Reads reading.limits rows (Err e)
 other_is reading rows e other (Ok M) reads is =
     let c = asked_err reading.whole M.ended (row_count M + 1) M e (sym is) in
     absurd (other (ap (λ (f : TableFault). f.kind) c.fault_is))
-other_is reading rows e other (Err f) reads is = subst (λ (g : TableFault). Reads rows (Err g)) (sym (same_Err e f is)) reads
+other_is reading rows e other (Err f) reads is = subst (λ (g : TableFault). Reads reading.limits rows (Err g)) (sym (same_Err e f is)) reads
 
 pub other_stays : (reading : Reading) (rows : List (List (List ℕ))) (e : TableFault) → OtherFaultsStay reading rows e
 other_stays reading rows e other = (λ h. other_is reading rows e other h.0 h.1 h.2, λ reads. (Err e, reads, refl))

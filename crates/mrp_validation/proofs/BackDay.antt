@@ -23,6 +23,7 @@ use Rattle.mrp_validation.specs.Written.{day_fields, last_row}
 use Rattle.mrp_validation.proofs.BackEnd.{end_ends}
 use Rattle.mrp_validation.proofs.BackRows.{Ends, kind_read, may_stand, one_by_one, row_read, undated}
 use Rattle.mrp_validation.proofs.BackTexts.{date_is_text, number_is_text, word_is_text}
+use Rattle.mrp_master_data.proofs.LimitFacts.{any_limited}
 
 three_texts : (w a b : List ℕ) → is_utf8 w ≡ true → is_utf8 a ≡ true → is_utf8 b ≡ true → list_all is_utf8 (w ∷ a ∷ b ∷ [] ∷ [] ∷ [] ∷ [] ∷ [] ∷ []) ≡ true
 three_texts w a b uw ua ub = rw (uw, ua, ub, word_is_text [] refl) refl
@@ -49,7 +50,7 @@ module _ (N : Table) (table : IsTable N) where
   unfolding field_at row_of_kind
   day_step before b after last e low =
       let is = begun-before N.calendar before b after table.read.calendar (sym e) in
-      let early : b.period < 10 ^ 16 = omega (arith, is.within, table.read.limits.periods) in
+      let early : b.period < 10 ^ 16 = omega (arith, is.within, (any_limited N table.read.limits).periods) in
       row_read (with_days before) (with_days (before ++ b ∷ [])) last kind.Day (day_fields b)
       (kind_read (day_fields b) kind.Day (three_texts (codes "day") (decimal b.period) (day_text b.day) (word_is_text (codes "day") refl)
       (number_is_text b.period early) (day_is_text b.day is.by)) refl refl refl)

@@ -18,12 +18,13 @@ use Rattle.mrp_validation.specs.Reading.{row_after, row_of_kind}
 use Rattle.mrp_validation.specs.Written.{end_fields, last_row}
 use Rattle.mrp_validation.proofs.BackRows.{Ends, ends_after, ends_here, kind_read, may_stand, row_read}
 use Rattle.mrp_validation.proofs.BackTexts.{number_is_text, word_is_text}
+use Rattle.mrp_master_data.proofs.LimitFacts.{any_limited}
 
 -- a table has fewer rows than the least number that isn't read
 few_rows : (N : Table) → IsRead N → rows_above_end N < 10 ^ 16
 few_rows N read =
-    let l = read.limits in
-    let days : length N.calendar.begun ≤ 103 = omega (arith, begun-few N.calendar read.calendar, l.periods) in
+    let l = any_limited N read.limits in
+    let days : length N.calendar.begun ≤ 519 = omega (arith, begun-few N.calendar read.calendar, l.periods) in
     omega (arith, l.plants, l.pairs, l.bills, l.demands, l.receipts, l.ships, l.cums, l.resets, l.firms, l.policies, l.usages, l.vendors, days)
 
 two_texts : (w a : List ℕ) → is_utf8 w ≡ true → is_utf8 a ≡ true → list_all is_utf8 (w ∷ a ∷ [] ∷ [] ∷ [] ∷ [] ∷ [] ∷ [] ∷ []) ≡ true

@@ -14,7 +14,6 @@ use Rattle.std.proofs.lemmas.Slice.Eq.{bytes_eq-Decides}
 use Rattle.std.specs.Prelude.{decimal}
 use Rattle.csv.specs.Records.{field_at}
 use Rattle.mrp_lot.specs.declared.rule.Rule.{Rule}
-use Rattle.mrp_lot.specs.declared.rule.TheConstants.{LONGEST_LEAD}
 use Rattle.mrp_master_data.specs.Spelling.{is_name, rule_text}
 use Rattle.mrp_master_data.specs.Parsing.{number_within, rule_of}
 use Rattle.mrp_master_data.specs.Supplies.{supply_text, SupplyTerms}
@@ -28,7 +27,7 @@ use Rattle.mrp_master_data.specs.declared.rows.PairRow.{PairRow}
 use Rattle.mrp_master_data.specs.declared.rows.SourceRow.{SourceRow}
 use Rattle.mrp_master_data.specs.declared.rows.Supply.{Supply}
 use Rattle.mrp_master_data.specs.declared.rows.Supply.TheVariants as supply
-use Rattle.mrp_qty.specs.declared.limits.TheConstants.{MOST_IN_ROW, MOST_PAIRS}
+use Rattle.mrp_qty.specs.declared.limits.TheConstants.{MOST_IN_ROW}
 use Rattle.mrp_master_data.specs.Growing.{add_item}
 use Rattle.mrp_master_data.specs.Names.{has_plant, pair_named, pair_of_item, plant_no}
 use Rattle.mrp_master_data.specs.Table.{AreShares, HasSupply, is_same_pair, is_same_source, IsName, IsPair}
@@ -47,6 +46,8 @@ use Rattle.mrp_validation.proofs.BackTexts.{name_is_text, number_is_text, rule_i
 use Rattle.mrp_master_data.proofs.Keys.{any-from_position}
 use Rattle.mrp_validation.proofs.KeepingLists.{any_agree, bytes_flip, filter_everything, filter_nothing, position_last}
 use Rattle.mrp_validation.proofs.KeepingPair.{no_place}
+use Rattle.mrp_master_data.specs.Table.{most}
+use Rattle.mrp_master_data.proofs.LimitFacts.{lead_of_pair, periods_short, rule_of_pair}
 
 -- ---- the item of the next pair
 
@@ -180,10 +181,10 @@ all_sources x ss low = filter_everything (λ s. ltb s.pair.0 x) ss (λ k d lt. t
 -- ---- what a pair row says that is in order
 
 pair_read : (N : Table) (a b c r l o s : List ℕ) (p lead on_hand safety : ℕ) (rule : Rule) (from : SupplyTerms) → is_name a ≡ true → is_name b ≡ true
-    → number_within l 0 LONGEST_LEAD ≡ Some lead
-    → number_within o 0 MOST_IN_ROW ≡ Some on_hand → number_within s 0 MOST_IN_ROW ≡ Some safety → rule_of r ≡ Some rule → supply_of c ≡ Some from
+    → number_within l 0 (most N).lead ≡ Some lead
+    → number_within o 0 MOST_IN_ROW ≡ Some on_hand → number_within s 0 MOST_IN_ROW ≡ Some safety → rule_of (most N).periods r ≡ Some rule → supply_of c ≡ Some from
     → plant_no N a ≡ Some p → pair_named N (Some p) b ≡ None → knows_sources N (named_sources from) ≡ true → names_plant (named_sources from) a ≡ false
-    → ltb (length N.pairs) MOST_PAIRS ≡ true
+    → ltb (length N.pairs) (most N).pairs ≡ true
     → pair_row N (codes "pair" ∷ a ∷ b ∷ c ∷ r ∷ l ∷ o ∷ s ∷ [])
     ≡ Ok (with_pair_terms N (record { 0 = p }) (record { plant = a; item = b; supply = from; rule = rule; lead = lead; on_hand = on_hand; safety = safety }))
 unfolding field_at pair_terms pair_fits
@@ -444,23 +445,23 @@ module _ (N : Table) (table : IsTable N) where
     pair_step =
         let na = plant_is_name N table p.plant.0 is_row.plant in
         let nb : is_name (item_name N p.item.0) ≡ true = All-get_or IsName N.items p.item.0 [] is_row.item table.read.items in
-        let lead : p.lead < 10 ^ 16 = omega (arith, is_row.lead) in
+        let lead : p.lead < 10 ^ 16 = omega (arith, lead_of_pair N p is_row) in
         let on_hand : p.on_hand < 10 ^ 16 = omega (arith, is_row.on_hand) in
         let safety : p.safety < 10 ^ 16 = omega (arith, is_row.safety) in
         row_read old (with_pairs (before ++ p ∷ []) next.has (x + 1)) last kind.Pair (pair_fields N x p)
         (kind_read (pair_fields N x p) kind.Pair (eight_texts (codes "pair") (plant_name N p.plant.0) (item_name N p.item.0) (supply_text from)
         (rule_text p.rule) (decimal p.lead) (decimal p.on_hand) (decimal p.safety)
-        (word_is_text (codes "pair") refl) (name_is_text _ na) (name_is_text _ nb) (supply_is_text from is_whole) (rule_is_text p.rule is_row.rule)
+        (word_is_text (codes "pair") refl) (name_is_text _ na) (name_is_text _ nb) (supply_is_text from is_whole) (rule_is_text p.rule (rule_of_pair N p is_row))
         (number_is_text p.lead lead) (number_is_text p.on_hand on_hand)
         (number_is_text p.safety safety)) refl refl refl)
         (may_stand kind.Pair last (omega arith) low (omega (arith, low)))
         (pair_read old (plant_name N p.plant.0) (item_name N p.item.0) (supply_text from) (rule_text p.rule) (decimal p.lead) (decimal p.on_hand)
         (decimal p.safety) p.plant.0 p.lead p.on_hand p.safety p.rule from na nb
-        (number_written 0 LONGEST_LEAD p.lead (omega arith) is_row.lead lead) (number_written 0 MOST_IN_ROW p.on_hand (omega arith) is_row.on_hand on_hand)
-        (number_written 0 MOST_IN_ROW p.safety (omega arith) is_row.safety safety) (rule_written p.rule is_row.rule) (supply_written from is_whole)
+        (number_written 0 (most N).lead p.lead (omega arith) is_row.lead lead) (number_written 0 MOST_IN_ROW p.on_hand (omega arith) is_row.on_hand on_hand)
+        (number_written 0 MOST_IN_ROW p.safety (omega arith) is_row.safety safety) (rule_written (most N).periods p.rule (periods_short N.limits) is_row.rule) (supply_written from is_whole)
         (plant_at_place N table p.plant.0 is_row.plant) new_pair (known x p.supply)
         (other_plants x p.plant.0 p.supply (ap (λ o. unwrap_or (option_map (λ p. p.plant.0) o) 0) stands_here) is_row.plant)
-        (has_room before p after N.pairs MOST_PAIRS e table.read.limits.pairs)
+        (has_room before p after N.pairs (most N).pairs e table.read.limits.pairs)
         ∙ ap (λ (m : Table). Ok m) same_table)
 
   -- ---- the pairs one after the other

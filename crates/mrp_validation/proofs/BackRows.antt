@@ -11,7 +11,6 @@ use Rattle.std.proofs.lemmas.List.Elements.{All-get_or}
 use Rattle.std.specs.Prelude.{decimal}
 use Rattle.csv.specs.Records.{field_at}
 use Rattle.mrp_qty.specs.declared.horizon.TheConstants.{LONGEST}
-use Rattle.mrp_lot.specs.declared.rule.TheConstants.{LONGEST_LEAD}
 use Rattle.mrp_qty.specs.declared.quantity.TheConstants.{MOST}
 use Rattle.mrp_master_data.specs.Spelling.{is_name}
 use Rattle.mrp_master_data.specs.Parsing.{number_within}
@@ -28,7 +27,7 @@ use Rattle.mrp_master_data.specs.declared.rows.ResetRow.{ResetRow}
 use Rattle.mrp_master_data.specs.declared.rows.ShipRow.{ShipRow}
 use Rattle.mrp_master_data.specs.declared.rows.UsageRow.{UsageRow}
 use Rattle.mrp_master_data.specs.declared.rows.Supply.TheVariants as supply
-use Rattle.mrp_qty.specs.declared.limits.TheConstants.{MOST_BILLS, MOST_IN_ROW, MOST_OF_A_KIND, MOST_PER, MOST_USAGES}
+use Rattle.mrp_qty.specs.declared.limits.TheConstants.{MOST_IN_ROW, MOST_PER}
 use Rattle.mrp_master_data.specs.Growing.{with_bill, with_cum, with_demand, with_firm, with_policy, with_receipt, with_reset, with_ship, with_usage}
 use Rattle.mrp_master_data.specs.Names.{pair_named, plant_no}
 use Rattle.mrp_master_data.specs.Table.{arrivals, horizon, is_joined, is_same_bill, is_same_cum, is_same_policy, is_same_reset, is_same_usage, is_taken_from}
@@ -47,6 +46,10 @@ use Rattle.mrp_validation.specs.Written.{usage_fields}
 use Rattle.mrp_master_data.specs.Said.{pair_item, pair_plant, plant_name}
 use Rattle.mrp_validation.proofs.BackNames.{at_place, joined_plant, none_before, pair_by_names, plant_at_place, plant_of_pair, stands}
 use Rattle.mrp_validation.proofs.BackTexts.{name_is_text, number_is_text, word_is_text}
+use Rattle.mrp_qty.specs.declared.limits.LimitSet.{LimitSet}
+use Rattle.mrp_qty.specs.Limits.{limits_of}
+use Rattle.mrp_master_data.proofs.LimitFacts.{any_limited, cover_of_policy, sooner_of_policy}
+use Rattle.mrp_master_data.specs.Table.{most}
 
 abbrev pub Row : Type 0
 Row = List (List ℕ)
@@ -117,7 +120,7 @@ eight_texts w a b c d e f g uw ua ub uc ud ue uf ug = rw (uw, ua, ub, uc, ud, ue
 bill_read : (N : Table) (a b c d : List ℕ) (f x y n : ℕ) → is_name a ≡ true → is_name b ≡ true → is_name c ≡ true → number_within d 1 MOST_PER ≡ Some n
     → plant_no N a ≡ Some f
     → pair_named N (Some f) b ≡ Some x → pair_named N (Some f) c ≡ Some y → has_bill N (Some x) (Some y) ≡ false → is_made N x ≡ true
-    → ltb (length N.bills) MOST_BILLS ≡ true
+    → ltb (length N.bills) (most N).bills ≡ true
     → bill_row N (codes "bill" ∷ a ∷ b ∷ c ∷ d ∷ [] ∷ [] ∷ [] ∷ [])
     ≡ Ok (with_bill N (record { parent = record { 0 = x }; component = record { 0 = y }; per = n }))
 unfolding field_at bill_terms bill_fits
@@ -141,14 +144,14 @@ record NamesLane (N : Table) (a b c : List ℕ) (f g x : ℕ) : Type 0 where
   taken : is_taken_from N x f ≡ true
 
 ship_read : (N : Table) (a b c d e : List ℕ) (f g x p q : ℕ) → NamesLane N a b c f g x → number_within d 0 (horizon N - 1) ≡ Some p
-    → number_within e 1 MOST_IN_ROW ≡ Some q → ltb (length N.ships) MOST_OF_A_KIND ≡ true
+    → number_within e 1 MOST_IN_ROW ≡ Some q → ltb (length N.ships) (most N).of_a_kind ≡ true
     → ship_row N (codes "ship" ∷ a ∷ b ∷ c ∷ d ∷ e ∷ [] ∷ [] ∷ [])
     ≡ Ok (with_ship N (record { from = record { 0 = f }; pair = record { 0 = x }; period = p; quantity = q }))
 unfolding field_at ship_of ship_terms lane_terms known_lane
 ship_read N a b c d e f g x p q l period quantity room = rw (l.from_is, l.to_is, l.item_is, period, quantity, l.from, l.to, l.pair, l.taken, room) refl
 
 cum_read : (N : Table) (a b c d : List ℕ) (f g x n : ℕ) → NamesLane N a b c f g x → number_within d 0 MOST ≡ Some n → cum_between N (Some f) (Some x) ≡ false
-    → ltb (length N.cums) MOST_OF_A_KIND ≡ true
+    → ltb (length N.cums) (most N).of_a_kind ≡ true
     → cum_row N (codes "cum" ∷ a ∷ b ∷ c ∷ d ∷ [] ∷ [] ∷ [] ∷ []) ≡ Ok (with_cum N (record { from = record { 0 = f }; pair = record { 0 = x }; figure = n }))
 unfolding field_at cum_of lane_number lane_terms known_lane
 cum_read N a b c d f g x n l figure new room = rw (l.from_is, l.to_is, l.item_is, figure, l.from, l.to, l.pair, l.taken, new, room) refl
@@ -162,22 +165,22 @@ reset_read N a b c d f g x p l period new rises = rw (l.from_is, l.to_is, l.item
 
 firm_read : (N : Table) (a b c d e : List ℕ) (f x s p q : ℕ) → is_name a ≡ true → is_name b ≡ true → number_within c 0 (horizon N - 1) ≡ Some s
     → number_within d s (horizon N - 1) ≡ Some p → number_within e 1 MOST_IN_ROW ≡ Some q → plant_no N a ≡ Some f → pair_named N (Some f) b ≡ Some x
-    → ltb (length N.firms) MOST_OF_A_KIND ≡ true
+    → ltb (length N.firms) (most N).of_a_kind ≡ true
     → firm_row N (codes "firm" ∷ a ∷ b ∷ c ∷ d ∷ e ∷ [] ∷ [] ∷ [])
     ≡ Ok (with_firm N (record { pair = record { 0 = x }; start = s; due = p; quantity = q }))
 unfolding field_at firm_of firm_terms known_pair
 firm_read N a b c d e f x s p q na nb start due quantity plant pair room = rw (na, nb, start, due, quantity, plant, pair, room) refl
 
 -- five numbers in the ranges of a policy row
-record ArePolicyNumbers (c d e m n : List ℕ) (last fence sooner cover least multiple : ℕ) : Type 0 where
+record ArePolicyNumbers (limits : LimitSet) (c d e m n : List ℕ) (last fence sooner cover least multiple : ℕ) : Type 0 where
   fence_is : number_within c 0 last ≡ Some fence
-  sooner_is : number_within d 0 LONGEST_LEAD ≡ Some sooner
-  cover_is : number_within e 0 LONGEST_LEAD ≡ Some cover
+  sooner_is : number_within d 0 (limits_of limits).lead ≡ Some sooner
+  cover_is : number_within e 0 (limits_of limits).lead ≡ Some cover
   least_is : number_within m 0 MOST_IN_ROW ≡ Some least
   multiple_is : number_within n 0 MOST_IN_ROW ≡ Some multiple
 
 policy_read : (N : Table) (a b c d e m n : List ℕ) (f : ℕ) (p : PolicyRow) → is_name a ≡ true → is_name b ≡ true
-    → ArePolicyNumbers c d e m n (horizon N - 1) p.policy.fence p.policy.sooner p.policy.cover p.policy.least p.policy.multiple
+    → ArePolicyNumbers N.limits c d e m n (horizon N - 1) p.policy.fence p.policy.sooner p.policy.cover p.policy.least p.policy.multiple
     → plant_no N a ≡ Some f → pair_named N (Some f) b ≡ Some p.pair.0 → has_policy N (Some p.pair.0) ≡ false
     → policy_row N (codes "policy" ∷ a ∷ b ∷ c ∷ d ∷ e ∷ m ∷ n ∷ []) ≡ Ok (with_policy N p)
 unfolding field_at policy_of policy_terms known_pair
@@ -196,7 +199,7 @@ record NamesUsed (N : Table) (a b c : List ℕ) (f x y : ℕ) : Type 0 where
 
 usage_read : (N : Table) (a b c d e g : List ℕ) (f : ℕ) (u : UsageRow) → NamesUsed N a b c f u.parent.0 u.component.0
     → number_within d 0 (horizon N - 1) ≡ Some u.period → number_within e 0 MOST_PER ≡ Some u.usage.per → number_within g 1 MOST_PER ≡ Some u.usage.base
-    → has_usage N (Some u.parent.0) (Some u.component.0) u.period ≡ false → ltb (length N.usages) MOST_USAGES ≡ true
+    → has_usage N (Some u.parent.0) (Some u.component.0) u.period ≡ false → ltb (length N.usages) (most N).bills ≡ true
     → usage_row N (codes "usage" ∷ a ∷ b ∷ c ∷ d ∷ e ∷ g ∷ [] ∷ []) ≡ Ok (with_usage N u)
 unfolding field_at usage_terms usage_fits
 usage_read N a b c d e g f u l period per base new room =
@@ -299,7 +302,7 @@ module _ (N : Table) (table : IsTable N) where
       (plant_of_pair N table x is.parent) (pair_by_names N table x is.parent)
       (ap (λ (f : ℕ). pair_named N (Some f) (pair_item N y)) one ∙ pair_by_names N table y is.component)
       (none_before is_same_bill before b after N.bills e table.once.bills) (made_pair N x made)
-      (has_room before b after N.bills MOST_BILLS e table.read.limits.bills))
+      (has_room before b after N.bills (most N).bills e table.read.limits.bills))
 
   -- demand and receipt rows are read alike
   abbrev with_amounts : List DemandRow → List ReceiptRow → Table
@@ -322,7 +325,7 @@ module _ (N : Table) (table : IsTable N) where
       let K = with_amounts demands receipts in
       let na = plant_of_pair_is_name x is.pair in
       let nb = item_of_pair_is_name x is.pair in
-      let early : period < 10 ^ 16 = omega (arith, is.falls, table.read.limits.periods) in
+      let early : period < 10 ^ 16 = omega (arith, is.falls, (any_limited N table.read.limits).periods) in
       let few : quantity < 10 ^ 16 = omega (arith, is.few) in
       row_read K (more (made (record { 0 = x }) period quantity)) last k (amount_fields word x period quantity)
       (kind_read (amount_fields word x period quantity) k (five_texts word (pair_plant N x) (pair_item N x) (decimal period) (decimal quantity)
@@ -330,7 +333,7 @@ module _ (N : Table) (table : IsTable N) where
       (may_stand k last some low unended)
       (kind_is ∙ ap (λ r. r >>= λ y. Ok (more y)) (amount_read K word (pair_plant N x) (pair_item N x) (decimal period) (decimal quantity)
       (plant_at N x) x period quantity room_for_one made na nb
-      (period_written period (horizon N) is.falls table.read.limits.periods) (number_written 1 MOST_IN_ROW quantity is.some is.few few)
+      (period_written period (horizon N) is.falls (any_limited N table.read.limits).periods) (number_written 1 MOST_IN_ROW quantity is.some is.few few)
       (plant_of_pair N table x is.pair) (pair_by_names N table x is.pair) room))
 
   demand_step : (before : List DemandRow) (d : DemandRow) (after : List DemandRow) (last : Kind) → before ++ d ∷ after ≡ N.demands
@@ -342,7 +345,7 @@ module _ (N : Table) (table : IsTable N) where
       amount_step kind.Demand last (codes "demand") before [] d.pair.0 d.period d.quantity _ demand_made (with_demand (with_demands before))
       (word_is_text (codes "demand") refl) refl refl (omega arith) low (omega (arith, low)) refl
       (record { pair = is.pair; falls = is.period; some = is.some; few = is.quantity })
-      (has_room before d after N.demands MOST_OF_A_KIND e table.read.limits.demands)
+      (has_room before d after N.demands (most N).demands e table.read.limits.demands)
 
   receipt_step : (before : List ReceiptRow) (r : ReceiptRow) (after : List ReceiptRow) (last : Kind) → before ++ r ∷ after ≡ N.receipts
       → kind_place last ≤ kind_place kind.Receipt
@@ -353,7 +356,7 @@ module _ (N : Table) (table : IsTable N) where
       amount_step kind.Receipt last (codes "receipt") N.demands before r.pair.0 r.period r.quantity _ receipt_made (with_receipt (with_receipts before))
       (word_is_text (codes "receipt") refl) refl refl (omega arith) low (omega (arith, low)) refl
       (record { pair = is.pair; falls = is.period; some = is.some; few = is.quantity })
-      (has_room before r after N.receipts MOST_OF_A_KIND e table.read.limits.receipts)
+      (has_room before r after N.receipts (most N).of_a_kind e table.read.limits.receipts)
 
   -- the names of a lane, whatever stands of the ship, cum and reset rows
   abbrev with_lanes : List ShipRow → List CumRow → List ResetRow → Table
@@ -379,7 +382,7 @@ module _ (N : Table) (table : IsTable N) where
       let is = at_place (IsShipRow N) before s after N.ships e table.read.ships in
       let lane = names_lane before [] [] s.from.0 s.pair.0 is.from is.pair
       (at_place (λ s. is_taken_from N s.pair.0 s.from.0 ≡ true) before s after N.ships e table.sourced.ships) in
-      let early : s.period < 10 ^ 16 = omega (arith, is.period, table.read.limits.periods) in
+      let early : s.period < 10 ^ 16 = omega (arith, is.period, (any_limited N table.read.limits).periods) in
       let few : s.quantity < 10 ^ 16 = omega (arith, is.quantity) in
       row_read (with_ships before) (with_ships (before ++ s ∷ [])) last kind.Ship (ship_fields N s)
       (kind_read (ship_fields N s) kind.Ship (six_texts (codes "ship") _ _ _ (decimal s.period) (decimal s.quantity)
@@ -387,8 +390,8 @@ module _ (N : Table) (table : IsTable N) where
       (number_is_text s.quantity few)) refl refl refl)
       (may_stand kind.Ship last (omega arith) low (omega (arith, low)))
       (ship_read (with_ships before) _ _ _ (decimal s.period) (decimal s.quantity) s.from.0 (plant_at N s.pair.0) s.pair.0 s.period s.quantity lane
-      (period_written s.period (horizon N) is.period table.read.limits.periods) (number_written 1 MOST_IN_ROW s.quantity is.some is.quantity few)
-      (has_room before s after N.ships MOST_OF_A_KIND e table.read.limits.ships))
+      (period_written s.period (horizon N) is.period (any_limited N table.read.limits).periods) (number_written 1 MOST_IN_ROW s.quantity is.some is.quantity few)
+      (has_room before s after N.ships (most N).of_a_kind e table.read.limits.ships))
 
   -- a row of a lane and one number, after others
   abbrev number_fields : List ℕ → ℕ → ℕ → ℕ → Row
@@ -419,7 +422,7 @@ module _ (N : Table) (table : IsTable N) where
       (omega arith) low (omega (arith, low)) lane few
       (cum_read (with_cums before) _ _ _ (decimal c.figure) c.from.0 (plant_at N c.pair.0) c.pair.0 c.figure lane
       (number_written 0 MOST c.figure (omega arith) is.figure few)
-      (none_before is_same_cum before c after N.cums e table.once.cums) (has_room before c after N.cums MOST_OF_A_KIND e table.read.limits.cums))
+      (none_before is_same_cum before c after N.cums e table.once.cums) (has_room before c after N.cums (most N).of_a_kind e table.read.limits.cums))
 
   reset_step : (before : List ResetRow) (r : ResetRow) (after : List ResetRow) (last : Kind) → before ++ r ∷ after ≡ N.resets
       → kind_place last ≤ kind_place kind.Reset
@@ -429,11 +432,11 @@ module _ (N : Table) (table : IsTable N) where
       let is = at_place (IsResetRow N) before r after N.resets e table.read.resets in
       let lane = names_lane N.ships N.cums before r.from.0 r.pair.0 is.from is.pair
       (at_place (λ r. is_taken_from N r.pair.0 r.from.0 ≡ true) before r after N.resets e table.sourced.resets) in
-      let early : r.period < 10 ^ 16 = omega (arith, is.period, table.read.limits.periods) in
+      let early : r.period < 10 ^ 16 = omega (arith, is.period, (any_limited N table.read.limits).periods) in
       number_step kind.Reset last (codes "reset") N.cums before (with_resets (before ++ r ∷ [])) r.from.0 r.pair.0 r.period
       (word_is_text (codes "reset") refl) refl refl (omega arith) low (omega (arith, low)) lane early
       (reset_read (with_resets before) _ _ _ (decimal r.period) r.from.0 (plant_at N r.pair.0) r.pair.0 r.period lane
-      (period_written r.period (horizon N) is.period table.read.limits.periods)
+      (period_written r.period (horizon N) is.period (any_limited N table.read.limits).periods)
       (none_before is_same_reset before r after N.resets e table.once.resets)
       (at_place (λ r. rises_from 0 (arrivals N r.from.0 r.pair.0) ≡ true) before r after N.resets e table.sourced.arrive))
 
@@ -446,7 +449,7 @@ module _ (N : Table) (table : IsTable N) where
       let x = o.pair.0 in
       let na = plant_of_pair_is_name x is.pair in
       let nb = item_of_pair_is_name x is.pair in
-      let periods = table.read.limits.periods in
+      let periods = (any_limited N table.read.limits).periods in
       let early : o.start < 10 ^ 16 = omega (arith, is.start, is.due, periods) in
       let late : o.due < 10 ^ 16 = omega (arith, is.due, periods) in
       let few : o.quantity < 10 ^ 16 = omega (arith, is.quantity) in
@@ -459,7 +462,7 @@ module _ (N : Table) (table : IsTable N) where
       o.quantity na nb (period_written o.start (horizon N) (omega (arith, is.start, is.due)) periods)
       (number_written o.start (horizon N - 1) o.due is.start (omega (arith, is.due)) late)
       (number_written 1 MOST_IN_ROW o.quantity is.some is.quantity few)
-      (plant_of_pair N table x is.pair) (pair_by_names N table x is.pair) (has_room before o after N.firms MOST_OF_A_KIND e table.read.limits.firms))
+      (plant_of_pair N table x is.pair) (pair_by_names N table x is.pair) (has_room before o after N.firms (most N).of_a_kind e table.read.limits.firms))
 
   policy_step : (before : List PolicyRow) (p : PolicyRow) (after : List PolicyRow) (last : Kind) → before ++ p ∷ after ≡ N.policies
       → kind_place last ≤ kind_place kind.Policy
@@ -470,10 +473,10 @@ module _ (N : Table) (table : IsTable N) where
       let x = p.pair.0 in
       let na = plant_of_pair_is_name x is.pair in
       let nb = item_of_pair_is_name x is.pair in
-      let periods = table.read.limits.periods in
+      let periods = (any_limited N table.read.limits).periods in
       let fence : p.policy.fence < 10 ^ 16 = omega (arith, is.fence, periods) in
-      let sooner : p.policy.sooner < 10 ^ 16 = omega (arith, is.sooner) in
-      let cover : p.policy.cover < 10 ^ 16 = omega (arith, is.cover) in
+      let sooner : p.policy.sooner < 10 ^ 16 = omega (arith, sooner_of_policy N p is) in
+      let cover : p.policy.cover < 10 ^ 16 = omega (arith, cover_of_policy N p is) in
       let least : p.policy.least < 10 ^ 16 = omega (arith, is.least) in
       let multiple : p.policy.multiple < 10 ^ 16 = omega (arith, is.multiple) in
       row_read (with_policies before) (with_policies (before ++ p ∷ [])) last kind.Policy (policy_fields N p)
@@ -486,8 +489,8 @@ module _ (N : Table) (table : IsTable N) where
       (policy_read (with_policies before) (pair_plant N x) (pair_item N x) (decimal p.policy.fence) (decimal p.policy.sooner) (decimal p.policy.cover)
       (decimal p.policy.least) (decimal p.policy.multiple) (plant_at N x) p na nb (record {
         fence_is = period_written p.policy.fence (horizon N) is.fence periods;
-        sooner_is = number_written 0 LONGEST_LEAD p.policy.sooner (omega arith) is.sooner sooner;
-        cover_is = number_written 0 LONGEST_LEAD p.policy.cover (omega arith) is.cover cover;
+        sooner_is = number_written 0 (most N).lead p.policy.sooner (omega arith) is.sooner sooner;
+        cover_is = number_written 0 (most N).lead p.policy.cover (omega arith) is.cover cover;
         least_is = number_written 0 MOST_IN_ROW p.policy.least (omega arith) is.least least;
         multiple_is = number_written 0 MOST_IN_ROW p.policy.multiple (omega arith) is.multiple multiple;
       })
@@ -515,7 +518,7 @@ module _ (N : Table) (table : IsTable N) where
       let is = at_place (IsUsageRow N) before u after N.usages e table.read.usages in
       let joined = at_place (λ u. is_joined N u.parent.0 u.component.0 ≡ true) before u after N.usages e table.sourced.usages in
       let names = names_used before u.parent.0 u.component.0 is.parent is.component joined in
-      let periods = table.read.limits.periods in
+      let periods = (any_limited N table.read.limits).periods in
       let early : u.period < 10 ^ 16 = omega (arith, is.period, periods) in
       let per : u.usage.per < 10 ^ 16 = omega (arith, is.per) in
       let base : u.usage.base < 10 ^ 16 = omega (arith, is.base) in
@@ -527,7 +530,7 @@ module _ (N : Table) (table : IsTable N) where
       (usage_read (with_usages before) _ _ _ (decimal u.period) (decimal u.usage.per) (decimal u.usage.base) (plant_at N u.parent.0) u names
       (period_written u.period (horizon N) is.period periods) (number_written 0 MOST_PER u.usage.per (omega arith) is.per per)
       (number_written 1 MOST_PER u.usage.base is.some is.base base)
-      (none_before is_same_usage before u after N.usages e table.once.usages) (has_room before u after N.usages MOST_USAGES e table.read.limits.usages))
+      (none_before is_same_usage before u after N.usages e table.once.usages) (has_room before u after N.usages (most N).bills e table.read.limits.usages))
 
   -- ---- the rows from the bills on, where those after the usages end in the table
 

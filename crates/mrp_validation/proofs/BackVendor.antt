@@ -31,6 +31,7 @@ use Rattle.mrp_validation.proofs.BackNames.{at_place, none_before, pair_by_names
 use Rattle.mrp_validation.proofs.BackRows.{Ends, item_of_pair_is_name, kind_read, may_stand, one_by_one, period_written, plant_of_pair_is_name, Row, row_read}
 use Rattle.mrp_validation.proofs.BackRows.{seven_texts, undated}
 use Rattle.mrp_validation.proofs.BackTexts.{name_is_text, number_is_text, word_is_text}
+use Rattle.mrp_master_data.proofs.LimitFacts.{any_limited}
 
 -- ---- a number that may be missing
 
@@ -108,7 +109,7 @@ module _ (N : Table) (table : IsTable N) where
       let bought = at_place (λ v. supply_at N v.pair.0 ≡ supply.Buy) before v after N.vendors e table.sourced.vendors in
       let others = at_place (λ v. list_any (bytes_eq v.name) N.plants ≡ false) before v after N.vendors e table.sourced.named in
       let names = names_bought before v.name v.pair.0 is.name is.pair bought others in
-      let periods = table.read.limits.periods in
+      let periods = (any_limited N table.read.limits).periods in
       let figure : v.figure < 10 ^ 16 = omega (arith, is.figure) in
       let transit : v.transit < 10 ^ 16 = omega (arith, is.transit) in
       row_read (with_vendors before) (with_vendors (before ++ v ∷ [])) last kind.Vendor (vendor_fields N v)

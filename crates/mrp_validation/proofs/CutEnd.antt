@@ -19,6 +19,7 @@ use Rattle.mrp_validation.proofs.KeepingSteps.{after, after_check, same_Ok}
 use Rattle.mrp_validation.proofs.OneWay.{reads_one_way, starts_one_way}
 use Rattle.mrp_validation.proofs.Whole.{first_keeps}
 use Rattle.mrp_validation.proofs.WrittenFields.{empty, IsOfKind, of_kind}
+use Rattle.mrp_qty.specs.declared.limits.LimitSet.{LimitSet}
 
 abbrev Row : Type 0
 Row = List (List ℕ)
@@ -168,15 +169,15 @@ rows_whole (row ∷ rows) (next ∷ more) number s N M (inr ends) so_far e f end
 -- ---- the whole table
 
 -- what is said of rows that are read
-record Begun (row : Row) (rows : List Row) (N : Table) : Type 0 where
+record Begun (limits : LimitSet) (row : Row) (rows : List Row) (N : Table) : Type 0 where
   run : Table
-  starts : Starts row (Ok run)
+  starts : Starts limits row (Ok run)
   rest : rows_after 2 (run, kind.Run) rows ≡ Ok N
 
-begun : (row : Row) (rows : List Row) (N : Table) → Reads (row ∷ rows) (Ok N) → Begun row rows N
-begun row rows N reads = by reads.0 reads.1 (sym reads.2)
+begun : (limits : LimitSet) (row : Row) (rows : List Row) (N : Table) → Reads limits (row ∷ rows) (Ok N) → Begun limits row rows N
+begun limits row rows N reads = by reads.0 reads.1 (sym reads.2)
   where
-    by : (start : Result Table TableFaultKind) → Starts row start → read_from start rows ≡ Ok N → Begun row rows N
+    by : (start : Result Table TableFaultKind) → Starts limits row start → read_from start rows ≡ Ok N → Begun limits row rows N
     by (Ok run) starts e =
         let a = went_on (rows_after 2 (run, kind.Run) rows) waiting N e in
         let w = waited a.0 N (first_lacking a.0 a.0.sources) a.2 in
@@ -184,32 +185,32 @@ begun row rows N reads = by reads.0 reads.1 (sym reads.2)
     by (Err k) starts e = absurd (cc)
 
 -- a run row alone has no end
-run_open : (row : Row) (N : Table) → Begun row [] N → N.ended ≡ true → ⊥
-run_open row N b ended =
+run_open : (limits : LimitSet) (row : Row) (N : Table) → Begun limits row [] N → N.ended ≡ true → ⊥
+run_open limits row N b ended =
     let same = no_rows 2 (b.run, kind.Run) N b.rest in
-    open_yet b.run kind.Run (first_keeps b.run row b.starts) (ap (λ (m : Table). m.ended) same ∙ ended) (omega arith)
+    open_yet b.run kind.Run (first_keeps limits b.run row b.starts) (ap (λ (m : Table). m.ended) same ∙ ended) (omega arith)
 
-begun_whole : (row next : Row) (rows more : List Row) (N M : Table) → AreRowsCutOff (row ∷ rows) (next ∷ more) → Begun row rows N → Begun next more M
+begun_whole : (limits : LimitSet) (row next : Row) (rows more : List Row) (N M : Table) → AreRowsCutOff (row ∷ rows) (next ∷ more) → Begun limits row rows N → Begun limits next more M
     → N.ended ≡ true → row ∷ rows ≡ next ∷ more
 unfolding AreRowsCutOff
-begun_whole row next rows more N M (inl same) f g ended =
-    let starts = subst (λ (r : Row). Starts r (Ok g.run)) (sym same.0) g.starts in
-    let one = same_Ok g.run f.run (starts_one_way row (Ok g.run) (Ok f.run) starts f.starts) in
+begun_whole limits row next rows more N M (inl same) f g ended =
+    let starts = subst (λ (r : Row). Starts limits r (Ok g.run)) (sym same.0) g.starts in
+    let one = same_Ok g.run f.run (starts_one_way limits row (Ok g.run) (Ok f.run) starts f.starts) in
     let rest = subst (λ (m : Table). rows_after 2 (m, kind.Run) more ≡ Ok M) one g.rest in
     both_same row next rows more same.0
-    (rows_whole rows more 2 (f.run, kind.Run) N M same.1 (first_keeps f.run row f.starts) f.rest rest ended)
-begun_whole row next rows more N M (inr ends) f g ended =
-    absurd (run_open row N (subst (λ (l : List Row). Begun row l N) ends.0 f) ended)
+    (rows_whole rows more 2 (f.run, kind.Run) N M same.1 (first_keeps limits f.run row f.starts) f.rest rest ended)
+begun_whole limits row next rows more N M (inr ends) f g ended =
+    absurd (run_open limits row N (subst (λ (l : List Row). Begun limits row l N) ends.0 f) ended)
 
-ended_whole : (rows whole : List Row) (N M : Table) → AreRowsCutOff rows whole → Reads rows (Ok N) → Reads whole (Ok M) → N.ended ≡ true → rows ≡ whole
+ended_whole : (limits : LimitSet) (rows whole : List Row) (N M : Table) → AreRowsCutOff rows whole → Reads limits rows (Ok N) → Reads limits whole (Ok M) → N.ended ≡ true → rows ≡ whole
 unfolding AreRowsCutOff
-ended_whole [] whole N M cut r w ended = absurd (cc)
-ended_whole (row ∷ rows) [] N M cut r w ended = absurd cut
-ended_whole (row ∷ rows) (next ∷ more) N M cut r w ended = begun_whole row next rows more N M cut (begun row rows N r) (begun next more M w) ended
+ended_whole limits [] whole N M cut r w ended = absurd (cc)
+ended_whole limits (row ∷ rows) [] N M cut r w ended = absurd cut
+ended_whole limits (row ∷ rows) (next ∷ more) N M cut r w ended = begun_whole limits row next rows more N M cut (begun limits row rows N r) (begun limits next more M w) ended
 
 -- a text whose table ends with its `end` row is no other table's text cut off
-pub whole_table : (text more : List ℕ) (N M : Table) → Reads (records default_config text) (Ok N) → Reads (records default_config (text ++ more)) (Ok M)
+pub whole_table : (limits : LimitSet) (text more : List ℕ) (N M : Table) → Reads limits (records default_config text) (Ok N) → Reads limits (records default_config (text ++ more)) (Ok M)
     → N.ended ≡ true → N ≡ M
-whole_table text more N M r w ended =
-    let same = ended_whole (records default_config text) (records default_config (text ++ more)) N M (rows_cut text more) r w ended in
-    same_Ok N M (reads_one_way (records default_config text) (Ok N) (Ok M) r (subst (λ (rows : List Row). Reads rows (Ok M)) (sym same) w))
+whole_table limits text more N M r w ended =
+    let same = ended_whole limits (records default_config text) (records default_config (text ++ more)) N M (rows_cut text more) r w ended in
+    same_Ok N M (reads_one_way limits (records default_config text) (Ok N) (Ok M) r (subst (λ (rows : List Row). Reads limits rows (Ok M)) (sym same) w))

@@ -21,6 +21,7 @@ use Rattle.mrp_validation.proofs.Accept.{waited, was_read, went_on}
 use Rattle.mrp_validation.proofs.First.{kind_named}
 use Rattle.mrp_validation.proofs.KeepingSteps.{after, after_check, same_Ok}
 use Rattle.mrp_validation.proofs.WrittenTable.{written_out}
+use Rattle.mrp_qty.specs.declared.limits.LimitSet.{LimitSet}
 
 abbrev Row : Type 0
 Row = List (List ℕ)
@@ -126,9 +127,9 @@ first_word ((word ∷ fields) ∷ rows) = word
 no_run : (n : ℕ) (N : Table) → end_fields n ∷ [] ≡ rows_of N → ⊥
 no_run n N is = false≢true (sym (ap (λ (rows : List Row). bytes_eq (first_word rows) (codes "end")) is))
 
-reads_end : (above : List Row) (n : ℕ) (N : Table) → Reads (above ++ end_fields n ∷ []) (Ok N) → N.ended ≡ true
-reads_end [] n N reads = absurd (no_run n N (written_out (end_fields n ∷ []) N reads))
-reads_end (row ∷ above) n N reads = by reads.0 reads.2
+reads_end : (limits : LimitSet) (above : List Row) (n : ℕ) (N : Table) → Reads limits (above ++ end_fields n ∷ []) (Ok N) → N.ended ≡ true
+reads_end limits [] n N reads = absurd (no_run n N (written_out limits (end_fields n ∷ []) N reads))
+reads_end limits (row ∷ above) n N reads = by reads.0 reads.2
   where
     by : (start : Result Table TableFaultKind) → Ok N ≡ read_from start (above ++ end_fields n ∷ []) → N.ended ≡ true
     by (Ok first) e =
@@ -137,8 +138,8 @@ reads_end (row ∷ above) n N reads = by reads.0 reads.2
         subst (λ (m : Table). m.ended ≡ true) w.1 (rows_end above 2 (first, kind.Run) n a.0 a.1)
     by (Err k) e = absurd (cc)
 
-pub end_is_last : (rows : List Row) (N : Table) → TablesEndWithTheirEnd rows N
-end_is_last rows N reads = (
-  λ ended. subst EndsWithItsEnd (sym (written_out rows N reads)) (ends N ended),
-  λ last. reads_end last.above (length last.above) N (subst (λ (r : List Row). Reads r (Ok N)) last.rows_are reads),
+pub end_is_last : (limits : LimitSet) (rows : List Row) (N : Table) → TablesEndWithTheirEnd limits rows N
+end_is_last limits rows N reads = (
+  λ ended. subst EndsWithItsEnd (sym (written_out limits rows N reads)) (ends N ended),
+  λ last. reads_end limits last.above (length last.above) N (subst (λ (r : List Row). Reads limits r (Ok N)) last.rows_are reads),
 )

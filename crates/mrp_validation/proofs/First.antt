@@ -5,13 +5,11 @@ use Rattle.std.specs.Result.{result_err}
 use Rattle.std.specs.List.{list_all}
 use Rattle.std.specs.Str.{is_utf8}
 use Rattle.mrp_lot.specs.declared.rule.Rule.{Rule}
-use Rattle.mrp_lot.specs.declared.rule.TheConstants.{LONGEST_LEAD}
-use Rattle.mrp_qty.specs.declared.horizon.TheConstants.{LONGEST}
 use Rattle.mrp_qty.specs.declared.quantity.TheConstants.{MOST}
 use Rattle.mrp_master_data.specs.declared.numbers.PairNo.{PairNo}
 use Rattle.mrp_master_data.specs.declared.numbers.PlantNo.{PlantNo}
 use Rattle.mrp_master_data.specs.declared.rows.BillRow.{BillRow}
-use Rattle.mrp_qty.specs.declared.limits.TheConstants.{MOST_BILLS, MOST_IN_ROW, MOST_OF_A_KIND, MOST_PAIRS, MOST_PER, MOST_PLANTS}
+use Rattle.mrp_qty.specs.declared.limits.TheConstants.{MOST_IN_ROW, MOST_PER}
 use Rattle.mrp_master_data.specs.Names.{has_plant, pair_named, plant_no}
 use Rattle.mrp_master_data.specs.Table.{arrivals, horizon, is_taken_from, rises_from, Table}
 use Rattle.mrp_master_data.specs.Spelling.{is_name}
@@ -40,6 +38,9 @@ use Rattle.mrp_validation.proofs.FirstUsage.{usage-first}
 use Rattle.mrp_validation.proofs.FirstVendor.{vendor-first}
 use Rattle.mrp_validation.proofs.KeepingRows.{on_lane}
 use Rattle.mrp_validation.proofs.KeepingSteps.{after, after_check, after_some, same_Ok}
+use Rattle.mrp_qty.specs.declared.limits.LimitSet.{LimitSet}
+use Rattle.mrp_qty.specs.Limits.{limits_of}
+use Rattle.mrp_master_data.specs.Table.{most}
 
 -- ---- what a row spells
 
@@ -197,15 +198,15 @@ number_names row most t e =
     sym (ap (λ (l : LaneTerms × ℕ). l.0) (same_Ok _ t b.2)) ∙ names_are row a.0 a.1
 
 -- a pair: two names, three numbers, a rule and a supply
-pair_refusal : (row : List (List ℕ)) → result_err (pair_terms row)
-    ≡ cond (not (two_names row)) (Some fault.BadName) (cond (not (has_number row 5 0 LONGEST_LEAD && has_number row 6 0 MOST_IN_ROW
+pair_refusal : (limits : LimitSet) (row : List (List ℕ)) → result_err (pair_terms limits row)
+    ≡ cond (not (two_names row)) (Some fault.BadName) (cond (not (has_number row 5 0 (limits_of limits).lead && has_number row 6 0 MOST_IN_ROW
     && has_number row 7 0 MOST_IN_ROW)) (Some fault.BadNumber)
-    (cond (not (is_some (rule_of (field row 4)))) (Some fault.BadRule) (cond (not (is_some (supply_of (field row 3)))) (Some fault.BadSupply) None)))
+    (cond (not (is_some (rule_of (limits_of limits).periods (field row 4)))) (Some fault.BadRule) (cond (not (is_some (supply_of (field row 3)))) (Some fault.BadSupply) None)))
 unfolding pair_terms
-pair_refusal row =
-    by (is_name (field row 1)) (is_name (field row 2)) (field row 1) (field row 2) (number_within (field row 5) 0 LONGEST_LEAD)
+pair_refusal limits row =
+    by (is_name (field row 1)) (is_name (field row 2)) (field row 1) (field row 2) (number_within (field row 5) 0 (limits_of limits).lead)
     (number_within (field row 6) 0 MOST_IN_ROW) (number_within (field row 7) 0 MOST_IN_ROW)
-    (rule_of (field row 4)) (supply_of (field row 3))
+    (rule_of (limits_of limits).periods (field row 4)) (supply_of (field row 3))
   where
     by : (a b : Bool) (x y : List ℕ) (l o s : Option ℕ) (rule : Option Rule) (supply : Option SupplyTerms)
         → result_err {T = PairTerms} ((if a then Ok x else Err fault.BadName) >>= λ p. (if b then Ok y
@@ -229,15 +230,15 @@ record PairIs (row : List (List ℕ)) (t : PairTerms) : Type 0 where
   item : t.item ≡ field row 2
   supply : supply_of (field row 3) ≡ Some t.supply
 
-pair_is : (row : List (List ℕ)) (t : PairTerms) → pair_terms row ≡ Ok t → PairIs row t
+pair_is : (limits : LimitSet) (row : List (List ℕ)) (t : PairTerms) → pair_terms limits row ≡ Ok t → PairIs row t
 unfolding pair_terms
-pair_is row t e =
+pair_is limits row t e =
     let a = after (name_field (field row 1)) _ t e in
     let b = after (name_field (field row 2)) _ t a.2 in
-    let c = after_some (number_within (field row 5) 0 LONGEST_LEAD) _ _ t b.2 in
+    let c = after_some (number_within (field row 5) 0 (limits_of limits).lead) _ _ t b.2 in
     let d = after_some (number_within (field row 6) 0 MOST_IN_ROW) _ _ t c.2 in
     let f = after_some (number_within (field row 7) 0 MOST_IN_ROW) _ _ t d.2 in
-    let g = after_some (rule_of (field row 4)) _ _ t f.2 in
+    let g = after_some (rule_of (limits_of limits).periods (field row 4)) _ _ t f.2 in
     let h = after_some (supply_of (field row 3)) _ _ t g.2 in
     let same = same_Ok _ t h.2 in
     record {
@@ -287,13 +288,13 @@ firm_names row periods t e =
     )
 
 -- a policy row: two names and five numbers
-policy_refusal : (row : List (List ℕ)) (periods : ℕ) → result_err (policy_terms row periods)
-    ≡ cond (not (two_names row)) (Some fault.BadName) (cond (not (has_number row 3 0 (periods - 1) && has_number row 4 0 LONGEST_LEAD
-    && has_number row 5 0 LONGEST_LEAD && has_number row 6 0 MOST_IN_ROW && has_number row 7 0 MOST_IN_ROW)) (Some fault.BadNumber) None)
+policy_refusal : (limits : LimitSet) (row : List (List ℕ)) (periods : ℕ) → result_err (policy_terms limits row periods)
+    ≡ cond (not (two_names row)) (Some fault.BadName) (cond (not (has_number row 3 0 (periods - 1) && has_number row 4 0 (limits_of limits).lead
+    && has_number row 5 0 (limits_of limits).lead && has_number row 6 0 MOST_IN_ROW && has_number row 7 0 MOST_IN_ROW)) (Some fault.BadNumber) None)
 unfolding policy_terms
-policy_refusal row periods =
+policy_refusal limits row periods =
     by (is_name (field row 1)) (is_name (field row 2)) (field row 1) (field row 2) (number_within (field row 3) 0 (periods - 1))
-    (number_within (field row 4) 0 LONGEST_LEAD) (number_within (field row 5) 0 LONGEST_LEAD)
+    (number_within (field row 4) 0 (limits_of limits).lead) (number_within (field row 5) 0 (limits_of limits).lead)
     (number_within (field row 6) 0 MOST_IN_ROW) (number_within (field row 7) 0 MOST_IN_ROW)
   where
     by : (a b : Bool) (x y : List ℕ) (f s c l m : Option ℕ)
@@ -311,14 +312,14 @@ policy_refusal row periods =
     by true false x y f s c l m = refl
     by false b x y f s c l m = refl
 
-policy_names : (row : List (List ℕ)) (periods : ℕ) (t : PolicyTerms) → policy_terms row periods ≡ Ok t → (t.plant ≡ field row 1) × (t.item ≡ field row 2)
+policy_names : (limits : LimitSet) (row : List (List ℕ)) (periods : ℕ) (t : PolicyTerms) → policy_terms limits row periods ≡ Ok t → (t.plant ≡ field row 1) × (t.item ≡ field row 2)
 unfolding policy_terms
-policy_names row periods t e =
+policy_names limits row periods t e =
     let a = after (name_field (field row 1)) _ t e in
     let b = after (name_field (field row 2)) _ t a.2 in
     let c = after_some (number_within (field row 3) 0 (periods - 1)) _ _ t b.2 in
-    let d = after_some (number_within (field row 4) 0 LONGEST_LEAD) _ _ t c.2 in
-    let f = after_some (number_within (field row 5) 0 LONGEST_LEAD) _ _ t d.2 in
+    let d = after_some (number_within (field row 4) 0 (limits_of limits).lead) _ _ t c.2 in
+    let f = after_some (number_within (field row 5) 0 (limits_of limits).lead) _ _ t d.2 in
     let g = after_some (number_within (field row 6) 0 MOST_IN_ROW) _ _ t f.2 in
     let h = after_some (number_within (field row 7) 0 MOST_IN_ROW) _ _ t g.2 in
     let same = same_Ok _ t h.2 in (
@@ -406,7 +407,7 @@ bill_fit : (N : Table) (row : List (List ℕ)) (t : BillTerms) → (t.plant ≡ 
 unfolding bill_fits
 bill_fit N row t names =
     rw (names.0, names.1, names.2) (by (not (has_bill N (pair_in N row 1 2) (pair_in N row 1 3))) (plant_in N row 1) (pair_in N row 1 2) (pair_in N row 1 3)
-    (nat_lt (length N.bills) MOST_BILLS))
+    (nat_lt (length N.bills) (most N).bills))
   where
     made : (x y : ℕ) (m room : Bool) → result_err {T = BillRow} (check m fault.NotMade >>= λ u. check room fault.TooMany >>= λ u. Ok
         (record { parent = record { 0 = x }; component = record { 0 = y }; per = t.per }))
@@ -434,7 +435,7 @@ abbrev fits_with : Table → List ℕ → List ℕ → List SourceTerms → Resu
 fits_with N plant item sources =
     check (not (is_some (pair_named N (plant_no N plant) item))) fault.Repeated >>= λ u. ok_or (plant_no N plant) fault.UnknownPlant >>= λ p. check
     (knows_sources N sources) fault.UnknownPlant
-    >>= λ u. check (not (names_plant sources plant)) fault.SelfSource >>= λ u. check (nat_lt (length N.pairs) MOST_PAIRS) fault.TooMany >>= λ u. Ok
+    >>= λ u. check (not (names_plant sources plant)) fault.SelfSource >>= λ u. check (nat_lt (length N.pairs) (most N).pairs) fault.TooMany >>= λ u. Ok
     (record { 0 = p })
 
 fits_refusal : (new : Bool) (plant : Option ℕ) (knows others room : Bool)
@@ -462,7 +463,7 @@ pair_fit N row t is =
     ∙ ap (λ (q : List ℕ). result_err (fits_with N (field row 1) q (named_sources t.supply))) is.item
     ∙ ap (λ (ss : List SourceTerms). result_err (fits_with N (field row 1) (field row 2) ss)) sources
     ∙ fits_refusal (not (is_some (pair_in N row 1 2))) (plant_in N row 1) (knows_sources N (sources_in row)) (not (names_plant (sources_in row) (field row 1)))
-    (nat_lt (length N.pairs) MOST_PAIRS)
+    (nat_lt (length N.pairs) (most N).pairs)
 
 -- ---- each kind of row
 
@@ -478,17 +479,17 @@ plant-first N row = by (is_name (field row 1)) (field row 1)
 
     by : (a : Bool) (x : List ℕ) → result_err {T = List ℕ} ((if a then Ok x
         else Err fault.BadName) >>= λ name. check (not (has_plant N name)) fault.Repeated >>= λ u. check
-        (nat_lt (length N.plants) MOST_PLANTS) fault.TooMany >>= λ u. Ok name)
+        (nat_lt (length N.plants) (most N).plants) fault.TooMany >>= λ u. Ok name)
         ≡ cond (not a) (Some fault.BadName) (cond (not (not (has_plant N x))) (Some fault.Repeated)
-        (cond (not (nat_lt (length N.plants) MOST_PLANTS)) (Some fault.TooMany) None))
+        (cond (not (nat_lt (length N.plants) (most N).plants)) (Some fault.TooMany) None))
     by false x = refl
-    by true x = tested (not (has_plant N x)) (nat_lt (length N.plants) MOST_PLANTS) x
+    by true x = tested (not (has_plant N x)) (nat_lt (length N.plants) (most N).plants) x
 
-pair-first : (N : Table) (row : List (List ℕ)) → result_err (pair_terms row >>= pair_fits N) ≡ first_failed (pair_passes N row) (faults_of_kind kind.Pair)
+pair-first : (N : Table) (row : List (List ℕ)) → result_err (pair_terms N.limits row >>= pair_fits N) ≡ first_failed (pair_passes N row) (faults_of_kind kind.Pair)
 pair-first N row =
     more (pair_passes N row) (fault.BadName ∷ fault.BadNumber ∷ fault.BadRule ∷ fault.BadSupply ∷ [])
-    (fault.Repeated ∷ fault.UnknownPlant ∷ fault.SelfSource ∷ fault.TooMany ∷ []) (pair_terms row) (pair_fits N)
-    (pair_refusal row) (λ t is. pair_fit N row t (pair_is row t is))
+    (fault.Repeated ∷ fault.UnknownPlant ∷ fault.SelfSource ∷ fault.TooMany ∷ []) (pair_terms N.limits row) (pair_fits N)
+    (pair_refusal N.limits row) (λ t is. pair_fit N row t (pair_is N.limits row t is))
 
 bill-first : (N : Table) (row : List (List ℕ)) → result_err (bill_terms row >>= bill_fits N) ≡ first_failed (bill_passes N row) (faults_of_kind kind.Bill)
 bill-first N row =
@@ -507,12 +508,12 @@ amount-first N row has_room made =
     (known_in N row t.plant t.item (amount_names row (horizon N) t is)) (λ x found. last has_room fault.TooMany _))
 
 demand-first : (N : Table) (row : List (List ℕ)) → result_err (demand_of N row)
-    ≡ first_failed (amount_passes (nat_lt (length N.demands) MOST_OF_A_KIND) N row) (faults_of_kind kind.Demand)
+    ≡ first_failed (amount_passes (nat_lt (length N.demands) (most N).demands) N row) (faults_of_kind kind.Demand)
 unfolding demand_of
 demand-first N row = amount-first N row _ demand_made
 
 receipt-first : (N : Table) (row : List (List ℕ)) → result_err (receipt_of N row)
-    ≡ first_failed (amount_passes (nat_lt (length N.receipts) MOST_OF_A_KIND) N row) (faults_of_kind kind.Receipt)
+    ≡ first_failed (amount_passes (nat_lt (length N.receipts) (most N).of_a_kind) N row) (faults_of_kind kind.Receipt)
 unfolding receipt_of
 receipt-first N row = amount-first N row _ receipt_made
 
@@ -523,7 +524,7 @@ ship-first N row =
     more p (fault.BadName ∷ fault.BadNumber ∷ []) (fault.UnknownPlant ∷ fault.UnknownPair ∷ fault.NotSourced ∷ fault.TooMany ∷ [])
     (ship_terms row (horizon N)) _ (ship_refusal row (horizon N))
     (λ t is. more p (fault.UnknownPlant ∷ fault.UnknownPair ∷ fault.NotSourced ∷ []) (fault.TooMany ∷ []) (known_lane N t.0) _
-    (lane_refusal N row t.0 (ship_names row (horizon N) t is)) (λ lane known. last (nat_lt (length N.ships) MOST_OF_A_KIND) fault.TooMany _))
+    (lane_refusal N row t.0 (ship_names row (horizon N) t is)) (λ lane known. last (nat_lt (length N.ships) (most N).of_a_kind) fault.TooMany _))
 
 cum-first : (N : Table) (row : List (List ℕ)) → result_err (cum_of N row) ≡ first_failed (cum_passes N row) (faults_of_kind kind.Cum)
 unfolding cum_of
@@ -534,7 +535,7 @@ cum-first N row =
     (λ t is. more p (fault.Repeated ∷ []) (fault.UnknownPlant ∷ fault.UnknownPair ∷ fault.NotSourced ∷ fault.TooMany ∷ [])
     (check (not (has_cum N t.0)) fault.Repeated) _ (cum_new N row t.0 (number_names row MOST t is))
     (λ u new. more p (fault.UnknownPlant ∷ fault.UnknownPair ∷ fault.NotSourced ∷ []) (fault.TooMany ∷ []) (known_lane N t.0) _
-    (lane_refusal N row t.0 (number_names row MOST t is)) (λ lane known. last (nat_lt (length N.cums) MOST_OF_A_KIND) fault.TooMany _)))
+    (lane_refusal N row t.0 (number_names row MOST t is)) (λ lane known. last (nat_lt (length N.cums) (most N).of_a_kind) fault.TooMany _)))
 
 reset-first : (N : Table) (row : List (List ℕ)) → result_err (reset_in_row N row) ≡ first_failed (reset_passes N row) (faults_of_kind kind.Reset)
 unfolding reset_in_row
@@ -556,19 +557,19 @@ firm-first N row =
     more p (fault.BadName ∷ fault.BadNumber ∷ []) (fault.UnknownPlant ∷ fault.UnknownPair ∷ fault.TooMany ∷ []) (firm_terms row (horizon N)) _
     (firm_refusal N row)
     (λ t is. more p (fault.UnknownPlant ∷ fault.UnknownPair ∷ []) (fault.TooMany ∷ []) (known_pair N t.plant t.item) _
-    (known_in N row t.plant t.item (firm_names row (horizon N) t is)) (λ x found. last (nat_lt (length N.firms) MOST_OF_A_KIND) fault.TooMany _))
+    (known_in N row t.plant t.item (firm_names row (horizon N) t is)) (λ x found. last (nat_lt (length N.firms) (most N).of_a_kind) fault.TooMany _))
 
 policy-first : (N : Table) (row : List (List ℕ)) → result_err (policy_of N row) ≡ first_failed (policy_passes N row) (faults_of_kind kind.Policy)
 unfolding policy_of
 policy-first N row =
     let p = policy_passes N row in
-    more p (fault.BadName ∷ fault.BadNumber ∷ []) (fault.Repeated ∷ fault.UnknownPlant ∷ fault.UnknownPair ∷ []) (policy_terms row (horizon N)) _
-    (policy_refusal row (horizon N))
+    more p (fault.BadName ∷ fault.BadNumber ∷ []) (fault.Repeated ∷ fault.UnknownPlant ∷ fault.UnknownPair ∷ []) (policy_terms N.limits row (horizon N)) _
+    (policy_refusal N.limits row (horizon N))
     (λ t is. more p (fault.Repeated ∷ []) (fault.UnknownPlant ∷ fault.UnknownPair ∷ [])
     (check (not (has_policy N (pair_named N (plant_no N t.plant) t.item))) fault.Repeated) _
-    (policy_new N row t.plant t.item (policy_names row (horizon N) t is))
+    (policy_new N row t.plant t.item (policy_names N.limits row (horizon N) t is))
     (λ u new. kept (known_pair N t.plant t.item) (λ found. policy_made found.1 t)
-    ∙ known_in N row t.plant t.item (policy_names row (horizon N) t is)))
+    ∙ known_in N row t.plant t.item (policy_names N.limits row (horizon N) t is)))
 
 -- ---- a row of any kind
 
@@ -612,7 +613,7 @@ of-kind : (k : Kind) (last : Kind) (N : Table) (row : List (List ℕ)) (u : Unit
 unfolding row_of_kind
 of-kind kind.Run last N row u follows = absurd (cc)
 of-kind kind.Plant last N row u follows = kept (plant_in_row N row) _ ∙ plant-first N row
-of-kind kind.Pair last N row u follows = kept-in (pair_terms row) (pair_fits N) _ ∙ pair-first N row
+of-kind kind.Pair last N row u follows = kept-in (pair_terms N.limits row) (pair_fits N) _ ∙ pair-first N row
 of-kind kind.Bill last N row u follows = kept (bill_terms row >>= bill_fits N) _ ∙ bill-first N row
 of-kind kind.Demand last N row u follows = kept (demand_of N row) _ ∙ demand-first N row
 of-kind kind.Receipt last N row u follows = kept (receipt_of N row) _ ∙ receipt-first N row
@@ -649,10 +650,10 @@ later s row = by (kind_of_row row) refl
 
 -- ---- the first row
 
-run_refusal : (row : List (List ℕ)) → result_err (run_terms row) ≡ cond (not (is_some (spelled_number (field row 2)) && has_number row 3 1 LONGEST))
+run_refusal : (limits : LimitSet) (row : List (List ℕ)) → result_err (run_terms limits row) ≡ cond (not (is_some (spelled_number (field row 2)) && has_number row 3 1 (limits_of limits).periods))
     (Some fault.BadNumber) None
 unfolding run_terms
-run_refusal row = by (spelled_number (field row 2)) (number_within (field row 3) 1 LONGEST)
+run_refusal limits row = by (spelled_number (field row 2)) (number_within (field row 3) 1 (limits_of limits).periods)
   where
     by : (m n : Option ℕ) → result_err {T = RunTerms} (ok_or m fault.BadNumber >>= λ days. ok_or n fault.BadNumber >>= λ periods. Ok
         (record { first = field row 1; days = days; periods = periods }))
@@ -661,13 +662,13 @@ run_refusal row = by (spelled_number (field row 2)) (number_within (field row 3)
     by (Some m) None = refl
     by (Some m) (Some n) = refl
 
-first : (row : List (List ℕ)) → result_err (first_terms row) ≡ first_failed (run_passes row) (faults_of_any ++ fault.BadNumber ∷ [])
+first : (limits : LimitSet) (row : List (List ℕ)) → result_err (first_terms limits row) ≡ first_failed (run_passes limits row) (faults_of_any ++ fault.BadNumber ∷ [])
 unfolding first_terms
-first row =
-    more (run_passes row) (fault.NotUtf8 ∷ fault.FieldCount ∷ fault.UnknownKind ∷ []) (fault.KindOrder ∷ fault.BadNumber ∷ []) (kind_of_row row) _
+first limits row =
+    more (run_passes limits row) (fault.NotUtf8 ∷ fault.FieldCount ∷ fault.UnknownKind ∷ []) (fault.KindOrder ∷ fault.BadNumber ∷ []) (kind_of_row row) _
     (kind_refusal row)
-    (λ k is. more (run_passes row) (fault.KindOrder ∷ []) (fault.BadNumber ∷ []) (check (is_run k) fault.KindOrder) _
-    (stands_as is_run (kind_of (field row 0)) k (kind_named row k is)) (λ u run. run_refusal row))
+    (λ k is. more (run_passes limits row) (fault.KindOrder ∷ []) (fault.BadNumber ∷ []) (check (is_run k) fault.KindOrder) _
+    (stands_as is_run (kind_of (field row 0)) k (kind_named row k is)) (λ u run. run_refusal limits row))
 
 pub has_first_fault : (row : List (List ℕ)) → HasFirstFault row
-has_first_fault row = record { first = first row; later = λ s. later s row }
+has_first_fault row = record { first = λ limits. first limits row; later = λ s. later s row }

@@ -2,7 +2,7 @@
 use Rattle.std.proofs.Common.{◌≡◌, ℕ, ◌-◌, ◌&&◌, Bool, true, false, cond, if◌then◌else◌, not, nat_lt, List, [], ◌∷◌, length, Option, Some, None}
 use Rattle.std.proofs.Common.{is_some, Ok, Err, ok_or, refl, sym, ap, ◌∙◌}
 use Rattle.std.specs.Result.{result_err}
-use Rattle.mrp_qty.specs.declared.limits.TheConstants.{MOST_PER, MOST_USAGES}
+use Rattle.mrp_qty.specs.declared.limits.TheConstants.{MOST_PER}
 use Rattle.mrp_master_data.specs.declared.rows.UsageRow.{UsageRow}
 use Rattle.mrp_master_data.specs.Table.{horizon, is_joined, Table}
 use Rattle.mrp_master_data.specs.Spelling.{is_name}
@@ -14,6 +14,7 @@ use Rattle.mrp_validation.specs.Grammar.{◌>>=◌, check, field, has_usage, nam
 use Rattle.mrp_validation.specs.Tests.{are_joined, first_failed, has_number, pair_in, plant_in, three_names, usage_passes}
 use Rattle.mrp_validation.proofs.FirstSteps.{more, name_same}
 use Rattle.mrp_validation.proofs.KeepingSteps.{after, after_some, same_Ok}
+use Rattle.mrp_master_data.specs.Table.{most}
 
 -- three names and three numbers
 usage_refusal : (row : List (List ℕ)) (periods : ℕ) → result_err (usage_terms row periods)
@@ -67,7 +68,7 @@ usage_fit : (N : Table) (row : List (List ℕ)) (t : UsageTerms) → UsageIs row
 unfolding usage_fits
 usage_fit N row t is =
     rw (is.plant, is.parent, is.component, is.period) (by (not (has_usage N (pair_in N row 1 2) (pair_in N row 1 3) t.period)) (plant_in N row 1)
-    (pair_in N row 1 2) (pair_in N row 1 3) (nat_lt (length N.usages) MOST_USAGES))
+    (pair_in N row 1 2) (pair_in N row 1 3) (nat_lt (length N.usages) (most N).bills))
   where
     joined : (x y : ℕ) (j room : Bool) → result_err {T = UsageRow} (check j fault.NotMade >>= λ u. check room fault.TooMany >>= λ u. Ok (usage_made x y t))
         ≡ cond (not j) (Some fault.NotMade) (cond (not room) (Some fault.TooMany) None)

@@ -5,7 +5,7 @@ use Rattle.std.specs.Result.{result_err}
 use Rattle.mrp_qty.specs.declared.quantity.TheConstants.{MOST}
 use Rattle.mrp_master_data.specs.declared.numbers.PairNo.{PairNo}
 use Rattle.mrp_master_data.specs.declared.numbers.PlantNo.{PlantNo}
-use Rattle.mrp_master_data.specs.Names.{has_plant, pair_named, plant_no}
+use Rattle.mrp_master_data.specs.Names.{has_plant, pair_named}
 use Rattle.mrp_master_data.specs.Rows.{Vendor}
 use Rattle.mrp_master_data.specs.Table.{horizon, Table}
 use Rattle.mrp_master_data.specs.Spelling.{is_name}

@@ -39,6 +39,8 @@ use Rattle.mrp_validation.proofs.KeepingUsage.{usage_keeps}
 use Rattle.mrp_validation.proofs.KeepingDay.{day_once, day_read, day_sourced}
 use Rattle.mrp_validation.proofs.KeepingEnd.{end_once, end_sourced}
 use Rattle.mrp_validation.proofs.KeepingVendor.{vendor_keeps, vendor_read}
+use Rattle.mrp_qty.specs.declared.limits.LimitSet.{LimitSet}
+use Rattle.mrp_qty.specs.Limits.{limits_of}
 
 -- a kind stands with the kinds before it
 pub follows : (k last : Kind) → may_follow k last ≡ true → kind_place last ≤ kind_place k
@@ -285,13 +287,13 @@ row_after_keeps s t row so_far is =
     subst Kept (same_Ok (c.0, a.0) t c.2) (row_keeps a.0 s.1 s.0 c.0 row so_far (follows a.0 s.1 b.0) c.1)
 
 -- the run alone
-pub empty_keeps : (c : CalendarTerms) → IsCalendar c → IsReadSoFar (empty_table c) kind.Run
-empty_keeps c calendar = record {
+pub empty_keeps : (limits : LimitSet) (c : CalendarTerms) → IsCalendar c → c.periods ≤ (limits_of limits).periods → IsReadSoFar (empty_table limits c) kind.Run
+empty_keeps limits c calendar within = record {
   read = record {
     calendar = calendar;
     limits = record {
       some_periods = calendar.periods.0;
-      periods = calendar.periods.1;
+      periods = within;
       plants = omega arith;
       items = omega arith;
       pairs = omega arith;
@@ -309,18 +311,18 @@ empty_keeps c calendar = record {
     };
     plants = All-nil IsName;
     items = All-nil IsName;
-    pairs = All-nil (IsPairRow (empty_table c));
-    sources = All-nil (IsSourceRow (empty_table c));
-    bills = All-nil (IsBillRow (empty_table c));
-    demands = All-nil (IsDemandRow (empty_table c));
-    receipts = All-nil (IsReceiptRow (empty_table c));
-    ships = All-nil (IsShipRow (empty_table c));
-    cums = All-nil (IsCumRow (empty_table c));
-    resets = All-nil (IsResetRow (empty_table c));
-    firms = All-nil (IsFirmRow (empty_table c));
-    policies = All-nil (IsPolicyRow (empty_table c));
-    usages = All-nil (IsUsageRow (empty_table c));
-    vendors = All-nil (IsVendorRow (empty_table c));
+    pairs = All-nil (IsPairRow (empty_table limits c));
+    sources = All-nil (IsSourceRow (empty_table limits c));
+    bills = All-nil (IsBillRow (empty_table limits c));
+    demands = All-nil (IsDemandRow (empty_table limits c));
+    receipts = All-nil (IsReceiptRow (empty_table limits c));
+    ships = All-nil (IsShipRow (empty_table limits c));
+    cums = All-nil (IsCumRow (empty_table limits c));
+    resets = All-nil (IsResetRow (empty_table limits c));
+    firms = All-nil (IsFirmRow (empty_table limits c));
+    policies = All-nil (IsPolicyRow (empty_table limits c));
+    usages = All-nil (IsUsageRow (empty_table limits c));
+    vendors = All-nil (IsVendorRow (empty_table limits c));
   };
   once = record {
     plants = IsDistinct-nil bytes_eq;

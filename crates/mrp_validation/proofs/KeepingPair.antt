@@ -11,7 +11,6 @@ use Rattle.std.proofs.lemmas.List.Folds.{list_any-append, list_any_none}
 use Rattle.std.proofs.lemmas.Map.Keys.{IsDistinct-cons, IsDistinct-head, IsDistinct-tail}
 use Rattle.std.proofs.lemmas.Slice.Eq.{bytes_eq-Decides}
 use Rattle.mrp_master_data.specs.declared.numbers.PlantNo.{PlantNo}
-use Rattle.mrp_qty.specs.declared.limits.TheConstants.{MOST_PAIRS, MOST_SOURCES}
 use Rattle.mrp_master_data.specs.declared.rows.PairRow.{PairRow}
 use Rattle.mrp_master_data.specs.declared.rows.SourceRow.{SourceRow}
 use Rattle.mrp_master_data.specs.declared.rows.Supply.{Supply}
@@ -38,6 +37,8 @@ use Rattle.mrp_master_data.proofs.Grow.{Changes, Grows, length-add_item-le, name
 use Rattle.mrp_validation.proofs.KeepingRead.{lt_test, plant_within}
 use Rattle.mrp_validation.proofs.KeepingShares.{named_few, named_shares, pair_terms_are, shares_are, SpellsPair}
 use Rattle.mrp_validation.proofs.KeepingSteps.{after, after_check, after_some, same_Ok}
+use Rattle.mrp_master_data.specs.Table.{most}
+use Rattle.mrp_master_data.proofs.LimitFacts.{sources_are}
 
 -- ---- what a pair row that fits says
 
@@ -54,7 +55,7 @@ pub record Fitting (N : Table) (t : PairTerms) (plant : PlantNo) : Type 0 where
   pub at : plant_no N t.plant ≡ Some plant.0
   pub known : All (λ s. has_plant N s.plant ≡ true) (named_sources t.supply)
   pub others : names_plant (named_sources t.supply) t.plant ≡ false
-  pub room : length N.pairs < MOST_PAIRS
+  pub room : length N.pairs < (most N).pairs
 
 pub fits : (N : Table) (t : PairTerms) (plant : PlantNo) → pair_fits N t ≡ Ok plant → Fitting N t plant
 unfolding pair_fits
@@ -63,7 +64,7 @@ fits N t plant is =
     let b = after_some (plant_no N t.plant) _ _ plant a.1 in
     let c = after_check (knows_sources N (named_sources t.supply)) _ _ plant b.2 in
     let d = after_check (not (names_plant (named_sources t.supply) t.plant)) _ _ plant c.1 in
-    let e = after_check (ltb (length N.pairs) MOST_PAIRS) _ _ plant d.1 in
+    let e = after_check (ltb (length N.pairs) (most N).pairs) _ _ plant d.1 in
     let same : record { 0 = b.0 } ≡ plant = same_Ok _ plant e.1 in
     let at : plant_no N t.plant ≡ Some plant.0 = b.1 ∙ ap (λ (p : PlantNo). Some p.0) same in
     record {
@@ -71,7 +72,7 @@ fits N t plant is =
       at = at;
       known = all_pass (λ s. has_plant N s.plant) (named_sources t.supply) c.0;
       others = not-true (names_plant (named_sources t.supply) t.plant) d.0;
-      room = lt_test (length N.pairs) MOST_PAIRS e.0;
+      room = lt_test (length N.pairs) (most N).pairs e.0;
     }
 
 -- ---- places of names
@@ -189,7 +190,7 @@ supply_is N x BuyTerms h = refl
 supply_is N x (FromTerms ss) h = shares_are N x 0 ss h.shares
 
 module _ (N : Table) (plant : PlantNo) (t : PairTerms) (read : IsRead N) (once : IsOnce N) (sourced : IsSourced N) (fit : Fitting N t plant)
-    (says : SpellsPair t) where
+    (says : SpellsPair N.limits t) where
   abbrev M : Table
   M = with_pair_terms N plant t
 
@@ -351,7 +352,7 @@ module _ (N : Table) (plant : PlantNo) (t : PairTerms) (read : IsRead N) (once :
   more_sources = omega (arith, length-append N.sources new_rows, new_size)
 
   grows : Grows N M
-  grows = record { calendar = λ is. is; periods = refl; plants = omega arith; items = (length-add_item-le N.items t.item).0; pairs = omega (arith, more_pairs) }
+  grows = record { limits = refl; calendar = λ is. is; periods = refl; plants = omega arith; items = (length-add_item-le N.items t.item).0; pairs = omega (arith, more_pairs) }
 
   row_in : IsPairRow M new_row
   row_in = record {
@@ -379,11 +380,11 @@ module _ (N : Table) (plant : PlantNo) (t : PairTerms) (read : IsRead N) (once :
 
   pair_read : length N.items ≤ length N.pairs → length N.sources ≤ MOST_SOURCES_OF_PAIR * length N.pairs → IsRead M
   pair_read few_items few_sources =
-      let sources : Changes (IsSourceRow M) MOST_SOURCES N.sources M.sources = record {
+      let sources : Changes (IsSourceRow M) (most N).sources N.sources M.sources = record {
         each = λ all. All-append (IsSourceRow M) N.sources new_rows all sources_in;
-        few = λ _. omega (arith, more_sources, few_sources, fit.room);
+        few = λ _. omega (arith, more_sources, few_sources, fit.room, sources_are N.limits);
       } in
-      let item : Changes IsName MOST_PAIRS N.items M.items = name_added N.items t.item says.item (omega (arith, few_items, fit.room)) in
+      let item : Changes IsName (most N).pairs N.items M.items = name_added (most N).pairs N.items t.item says.item (omega (arith, few_items, fit.room)) in
       read_grows N M read grows same_rows item (one_more new_row row_in fit.room) sources same_rows same_rows same_rows same_rows same_rows same_rows same_rows
       same_rows same_rows same_rows
 
@@ -391,11 +392,11 @@ module _ (N : Table) (plant : PlantNo) (t : PairTerms) (read : IsRead N) (once :
 pub pair_keeps : (N M : Table) (last : Kind) (row : List (List ℕ)) → IsReadSoFar N last → kind_place last ≤ kind_place kind.Pair → pair_row N row ≡ Ok M
     → IsReadSoFar M kind.Pair
 pair_keeps N M last row so_far before is =
-    let a = after (pair_terms row) _ M is in
+    let a = after (pair_terms N.limits row) _ M is in
     let b = after (pair_fits N a.0) _ M a.2 in
     let same : with_pair_terms N b.0 a.0 ≡ M = same_Ok _ M b.2 in
     let fit = fits N a.0 b.0 b.1 in
-    let says = pair_terms_are row a.0 a.1 in
+    let says = pair_terms_are N.limits row a.0 a.1 in
     let made = with_pair_terms N b.0 a.0 in
     let read = so_far.read in
     let once = so_far.once in

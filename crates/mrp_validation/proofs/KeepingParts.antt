@@ -1,7 +1,6 @@
 -- What is read of a valid row: what its fields spell, and each test of the grammar.
 use Rattle.std.proofs.Common.{◌-◌, ◌≡◌, ℕ, Bool, true, false, not, ltb, List, length, Some, is_some, Ok}
 use Rattle.std.proofs.lemmas.Bool.{not-true}
-use Rattle.mrp_qty.specs.declared.limits.TheConstants.{MOST_BILLS, MOST_OF_A_KIND, MOST_USAGES}
 use Rattle.mrp_master_data.specs.declared.rows.BillRow.{BillRow}
 use Rattle.mrp_master_data.specs.declared.rows.CumRow.{CumRow}
 use Rattle.mrp_master_data.specs.declared.rows.DemandRow.{DemandRow}
@@ -21,6 +20,7 @@ use Rattle.mrp_validation.specs.Grammar.{has_bill, has_cum, has_reset, is_made, 
 use Rattle.mrp_validation.specs.Grammar.{firm_of, firm_terms, FirmTerms, has_policy, policy_made, policy_of, policy_terms, PolicyTerms, ship_of, ship_terms}
 use Rattle.mrp_validation.specs.Grammar.{has_usage, usage_fits, usage_made, UsageTerms}
 use Rattle.mrp_validation.proofs.KeepingSteps.{after, after_check, after_some, same_Ok}
+use Rattle.mrp_master_data.specs.Table.{most}
 
 pub record BillParts (N : Table) (t : BillTerms) (b : BillRow) : Type 0 where
   pub x : ℕ
@@ -29,7 +29,7 @@ pub record BillParts (N : Table) (t : BillTerms) (b : BillRow) : Type 0 where
   pub parent : pair_named N (plant_no N t.plant) t.parent ≡ Some x
   pub component : pair_named N (plant_no N t.plant) t.component ≡ Some y
   pub made : is_made N x ≡ true
-  pub room : ltb (length N.bills) MOST_BILLS ≡ true
+  pub room : ltb (length N.bills) (most N).bills ≡ true
   pub same : record { parent = record { 0 = x }; component = record { 0 = y }; per = t.per } ≡ b
 
 pub bill_parts : (N : Table) (t : BillTerms) (b : BillRow) → bill_fits N t ≡ Ok b → BillParts N t b
@@ -43,7 +43,7 @@ bill_parts N t b is =
     let h3 = after_some parent _ _ b h2.1 in
     let h4 = after_some component _ _ b h3.2 in
     let h5 = after_check (is_made N h3.0) _ _ b h4.2 in
-    let h6 = after_check (ltb (length N.bills) MOST_BILLS) _ _ b h5.1 in
+    let h6 = after_check (ltb (length N.bills) (most N).bills) _ _ b h5.1 in
     record {
       x = h3.0;
       y = h4.0;
@@ -76,14 +76,14 @@ amount_parts N row has_room made x is =
     record { terms = a.0; found = b.0; read = a.1; known = b.1; room = c.0; same = same_Ok _ x c.1 }
 
 pub demand_parts : (N : Table) (row : List (List ℕ)) (x : DemandRow) → demand_of N row ≡ Ok x
-    → AmountParts N row (ltb (length N.demands) MOST_OF_A_KIND) demand_made x
+    → AmountParts N row (ltb (length N.demands) (most N).demands) demand_made x
 unfolding demand_of
-demand_parts N row x is = amount_parts N row (ltb (length N.demands) MOST_OF_A_KIND) demand_made x is
+demand_parts N row x is = amount_parts N row (ltb (length N.demands) (most N).demands) demand_made x is
 
 pub receipt_parts : (N : Table) (row : List (List ℕ)) (x : ReceiptRow) → receipt_of N row ≡ Ok x
-    → AmountParts N row (ltb (length N.receipts) MOST_OF_A_KIND) receipt_made x
+    → AmountParts N row (ltb (length N.receipts) (most N).of_a_kind) receipt_made x
 unfolding receipt_of
-receipt_parts N row x is = amount_parts N row (ltb (length N.receipts) MOST_OF_A_KIND) receipt_made x is
+receipt_parts N row x is = amount_parts N row (ltb (length N.receipts) (most N).of_a_kind) receipt_made x is
 
 -- ---- firm orders
 
@@ -92,7 +92,7 @@ pub record FirmParts (N : Table) (row : List (List ℕ)) (x : FirmRow) : Type 0 
   pub found : PlantNo × PairNo
   pub read : firm_terms row (horizon N) ≡ Ok terms
   pub known : known_pair N terms.plant terms.item ≡ Ok found
-  pub room : ltb (length N.firms) MOST_OF_A_KIND ≡ true
+  pub room : ltb (length N.firms) (most N).of_a_kind ≡ true
   pub same : record { pair = found.1; start = terms.start; due = terms.due; quantity = terms.quantity } ≡ x
 
 pub firm_parts : (N : Table) (row : List (List ℕ)) (x : FirmRow) → firm_of N row ≡ Ok x → FirmParts N row x
@@ -100,7 +100,7 @@ unfolding firm_of
 firm_parts N row x is =
     let a = after (firm_terms row (horizon N)) _ x is in
     let b = after (known_pair N a.0.plant a.0.item) _ x a.2 in
-    let c = after_check (ltb (length N.firms) MOST_OF_A_KIND) _ _ x b.2 in
+    let c = after_check (ltb (length N.firms) (most N).of_a_kind) _ _ x b.2 in
     record { terms = a.0; found = b.0; read = a.1; known = b.1; room = c.0; same = same_Ok _ x c.1 }
 
 -- ---- policies
@@ -108,7 +108,7 @@ firm_parts N row x is =
 pub record PolicyParts (N : Table) (row : List (List ℕ)) (x : PolicyRow) : Type 0 where
   pub terms : PolicyTerms
   pub found : PlantNo × PairNo
-  pub read : policy_terms row (horizon N) ≡ Ok terms
+  pub read : policy_terms N.limits row (horizon N) ≡ Ok terms
   pub new : has_policy N (pair_named N (plant_no N terms.plant) terms.item) ≡ false
   pub known : known_pair N terms.plant terms.item ≡ Ok found
   pub same : policy_made found.1 terms ≡ x
@@ -116,7 +116,7 @@ pub record PolicyParts (N : Table) (row : List (List ℕ)) (x : PolicyRow) : Typ
 pub policy_parts : (N : Table) (row : List (List ℕ)) (x : PolicyRow) → policy_of N row ≡ Ok x → PolicyParts N row x
 unfolding policy_of
 policy_parts N row x is =
-    let a = after (policy_terms row (horizon N)) _ x is in
+    let a = after (policy_terms N.limits row (horizon N)) _ x is in
     let there = has_policy N (pair_named N (plant_no N a.0.plant) a.0.item) in
     let b = after_check (not there) _ _ x a.2 in
     let c = after (known_pair N a.0.plant a.0.item) _ x b.1 in
@@ -131,7 +131,7 @@ pub record UsageParts (N : Table) (t : UsageTerms) (u : UsageRow) : Type 0 where
   pub parent : pair_named N (plant_no N t.plant) t.parent ≡ Some x
   pub component : pair_named N (plant_no N t.plant) t.component ≡ Some y
   pub joined : is_joined N x y ≡ true
-  pub room : ltb (length N.usages) MOST_USAGES ≡ true
+  pub room : ltb (length N.usages) (most N).bills ≡ true
   pub same : usage_made x y t ≡ u
 
 pub usage_parts : (N : Table) (t : UsageTerms) (u : UsageRow) → usage_fits N t ≡ Ok u → UsageParts N t u
@@ -145,7 +145,7 @@ usage_parts N t u is =
     let h3 = after_some parent _ _ u h2.1 in
     let h4 = after_some component _ _ u h3.2 in
     let h5 = after_check (is_joined N h3.0 h4.0) _ _ u h4.2 in
-    let h6 = after_check (ltb (length N.usages) MOST_USAGES) _ _ u h5.1 in
+    let h6 = after_check (ltb (length N.usages) (most N).bills) _ _ u h5.1 in
     record {
       x = h3.0;
       y = h4.0;
@@ -165,7 +165,7 @@ pub record ShipParts (N : Table) (row : List (List ℕ)) (x : ShipRow) : Type 0 
   pub lane : PlantNo × PairNo
   pub read : ship_terms row (horizon N) ≡ Ok terms
   pub known : known_lane N terms.0 ≡ Ok lane
-  pub room : ltb (length N.ships) MOST_OF_A_KIND ≡ true
+  pub room : ltb (length N.ships) (most N).of_a_kind ≡ true
   pub same : record { from = lane.0; pair = lane.1; period = terms.1; quantity = terms.2 } ≡ x
 
 pub ship_parts : (N : Table) (row : List (List ℕ)) (x : ShipRow) → ship_of N row ≡ Ok x → ShipParts N row x
@@ -173,7 +173,7 @@ unfolding ship_of
 ship_parts N row x is =
     let a = after (ship_terms row (horizon N)) _ x is in
     let b = after (known_lane N a.0.0) _ x a.2 in
-    let c = after_check (ltb (length N.ships) MOST_OF_A_KIND) _ _ x b.2 in
+    let c = after_check (ltb (length N.ships) (most N).of_a_kind) _ _ x b.2 in
     record { terms = a.0; lane = b.0; read = a.1; known = b.1; room = c.0; same = same_Ok _ x c.1 }
 
 pub record CumParts (N : Table) (row : List (List ℕ)) (x : CumRow) : Type 0 where
@@ -182,7 +182,7 @@ pub record CumParts (N : Table) (row : List (List ℕ)) (x : CumRow) : Type 0 wh
   pub read : lane_number row MOST ≡ Ok terms
   pub new : has_cum N terms.0 ≡ false
   pub known : known_lane N terms.0 ≡ Ok lane
-  pub room : ltb (length N.cums) MOST_OF_A_KIND ≡ true
+  pub room : ltb (length N.cums) (most N).of_a_kind ≡ true
   pub same : record { from = lane.0; pair = lane.1; figure = terms.1 } ≡ x
 
 pub cum_parts : (N : Table) (row : List (List ℕ)) (x : CumRow) → cum_of N row ≡ Ok x → CumParts N row x
@@ -191,7 +191,7 @@ cum_parts N row x is =
     let a = after (lane_number row MOST) _ x is in
     let z = after_check (not (has_cum N a.0.0)) _ _ x a.2 in
     let b = after (known_lane N a.0.0) _ x z.1 in
-    let c = after_check (ltb (length N.cums) MOST_OF_A_KIND) _ _ x b.2 in
+    let c = after_check (ltb (length N.cums) (most N).of_a_kind) _ _ x b.2 in
     record { terms = a.0; lane = b.0; read = a.1; new = not-true (has_cum N a.0.0) z.0; known = b.1; room = c.0; same = same_Ok _ x c.1 }
 
 pub record ResetParts (N : Table) (row : List (List ℕ)) (x : ResetRow) : Type 0 where

@@ -10,10 +10,9 @@ use Rattle.std.proofs.lemmas.List.{length-map, length_push}
 use Rattle.std.proofs.lemmas.List.Elements.{All-head, All-push, All-tail, All-weaker}
 use Rattle.std.proofs.lemmas.Map.Made.{length-le_from_is_member}
 use Rattle.mrp_qty.specs.declared.quantity.TheConstants.{MOST}
-use Rattle.mrp_lot.specs.declared.rule.TheConstants.{LONGEST_LEAD}
 use Rattle.mrp_master_data.specs.declared.numbers.PlantNo.{PlantNo}
 use Rattle.mrp_master_data.specs.declared.numbers.PairNo.{PairNo}
-use Rattle.mrp_qty.specs.declared.limits.TheConstants.{MOST_BILLS, MOST_IN_ROW, MOST_OF_A_KIND, MOST_PER, MOST_PLANTS, MOST_USAGES}
+use Rattle.mrp_qty.specs.declared.limits.TheConstants.{MOST_IN_ROW, MOST_PER}
 use Rattle.mrp_master_data.specs.declared.rows.BillRow.{BillRow}
 use Rattle.mrp_master_data.specs.declared.rows.CumRow.{CumRow}
 use Rattle.mrp_master_data.specs.declared.rows.DemandRow.{DemandRow}
@@ -47,6 +46,9 @@ use Rattle.mrp_validation.proofs.KeepingParts.{ship_parts, usage_parts}
 use Rattle.mrp_validation.proofs.KeepingFew.{few, HasBelow}
 use Rattle.mrp_validation.proofs.KeepingRows.{on_lane}
 use Rattle.mrp_validation.proofs.KeepingSteps.{after, after_check, after_some, same_Ok}
+use Rattle.mrp_qty.specs.declared.limits.LimitSet.{LimitSet}
+use Rattle.mrp_qty.specs.Limits.{limits_of}
+use Rattle.mrp_master_data.specs.Table.{most}
 
 -- ---- fields
 
@@ -115,8 +117,8 @@ unfolding plant_in_row
 plant_read N row name read is =
     let a = after (plant_terms row) _ name is in
     let b = after_check (not (has_plant N a.0)) _ _ name a.2 in
-    let c = after_check (ltb (length N.plants) MOST_PLANTS) _ _ name b.1 in
-    read-with_plant N name read (subst IsName (same_Ok a.0 name c.1) (named_is (field row 1) a.0 a.1)) (lt_test (length N.plants) MOST_PLANTS c.0)
+    let c = after_check (ltb (length N.plants) (most N).plants) _ _ name b.1 in
+    read-with_plant N name read (subst IsName (same_Ok a.0 name c.1) (named_is (field row 1) a.0 a.1)) (lt_test (length N.plants) (most N).plants c.0)
 
 -- ---- bills
 
@@ -140,7 +142,7 @@ per_is : (row : List (List ℕ)) (t : BillTerms) → bill_terms row ≡ Ok t →
 per_is row t is = ranged_is (field row 4) 1 MOST_PER t.per (bill_terms_read row t is).per
 
 bill_within : (N : Table) (t : BillTerms) (b : BillRow) → (1 ≤ t.per) × (t.per ≤ MOST_PER) → bill_fits N t ≡ Ok b
-    → IsBillRow N b × (length N.bills < MOST_BILLS)
+    → IsBillRow N b × (length N.bills < (most N).bills)
 bill_within N t b per is =
     let plant = plant_no N t.plant in
     let p = bill_parts N t b is in (
@@ -151,7 +153,7 @@ bill_within N t b per is =
         some = per.0;
         few = per.1;
       }),
-      lt_test (length N.bills) MOST_BILLS p.room,
+      lt_test (length N.bills) (most N).bills p.room,
     )
 
 pub bill_read : (N : Table) (row : List (List ℕ)) (b : BillRow) → IsRead N → bill_of N row ≡ Ok b → IsRead (with_bill N b)
@@ -209,14 +211,14 @@ demand_read N row x read is =
     let p = demand_parts N row x is in
     let says = amount_known N row _ demand_made x read p in
     read-with_demand N x read (subst (IsDemandRow N) p.same (record { pair = says.0; period = says.1.period; some = says.1.some; quantity = says.1.few }))
-    (lt_test (length N.demands) MOST_OF_A_KIND p.room)
+    (lt_test (length N.demands) (most N).demands p.room)
 
 pub receipt_read : (N : Table) (row : List (List ℕ)) (x : ReceiptRow) → IsRead N → receipt_of N row ≡ Ok x → IsRead (with_receipt N x)
 receipt_read N row x read is =
     let p = receipt_parts N row x is in
     let says = amount_known N row _ receipt_made x read p in
     read-with_receipt N x read (subst (IsReceiptRow N) p.same (record { pair = says.0; period = says.1.period; some = says.1.some; quantity = says.1.few }))
-    (lt_test (length N.receipts) MOST_OF_A_KIND p.room)
+    (lt_test (length N.receipts) (most N).of_a_kind p.room)
 
 -- ---- firm orders
 
@@ -251,31 +253,31 @@ firm_read N row x read is =
       some = few.0;
       quantity = few.1;
     }) in
-    read-with_firm N x read made (lt_test (length N.firms) MOST_OF_A_KIND p.room)
+    read-with_firm N x read made (lt_test (length N.firms) (most N).of_a_kind p.room)
 
 -- ---- policies
 
 -- each field of a policy row is read as it stands in the terms
-pub record PolicyRead (row : List (List ℕ)) (periods : ℕ) (t : PolicyTerms) : Type 0 where
+pub record PolicyRead (limits : LimitSet) (row : List (List ℕ)) (periods : ℕ) (t : PolicyTerms) : Type 0 where
   pub plant : name_field (field row 1) ≡ Ok t.plant
   pub item : name_field (field row 2) ≡ Ok t.item
   pub fence : ranged (field row 3) 0 (periods - 1) ≡ Ok t.fence
-  pub sooner : ranged (field row 4) 0 LONGEST_LEAD ≡ Ok t.sooner
-  pub cover : ranged (field row 5) 0 LONGEST_LEAD ≡ Ok t.cover
+  pub sooner : ranged (field row 4) 0 (limits_of limits).lead ≡ Ok t.sooner
+  pub cover : ranged (field row 5) 0 (limits_of limits).lead ≡ Ok t.cover
   pub least : ranged (field row 6) 0 MOST_IN_ROW ≡ Ok t.least
   pub multiple : ranged (field row 7) 0 MOST_IN_ROW ≡ Ok t.multiple
 
-pub policy_terms_read : (row : List (List ℕ)) (periods : ℕ) (t : PolicyTerms) → policy_terms row periods ≡ Ok t → PolicyRead row periods t
+pub policy_terms_read : (limits : LimitSet) (row : List (List ℕ)) (periods : ℕ) (t : PolicyTerms) → policy_terms limits row periods ≡ Ok t → PolicyRead limits row periods t
 unfolding policy_terms
-policy_terms_read row periods t is =
+policy_terms_read limits row periods t is =
     let n = two_names_read row _ t is in
     let a = after (ranged (field row 3) 0 (periods - 1)) _ t n.rest in
-    let b = after (ranged (field row 4) 0 LONGEST_LEAD) _ t a.2 in
-    let c = after (ranged (field row 5) 0 LONGEST_LEAD) _ t b.2 in
+    let b = after (ranged (field row 4) 0 (limits_of limits).lead) _ t a.2 in
+    let c = after (ranged (field row 5) 0 (limits_of limits).lead) _ t b.2 in
     let d = after (ranged (field row 6) 0 MOST_IN_ROW) _ t c.2 in
     let e = after (ranged (field row 7) 0 MOST_IN_ROW) _ t d.2 in
     let same : record { plant = n.first; item = n.second; fence = a.0; sooner = b.0; cover = c.0; least = d.0; multiple = e.0 } ≡ t = same_Ok _ t e.2 in
-    subst (PolicyRead row periods) same (record {
+    subst (PolicyRead limits row periods) same (record {
       plant = n.first_is;
       item = n.second_is;
       fence = a.1;
@@ -292,12 +294,12 @@ pub policy_read : (N : Table) (row : List (List ℕ)) (x : PolicyRow) → IsRead
 policy_read N row x read once is =
     let p = policy_parts N row x is in
     let t = p.terms in
-    let fields = policy_terms_read row (horizon N) t p.read in
+    let fields = policy_terms_read N.limits row (horizon N) t p.read in
     let made : IsPolicyRow N x = subst (IsPolicyRow N) p.same (record {
       pair = known_within N t.plant t.item p.found p.known;
       fence = period_is N (field row 3) t.fence read fields.fence;
-      sooner = (ranged_is (field row 4) 0 LONGEST_LEAD t.sooner fields.sooner).1;
-      cover = (ranged_is (field row 5) 0 LONGEST_LEAD t.cover fields.cover).1;
+      sooner = (ranged_is (field row 4) 0 (most N).lead t.sooner fields.sooner).1;
+      cover = (ranged_is (field row 5) 0 (most N).lead t.cover fields.cover).1;
       least = (ranged_is (field row 6) 0 MOST_IN_ROW t.least fields.least).1;
       multiple = (ranged_is (field row 7) 0 MOST_IN_ROW t.multiple fields.multiple).1;
     }) in
@@ -351,7 +353,7 @@ usage_read N row u read is =
       some = base.0;
       base = base.1;
     }) in
-    read-with_usage N u read made (lt_test (length N.usages) MOST_USAGES p.room)
+    read-with_usage N u read made (lt_test (length N.usages) (most N).bills p.room)
 
 -- ---- lanes
 
@@ -378,7 +380,7 @@ ship_read N row x read is =
     let lane = lane_within N p.terms.0 p.lane p.known in
     let made : IsShipRow N x = subst (IsShipRow N) p.same (record { from = lane.0; pair = lane.1; period = says.period; some = says.some; quantity = says.few })
     in
-    read-with_ship N x read made (lt_test (length N.ships) MOST_OF_A_KIND p.room)
+    read-with_ship N x read made (lt_test (length N.ships) (most N).of_a_kind p.room)
 
 -- the fields of a cum or a reset row are read as they stand in the terms
 pub record LaneNumberRead (row : List (List ℕ)) (most : ℕ) (t : LaneTerms × ℕ) : Type 0 where
@@ -401,7 +403,7 @@ cum_read N row x read is =
     let p = cum_parts N row x is in
     let lane = lane_within N p.terms.0 p.lane p.known in
     let made : IsCumRow N x = subst (IsCumRow N) p.same (record { from = lane.0; pair = lane.1; figure = figure_is row p.terms p.read }) in
-    read-with_cum N x read made (lt_test (length N.cums) MOST_OF_A_KIND p.room)
+    read-with_cum N x read made (lt_test (length N.cums) (most N).of_a_kind p.room)
 
 -- ---- new starts
 

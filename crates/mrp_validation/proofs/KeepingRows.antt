@@ -5,7 +5,6 @@ use Rattle.std.proofs.lemmas.Bool.{not-true}
 use Rattle.std.proofs.lemmas.List.Elements.{All-push}
 use Rattle.mrp_master_data.specs.declared.numbers.PlantNo.{PlantNo}
 use Rattle.mrp_master_data.specs.declared.numbers.PairNo.{PairNo}
-use Rattle.mrp_qty.specs.declared.limits.TheConstants.{MOST_PLANTS}
 use Rattle.mrp_master_data.specs.declared.rows.CumRow.{CumRow}
 use Rattle.mrp_master_data.specs.declared.rows.DemandRow.{DemandRow}
 use Rattle.mrp_master_data.specs.declared.rows.FirmRow.{FirmRow}
@@ -23,6 +22,7 @@ use Rattle.mrp_master_data.proofs.Naming.{distinct_name}
 use Rattle.mrp_validation.proofs.KeepingParts.{cum_parts, policy_parts, reset_parts, ship_parts}
 use Rattle.mrp_validation.proofs.KeepingSame.{stays_once, stays_sourced}
 use Rattle.mrp_validation.proofs.KeepingSteps.{after, after_check, after_some, same_Ok}
+use Rattle.mrp_master_data.specs.Table.{most}
 
 -- ---- plants
 
@@ -31,7 +31,7 @@ unfolding plant_in_row
 new_plant N row name is =
     let a = after (plant_terms row) _ name is in
     let b = after_check (not (has_plant N a.0)) _ _ name a.2 in
-    let c = after_check (ltb (length N.plants) MOST_PLANTS) _ _ name b.1 in
+    let c = after_check (ltb (length N.plants) (most N).plants) _ _ name b.1 in
     let same : a.0 ≡ name = same_Ok a.0 name c.1 in
     not-true (has_plant N name) (ap (λ n. not (has_plant N n)) (sym same) ∙ b.0)
 

@@ -3,8 +3,7 @@
 use Rattle.std.proofs.Common.{◌≡◌, ◌≤◌, ℕ, List, [], ◌∷◌, length, map, Ok, Some, sym, subst, arith}
 use Rattle.std.specs.List.{All}
 use Rattle.std.proofs.lemmas.List.Elements.{All-nil}
-use Rattle.mrp_lot.specs.Lot.{IsRule}
-use Rattle.mrp_lot.specs.declared.rule.TheConstants.{LONGEST_LEAD}
+use Rattle.mrp_lot.specs.Lot.{IsRuleWithin}
 use Rattle.mrp_qty.specs.declared.limits.TheConstants.{MOST_SHARE, MOST_SOURCES_OF_PAIR}
 use Rattle.mrp_master_data.specs.Parsing.{rule_of}
 use Rattle.mrp_master_data.specs.Supplies.{BuyTerms, FromTerms, MakeTerms, SourceTerms, SupplyTerms}
@@ -16,44 +15,46 @@ use Rattle.mrp_master_data.specs.Table.{Table, AreShares, IsAmount, IsName}
 use Rattle.mrp_validation.specs.Grammar.{field, name_field, PairTerms, pair_terms, ranged, source_row}
 use Rattle.mrp_validation.proofs.KeepingRead.{named_is, ranged_is, two_names_read}
 use Rattle.mrp_validation.proofs.KeepingSteps.{after, after_some, same_Ok}
+use Rattle.mrp_qty.specs.declared.limits.LimitSet.{LimitSet}
+use Rattle.mrp_qty.specs.Limits.{limits_of}
 
 -- each field of a pair row is read as it stands in the terms
-pub record PairRead (row : List (List ℕ)) (t : PairTerms) : Type 0 where
+pub record PairRead (limits : LimitSet) (row : List (List ℕ)) (t : PairTerms) : Type 0 where
   pub plant : name_field (field row 1) ≡ Ok t.plant
   pub item : name_field (field row 2) ≡ Ok t.item
   pub supply : supply_of (field row 3) ≡ Some t.supply
-  pub rule : rule_of (field row 4) ≡ Some t.rule
-  pub lead : ranged (field row 5) 0 LONGEST_LEAD ≡ Ok t.lead
+  pub rule : rule_of (limits_of limits).periods (field row 4) ≡ Some t.rule
+  pub lead : ranged (field row 5) 0 (limits_of limits).lead ≡ Ok t.lead
   pub on_hand : ranged (field row 6) 0 MOST_IN_ROW ≡ Ok t.on_hand
   pub safety : ranged (field row 7) 0 MOST_IN_ROW ≡ Ok t.safety
 
-pub pair_terms_read : (row : List (List ℕ)) (t : PairTerms) → pair_terms row ≡ Ok t → PairRead row t
+pub pair_terms_read : (limits : LimitSet) (row : List (List ℕ)) (t : PairTerms) → pair_terms limits row ≡ Ok t → PairRead limits row t
 unfolding pair_terms
-pair_terms_read row t is =
+pair_terms_read limits row t is =
     let n = two_names_read row _ t is in
-    let c = after (ranged (field row 5) 0 LONGEST_LEAD) _ t n.rest in
+    let c = after (ranged (field row 5) 0 (limits_of limits).lead) _ t n.rest in
     let d = after (ranged (field row 6) 0 MOST_IN_ROW) _ t c.2 in
     let e = after (ranged (field row 7) 0 MOST_IN_ROW) _ t d.2 in
-    let f = after_some (rule_of (field row 4)) _ _ t e.2 in
+    let f = after_some (rule_of (limits_of limits).periods (field row 4)) _ _ t e.2 in
     let g = after_some (supply_of (field row 3)) _ _ t f.2 in
     let same : record { plant = n.first; item = n.second; supply = g.0; rule = f.0; lead = c.0; on_hand = d.0; safety = e.0 } ≡ t = same_Ok _ t g.2 in
-    subst (PairRead row) same (record { plant = n.first_is; item = n.second_is; supply = g.1; rule = f.1; lead = c.1; on_hand = d.1; safety = e.1 })
+    subst (PairRead limits row) same (record { plant = n.first_is; item = n.second_is; supply = g.1; rule = f.1; lead = c.1; on_hand = d.1; safety = e.1 })
 
-pub record SpellsPair (t : PairTerms) : Type 0 where
+pub record SpellsPair (limits : LimitSet) (t : PairTerms) : Type 0 where
   pub item : IsName t.item
   pub supply : IsWholeSupply t.supply
-  pub rule : IsRule t.rule
-  pub lead : t.lead ≤ LONGEST_LEAD
+  pub rule : IsRuleWithin (limits_of limits).periods t.rule
+  pub lead : t.lead ≤ (limits_of limits).lead
   pub on_hand : IsAmount t.on_hand
   pub safety : IsAmount t.safety
 
-pub pair_terms_are : (row : List (List ℕ)) (t : PairTerms) → pair_terms row ≡ Ok t → SpellsPair t
-pair_terms_are row t is =
-    let read = pair_terms_read row t is in record {
+pub pair_terms_are : (limits : LimitSet) (row : List (List ℕ)) (t : PairTerms) → pair_terms limits row ≡ Ok t → SpellsPair limits t
+pair_terms_are limits row t is =
+    let read = pair_terms_read limits row t is in record {
       item = named_is (field row 2) t.item read.item;
       supply = supply_is (field row 3) t.supply read.supply;
-      rule = rule_is (field row 4) t.rule read.rule;
-      lead = (ranged_is (field row 5) 0 LONGEST_LEAD t.lead read.lead).1;
+      rule = rule_is (limits_of limits).periods (field row 4) t.rule read.rule;
+      lead = (ranged_is (field row 5) 0 (limits_of limits).lead t.lead read.lead).1;
       on_hand = (ranged_is (field row 6) 0 MOST_IN_ROW t.on_hand read.on_hand).1;
       safety = (ranged_is (field row 7) 0 MOST_IN_ROW t.safety read.safety).1;
     }

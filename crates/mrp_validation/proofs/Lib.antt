@@ -33,6 +33,8 @@ pub mod KeepingShares
 pub mod KeepingSteps
 pub mod KeepingUsage
 pub mod KeepingVendor
+pub mod LargeFaults
+pub mod LargeTables
 pub mod Listed
 pub mod ListedDay
 pub mod Loop
@@ -48,3 +50,4 @@ pub mod WrittenPair
 pub mod WrittenRows
 pub mod WrittenTable
 pub mod WrittenVendor
+pub mod LimitsStay

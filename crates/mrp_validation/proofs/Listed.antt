@@ -8,11 +8,9 @@ use Rattle.std.proofs.lemmas.List.Sums.{AllPass-from_list_all}
 use Rattle.mrp_cal.specs.Calendar.{CalendarTerms}
 use Rattle.mrp_cal.specs.declared.fault.CalFault.{CalFault}
 use Rattle.mrp_cal.specs.declared.fault.CalFault.TheVariants as cal
-use Rattle.mrp_lot.specs.declared.rule.TheConstants.{LONGEST_LEAD}
 use Rattle.mrp_qty.specs.declared.quantity.TheConstants.{MOST}
-use Rattle.mrp_qty.specs.declared.horizon.TheConstants.{LONGEST}
 use Rattle.mrp_master_data.specs.declared.numbers.PairNo.{PairNo}
-use Rattle.mrp_qty.specs.declared.limits.TheConstants.{MOST_BILLS, MOST_IN_ROW, MOST_OF_A_KIND, MOST_PAIRS, MOST_PER, MOST_PLANTS, MOST_USAGES}
+use Rattle.mrp_qty.specs.declared.limits.TheConstants.{MOST_IN_ROW, MOST_PER}
 use Rattle.mrp_master_data.specs.Names.{has_plant, pair_named, plant_no}
 use Rattle.mrp_master_data.specs.Table.{arrivals, horizon, is_joined, is_taken_from, rises_from, Table}
 use Rattle.mrp_master_data.specs.Turns.{row_count}
@@ -33,6 +31,9 @@ use Rattle.mrp_validation.specs.Grammar.{has_usage, has_vendor, is_bought, is_em
 use Rattle.mrp_validation.specs.Reading.{first_terms, is_run, kind_of_row, row_after, row_of_kind, started, Starts, StartsWith, UnlessMemory}
 use Rattle.mrp_validation.proofs.ListedDay.{day_listed}
 use Rattle.mrp_validation.proofs.KeepingSteps.{chosen, found, steps, tested}
+use Rattle.mrp_qty.specs.declared.limits.LimitSet.{LimitSet}
+use Rattle.mrp_qty.specs.Limits.{limits_of}
+use Rattle.mrp_master_data.specs.Table.{most}
 
 module _ (P : TableFaultKind → Type 0) where
   -- ---- what the fields of a row spell
@@ -43,9 +44,9 @@ module _ (P : TableFaultKind → Type 0) where
   number : (text : List ℕ) (low high : ℕ) → P fault.BadNumber → IfErr (ranged text low high) P
   number text low high h = found P (number_within text low high) fault.BadNumber h
 
-  run-terms : (row : List (List ℕ)) → P fault.BadNumber → IfErr (run_terms row) P
+  run-terms : (limits : LimitSet) (row : List (List ℕ)) → P fault.BadNumber → IfErr (run_terms limits row) P
   unfolding run_terms
-  run-terms row n = steps P _ _ (found P (spelled_number (field row 2)) _ n) (λ days. steps P _ _ (number (field row 3) 1 LONGEST n) (λ periods. tt))
+  run-terms limits row n = steps P _ _ (found P (spelled_number (field row 2)) _ n) (λ days. steps P _ _ (number (field row 3) 1 (limits_of limits).periods n) (λ periods. tt))
 
   bill-terms : (row : List (List ℕ)) → P fault.BadName → P fault.BadNumber → IfErr (bill_terms row) P
   unfolding bill_terms
@@ -66,12 +67,12 @@ module _ (P : TableFaultKind → Type 0) where
       (λ item. steps P _ _ (number (field row 3) 0 (periods - 1) n) (λ start. steps P _ _ (number (field row 4) start (periods - 1) n)
       (λ due. steps P _ _ (number (field row 5) 1 MOST_IN_ROW n) (λ quantity. tt)))))
 
-  policy-terms : (row : List (List ℕ)) (periods : ℕ) → P fault.BadName → P fault.BadNumber → IfErr (policy_terms row periods) P
+  policy-terms : (limits : LimitSet) (row : List (List ℕ)) (periods : ℕ) → P fault.BadName → P fault.BadNumber → IfErr (policy_terms limits row periods) P
   unfolding policy_terms
-  policy-terms row periods m n =
+  policy-terms limits row periods m n =
       steps P _ _ (name (field row 1) m) (λ plant. steps P _ _ (name (field row 2) m)
-      (λ item. steps P _ _ (number (field row 3) 0 (periods - 1) n) (λ fence. steps P _ _ (number (field row 4) 0 LONGEST_LEAD n)
-      (λ sooner. steps P _ _ (number (field row 5) 0 LONGEST_LEAD n) (λ cover. steps P _ _ (number (field row 6) 0 MOST_IN_ROW n)
+      (λ item. steps P _ _ (number (field row 3) 0 (periods - 1) n) (λ fence. steps P _ _ (number (field row 4) 0 (limits_of limits).lead n)
+      (λ sooner. steps P _ _ (number (field row 5) 0 (limits_of limits).lead n) (λ cover. steps P _ _ (number (field row 6) 0 MOST_IN_ROW n)
       (λ least. steps P _ _ (number (field row 7) 0 MOST_IN_ROW n) (λ multiple. tt)))))))
 
   usage-terms : (row : List (List ℕ)) (periods : ℕ) → P fault.BadName → P fault.BadNumber → IfErr (usage_terms row periods) P
@@ -108,12 +109,12 @@ module _ (P : TableFaultKind → Type 0) where
   unfolding lane_number
   lane-number row most m n = steps P _ _ (lane-terms row m) (λ lane. steps P _ _ (number (field row 4) 0 most n) (λ figure. tt))
 
-  pair-terms : (row : List (List ℕ)) → P fault.BadName → P fault.BadNumber → P fault.BadRule → P fault.BadSupply → IfErr (pair_terms row) P
+  pair-terms : (limits : LimitSet) (row : List (List ℕ)) → P fault.BadName → P fault.BadNumber → P fault.BadRule → P fault.BadSupply → IfErr (pair_terms limits row) P
   unfolding pair_terms
-  pair-terms row m n r s =
+  pair-terms limits row m n r s =
       steps P _ _ (name (field row 1) m) (λ plant. steps P _ _ (name (field row 2) m)
-      (λ item. steps P _ _ (number (field row 5) 0 LONGEST_LEAD n) (λ lead. steps P _ _ (number (field row 6) 0 MOST_IN_ROW n) (λ on_hand.
-      steps P _ _ (number (field row 7) 0 MOST_IN_ROW n) (λ safety. steps P _ _ (found P (rule_of (field row 4)) _ r)
+      (λ item. steps P _ _ (number (field row 5) 0 (limits_of limits).lead n) (λ lead. steps P _ _ (number (field row 6) 0 MOST_IN_ROW n) (λ on_hand.
+      steps P _ _ (number (field row 7) 0 MOST_IN_ROW n) (λ safety. steps P _ _ (found P (rule_of (limits_of limits).periods (field row 4)) _ r)
       (λ rule. steps P _ _ (found P (supply_of (field row 3)) _ s) (λ supply. tt)))))))
 
   -- ---- what a row says
@@ -121,7 +122,7 @@ module _ (P : TableFaultKind → Type 0) where
   plant-of : (N : Table) (row : List (List ℕ)) → P fault.BadName → P fault.Repeated → P fault.TooMany → IfErr (plant_in_row N row) P
   unfolding plant_in_row
   plant-of N row m r t = steps P _ _ (name (field row 1) m) (λ x. steps P _ _ (tested P (not (has_plant N x)) _ r)
-      (λ fresh. steps P _ _ (tested P (nat_lt (length N.plants) MOST_PLANTS) _ t) (λ room. tt)))
+      (λ fresh. steps P _ _ (tested P (nat_lt (length N.plants) (most N).plants) _ t) (λ room. tt)))
 
   pair-fits : (N : Table) (t : PairTerms) → P fault.Repeated → P fault.UnknownPlant → P fault.SelfSource → P fault.TooMany → IfErr (pair_fits N t) P
   unfolding pair_fits
@@ -130,7 +131,7 @@ module _ (P : TableFaultKind → Type 0) where
       (λ fresh. steps P _ _ (found P (plant_no N t.plant) _ u)
       (λ plant. steps P _ _ (tested P (knows_sources N (named_sources t.supply)) _ u)
       (λ known. steps P _ _ (tested P (not (names_plant (named_sources t.supply) t.plant)) _ s)
-      (λ other. steps P _ _ (tested P (nat_lt (length N.pairs) MOST_PAIRS) _ m) (λ room. tt)))))
+      (λ other. steps P _ _ (tested P (nat_lt (length N.pairs) (most N).pairs) _ m) (λ room. tt)))))
 
   bill-fits : (N : Table) (t : BillTerms) → P fault.Repeated → P fault.UnknownPlant → P fault.UnknownPair → P fault.NotMade → P fault.TooMany
       → IfErr (bill_fits N t) P
@@ -140,7 +141,7 @@ module _ (P : TableFaultKind → Type 0) where
       (λ fresh. steps P _ _ (tested P (is_some (plant_no N t.plant)) _ u)
       (λ known. steps P _ _ (found P (pair_named N (plant_no N t.plant) t.parent) _ p)
       (λ x. steps P _ _ (found P (pair_named N (plant_no N t.plant) t.component) _ p) (λ y.
-      steps P _ _ (tested P (is_made N x) _ n) (λ made. steps P _ _ (tested P (nat_lt (length N.bills) MOST_BILLS) _ m) (λ room. tt))))))
+      steps P _ _ (tested P (is_made N x) _ n) (λ made. steps P _ _ (tested P (nat_lt (length N.bills) (most N).bills) _ m) (λ room. tt))))))
 
   usage-fits : (N : Table) (t : UsageTerms) → P fault.Repeated → P fault.UnknownPlant → P fault.UnknownPair → P fault.NotMade → P fault.TooMany
       → IfErr (usage_fits N t) P
@@ -150,7 +151,7 @@ module _ (P : TableFaultKind → Type 0) where
       (λ fresh. steps P _ _ (tested P (is_some (plant_no N t.plant)) _ u)
       (λ known. steps P _ _ (found P (pair_named N (plant_no N t.plant) t.parent) _ p)
       (λ x. steps P _ _ (found P (pair_named N (plant_no N t.plant) t.component) _ p) (λ y.
-      steps P _ _ (tested P (is_joined N x y) _ n) (λ joined. steps P _ _ (tested P (nat_lt (length N.usages) MOST_USAGES) _ m) (λ room. tt))))))
+      steps P _ _ (tested P (is_joined N x y) _ n) (λ joined. steps P _ _ (tested P (nat_lt (length N.usages) (most N).bills) _ m) (λ room. tt))))))
 
   known-pair : (N : Table) (plant item : List ℕ) → P fault.UnknownPlant → P fault.UnknownPair → IfErr (known_pair N plant item) P
   unfolding known_pair
@@ -184,12 +185,12 @@ module _ (P : TableFaultKind → Type 0) where
       → IfErr (firm_of N row) P
   unfolding firm_of
   firm-of N row m n u p t = steps P _ _ (firm-terms row (horizon N) m n)
-      (λ a. steps P _ _ (known-pair N a.plant a.item u p) (λ x. steps P _ _ (tested P (nat_lt (length N.firms) MOST_OF_A_KIND) _ t) (λ room. tt)))
+      (λ a. steps P _ _ (known-pair N a.plant a.item u p) (λ x. steps P _ _ (tested P (nat_lt (length N.firms) (most N).of_a_kind) _ t) (λ room. tt)))
 
   policy-of : (N : Table) (row : List (List ℕ)) → P fault.BadName → P fault.BadNumber → P fault.Repeated → P fault.UnknownPlant → P fault.UnknownPair
       → IfErr (policy_of N row) P
   unfolding policy_of
-  policy-of N row m n r u p = steps P _ _ (policy-terms row (horizon N) m n)
+  policy-of N row m n r u p = steps P _ _ (policy-terms N.limits row (horizon N) m n)
       (λ a. steps P _ _ (tested P (not (has_policy N (pair_named N (plant_no N a.plant) a.item))) _ r)
       (λ fresh. steps P _ _ (known-pair N a.plant a.item u p) (λ x. tt)))
 
@@ -203,13 +204,13 @@ module _ (P : TableFaultKind → Type 0) where
       → P fault.TooMany → IfErr (ship_of N row) P
   unfolding ship_of
   ship-of N row m n u p s t = steps P _ _ (ship-terms row (horizon N) m n)
-      (λ a. steps P _ _ (known-lane N a.0 u p s) (λ lane. steps P _ _ (tested P (nat_lt (length N.ships) MOST_OF_A_KIND) _ t) (λ room. tt)))
+      (λ a. steps P _ _ (known-lane N a.0 u p s) (λ lane. steps P _ _ (tested P (nat_lt (length N.ships) (most N).of_a_kind) _ t) (λ room. tt)))
 
   cum-of : (N : Table) (row : List (List ℕ)) → P fault.BadName → P fault.BadNumber → P fault.Repeated → P fault.UnknownPlant → P fault.UnknownPair
       → P fault.NotSourced → P fault.TooMany → IfErr (cum_of N row) P
   unfolding cum_of
   cum-of N row m n r u p s t = steps P _ _ (lane-number row MOST m n) (λ a. steps P _ _ (tested P (not (has_cum N a.0)) _ r)
-      (λ fresh. steps P _ _ (known-lane N a.0 u p s) (λ lane. steps P _ _ (tested P (nat_lt (length N.cums) MOST_OF_A_KIND) _ t) (λ room. tt))))
+      (λ fresh. steps P _ _ (known-lane N a.0 u p s) (λ lane. steps P _ _ (tested P (nat_lt (length N.cums) (most N).of_a_kind) _ t) (λ room. tt))))
 
   reset-of : (N : Table) (row : List (List ℕ)) → P fault.BadName → P fault.BadNumber → P fault.Repeated → P fault.UnknownPlant → P fault.UnknownPair
       → P fault.NotSourced → P fault.ResetOrder → IfErr (reset_in_row N row) P
@@ -244,7 +245,7 @@ of-kind kind.Plant N row =
     steps P _ _ (plant-of P N row (4, omega arith, refl) (5, omega arith, refl) (6, omega arith, refl)) (λ x. tt)
 of-kind kind.Pair N row =
     let P = Contains (faults_of (Ok kind.Pair)) in
-    steps P _ _ (pair-terms P row (4, omega arith, refl) (5, omega arith, refl) (6, omega arith, refl) (7, omega arith, refl))
+    steps P _ _ (pair-terms P N.limits row (4, omega arith, refl) (5, omega arith, refl) (6, omega arith, refl) (7, omega arith, refl))
     (λ t. steps P _ _ (pair-fits P N t (8, omega arith, refl) (9, omega arith, refl) (10, omega arith, refl) (11, omega arith, refl)) (λ x. tt))
 of-kind kind.Bill N row =
     let P = Contains (faults_of (Ok kind.Bill)) in
@@ -334,50 +335,50 @@ of-calendar cal.BadDate = (5, omega arith, refl)
 of-calendar cal.DaysOutOfRange = (6, omega arith, refl)
 of-calendar cal.PastEnd = (7, omega arith, refl)
 
-refused-start : (c : Result CalendarTerms CalFault) (e : TableFaultKind) → Err e ≡ started c → Contains (faults_of (Ok kind.Run)) e
-refused-start (Ok c) e same = absurd (cc)
-refused-start (Err f) e same = let is : fault.CalendarFault f ≡ e = cc in subst (Contains (faults_of (Ok kind.Run))) is (of-calendar f)
+refused-start : (limits : LimitSet) (c : Result CalendarTerms CalFault) (e : TableFaultKind) → Err e ≡ started limits c → Contains (faults_of (Ok kind.Run)) e
+refused-start limits (Ok c) e same = absurd (cc)
+refused-start limits (Err f) e same = let is : fault.CalendarFault f ≡ e = cc in subst (Contains (faults_of (Ok kind.Run))) is (of-calendar f)
 
-of-terms : (r : Result RunTerms TableFaultKind) (e : TableFaultKind) → IfErr r (Contains (faults_of (Ok kind.Run))) → StartsWith r (Err e)
+of-terms : (limits : LimitSet) (r : Result RunTerms TableFaultKind) (e : TableFaultKind) → IfErr r (Contains (faults_of (Ok kind.Run))) → StartsWith limits r (Err e)
     → Contains (faults_of (Ok kind.Run)) e
-of-terms (Ok t) e h starts = refused-start starts.0 e starts.2
-of-terms (Err k) e h starts = let is : k ≡ e = cc in subst (Contains (faults_of (Ok kind.Run))) is h
+of-terms limits (Ok t) e h starts = refused-start limits starts.0 e starts.2
+of-terms limits (Err k) e h starts = let is : k ≡ e = cc in subst (Contains (faults_of (Ok kind.Run))) is h
 
-of-run : (row : List (List ℕ)) → IfErr (run_terms row) (Contains (faults_of (Ok kind.Run)))
-of-run row = run-terms (Contains (faults_of (Ok kind.Run))) row (4, omega arith, refl)
+of-run : (limits : LimitSet) (row : List (List ℕ)) → IfErr (run_terms limits row) (Contains (faults_of (Ok kind.Run)))
+of-run limits row = run-terms (Contains (faults_of (Ok kind.Run))) limits row (4, omega arith, refl)
 
-of-order : (k : Kind) (e : TableFaultKind) → StartsWith (Err fault.KindOrder) (Err e) → Contains (faults_of (Ok k)) e
-of-order k e starts = let is : fault.KindOrder ≡ e = cc in subst (Contains (faults_of (Ok k))) is (order k)
+of-order : (limits : LimitSet) (k : Kind) (e : TableFaultKind) → StartsWith limits (Err fault.KindOrder) (Err e) → Contains (faults_of (Ok k)) e
+of-order limits k e starts = let is : fault.KindOrder ≡ e = cc in subst (Contains (faults_of (Ok k))) is (order k)
 
-by-kind : (k : Kind) (row : List (List ℕ)) (e : TableFaultKind) → StartsWith (check (is_run k) fault.KindOrder >>= λ u. run_terms row) (Err e)
+by-kind : (limits : LimitSet) (k : Kind) (row : List (List ℕ)) (e : TableFaultKind) → StartsWith limits (check (is_run k) fault.KindOrder >>= λ u. run_terms limits row) (Err e)
     → Contains (faults_of (Ok k)) e
-by-kind kind.Run row e starts = of-terms (run_terms row) e (of-run row) starts
-by-kind kind.Plant row e starts = of-order kind.Plant e starts
-by-kind kind.Pair row e starts = of-order kind.Pair e starts
-by-kind kind.Bill row e starts = of-order kind.Bill e starts
-by-kind kind.Demand row e starts = of-order kind.Demand e starts
-by-kind kind.Receipt row e starts = of-order kind.Receipt e starts
-by-kind kind.Ship row e starts = of-order kind.Ship e starts
-by-kind kind.Cum row e starts = of-order kind.Cum e starts
-by-kind kind.Reset row e starts = of-order kind.Reset e starts
-by-kind kind.Firm row e starts = of-order kind.Firm e starts
-by-kind kind.Policy row e starts = of-order kind.Policy e starts
-by-kind kind.Usage row e starts = of-order kind.Usage e starts
-by-kind kind.Vendor row e starts = of-order kind.Vendor e starts
-by-kind kind.Day row e starts = of-order kind.Day e starts
-by-kind kind.End row e starts = of-order kind.End e starts
+by-kind limits kind.Run row e starts = of-terms limits (run_terms limits row) e (of-run limits row) starts
+by-kind limits kind.Plant row e starts = of-order limits kind.Plant e starts
+by-kind limits kind.Pair row e starts = of-order limits kind.Pair e starts
+by-kind limits kind.Bill row e starts = of-order limits kind.Bill e starts
+by-kind limits kind.Demand row e starts = of-order limits kind.Demand e starts
+by-kind limits kind.Receipt row e starts = of-order limits kind.Receipt e starts
+by-kind limits kind.Ship row e starts = of-order limits kind.Ship e starts
+by-kind limits kind.Cum row e starts = of-order limits kind.Cum e starts
+by-kind limits kind.Reset row e starts = of-order limits kind.Reset e starts
+by-kind limits kind.Firm row e starts = of-order limits kind.Firm e starts
+by-kind limits kind.Policy row e starts = of-order limits kind.Policy e starts
+by-kind limits kind.Usage row e starts = of-order limits kind.Usage e starts
+by-kind limits kind.Vendor row e starts = of-order limits kind.Vendor e starts
+by-kind limits kind.Day row e starts = of-order limits kind.Day e starts
+by-kind limits kind.End row e starts = of-order limits kind.End e starts
 
-of-first : (r : Result Kind TableFaultKind) (row : List (List ℕ)) (e : TableFaultKind) → IfErr r (Contains faults_of_any)
-    → StartsWith (r >>= λ k. check (is_run k) fault.KindOrder >>= λ u. run_terms row) (Err e) → Contains (faults_of r) e
-of-first (Ok k) row e h starts = by-kind k row e starts
-of-first (Err f) row e h starts = let is : f ≡ e = cc in subst (Contains faults_of_any) is h
+of-first : (limits : LimitSet) (r : Result Kind TableFaultKind) (row : List (List ℕ)) (e : TableFaultKind) → IfErr r (Contains faults_of_any)
+    → StartsWith limits (r >>= λ k. check (is_run k) fault.KindOrder >>= λ u. run_terms limits row) (Err e) → Contains (faults_of r) e
+of-first limits (Ok k) row e h starts = by-kind limits k row e starts
+of-first limits (Err f) row e h starts = let is : f ≡ e = cc in subst (Contains faults_of_any) is h
 
-pub first-listed : (row : List (List ℕ)) (e : TableFaultKind) → Starts row (Err e) → IsListedFault row e
+pub first-listed : (limits : LimitSet) (row : List (List ℕ)) (e : TableFaultKind) → Starts limits row (Err e) → IsListedFault row e
 unfolding first_terms
-first-listed row e starts = of-first (kind_of_row row) row e (no-kind row) starts
+first-listed limits row e starts = of-first limits (kind_of_row row) row e (no-kind row) starts
 
 pub listed : (row : List (List ℕ)) → HasListedFaults row
-listed row = record { first = first-listed row; later = λ s. later-listed s row }
+listed row = record { first = λ limits. first-listed limits row; later = λ s. later-listed s row }
 
 -- ---- the numbers rise
 
@@ -512,6 +513,6 @@ later_no_read_fault s row k tells is = by (row_after s row) (later-listed s row)
     by (Ok t) h e = cc
     by (Err f) h e = let same : f ≡ fault.ReadFault = cc in unlisted row fault.ReadFault refl (subst (IsListedFault row) same h)
 
-pub first_no_read_fault : (row : List (List ℕ)) (k : TableFaultKind) → UnlessMemory k (Starts row (Err k)) → k ≡ fault.ReadFault → ⊥
-first_no_read_fault row k starts is = unlisted row fault.ReadFault refl (first-listed row fault.ReadFault
-    (subst (λ (x : TableFaultKind). UnlessMemory x (Starts row (Err x))) is starts))
+pub first_no_read_fault : (limits : LimitSet) (row : List (List ℕ)) (k : TableFaultKind) → UnlessMemory k (Starts limits row (Err k)) → k ≡ fault.ReadFault → ⊥
+first_no_read_fault limits row k starts is = unlisted row fault.ReadFault refl (first-listed limits row fault.ReadFault
+    (subst (λ (x : TableFaultKind). UnlessMemory x (Starts limits row (Err x))) is starts))

@@ -12,6 +12,7 @@ use Rattle.mrp_validation.specs.declared.fault.TableFault.{TableFault}
 use Rattle.mrp_validation.specs.declared.fault.TableFaultKind.{TableFaultKind}
 use Rattle.mrp_validation.specs.Grammar.{RunTerms}
 use Rattle.mrp_validation.specs.Reading.{first_terms, IsCalendarOf, read_from, Reads, started, Starts, StartsWith}
+use Rattle.mrp_qty.specs.declared.limits.LimitSet.{LimitSet}
 
 -- ---- the calendar of a run
 
@@ -64,16 +65,16 @@ one_calendar t (Err cal.PastEnd) (Err cal.PastEnd) h k = refl
 
 -- ---- the rows
 
-one_start : (terms : Result RunTerms TableFaultKind) (a b : Result Table TableFaultKind) → StartsWith terms a → StartsWith terms b → a ≡ b
-one_start (Ok t) a b h k = h.2 ∙ ap started (one_calendar t h.0 k.0 h.1 k.1) ∙ sym k.2
-one_start (Err e) a b h k = h ∙ sym k
+one_start : (limits : LimitSet) (terms : Result RunTerms TableFaultKind) (a b : Result Table TableFaultKind) → StartsWith limits terms a → StartsWith limits terms b → a ≡ b
+one_start limits (Ok t) a b h k = h.2 ∙ ap (started limits) (one_calendar t h.0 k.0 h.1 k.1) ∙ sym k.2
+one_start limits (Err e) a b h k = h ∙ sym k
 
 -- a first row makes one table, or has one fault
-pub starts_one_way : (row : List (List ℕ)) (a b : Result Table TableFaultKind) → Starts row a → Starts row b → a ≡ b
-starts_one_way row a b h k = one_start (first_terms row) a b h k
+pub starts_one_way : (limits : LimitSet) (row : List (List ℕ)) (a b : Result Table TableFaultKind) → Starts limits row a → Starts limits row b → a ≡ b
+starts_one_way limits row a b h k = one_start limits (first_terms limits row) a b h k
 
 -- rows make one table, or have one fault
-pub reads_one_way : (rows : List (List (List ℕ))) (a b : Result Table TableFault) → Reads rows a → Reads rows b → a ≡ b
-reads_one_way [] a b h k = h ∙ sym k
-reads_one_way (row ∷ rows) a b h k =
-    h.2 ∙ ap (λ (start : Result Table TableFaultKind). read_from start rows) (starts_one_way row h.0 k.0 h.1 k.1) ∙ sym k.2
+pub reads_one_way : (limits : LimitSet) (rows : List (List (List ℕ))) (a b : Result Table TableFault) → Reads limits rows a → Reads limits rows b → a ≡ b
+reads_one_way limits [] a b h k = h ∙ sym k
+reads_one_way limits (row ∷ rows) a b h k =
+    h.2 ∙ ap (λ (start : Result Table TableFaultKind). read_from start rows) (starts_one_way limits row h.0 k.0 h.1 k.1) ∙ sym k.2

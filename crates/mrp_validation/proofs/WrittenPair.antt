@@ -8,7 +8,6 @@ use Rattle.std.proofs.lemmas.List.{get_or_append_left, length_push}
 use Rattle.std.proofs.lemmas.List.Elements.{All-head, All-tail}
 use Rattle.std.proofs.lemmas.Slice.Eq.{bytes_eq-Decides}
 use Rattle.std.specs.Prelude.{decimal}
-use Rattle.mrp_lot.specs.declared.rule.TheConstants.{LONGEST_LEAD}
 use Rattle.mrp_master_data.specs.Spelling.{rule_text}
 use Rattle.mrp_master_data.specs.Supplies.{BuyTerms, FromTerms, MakeTerms, SourceTerms, supply_text, SupplyTerms}
 use Rattle.mrp_master_data.specs.SupplyParsing.{named_sources}
@@ -31,6 +30,8 @@ use Rattle.mrp_validation.proofs.KeepingLists.{position_last, position-from_any}
 use Rattle.mrp_validation.proofs.KeepingPair.{Fitting, item_added, new_kept, no_place, old_kept, place_within}
 use Rattle.mrp_validation.proofs.KeepingShares.{pair_terms_read, SpellsPair}
 use Rattle.mrp_validation.proofs.WrittenFields.{all_used, fields_same, IsOfKind, name_text, named_at, plant_found, ranged_text}
+use Rattle.mrp_qty.specs.declared.limits.LimitSet.{LimitSet}
+use Rattle.mrp_qty.specs.Limits.{limits_of}
 
 -- ---- what a pair row spells
 
@@ -43,14 +44,14 @@ pub record PairSaid (row : List (List ℕ)) (t : PairTerms) : Type 0 where
   pub on_hand : field row 6 ≡ decimal t.on_hand
   pub safety : field row 7 ≡ decimal t.safety
 
-pub pair_terms_said : (row : List (List ℕ)) (t : PairTerms) → pair_terms row ≡ Ok t → PairSaid row t
-pair_terms_said row t is =
-    let read = pair_terms_read row t is in record {
+pub pair_terms_said : (limits : LimitSet) (row : List (List ℕ)) (t : PairTerms) → pair_terms limits row ≡ Ok t → PairSaid row t
+pair_terms_said limits row t is =
+    let read = pair_terms_read limits row t is in record {
       plant = name_text (field row 1) t.plant read.plant;
       item = name_text (field row 2) t.item read.item;
       supply = supply_is_text (field row 3) t.supply read.supply;
-      rule = rule_is_text (field row 4) t.rule read.rule;
-      lead = ranged_text (field row 5) 0 LONGEST_LEAD t.lead read.lead;
+      rule = rule_is_text (limits_of limits).periods (field row 4) t.rule read.rule;
+      lead = ranged_text (field row 5) 0 (limits_of limits).lead t.lead read.lead;
       on_hand = ranged_text (field row 6) 0 MOST_IN_ROW t.on_hand read.on_hand;
       safety = ranged_text (field row 7) 0 MOST_IN_ROW t.safety read.safety;
     }
@@ -150,7 +151,7 @@ pairs_push N x [] p y e = let here : x ≡ y = omega (arith, e) in ap (λ z. pai
 pairs_push N x (q ∷ qs) p y e = ap (λ l. pair_fields N x q ∷ l) (pairs_push N (x + 1) qs p y (omega (arith, e)))
 
 module _ (N : Table) (plant : PlantNo) (t : PairTerms) (read : IsRead N) (once : IsOnce N) (sourced : IsSourced N) (fit : Fitting N t plant)
-    (says : SpellsPair t) where
+    (says : SpellsPair N.limits t) where
   abbrev M : Table
   M = with_pair_terms N plant t
 

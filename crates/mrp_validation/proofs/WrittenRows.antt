@@ -4,13 +4,11 @@ use Rattle.std.specs.Prelude.{decimal}
 use Rattle.mrp_cal.specs.Calendar.{CalendarTerms, IsCalendar}
 use Rattle.mrp_cal.specs.Made.{IsCalendarFrom}
 use Rattle.mrp_cal.specs.Days.{day_text}
-use Rattle.mrp_lot.specs.declared.rule.TheConstants.{LONGEST_LEAD}
-use Rattle.mrp_qty.specs.declared.horizon.TheConstants.{LONGEST}
 use Rattle.mrp_qty.specs.declared.quantity.TheConstants.{MOST}
 use Rattle.mrp_master_data.specs.Parsing.{spelled_number}
 use Rattle.mrp_master_data.specs.declared.numbers.PairNo.{PairNo}
 use Rattle.mrp_master_data.specs.declared.numbers.PlantNo.{PlantNo}
-use Rattle.mrp_qty.specs.declared.limits.TheConstants.{MOST_IN_ROW, MOST_PER, MOST_PLANTS}
+use Rattle.mrp_qty.specs.declared.limits.TheConstants.{MOST_IN_ROW, MOST_PER}
 use Rattle.mrp_master_data.specs.declared.rows.BillRow.{BillRow}
 use Rattle.mrp_master_data.specs.declared.rows.CumRow.{CumRow}
 use Rattle.mrp_master_data.specs.declared.rows.DemandRow.{DemandRow}
@@ -41,6 +39,9 @@ use Rattle.mrp_validation.proofs.KeepingSteps.{after, after_check, after_some, s
 use Rattle.mrp_validation.proofs.WrittenDay.{first_text}
 use Rattle.mrp_validation.proofs.WrittenFields.{all_used, AreFree, five_used, four_used, IsNamed, IsOfKind, name_text, number_is_text, of_kind, pair_found, plant_found}
 use Rattle.mrp_validation.proofs.WrittenFields.{ranged_text, seven_used, six_used, two_used, word_of}
+use Rattle.mrp_qty.specs.declared.limits.LimitSet.{LimitSet}
+use Rattle.mrp_qty.specs.Limits.{limits_of}
+use Rattle.mrp_master_data.specs.Table.{most}
 
 -- ---- plants
 
@@ -49,7 +50,7 @@ unfolding plant_in_row
 name_said N row name is =
     let a = after (plant_terms row) _ name is in
     let b = after_check (not (has_plant N a.0)) _ _ name a.2 in
-    let c = after_check (ltb (length N.plants) MOST_PLANTS) _ _ name b.1 in
+    let c = after_check (ltb (length N.plants) (most N).plants) _ _ name b.1 in
     name_text (field row 1) a.0 a.1 ∙ same_Ok a.0 name c.1
 
 pub plant_said : (N : Table) (row : List (List ℕ)) (name : List ℕ) → IsOfKind row kind.Plant → plant_in_row N row ≡ Ok name → row ≡ plant_fields name
@@ -163,14 +164,14 @@ record PolicySaid (row : List (List ℕ)) (t : PolicyTerms) : Type 0 where
   least : field row 6 ≡ decimal t.least
   multiple : field row 7 ≡ decimal t.multiple
 
-policy_terms_said : (row : List (List ℕ)) (periods : ℕ) (t : PolicyTerms) → policy_terms row periods ≡ Ok t → PolicySaid row t
-policy_terms_said row periods t is =
-    let read = policy_terms_read row periods t is in record {
+policy_terms_said : (limits : LimitSet) (row : List (List ℕ)) (periods : ℕ) (t : PolicyTerms) → policy_terms limits row periods ≡ Ok t → PolicySaid row t
+policy_terms_said limits row periods t is =
+    let read = policy_terms_read limits row periods t is in record {
       plant = name_text (field row 1) t.plant read.plant;
       item = name_text (field row 2) t.item read.item;
       fence = ranged_text (field row 3) 0 (periods - 1) t.fence read.fence;
-      sooner = ranged_text (field row 4) 0 LONGEST_LEAD t.sooner read.sooner;
-      cover = ranged_text (field row 5) 0 LONGEST_LEAD t.cover read.cover;
+      sooner = ranged_text (field row 4) 0 (limits_of limits).lead t.sooner read.sooner;
+      cover = ranged_text (field row 5) 0 (limits_of limits).lead t.cover read.cover;
       least = ranged_text (field row 6) 0 MOST_IN_ROW t.least read.least;
       multiple = ranged_text (field row 7) 0 MOST_IN_ROW t.multiple read.multiple;
     }
@@ -178,7 +179,7 @@ policy_terms_said row periods t is =
 pub policy_said : (N : Table) (row : List (List ℕ)) (x : PolicyRow) → IsOfKind row kind.Policy → policy_of N row ≡ Ok x → row ≡ policy_fields N x
 policy_said N row x k is =
     let p = policy_parts N row x is in
-    let says = policy_terms_said row (horizon N) p.terms p.read in
+    let says = policy_terms_said N.limits row (horizon N) p.terms p.read in
     let names = known_said N p.terms.plant p.terms.item p.found p.known in
     subst (λ (z : PolicyRow). row ≡ policy_fields N z) p.same (all_used row _ _ _ _ _ _ _ _ k.size k.word (says.plant ∙ names.plant)
     (says.item ∙ names.item) says.fence says.sooner says.cover says.least says.multiple)
@@ -302,13 +303,13 @@ record RunSaid (row : List (List ℕ)) (t : RunTerms) : Type 0 where
   days : field row 2 ≡ decimal t.days
   periods : field row 3 ≡ decimal t.periods
 
-run_terms_said : (row : List (List ℕ)) (t : RunTerms) → run_terms row ≡ Ok t → RunSaid row t
+run_terms_said : (limits : LimitSet) (row : List (List ℕ)) (t : RunTerms) → run_terms limits row ≡ Ok t → RunSaid row t
 unfolding run_terms
-run_terms_said row t is =
+run_terms_said limits row t is =
     let a = after_some (spelled_number (field row 2)) _ _ t is in
-    let b = after (ranged (field row 3) 1 LONGEST) _ t a.2 in
+    let b = after (ranged (field row 3) 1 (limits_of limits).periods) _ t a.2 in
     let same : record { first = field row 1; days = a.0; periods = b.0 } ≡ t = same_Ok _ t b.2 in
-    subst (RunSaid row) same (record { first = refl; days = number_is_text (field row 2) a.0 a.1; periods = ranged_text (field row 3) 1 LONGEST b.0 b.1 })
+    subst (RunSaid row) same (record { first = refl; days = number_is_text (field row 2) a.0 a.1; periods = ranged_text (field row 3) 1 (limits_of limits).periods b.0 b.1 })
 
 run_kind : (k : Kind) → is_run k ≡ true → k ≡ kind.Run
 run_kind kind.Run e = refl
@@ -327,13 +328,13 @@ run_kind kind.Vendor e = absurd (cc)
 run_kind kind.Day e = absurd (cc)
 run_kind kind.End e = absurd (cc)
 
-pub run_said : (row : List (List ℕ)) (t : RunTerms) (c : CalendarTerms) → first_terms row ≡ Ok t → IsCalendarFrom t.first t.days t.periods c → IsCalendar c
+pub run_said : (limits : LimitSet) (row : List (List ℕ)) (t : RunTerms) (c : CalendarTerms) → first_terms limits row ≡ Ok t → IsCalendarFrom t.first t.days t.periods c → IsCalendar c
     → row ≡ run_fields c
 unfolding first_terms
-run_said row t c is from calendar =
+run_said limits row t c is from calendar =
     let a = after (kind_of_row row) _ t is in
     let b = after_check (is_run a.0) _ _ t a.2 in
     let k = of_kind row kind.Run (a.1 ∙ ap (λ (k : Kind). Ok k) (run_kind a.0 b.0)) in
-    let says = run_terms_said row t b.1 in
+    let says = run_terms_said limits row t b.1 in
     four_used row _ (day_text c.first) (decimal c.days) (decimal c.periods) k.size k.word k.free
     (says.first ∙ first_text t.first c from.first) (says.days ∙ ap decimal (sym from.days)) (says.periods ∙ ap decimal (sym from.periods))

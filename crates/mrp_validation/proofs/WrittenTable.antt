@@ -40,6 +40,7 @@ use Rattle.mrp_validation.proofs.WrittenPair.{pair_numbered, pair_terms_said, pa
 use Rattle.mrp_validation.proofs.WrittenRows.{bill_said, cum_said, demand_said, firm_said, plant_said, policy_said, receipt_said, reset_said, run_said, ship_said}
 use Rattle.mrp_validation.proofs.WrittenRows.{usage_said}
 use Rattle.mrp_validation.proofs.WrittenVendor.{vendor_said}
+use Rattle.mrp_qty.specs.declared.limits.LimitSet.{LimitSet}
 
 abbrev Row : Type 0
 Row = List (List ℕ)
@@ -186,6 +187,7 @@ IsNumbered N = AreNumbered 0 N.pairs (length N.items)
 
 -- the table with a row more, written out, has that row more
 record Adds (N M : Table) (k : Kind) (row : Row) : Type 0 where
+  limits : M.limits ≡ N.limits
   calendar : run_fields M.calendar ≡ run_fields N.calendar
   numbered : IsNumbered N → IsNumbered M
   rows : later_rows M ≡ later_rows N ++ row ∷ []
@@ -211,6 +213,7 @@ module _ (N : Table) (row : Row) where
         ended = fresh.ended;
       } in
       record {
+        limits = refl;
         calendar = refl;
         numbered = λ h. h;
         rows = at_ends _ (map plant_fields N.plants) _ (from_pairs N) row (map_push plant_fields N.plants x row (plant_said N row x k is))
@@ -237,6 +240,7 @@ module _ (N : Table) (row : Row) where
         ended = fresh.ended;
       } in
       record {
+        limits = refl;
         calendar = refl;
         numbered = λ h. h;
         rows = behind (map plant_fields N.plants) _ _ row (behind (pair_rows N 0 N.pairs) _ _ row
@@ -264,6 +268,7 @@ module _ (N : Table) (row : Row) where
         ended = fresh.ended;
       } in
       record {
+        limits = refl;
         calendar = refl;
         numbered = λ h. h;
         rows = behind (map plant_fields N.plants) _ _ row (behind (pair_rows N 0 N.pairs) _ _ row (behind (map (bill_fields N) N.bills) _ _ row
@@ -291,6 +296,7 @@ module _ (N : Table) (row : Row) where
         ended = fresh.ended;
       } in
       record {
+        limits = refl;
         calendar = refl;
         numbered = λ h. h;
         rows = behind (map plant_fields N.plants) _ _ row (behind (pair_rows N 0 N.pairs) _ _ row
@@ -319,6 +325,7 @@ module _ (N : Table) (row : Row) where
         ended = fresh.ended;
       } in
       record {
+        limits = refl;
         calendar = refl;
         numbered = λ h. h;
         rows = behind (map plant_fields N.plants) _ _ row (behind (pair_rows N 0 N.pairs) _ _ row
@@ -348,6 +355,7 @@ module _ (N : Table) (row : Row) where
         ended = fresh.ended;
       } in
       record {
+        limits = refl;
         calendar = refl;
         numbered = λ h. h;
         rows = behind (map plant_fields N.plants) _ _ row (behind (pair_rows N 0 N.pairs) _ _ row
@@ -377,6 +385,7 @@ module _ (N : Table) (row : Row) where
         ended = fresh.ended;
       } in
       record {
+        limits = refl;
         calendar = refl;
         numbered = λ h. h;
         rows = behind (map plant_fields N.plants) _ _ row (behind (pair_rows N 0 N.pairs) _ _ row
@@ -406,6 +415,7 @@ module _ (N : Table) (row : Row) where
         ended = fresh.ended;
       } in
       record {
+        limits = refl;
         calendar = refl;
         numbered = λ h. h;
         rows = behind (map plant_fields N.plants) _ _ row (behind (pair_rows N 0 N.pairs) _ _ row
@@ -436,6 +446,7 @@ module _ (N : Table) (row : Row) where
         ended = fresh.ended;
       } in
       record {
+        limits = refl;
         calendar = refl;
         numbered = λ h. h;
         rows = behind (map plant_fields N.plants) _ _ row (behind (pair_rows N 0 N.pairs) _ _ row
@@ -466,6 +477,7 @@ module _ (N : Table) (row : Row) where
         ended = fresh.ended;
       } in
       record {
+        limits = refl;
         calendar = refl;
         numbered = λ h. h;
         rows = behind (map plant_fields N.plants) _ _ row (behind (pair_rows N 0 N.pairs) _ _ row
@@ -497,6 +509,7 @@ module _ (N : Table) (row : Row) where
         ended = fresh.ended;
       } in
       record {
+        limits = refl;
         calendar = refl;
         numbered = λ h. h;
         rows = behind (map plant_fields N.plants) _ _ row (behind (pair_rows N 0 N.pairs) _ _ row
@@ -528,6 +541,7 @@ module _ (N : Table) (row : Row) where
       } in
       let said = day_said N row c k is in
       record {
+        limits = refl;
         calendar = said.run;
         numbered = λ h. h;
         rows = behind (map plant_fields N.plants) _ _ row (behind (pair_rows N 0 N.pairs) _ _ row
@@ -544,6 +558,7 @@ module _ (N : Table) (row : Row) where
 
   end_adds : N.ended ≡ false → (rows : ℕ) → IsOfKind row kind.End → end_in_row N row ≡ Ok rows → Adds N (with_end N) kind.End row
   end_adds unended rows k is = record {
+    limits = refl;
     calendar = refl;
     numbered = λ h. h;
     rows = behind (map plant_fields N.plants) _ _ row (behind (pair_rows N 0 N.pairs) _ _ row
@@ -573,12 +588,13 @@ module _ (N : Table) (row : Row) where
 -- a pair, with its item and its sources
 pair_adds : (N M : Table) (last : Kind) (row : Row) → IsReadSoFar N last → IsFresh N 2 → IsOfKind row kind.Pair → pair_row N row ≡ Ok M → Adds N M kind.Pair row
 pair_adds N M last row so_far fresh k is =
-    let a = after (pair_terms row) _ M is in
+    let a = after (pair_terms N.limits row) _ M is in
     let b = after (pair_fits N a.0) _ M a.2 in
     let same : with_pair_terms N b.0 a.0 ≡ M = same_Ok _ M b.2 in
     let fit = fits N a.0 b.0 b.1 in
-    let pairs = pairs_written N b.0 a.0 so_far.read so_far.once so_far.sourced fit (pair_terms_are row a.0 a.1) row k (pair_terms_said row a.0 a.1) in
+    let pairs = pairs_written N b.0 a.0 so_far.read so_far.once so_far.sourced fit (pair_terms_are N.limits row a.0 a.1) row k (pair_terms_said N.limits row a.0 a.1) in
     subst (λ (m : Table). Adds N m kind.Pair row) same (record {
+      limits = refl;
       calendar = refl;
       numbered = pair_numbered N b.0 a.0;
       rows = behind (map plant_fields N.plants) _ _ row
@@ -649,6 +665,7 @@ row_after_adds s t row so_far fresh is =
 -- ---- the rows one after the other
 
 record AddsAll (N M : Table) (rows : List Row) : Type 0 where
+  limits : M.limits ≡ N.limits
   calendar : run_fields M.calendar ≡ run_fields N.calendar
   numbered : IsNumbered N → IsNumbered M
   written : later_rows M ≡ later_rows N ++ rows
@@ -658,13 +675,14 @@ rows_add : (rows : List Row) (number : ℕ) (s : Table × Kind) (M : Table) → 
 unfolding rows_after
 rows_add [] number s M so_far fresh e =
     let same : s.0 ≡ M = cc in
-    subst (λ (m : Table). AddsAll s.0 m []) same (record { calendar = refl; numbered = λ h. h; written = sym (append-nil (later_rows s.0)) })
+    subst (λ (m : Table). AddsAll s.0 m []) same (record { limits = refl; calendar = refl; numbered = λ h. h; written = sym (append-nil (later_rows s.0)) })
 rows_add (row ∷ rows) number s M so_far fresh e =
     let a = went_on (at_row number (row_after s row)) (λ t. rows_after (number + 1) t rows) M e in
     let one = was_read number (row_after s row) a.0 a.1 in
     let adds = row_after_adds s a.0 row so_far fresh one in
     let rest = rows_add rows (number + 1) a.0 M (row_after_keeps s a.0 row so_far one) adds.fresh a.2 in
     record {
+      limits = rest.limits ∙ adds.limits;
       calendar = rest.calendar ∙ adds.calendar;
       numbered = λ h. rest.numbered (adds.numbered h);
       written = rest.written ∙ ap (λ l. l ++ rows) adds.rows ∙ append_assoc (later_rows s.0) (row ∷ []) rows;
@@ -672,18 +690,20 @@ rows_add (row ∷ rows) number s M so_far fresh e =
 
 -- ---- the first row
 
-record HasRun (N : Table) (row : Row) : Type 0 where
+record HasRun (limits : LimitSet) (N : Table) (row : Row) : Type 0 where
+  same : N.limits ≡ limits
   run : row ≡ run_fields N.calendar
   empty : later_rows N ≡ []
   numbered : IsNumbered N
   fresh : IsFresh N 0
 
-run_has : (N : Table) (row : Row) (t : RunTerms) (c : Result CalendarTerms CalFault) → first_terms row ≡ Ok t → IsCalendarOf t c → Ok N ≡ started c
-    → HasRun N row
-run_has N row t (Ok c) is says e =
-    let same : empty_table c ≡ N = cc in
-    subst (λ (m : Table). HasRun m row) same (record {
-      run = run_said row t c is says.0 says.1;
+run_has : (limits : LimitSet) (N : Table) (row : Row) (t : RunTerms) (c : Result CalendarTerms CalFault) → first_terms limits row ≡ Ok t → IsCalendarOf t c → Ok N ≡ started limits c
+    → HasRun limits N row
+run_has limits N row t (Ok c) is says e =
+    let same : empty_table limits c ≡ N = cc in
+    subst (λ (m : Table). HasRun limits m row) same (record {
+      same = refl;
+      run = run_said limits row t c is says.0 says.1;
       empty = none _ [] (ap (map day_fields) says.0.begun) refl;
       numbered = refl;
       fresh = record {
@@ -703,42 +723,47 @@ run_has N row t (Ok c) is says e =
         ended = λ lt. refl;
       };
     })
-run_has N row t (Err f) is says e = absurd (cc)
+run_has limits N row t (Err f) is says e = absurd (cc)
 
-start_has : (N : Table) (row : Row) (terms : Result RunTerms TableFaultKind) → first_terms row ≡ terms → StartsWith terms (Ok N) → HasRun N row
-start_has N row (Ok t) is s = run_has N row t s.0 is s.1 s.2
-start_has N row (Err e) is s = absurd (cc s)
+start_has : (limits : LimitSet) (N : Table) (row : Row) (terms : Result RunTerms TableFaultKind) → first_terms limits row ≡ terms → StartsWith limits terms (Ok N) → HasRun limits N row
+start_has limits N row (Ok t) is s = run_has limits N row t s.0 is s.1 s.2
+start_has limits N row (Err e) is s = absurd (cc s)
 
 -- ---- the whole table
 
-record IsWritten (rows : List Row) (N : Table) : Type 0 where
+record IsWritten (limits : LimitSet) (rows : List Row) (N : Table) : Type 0 where
+  same : N.limits ≡ limits
   rows_are : rows ≡ rows_of N
   numbered : IsNumbered N
 
-whole_written : (start : Result Table TableFaultKind) (row : Row) (rows : List Row) (N : Table) → Starts row start → Ok N ≡ read_from start rows
-    → IsWritten (row ∷ rows) N
-whole_written (Ok first) row rows N starts e =
+whole_written : (limits : LimitSet) (start : Result Table TableFaultKind) (row : Row) (rows : List Row) (N : Table) → Starts limits row start → Ok N ≡ read_from start rows
+    → IsWritten limits (row ∷ rows) N
+whole_written limits (Ok first) row rows N starts e =
     let a = went_on (rows_after 2 (first, kind.Run) rows) waiting N (sym e) in
     let w = waited a.0 N (first_lacking a.0 a.0.sources) a.2 in
-    let has = start_has first row (first_terms row) refl starts in
-    let all = rows_add rows 2 (first, kind.Run) a.0 (first_keeps first row starts) has.fresh a.1 in
+    let has = start_has limits first row (first_terms limits row) refl starts in
+    let all = rows_add rows 2 (first, kind.Run) a.0 (first_keeps limits first row starts) has.fresh a.1 in
     let head : row ≡ run_fields a.0.calendar = has.run ∙ sym all.calendar in
     let rest : rows ≡ later_rows a.0 = sym (all.written ∙ ap (λ l. l ++ rows) has.empty) in
-    subst (IsWritten (row ∷ rows)) w.1 (record {
+    subst (IsWritten limits (row ∷ rows)) w.1 (record {
+      same = all.limits ∙ has.same;
       rows_are = ap (λ r. r ∷ rows) head ∙ ap (λ l. run_fields a.0.calendar ∷ l) rest;
       numbered = all.numbered has.numbered;
     })
-whole_written (Err k) row rows N starts e = absurd (cc)
+whole_written limits (Err k) row rows N starts e = absurd (cc)
 
-is_written : (rows : List Row) (N : Table) → Reads rows (Ok N) → IsWritten rows N
-is_written [] N e = absurd (cc)
-is_written (row ∷ rows) N reads = whole_written reads.0 row rows N reads.1 reads.2
+is_written : (limits : LimitSet) (rows : List Row) (N : Table) → Reads limits rows (Ok N) → IsWritten limits rows N
+is_written limits [] N e = absurd (cc)
+is_written limits (row ∷ rows) N reads = whole_written limits reads.0 row rows N reads.1 reads.2
 
-pub written_out : (rows : List Row) (N : Table) → Reads rows (Ok N) → rows ≡ rows_of N
-written_out rows N reads = (is_written rows N reads).rows_are
+pub limits_written : (limits : LimitSet) (rows : List Row) (N : Table) → Reads limits rows (Ok N) → N.limits ≡ limits
+limits_written limits rows N reads = (is_written limits rows N reads).same
 
-pub one_list : (a b : List Row) (N : Table) → Reads a (Ok N) → Reads b (Ok N) → a ≡ b
-one_list a b N ra rb = written_out a N ra ∙ sym (written_out b N rb)
+pub written_out : (limits : LimitSet) (rows : List Row) (N : Table) → Reads limits rows (Ok N) → rows ≡ rows_of N
+written_out limits rows N reads = (is_written limits rows N reads).rows_are
 
-pub items_numbered : (rows : List Row) (N : Table) → Reads rows (Ok N) → AreNumbered 0 N.pairs (length N.items)
-items_numbered rows N reads = (is_written rows N reads).numbered
+pub one_list : (limits : LimitSet) (a b : List Row) (N : Table) → Reads limits a (Ok N) → Reads limits b (Ok N) → a ≡ b
+one_list limits a b N ra rb = written_out limits a N ra ∙ sym (written_out limits b N rb)
+
+pub items_numbered : (limits : LimitSet) (rows : List Row) (N : Table) → Reads limits rows (Ok N) → AreNumbered 0 N.pairs (length N.items)
+items_numbered limits rows N reads = (is_written limits rows N reads).numbered

@@ -8,6 +8,7 @@ use Rattle.mrp_validation.specs.declared.fault.TableFaultKind.{TableFaultKind}
 use Rattle.mrp_validation.specs.declared.fault.TableFaultKind.TheVariants as fault
 use Rattle.mrp_validation.specs.declared.kind.Kind.{Kind}
 use Rattle.mrp_validation.specs.declared.kind.Kind.TheVariants as kind
+use Rattle.mrp_qty.specs.declared.limits.LimitSet.{LimitSet}
 use Rattle.mrp_validation.specs.Reading.{kind_of_row, row_after, Starts}
 
 -- the number of a fault: its place in the order of the tests. A failed read comes before all of a row, and after its
@@ -99,5 +100,5 @@ IsListedFault row e = Contains (faults_of (kind_of_row row)) e
 
 -- whatever the rows above, a row is refused for a fault of its list, as the first row and as a later one
 pub record HasListedFaults (row : List (List ℕ)) : Type 0 where
-  pub first : (e : TableFaultKind) → Starts row (Err e) → IsListedFault row e
+  pub first : (limits : LimitSet) (e : TableFaultKind) → Starts limits row (Err e) → IsListedFault row e
   pub later : (s : Table × Kind) → IfErr (row_after s row) (IsListedFault row)

@@ -7,12 +7,12 @@ use Rattle.std.specs.List.{list_all, list_any}
 use Rattle.std.specs.Str.{bytes_eq}
 use Rattle.csv.specs.Records.{field_at}
 use Rattle.mrp_qty.specs.declared.quantity.TheConstants.{MOST}
-use Rattle.mrp_qty.specs.declared.horizon.TheConstants.{LONGEST}
+use Rattle.mrp_qty.specs.Limits.{limits_of}
+use Rattle.mrp_qty.specs.declared.limits.LimitSet.{LimitSet}
 use Rattle.mrp_cal.specs.Begins.{begins, latest_begun}
 use Rattle.mrp_cal.specs.Calendar.{CalendarTerms}
 use Rattle.mrp_cal.specs.declared.fault.CalFault.{CalFault}
 use Rattle.mrp_lot.specs.declared.rule.Rule.{Rule}
-use Rattle.mrp_lot.specs.declared.rule.TheConstants.{LONGEST_LEAD}
 use Rattle.mrp_master_data.specs.declared.spelled_supplies.SupplyFault.{SupplyFault}
 use Rattle.mrp_master_data.specs.declared.spelled_supplies.SupplyFault.TheVariants as refused
 use Rattle.mrp_master_data.specs.Supplies.{SourceTerms, SupplyTerms, MakeTerms, BuyTerms, FromTerms}
@@ -22,8 +22,7 @@ use Rattle.mrp_validation.specs.declared.fault.TableFaultKind.{TableFaultKind}
 use Rattle.mrp_validation.specs.declared.fault.TableFaultKind.TheVariants as fault
 use Rattle.mrp_validation.specs.declared.kind.Kind.{Kind}
 use Rattle.mrp_validation.specs.declared.kind.Kind.TheVariants as kind
-use Rattle.mrp_qty.specs.declared.limits.TheConstants.{MOST_BILLS, MOST_IN_ROW, MOST_OF_A_KIND, MOST_PAIRS, MOST_PER}
-use Rattle.mrp_qty.specs.declared.limits.TheConstants.{MOST_PLANTS, MOST_USAGES}
+use Rattle.mrp_qty.specs.declared.limits.TheConstants.{MOST_IN_ROW, MOST_PER}
 use Rattle.mrp_master_data.specs.declared.rows.Supply.{Supply}
 use Rattle.mrp_master_data.specs.declared.rows.Supply.TheVariants as supply
 use Rattle.mrp_master_data.specs.declared.rows.BillRow.{BillRow}
@@ -38,7 +37,7 @@ use Rattle.mrp_master_data.specs.declared.rows.UsageRow.{UsageRow}
 use Rattle.mrp_master_data.specs.declared.numbers.PlantNo.{PlantNo}
 use Rattle.mrp_master_data.specs.declared.numbers.PairNo.{PairNo}
 use Rattle.mrp_master_data.specs.Rows.{Vendor}
-use Rattle.mrp_master_data.specs.Table.{Table, horizon}
+use Rattle.mrp_master_data.specs.Table.{Table, horizon, most}
 use Rattle.mrp_master_data.specs.declared.rows.PairRow.{PairRow}
 use Rattle.mrp_master_data.specs.declared.rows.SourceRow.{SourceRow}
 use Rattle.mrp_master_data.specs.Table.{arrivals, is_joined, is_taken_from, rises_from}
@@ -239,13 +238,13 @@ pub record PolicyTerms : Type 0 where
   pub least : ℕ
   pub multiple : ℕ
 
-unfoldable pub policy_terms : List (List ℕ) → ℕ → Result PolicyTerms TableFaultKind
-policy_terms row periods = do
+unfoldable pub policy_terms : LimitSet → List (List ℕ) → ℕ → Result PolicyTerms TableFaultKind
+policy_terms limits row periods = do
   plant ← name_field (field row 1)
   item ← name_field (field row 2)
   fence ← ranged (field row 3) 0 (periods - 1)
-  sooner ← ranged (field row 4) 0 LONGEST_LEAD
-  cover ← ranged (field row 5) 0 LONGEST_LEAD
+  sooner ← ranged (field row 4) 0 (limits_of limits).lead
+  cover ← ranged (field row 5) 0 (limits_of limits).lead
   least ← ranged (field row 6) 0 MOST_IN_ROW
   multiple ← ranged (field row 7) 0 MOST_IN_ROW
   Ok (record {
@@ -337,14 +336,14 @@ pub record PairTerms : Type 0 where
   pub on_hand : ℕ
   pub safety : ℕ
 
-unfoldable pub pair_terms : List (List ℕ) → Result PairTerms TableFaultKind
-pair_terms row = do
+unfoldable pub pair_terms : LimitSet → List (List ℕ) → Result PairTerms TableFaultKind
+pair_terms limits row = do
   plant ← name_field (field row 1)
   item ← name_field (field row 2)
-  lead ← ranged (field row 5) 0 LONGEST_LEAD
+  lead ← ranged (field row 5) 0 (limits_of limits).lead
   on_hand ← ranged (field row 6) 0 MOST_IN_ROW
   safety ← ranged (field row 7) 0 MOST_IN_ROW
-  rule ← ok_or (rule_of (field row 4)) fault.BadRule
+  rule ← ok_or (rule_of (limits_of limits).periods (field row 4)) fault.BadRule
   supply ← ok_or (supply_of (field row 3)) fault.BadSupply
   Ok (record {
     plant = plant;
@@ -363,10 +362,10 @@ pub record RunTerms : Type 0 where
   pub days : ℕ
   pub periods : ℕ
 
-unfoldable pub run_terms : List (List ℕ) → Result RunTerms TableFaultKind
-run_terms row = do
+unfoldable pub run_terms : LimitSet → List (List ℕ) → Result RunTerms TableFaultKind
+run_terms limits row = do
   days ← ok_or (spelled_number (field row 2)) fault.BadNumber
-  periods ← ranged (field row 3) 1 LONGEST
+  periods ← ranged (field row 3) 1 (limits_of limits).periods
   Ok (record { first = field row 1; days = days; periods = periods })
 
 -- ---- what a row says, tested against the rows before it
@@ -403,7 +402,7 @@ bill_fits N t =
       x ← ok_or parent fault.UnknownPair
       y ← ok_or component fault.UnknownPair
       _ ← check (is_made N x) fault.NotMade
-      _ ← check (nat_lt (length N.bills) MOST_BILLS) fault.TooMany
+      _ ← check (nat_lt (length N.bills) (most N).bills) fault.TooMany
       Ok (record { parent = record { 0 = x }; component = record { 0 = y }; per = t.per })
 
 -- the plant that ships and the pair that it ships to: both plants and the pair have rows, and the pair is taken from
@@ -480,7 +479,7 @@ usage_fits N t =
       x ← ok_or parent fault.UnknownPair
       y ← ok_or component fault.UnknownPair
       _ ← check (is_joined N x y) fault.NotMade
-      _ ← check (nat_lt (length N.usages) MOST_USAGES) fault.TooMany
+      _ ← check (nat_lt (length N.usages) (most N).bills) fault.TooMany
       Ok (usage_made x y t)
 
 -- ---- the table with one row more, or the first fault of the row
@@ -490,7 +489,7 @@ unfoldable pub plant_in_row : Table → List (List ℕ) → Result (List ℕ) Ta
 plant_in_row N row = do
   name ← plant_terms row
   _ ← check (not (has_plant N name)) fault.Repeated
-  _ ← check (nat_lt (length N.plants) MOST_PLANTS) fault.TooMany
+  _ ← check (nat_lt (length N.plants) (most N).plants) fault.TooMany
   Ok name
 
 abbrev pub plant_row : Table → List (List ℕ) → Result Table TableFaultKind
@@ -512,7 +511,7 @@ pair_fits N t = do
   plant ← ok_or (plant_no N t.plant) fault.UnknownPlant
   _ ← check (knows_sources N (named_sources t.supply)) fault.UnknownPlant
   _ ← check (not (names_plant (named_sources t.supply) t.plant)) fault.SelfSource
-  _ ← check (nat_lt (length N.pairs) MOST_PAIRS) fault.TooMany
+  _ ← check (nat_lt (length N.pairs) (most N).pairs) fault.TooMany
   Ok (record { 0 = plant })
 
 -- a pair row with its item's place among the items
@@ -548,7 +547,7 @@ with_pair_terms N plant t = record N {
 }
 
 abbrev pub pair_row : Table → List (List ℕ) → Result Table TableFaultKind
-pair_row N row = pair_terms row >>= λ t. pair_fits N t >>= λ plant. Ok (with_pair_terms N plant t)
+pair_row N row = pair_terms N.limits row >>= λ t. pair_fits N t >>= λ plant. Ok (with_pair_terms N plant t)
 
 abbrev pub bill_of : Table → List (List ℕ) → Result BillRow TableFaultKind
 bill_of N row = bill_terms row >>= bill_fits N
@@ -568,16 +567,16 @@ abbrev pub receipt_made : PairNo → ℕ → ℕ → ReceiptRow
 receipt_made pair period quantity = record { pair = pair; period = period; quantity = quantity }
 
 unfoldable pub demand_of : Table → List (List ℕ) → Result DemandRow TableFaultKind
-demand_of N row = amount_row N row (nat_lt (length N.demands) MOST_OF_A_KIND) demand_made
+demand_of N row = amount_row N row (nat_lt (length N.demands) (most N).demands) demand_made
 
 unfoldable pub receipt_of : Table → List (List ℕ) → Result ReceiptRow TableFaultKind
-receipt_of N row = amount_row N row (nat_lt (length N.receipts) MOST_OF_A_KIND) receipt_made
+receipt_of N row = amount_row N row (nat_lt (length N.receipts) (most N).of_a_kind) receipt_made
 
 unfoldable pub ship_of : Table → List (List ℕ) → Result ShipRow TableFaultKind
 ship_of N row = do
   t ← ship_terms row (horizon N)
   lane ← known_lane N t.0
-  _ ← check (nat_lt (length N.ships) MOST_OF_A_KIND) fault.TooMany
+  _ ← check (nat_lt (length N.ships) (most N).of_a_kind) fault.TooMany
   Ok (record { from = lane.0; pair = lane.1; period = t.1; quantity = t.2 })
 
 unfoldable pub cum_of : Table → List (List ℕ) → Result CumRow TableFaultKind
@@ -585,7 +584,7 @@ cum_of N row = do
   t ← lane_number row MOST
   _ ← check (not (has_cum N t.0)) fault.Repeated
   lane ← known_lane N t.0
-  _ ← check (nat_lt (length N.cums) MOST_OF_A_KIND) fault.TooMany
+  _ ← check (nat_lt (length N.cums) (most N).of_a_kind) fault.TooMany
   Ok (record { from = lane.0; pair = lane.1; figure = t.1 })
 
 unfoldable pub reset_in_row : Table → List (List ℕ) → Result ResetRow TableFaultKind
@@ -600,7 +599,7 @@ unfoldable pub firm_of : Table → List (List ℕ) → Result FirmRow TableFault
 firm_of N row = do
   t ← firm_terms row (horizon N)
   found ← known_pair N t.plant t.item
-  _ ← check (nat_lt (length N.firms) MOST_OF_A_KIND) fault.TooMany
+  _ ← check (nat_lt (length N.firms) (most N).of_a_kind) fault.TooMany
   Ok (record { pair = found.1; start = t.start; due = t.due; quantity = t.quantity })
 
 -- how a pair is planned, by what a policy row spells
@@ -619,7 +618,7 @@ policy_made pair t =
 
 unfoldable pub policy_of : Table → List (List ℕ) → Result PolicyRow TableFaultKind
 policy_of N row = do
-  t ← policy_terms row (horizon N)
+  t ← policy_terms N.limits row (horizon N)
   _ ← check (not (has_policy N (pair_named N (plant_no N t.plant) t.item))) fault.Repeated
   found ← known_pair N t.plant t.item
   Ok (policy_made found.1 t)

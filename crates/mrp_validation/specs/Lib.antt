@@ -3,6 +3,7 @@ pub mod Asked
 pub mod Faults
 pub mod Grammar
 pub mod Left
+pub mod LimitLaws
 pub mod Missing
 pub mod Reading
 pub mod Tests

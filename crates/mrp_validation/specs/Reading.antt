@@ -15,6 +15,7 @@ use Rattle.mrp_validation.specs.declared.kind.Kind.TheVariants as kind
 use Rattle.mrp_master_data.specs.declared.rows.SourceRow.{SourceRow}
 use Rattle.mrp_master_data.specs.Table.{IsOnce, IsRead, IsSourced, Table}
 use Rattle.mrp_master_data.specs.Growing.{empty_table}
+use Rattle.mrp_qty.specs.declared.limits.LimitSet.{LimitSet}
 use Rattle.mrp_qty.specs.declared.limits.TheConstants.{MOST_SOURCES_OF_PAIR}
 use Rattle.mrp_master_data.specs.Growing.{lacks_pair}
 use Rattle.mrp_master_data.specs.Turns.{row_count}
@@ -68,29 +69,29 @@ is_run kind.Day = false
 is_run kind.End = false
 
 -- what the first row spells
-unfoldable pub first_terms : List (List ℕ) → Result RunTerms TableFaultKind
-first_terms row = do
+unfoldable pub first_terms : LimitSet → List (List ℕ) → Result RunTerms TableFaultKind
+first_terms limits row = do
   k ← kind_of_row row
   _ ← check (is_run k) fault.KindOrder
-  run_terms row
+  run_terms limits row
 
 -- the calendar of a run, or why there is none
 abbrev pub IsCalendarOf : RunTerms → Result CalendarTerms CalFault → Type 0
 IsCalendarOf t (Ok c) = IsCalendarFrom t.first t.days t.periods c × IsCalendar c
 IsCalendarOf t (Err e) = IsRefused t.first t.days t.periods e
 
-abbrev pub started : Result CalendarTerms CalFault → Result Table TableFaultKind
-started (Ok c) = Ok (empty_table c)
-started (Err e) = Err (fault.CalendarFault e)
+abbrev pub started : LimitSet → Result CalendarTerms CalFault → Result Table TableFaultKind
+started limits (Ok c) = Ok (empty_table limits c)
+started limits (Err e) = Err (fault.CalendarFault e)
 
 -- what a run's terms make
-abbrev pub StartsWith : Result RunTerms TableFaultKind → Result Table TableFaultKind → Type 0
-StartsWith (Err e) start = start ≡ Err e
-StartsWith (Ok t) start = (c : Result CalendarTerms CalFault) × IsCalendarOf t c × (start ≡ started c)
+abbrev pub StartsWith : LimitSet → Result RunTerms TableFaultKind → Result Table TableFaultKind → Type 0
+StartsWith limits (Err e) start = start ≡ Err e
+StartsWith limits (Ok t) start = (c : Result CalendarTerms CalFault) × IsCalendarOf t c × (start ≡ started limits c)
 
--- what the first row makes
-abbrev pub Starts : List (List ℕ) → Result Table TableFaultKind → Type 0
-Starts row start = StartsWith (first_terms row) start
+-- what the first row makes, of a table within these limits
+abbrev pub Starts : LimitSet → List (List ℕ) → Result Table TableFaultKind → Type 0
+Starts limits row start = StartsWith limits (first_terms limits row) start
 
 -- ---- the rows after it
 
@@ -155,10 +156,11 @@ waiting N = unless_lacking N (first_lacking N N.sources)
 abbrev pub read_from : Result Table TableFaultKind → List (List (List ℕ)) → Result Table TableFault
 read_from start rows = go_on (at_row 1 start) (λ N. go_on (rows_after 2 (N, kind.Run) rows) waiting)
 
--- the rows make that table, or have that first fault
-abbrev pub Reads : List (List (List ℕ)) → Result Table TableFault → Type 0
-Reads [] read = read ≡ Err (record { row = 0; kind = fault.Empty })
-Reads (row ∷ rows) read = (start : Result Table TableFaultKind) × Starts row start × (read ≡ read_from start rows)
+-- within these limits the rows make that table, or have that first fault
+abbrev pub Reads : LimitSet → List (List (List ℕ)) → Result Table TableFault → Type 0
+Reads limits [] read = read ≡ Err (record { row = 0; kind = fault.Empty })
+Reads limits (row ∷ rows) read =
+    (start : Result Table TableFaultKind) × Starts limits row start × (read ≡ read_from start rows)
 
 -- a table that has to be whole ends with an `end` row, or it was cut off behind its last row
 abbrev pub uncut : Reading → Table → Result Table TableFault
@@ -167,20 +169,22 @@ uncut reading N =
 
 -- so it is of the rows, where they are read as is asked
 abbrev pub ReadsAs : Reading → List (List (List ℕ)) → Result Table TableFault → Type 0
-ReadsAs reading rows read = (plain : Result Table TableFault) × Reads rows plain × (read ≡ go_on plain (uncut reading))
+ReadsAs reading rows read =
+    (plain : Result Table TableFault) × Reads reading.limits rows plain × (read ≡ go_on plain (uncut reading))
 
 -- rows from the first one on that hold no fault; what waits for the last row is not tested
-abbrev pub HoldNoFault : List (List (List ℕ)) → Type 0
-HoldNoFault [] = Unit {0}
-HoldNoFault (row ∷ rows) = (N : Table) × (M : Table) × Starts row (Ok N) × (rows_after 2 (N, kind.Run) rows ≡ Ok M)
+abbrev pub HoldNoFault : LimitSet → List (List (List ℕ)) → Type 0
+HoldNoFault limits [] = Unit {0}
+HoldNoFault limits (row ∷ rows) =
+    (N : Table) × (M : Table) × Starts limits row (Ok N) × (rows_after 2 (N, kind.Run) rows ≡ Ok M)
 
 -- the rows above the row of that number are all there, and hold no fault
-pub record IsSoundAbove (number : ℕ) (rows : List (List (List ℕ))) : Type 0 where
+pub record IsSoundAbove (limits : LimitSet) (number : ℕ) (rows : List (List (List ℕ))) : Type 0 where
   pub above : List (List (List ℕ))
   pub rest : List (List (List ℕ))
   pub rows_are : rows ≡ above ++ rest
   pub number_is : number ≡ length above + 1
-  pub no_fault : HoldNoFault above
+  pub no_fault : HoldNoFault limits above
 
 -- that the reader failed, or that memory was wanting, says something of the rows above alone; each other fault is a
 -- row's
@@ -196,11 +200,12 @@ UnlessMemory e says = says
 
 -- the answer is what the rows make, or their first fault; where the reader failed, or memory was wanting, the rows
 -- above the named one hold no fault
-abbrev pub TellsRows : Result Table TableFault → List (List (List ℕ)) → Type 0
-TellsRows (Ok N) rows = Reads rows (Ok N)
-TellsRows (Err e) rows = OfRows e.kind (IsSoundAbove e.row rows) (Reads rows (Err e))
+abbrev pub TellsRows : LimitSet → Result Table TableFault → List (List (List ℕ)) → Type 0
+TellsRows limits (Ok N) rows = Reads limits rows (Ok N)
+TellsRows limits (Err e) rows = OfRows e.kind (IsSoundAbove limits e.row rows) (Reads limits rows (Err e))
 
 -- so it is of rows that are read as is asked
 abbrev pub TellsRowsAs : Reading → Result Table TableFault → List (List (List ℕ)) → Type 0
 TellsRowsAs reading (Ok N) rows = ReadsAs reading rows (Ok N)
-TellsRowsAs reading (Err e) rows = OfRows e.kind (IsSoundAbove e.row rows) (ReadsAs reading rows (Err e))
+TellsRowsAs reading (Err e) rows =
+    OfRows e.kind (IsSoundAbove reading.limits e.row rows) (ReadsAs reading rows (Err e))

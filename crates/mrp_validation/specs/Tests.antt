@@ -9,13 +9,12 @@ use Rattle.std.specs.Str.{is_utf8}
 use Rattle.mrp_cal.specs.Begins.{begun_with, day_spelled, latest_begun}
 use Rattle.mrp_cal.specs.Calendar.{first_day, last_date, last_day}
 use Rattle.mrp_cal.specs.declared.fault.CalFault.TheVariants as cal
-use Rattle.mrp_lot.specs.declared.rule.TheConstants.{LONGEST_LEAD}
-use Rattle.mrp_qty.specs.declared.horizon.TheConstants.{LONGEST}
+use Rattle.mrp_qty.specs.Limits.{limits_of}
+use Rattle.mrp_qty.specs.declared.limits.LimitSet.{LimitSet}
 use Rattle.mrp_qty.specs.declared.quantity.TheConstants.{MOST}
-use Rattle.mrp_qty.specs.declared.limits.TheConstants.{MOST_BILLS, MOST_IN_ROW, MOST_OF_A_KIND, MOST_PAIRS, MOST_PER}
-use Rattle.mrp_qty.specs.declared.limits.TheConstants.{MOST_PLANTS, MOST_USAGES}
+use Rattle.mrp_qty.specs.declared.limits.TheConstants.{MOST_IN_ROW, MOST_PER}
 use Rattle.mrp_master_data.specs.Names.{has_plant, pair_named, plant_no}
-use Rattle.mrp_master_data.specs.Table.{arrivals, horizon, is_joined, is_taken_from, rises_from, Table}
+use Rattle.mrp_master_data.specs.Table.{arrivals, horizon, is_joined, is_taken_from, most, rises_from, Table}
 use Rattle.mrp_master_data.specs.Spelling.{is_name}
 use Rattle.mrp_master_data.specs.Parsing.{spelled_number, number_within, rule_of}
 use Rattle.mrp_master_data.specs.Supplies.{SourceTerms}
@@ -75,19 +74,19 @@ are_joined N (Some x) (Some y) = is_joined N x y
 abbrev pub plant_passes : Table → List (List ℕ) → TableFaultKind → Bool
 plant_passes N row fault.BadName = is_name (field row 1)
 plant_passes N row fault.Repeated = not (has_plant N (field row 1))
-plant_passes N row fault.TooMany = nat_lt (length N.plants) MOST_PLANTS
+plant_passes N row fault.TooMany = nat_lt (length N.plants) (most N).plants
 plant_passes N row e = true
 
 abbrev pub pair_passes : Table → List (List ℕ) → TableFaultKind → Bool
 pair_passes N row fault.BadName = two_names row
-pair_passes N row fault.BadNumber = has_number row 5 0 LONGEST_LEAD && has_number row 6 0 MOST_IN_ROW
+pair_passes N row fault.BadNumber = has_number row 5 0 (most N).lead && has_number row 6 0 MOST_IN_ROW
     && has_number row 7 0 MOST_IN_ROW
-pair_passes N row fault.BadRule = is_some (rule_of (field row 4))
+pair_passes N row fault.BadRule = is_some (rule_of (most N).periods (field row 4))
 pair_passes N row fault.BadSupply = is_some (supply_of (field row 3))
 pair_passes N row fault.Repeated = not (is_some (pair_in N row 1 2))
 pair_passes N row fault.UnknownPlant = is_some (plant_in N row 1) && knows_sources N (sources_in row)
 pair_passes N row fault.SelfSource = not (names_plant (sources_in row) (field row 1))
-pair_passes N row fault.TooMany = nat_lt (length N.pairs) MOST_PAIRS
+pair_passes N row fault.TooMany = nat_lt (length N.pairs) (most N).pairs
 pair_passes N row e = true
 
 abbrev pub bill_passes : Table → List (List ℕ) → TableFaultKind → Bool
@@ -97,7 +96,7 @@ bill_passes N row fault.Repeated = not (has_bill N (pair_in N row 1 2) (pair_in 
 bill_passes N row fault.UnknownPlant = is_some (plant_in N row 1)
 bill_passes N row fault.UnknownPair = is_some (pair_in N row 1 2) && is_some (pair_in N row 1 3)
 bill_passes N row fault.NotMade = unwrap_or (option_map (is_made N) (pair_in N row 1 2)) false
-bill_passes N row fault.TooMany = nat_lt (length N.bills) MOST_BILLS
+bill_passes N row fault.TooMany = nat_lt (length N.bills) (most N).bills
 bill_passes N row e = true
 
 -- a demand or a receipt row, with room for it or without
@@ -119,13 +118,13 @@ firm_passes N row fault.BadNumber = has_number row 3 0 (horizon N - 1)
     && has_number row 4 (first_due N row) (horizon N - 1) && has_number row 5 1 MOST_IN_ROW
 firm_passes N row fault.UnknownPlant = is_some (plant_in N row 1)
 firm_passes N row fault.UnknownPair = is_some (pair_in N row 1 2)
-firm_passes N row fault.TooMany = nat_lt (length N.firms) MOST_OF_A_KIND
+firm_passes N row fault.TooMany = nat_lt (length N.firms) (most N).of_a_kind
 firm_passes N row e = true
 
 abbrev pub policy_passes : Table → List (List ℕ) → TableFaultKind → Bool
 policy_passes N row fault.BadName = two_names row
-policy_passes N row fault.BadNumber = has_number row 3 0 (horizon N - 1) && has_number row 4 0 LONGEST_LEAD
-    && has_number row 5 0 LONGEST_LEAD && has_number row 6 0 MOST_IN_ROW && has_number row 7 0 MOST_IN_ROW
+policy_passes N row fault.BadNumber = has_number row 3 0 (horizon N - 1) && has_number row 4 0 (most N).lead
+    && has_number row 5 0 (most N).lead && has_number row 6 0 MOST_IN_ROW && has_number row 7 0 MOST_IN_ROW
 policy_passes N row fault.Repeated = not (has_policy N (pair_in N row 1 2))
 policy_passes N row fault.UnknownPlant = is_some (plant_in N row 1)
 policy_passes N row fault.UnknownPair = is_some (pair_in N row 1 2)
@@ -144,7 +143,7 @@ usage_passes N row fault.Repeated =
 usage_passes N row fault.UnknownPlant = is_some (plant_in N row 1)
 usage_passes N row fault.UnknownPair = is_some (pair_in N row 1 2) && is_some (pair_in N row 1 3)
 usage_passes N row fault.NotMade = are_joined N (pair_in N row 1 2) (pair_in N row 1 3)
-usage_passes N row fault.TooMany = nat_lt (length N.usages) MOST_USAGES
+usage_passes N row fault.TooMany = nat_lt (length N.usages) (most N).bills
 usage_passes N row e = true
 
 -- a row on a lane, whose numbers are good or not, which repeats none, and for which there is room, or not
@@ -161,12 +160,12 @@ lane_passes numbers new room N row e = true
 
 abbrev pub ship_passes : Table → List (List ℕ) → TableFaultKind → Bool
 ship_passes N row = lane_passes (has_number row 4 0 (horizon N - 1) && has_number row 5 1 MOST_IN_ROW) true
-    (nat_lt (length N.ships) MOST_OF_A_KIND) N row
+    (nat_lt (length N.ships) (most N).of_a_kind) N row
 
 abbrev pub cum_passes : Table → List (List ℕ) → TableFaultKind → Bool
 cum_passes N row =
     lane_passes (has_number row 4 0 MOST) (not (cum_between N (plant_in N row 1) (pair_in N row 2 3)))
-    (nat_lt (length N.cums) MOST_OF_A_KIND) N row
+    (nat_lt (length N.cums) (most N).of_a_kind) N row
 
 abbrev pub reset_passes : Table → List (List ℕ) → TableFaultKind → Bool
 reset_passes N row = lane_passes (has_number row 4 0 (horizon N - 1))
@@ -211,8 +210,8 @@ passes_of (Some kind.Run) N row e = true
 passes_of (Some kind.Plant) N row e = plant_passes N row e
 passes_of (Some kind.Pair) N row e = pair_passes N row e
 passes_of (Some kind.Bill) N row e = bill_passes N row e
-passes_of (Some kind.Demand) N row e = amount_passes (nat_lt (length N.demands) MOST_OF_A_KIND) N row e
-passes_of (Some kind.Receipt) N row e = amount_passes (nat_lt (length N.receipts) MOST_OF_A_KIND) N row e
+passes_of (Some kind.Demand) N row e = amount_passes (nat_lt (length N.demands) (most N).demands) N row e
+passes_of (Some kind.Receipt) N row e = amount_passes (nat_lt (length N.receipts) (most N).of_a_kind) N row e
 passes_of (Some kind.Ship) N row e = ship_passes N row e
 passes_of (Some kind.Cum) N row e = cum_passes N row e
 passes_of (Some kind.Reset) N row e = reset_passes N row e
@@ -249,9 +248,10 @@ passes s row = row_passes (kind_of (field row 0)) (λ k. may_follow k s.1)
     (passes_of (kind_of (field row 0)) s.0 row) row
 
 -- the first row, before its calendar's faults
-abbrev pub run_passes : List (List ℕ) → TableFaultKind → Bool
-run_passes row fault.BadNumber = is_some (spelled_number (field row 2)) && has_number row 3 1 LONGEST
-run_passes row e = row_passes (kind_of (field row 0)) is_run (λ f. true) row e
+abbrev pub run_passes : LimitSet → List (List ℕ) → TableFaultKind → Bool
+run_passes limits row fault.BadNumber =
+    is_some (spelled_number (field row 2)) && has_number row 3 1 (limits_of limits).periods
+run_passes limits row e = row_passes (kind_of (field row 0)) is_run (λ f. true) row e
 
 -- ---- the fault that a row has
 
@@ -263,6 +263,7 @@ first_failed passed faults = find (λ e. not (passed e)) faults
 -- first row, which then has its calendar or the first of its calendar's faults, and as a later one whatever the rows
 -- above it
 pub record HasFirstFault (row : List (List ℕ)) : Type 0 where
-  pub first : result_err (first_terms row) ≡ first_failed (run_passes row) (faults_of_any ++ fault.BadNumber ∷ [])
+  pub first : (limits : LimitSet)
+      → result_err (first_terms limits row) ≡ first_failed (run_passes limits row) (faults_of_any ++ fault.BadNumber ∷ [])
   pub later : (s : Table × Kind)
       → result_err (row_after s row) ≡ first_failed (passes s row) (faults_of (kind_of_row row))

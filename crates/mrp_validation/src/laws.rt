@@ -1,5 +1,5 @@
 //! Laws of the grammar that validates tables, each the contract of a function that does nothing.
-ghost use Rattle.std.specs.Prelude.{◌≡◌, ◌↔◌, ◌++◌, ◌+◌, ◌*◌, ℕ, length, List, Ok, Result, true};
+ghost use Rattle.std.specs.Prelude.{◌≡◌, ◌↔◌, ◌++◌, ◌+◌, ◌*◌, ℕ, length, List, Err, Ok, Result, true};
 ghost use Rattle.csv.specs.Reading.{AreRecords, default_config, records};
 ghost use Rattle.csv.specs.declared.parser.State.TheVariants.{StartRecord};
 ghost use Rattle.mrp_cal.specs.Calendar.{CalendarTerms};
@@ -11,15 +11,18 @@ ghost use Rattle.mrp_validation.specs.Asked.{CutTablesAreRefused, OtherFaultsSta
 ghost use Rattle.mrp_validation.specs.Asked.{TablesEndWithTheirEnd, UsualReadingAsksNothing, WholeTablesEnd};
 ghost use Rattle.mrp_validation.specs.Faults.{faults_of, HasListedFaults, Rise};
 ghost use Rattle.mrp_validation.specs.Grammar.{RunTerms};
+ghost use Rattle.mrp_validation.specs.LimitLaws.{as_large, IsNoMatterOfLimits};
 ghost use Rattle.mrp_validation.specs.Missing.{TellsMissing};
 ghost use Rattle.mrp_validation.specs.Reading.{IsCalendarOf, Reads};
 ghost use Rattle.mrp_validation.specs.Tests.{HasFirstFault};
 ghost use Rattle.mrp_validation.specs.Written.{AreNumbered, rows_of};
 ghost use Rattle.mrp_master_data.specs.Table.{IsTable, Table};
+ghost use Rattle.mrp_qty.specs.declared.limits.LimitSet.{LimitSet};
+ghost use Rattle.mrp_qty.specs.declared.limits.LimitSet.TheVariants.{Large, Usual};
 
-/// What is read is a table: rows that the grammar reads say all that an accepted table says.
+/// What is read is a table: rows that the grammar reads say all that an accepted table says, whatever the limits.
 pub fn what_is_read_is_a_table()
-    ensures { (rows : List (List (List ℕ))) (N : Table) → Reads rows (Ok N) → IsTable N }
+    ensures { (limits : LimitSet) (rows : List (List (List ℕ))) (N : Table) → Reads limits rows (Ok N) → IsTable N }
 {}
 
 /// Rows that are read are the table written out: the run row, then each plant, pair, bill, demand, receipt, ship,
@@ -27,30 +30,31 @@ pub fn what_is_read_is_a_table()
 /// period, its quantity and its other values each in the field where it is written, and nothing in the fields that it
 /// doesn't use.
 pub fn rows_are_the_table_written_out()
-    ensures { (rows : List (List (List ℕ))) (N : Table) → Reads rows (Ok N) → rows ≡ rows_of N }
+    ensures { (limits : LimitSet) (rows : List (List (List ℕ))) (N : Table) → Reads limits rows (Ok N) → rows ≡ rows_of N }
 {}
 
 /// A table is read from one list of rows alone: reading loses nothing that a row says.
 pub fn tables_have_one_list_of_rows()
-    ensures { (a b : List (List (List ℕ))) (N : Table) → Reads a (Ok N) → Reads b (Ok N) → a ≡ b }
+    ensures { (limits : LimitSet) (a b : List (List (List ℕ))) (N : Table) → Reads limits a (Ok N) → Reads limits b (Ok N)
+        → a ≡ b }
 {}
 
 /// Items are numbered in the order of their first pairs: each pair of a table that is read has an item of a pair
 /// above it, or the next one, and there is no other item.
 pub fn items_are_numbered_by_their_pairs()
-    ensures { (rows : List (List (List ℕ))) (N : Table) → Reads rows (Ok N) → AreNumbered 0 N.pairs (length N.items) }
+    ensures { (limits : LimitSet) (rows : List (List (List ℕ))) (N : Table) → Reads limits rows (Ok N) → AreNumbered 0 N.pairs (length N.items) }
 {}
 
 /// Every table whose items are numbered by their pairs is read from what is written of it.
 pub fn tables_written_out_are_read()
-    ensures { (N : Table) → IsTable N → AreNumbered 0 N.pairs (length N.items) → Reads (rows_of N) (Ok N) }
+    ensures { (N : Table) → IsTable N → AreNumbered 0 N.pairs (length N.items) → Reads N.limits (rows_of N) (Ok N) }
 {}
 
-/// A table is read from its own rows alone: what is read is a table with its items numbered by its pairs, from the
+/// A table is read from its own rows alone: what is read is a table of these limits with its items numbered by its pairs, from the
 /// rows that are written of it, and each such table is read from them.
 pub fn a_table_is_read_from_its_own_rows_alone()
-    ensures { (rows : List (List (List ℕ))) (N : Table)
-        → Reads rows (Ok N) ↔ ((rows ≡ rows_of N) × IsTable N × AreNumbered 0 N.pairs (length N.items)) }
+    ensures { (limits : LimitSet) (rows : List (List (List ℕ))) (N : Table) → Reads limits rows (Ok N)
+        ↔ ((N.limits ≡ limits) × (rows ≡ rows_of N) × IsTable N × AreNumbered 0 N.pairs (length N.items)) }
 {}
 
 /// The records that the grammar speaks of are all the records of a text.
@@ -61,8 +65,8 @@ pub fn records_are_all_records()
 /// A table that ends with its `end` row is no other table cut off: where more text follows and is read too, it is the
 /// same table.
 pub fn a_table_with_its_end_is_whole()
-    ensures { (text more : List ℕ) (N M : Table) → Reads (records default_config text) (Ok N)
-        → Reads (records default_config (text ++ more)) (Ok M) → N.ended ≡ true → N ≡ M }
+    ensures { (limits : LimitSet) (text more : List ℕ) (N M : Table) → Reads limits (records default_config text) (Ok N)
+        → Reads limits (records default_config (text ++ more)) (Ok M) → N.ended ≡ true → N ≡ M }
 {}
 
 /// A run row has one calendar at most, or one fault of its calendar.
@@ -72,7 +76,8 @@ pub fn a_run_has_one_calendar()
 
 /// Rows are read one way at most: they make one table, or have one first fault.
 pub fn reads_are_one()
-    ensures { (rows : List (List (List ℕ))) (a b : Result Table TableFault) → Reads rows a → Reads rows b → a ≡ b }
+    ensures { (limits : LimitSet) (rows : List (List (List ℕ))) (a b : Result Table TableFault) → Reads limits rows a
+        → Reads limits rows b → a ≡ b }
 {}
 
 /// The faults of each kind of row are listed in the order of their numbers.
@@ -99,7 +104,7 @@ pub fn missing_pairs_are_told()
 
 /// A table has an end where an `end` row is its last, and that row says how many stand above it.
 pub fn tables_end_with_their_end()
-    ensures { (rows : List (List (List ℕ))) (N : Table) → TablesEndWithTheirEnd rows N }
+    ensures { (limits : LimitSet) (rows : List (List (List ℕ))) (N : Table) → TablesEndWithTheirEnd limits rows N }
 {}
 
 /// Rows are read as is asked one way at most.
@@ -127,4 +132,16 @@ pub fn cut_tables_are_refused()
 /// Rows that have another fault are refused for it, whether the table has to be whole or not.
 pub fn other_faults_stay()
     ensures { (reading : Reading) (rows : List (List (List ℕ))) (e : TableFault) → OtherFaultsStay reading rows e }
+{}
+
+/// What is read within the usual limits is read within the large ones, as the same table but for its limits.
+pub fn usual_tables_are_large_tables()
+    ensures { (rows : List (List (List ℕ))) (N : Table) → Reads Usual rows (Ok N) → Reads Large rows (Ok (as_large N)) }
+{}
+
+/// Rows that are refused within the usual limits are refused for the same fault, at the same row, within the large ones,
+/// unless the fault is one row too many of a kind, a number or a lot rule.
+pub fn usual_faults_are_large_faults()
+    ensures { (rows : List (List (List ℕ))) (e : TableFault) → IsNoMatterOfLimits e.kind → Reads Usual rows (Err e)
+        → Reads Large rows (Err e) }
 {}

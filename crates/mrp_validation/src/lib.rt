@@ -22,5 +22,6 @@ pub use laws::{
     other_faults_stay, reads_are_one, reads_as_asked_are_one, records_are_all_records,
     rows_are_the_table_written_out, rows_have_listed_faults, rows_have_their_first_fault,
     tables_end_with_their_end, tables_have_one_list_of_rows, tables_written_out_are_read,
-    usual_reading_asks_nothing, what_is_read_is_a_table, whole_tables_end,
+    usual_faults_are_large_faults, usual_reading_asks_nothing, usual_tables_are_large_tables,
+    what_is_read_is_a_table, whole_tables_end,
 };

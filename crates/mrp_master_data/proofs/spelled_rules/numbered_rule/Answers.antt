@@ -13,3 +13,6 @@ returns-in_ok-number_within-clause-exact c = search rules
 pub returns-else-eq-3-clause-exact : goal.returns-else-eq-3-clause-exact
 unfolding numbered_rule
 returns-else-eq-3-clause-exact c = search rules
+
+pub returns-then-eq-3-clause-rule : goal.returns-then-eq-3-clause-rule
+returns-then-eq-3-clause-rule c = c.min_rule.ensures.rule c.args.longest

@@ -5,5 +5,5 @@ use Rattle.mrp_netting.proofs.pieces.pieces_of.Given as goal
 abbrev pub invariant-loop-t : goal.invariant-loop-t
 invariant-loop-t l = record {
   done : take l.t l.pieces ≡ take l.t l.row;
-  size : length l.pieces ≡ 104;
+  size : length l.pieces ≡ 520;
 }

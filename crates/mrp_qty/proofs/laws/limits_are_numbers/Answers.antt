@@ -1,26 +1,11 @@
 use Rattle.std.proofs.Common.{rules}
 use Rattle.mrp_qty.proofs.laws.limits_are_numbers.Goals as goal
 
-pub returns-clause-bills : goal.returns-clause-bills
-returns-clause-bills c = search rules
-
 pub returns-clause-in_row : goal.returns-clause-in_row
 returns-clause-in_row c = search rules
 
-pub returns-clause-of_a_kind : goal.returns-clause-of_a_kind
-returns-clause-of_a_kind c = search rules
-
-pub returns-clause-pairs : goal.returns-clause-pairs
-returns-clause-pairs c = search rules
-
-pub returns-clause-sources : goal.returns-clause-sources
-returns-clause-sources c = search rules
-
 pub returns-clause-per : goal.returns-clause-per
 returns-clause-per c = search rules
-
-pub returns-clause-plants : goal.returns-clause-plants
-returns-clause-plants c = search rules
 
 pub returns-clause-records : goal.returns-clause-records
 returns-clause-records c = search rules
@@ -39,9 +24,6 @@ returns-clause-turns c = search rules
 
 pub returns-clause-workers : goal.returns-clause-workers
 returns-clause-workers c = search rules
-
-pub returns-clause-longest : goal.returns-clause-longest
-returns-clause-longest c = search rules
 
 pub returns-clause-most : goal.returns-clause-most
 returns-clause-most c = search rules

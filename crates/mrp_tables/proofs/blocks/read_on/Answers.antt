@@ -9,7 +9,7 @@ use Rattle.mrp_tables.proofs.BlockFacts.{goes_none}
 use Rattle.mrp_tables.proofs.TurnCount.{draft_rows-le}
 use Rattle.mrp_tables.proofs.blocks.read_on.Goals as goal
 
-no_more : (d : Draft) (number : ℕ) → IsDraft d → d.rows + 1 ≡ number → 5540171 ≤ number → ⊥
+no_more : (d : Draft) (number : ℕ) → IsDraft d → d.rows + 1 ≡ number → 81001523 ≤ number → ⊥
 no_more d number is rows far = omega (arith, draft_rows-le d is)
 
 pub overflow_step-number : goal.overflow_step-number
@@ -28,6 +28,7 @@ loop-number-preserved g c = record {
   rows = ap (λ n. n + 1) (c.in_ok-read_next.ensures.rows c.if-not-branch.false ∙ c.loop-number.invariant.rows);
   gives = c.in_ok-read_next.ensures.gives;
   kept = c.in_ok-read_next.ensures.kept;
+  limits = c.in_ok-read_next.ensures.limits ∙ c.loop-number.invariant.limits;
   goes = next_true c.in_ok-read_next.field-0 (rows_left g.R.Read.remaining c.args.rows.now) (rows_left g.R.Read.remaining c.loop-number.rows)
       (rows_left g.R.Read.remaining c.read_next.new.rows) (c.args.draft.now.rows + 1) c.loop-number.number
       (draft_state c.args.draft.now) (draft_state c.loop-number.draft)
@@ -40,6 +41,7 @@ loop-number-init g c = record {
   rows = refl;
   gives = c.requires.gives;
   kept = c.requires.kept;
+  limits = refl;
   goes = goes_nowhere (rows_left g.R.Read.remaining c.args.rows.now) (c.args.draft.now.rows + 1) (draft_state c.args.draft.now);
 }
 
@@ -57,3 +59,9 @@ returns-then-not-branch-clause-exact g c =
     goes_none left here (old.rows + 1) (c.read_next.new.draft.rows + 1) (draft_state old) (draft_state c.read_next.new.draft)
     (subst (λ (d : Draft). ReadsOn left here (old.rows + 1) (draft_state old) (d.rows + 1) (draft_state d)) same goes)
     (c.in_ok-read_next.ensures.last c.if-not-branch.true)
+
+pub returns-in_err-read_next-clause-limits : goal.returns-in_err-read_next-clause-limits
+returns-in_err-read_next-clause-limits g c = rw (handed_on c.from_residual.result _ c.from_residual.ensures.1) tt
+
+pub returns-then-not-branch-clause-limits : goal.returns-then-not-branch-clause-limits
+returns-then-not-branch-clause-limits g c = c.in_ok-read_next.ensures.limits ∙ c.loop-number.invariant.limits

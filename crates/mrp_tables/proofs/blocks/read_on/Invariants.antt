@@ -11,6 +11,7 @@ invariant-loop-number g l = record {
   rows : l.draft.rows + 1 ≡ l.number;
   gives : GivesAll l.rows;
   kept : IsDraftKept l.draft;
+  limits : l.draft.lists.limits ≡ l.fn.draft.lists.limits;
   goes : ReadsOn (rows_left g.R.Read.remaining l.fn.rows) (rows_left g.R.Read.remaining l.rows) (l.fn.draft.rows + 1) (draft_state l.fn.draft) l.number
       (draft_state l.draft);
 }

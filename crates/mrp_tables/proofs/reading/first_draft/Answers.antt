@@ -8,4 +8,4 @@ use Rattle.mrp_tables.proofs.reading.first_draft.Goals as goal
 pub returns-in-Ok-clause-kept : goal.returns-in-Ok-clause-kept
 returns-in-Ok-clause-kept c =
     let tells = c.in-Ok.ensures.exact in
-    subst (λ (k : Kind). IsReadSoFar c.in-Ok.draft.lists k) (sym tells.1) (first_keeps c.in-Ok.draft.lists (fields_of c.args.row.now) tells.0)
+    subst (λ (k : Kind). IsReadSoFar c.in-Ok.draft.lists k) (sym tells.1) (first_keeps c.args.limits c.in-Ok.draft.lists (fields_of c.args.row.now) tells.0)

@@ -10,6 +10,7 @@ use Rattle.mrp_validation.proofs.Loop.{bad_there, ends_there, goes_row, none_the
 use Rattle.mrp_tables.proofs.Adding.{added, refused, refused_at, refused_own}
 use Rattle.mrp_validation.proofs.KeepingSteps.{handed_on}
 use Rattle.mrp_tables.proofs.reading.read_next.Goals as goal
+use Rattle.mrp_validation.proofs.LimitsStay.{row_limits}
 
 -- what holds where the row was added holds here
 went : (added : Result (Unit {0}) TableFaultKind) (told : Result (Unit {0}) TableFault) (u : Unit {0}) (number : ℕ) (P : Type 0)
@@ -51,6 +52,18 @@ returns-clause-kept g c =
     let good = added c.args.draft.now c.add.new.self c.args.number
     (fields_of c.next_row.new.row) c.add.result c.at_row.result _ c.at_row.ensures.same c.in_ok-at_row.was c.add.ensures.exact in
     row_after_keeps (draft_state c.args.draft.now) (draft_state c.add.new.self) (fields_of c.next_row.new.row) c.requires.kept good
+
+pub returns-clause-limits : goal.returns-clause-limits
+returns-clause-limits g c =
+    let good = added c.args.draft.now c.add.new.self c.args.number
+    (fields_of c.next_row.new.row) c.add.result c.at_row.result _ c.at_row.ensures.same c.in_ok-at_row.was c.add.ensures.exact in
+    row_limits (draft_state c.args.draft.now) (draft_state c.add.new.self) (fields_of c.next_row.new.row) good
+
+pub returns-in_err-next_row-clause-limits : goal.returns-in_err-next_row-clause-limits
+returns-in_err-next_row-clause-limits g c = rw (handed_on c.from_residual.result _ c.from_residual.ensures.1) tt
+
+pub returns-in_err-at_row-clause-limits : goal.returns-in_err-at_row-clause-limits
+returns-in_err-at_row-clause-limits g c = rw (handed_on c.from_residual-in_err-at_row.result _ c.from_residual-in_err-at_row.ensures.1) tt
 
 pub returns-in_err-next_row-clause-number : goal.returns-in_err-next_row-clause-number
 returns-in_err-next_row-clause-number g c = rw (handed_on c.from_residual.result _ c.from_residual.ensures.1) c.in_err-next_row.ensures.number
@@ -120,9 +133,6 @@ add-requires-clause-draft g c = c.requires.draft
 
 pub add-requires-clause-kept : goal.add-requires-clause-kept
 add-requires-clause-kept g c = c.requires.kept
-
-pub add-requires-clause-room : goal.add-requires-clause-room
-add-requires-clause-room g c = c.requires.room
 
 pub add-requires-clause-text : goal.add-requires-clause-text
 add-requires-clause-text g c = c.in_ok-next_row.ensures.text

@@ -5,7 +5,11 @@ use Rattle.mrp_validation.specs.Left.{rows_left}
 use Rattle.mrp_tables.specs.Drafts.{draft_state}
 use Rattle.mrp_validation.proofs.Loop.{goes_nowhere, goes_to_fault, next_false, next_true, read_all}
 use Rattle.mrp_validation.proofs.KeepingSteps.{handed_on}
-use Rattle.mrp_tables.proofs.TurnCount.{draft_rows-le}
+use Rattle.mrp_tables.proofs.TurnCount.{draft_rows-lt}
+use Rattle.mrp_master_data.specs.Table.{most}
+use Rattle.mrp_qty.specs.Limits.{limits_of}
+use Rattle.mrp_qty.specs.declared.limits.LimitSet.{LimitSet}
+use Rattle.mrp_qty.specs.declared.limits.Limits.{Limits}
 use Rattle.mrp_tables.proofs.reading.read_rest.Goals as goal
 
 -- how many turns there were, where the last one found no row, and where it found one
@@ -16,8 +20,10 @@ steps_more : (old steps number new : ℕ) → steps + 2 ≡ old + number → new
 steps_more old steps number new turns tick = omega arith
 
 -- there are fewer rows than turns
-no_more : (d : Draft) (number : ℕ) → IsDraft d → d.rows + 1 ≡ number → 5540171 ≤ number → ⊥
-no_more d number is rows far = omega (arith, draft_rows-le d is)
+no_more : (d old : Draft) (number turns : ℕ) → IsDraft d → d.lists.limits ≡ old.lists.limits → turns ≡ (most old.lists).turns → d.rows + 1 ≡ number
+    → turns + 1 ≤ number → ⊥
+no_more d old number turns is same are rows far =
+    omega (arith, draft_rows-lt d is, ap (λ (s : LimitSet). (limits_of s).turns) same)
 
 pub returns-in_err-read_next-clause-exact : goal.returns-in_err-read_next-clause-exact
 returns-in_err-read_next-clause-exact g c =
@@ -46,6 +52,7 @@ returns-then-not-branch-clause-all g c =
 pub loop-number-preserved : goal.loop-number-preserved
 loop-number-preserved g c = record {
   draft = c.in_ok-read_next.ensures.draft;
+  limits = c.in_ok-read_next.ensures.limits ∙ c.loop-number.invariant.limits;
   rows = ap (λ n. n + 1) (c.in_ok-read_next.ensures.rows c.if-not-branch.false ∙ c.loop-number.invariant.rows);
   steps = steps_more _ _ _ _ c.loop-number.invariant.steps c.tick.ensures;
   gives = c.in_ok-read_next.ensures.gives;
@@ -71,6 +78,7 @@ returns-in_err-read_next-clause-all g c = rw (handed_on c.from_residual.result _
 pub loop-number-init : goal.loop-number-init
 loop-number-init g c = record {
   draft = c.requires.draft;
+  limits = refl;
   rows = ap (λ n. n + 1) c.requires.first;
   steps = refl;
   gives = c.requires.gives;
@@ -114,4 +122,12 @@ returns-then-not-branch-clause-counted g c =
     steps_at_end _ _ _ _ _ _ c.loop-number.invariant.steps c.loop-number.invariant.rows c.tick.ensures (c.in_ok-read_next.ensures.ended c.if-not-branch.true)
 
 pub unreachable-requires : goal.unreachable-requires
-unreachable-requires g c = no_more c.loop-number.draft c.loop-number.number c.loop-number.invariant.draft c.loop-number.invariant.rows c.loop-number-test.false
+unreachable-requires g c =
+    no_more c.loop-number.draft c.args.draft.now c.loop-number.number c.limits-turns.result.turns c.loop-number.invariant.draft c.loop-number.invariant.limits
+    (ap (λ (l : Limits). l.turns) c.limits-turns.ensures.value) c.loop-number.invariant.rows c.loop-number-test.false
+
+pub returns-in_err-read_next-clause-limits : goal.returns-in_err-read_next-clause-limits
+returns-in_err-read_next-clause-limits g c = rw (handed_on c.from_residual.result _ c.from_residual.ensures.1) tt
+
+pub returns-then-not-branch-clause-limits : goal.returns-then-not-branch-clause-limits
+returns-then-not-branch-clause-limits g c = c.in_ok-read_next.ensures.limits ∙ c.loop-number.invariant.limits

@@ -8,6 +8,7 @@ use Rattle.mrp_tables.proofs.reading.read_rest.Given as goal
 abbrev pub invariant-loop-number : goal.invariant-loop-number
 invariant-loop-number g l = record {
   draft : IsDraft l.draft;
+  limits : l.draft.lists.limits ≡ l.fn.draft.lists.limits;
   rows : l.draft.rows + 1 ≡ l.number;
   steps : l.steps + 2 ≡ l.fn.steps + l.number;
   gives : GivesAll l.rows;

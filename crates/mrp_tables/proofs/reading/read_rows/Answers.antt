@@ -6,7 +6,11 @@ use Rattle.mrp_tables.specs.Steps.{StepsTo}
 use Rattle.mrp_master_data.specs.Table.{Table}
 use Rattle.mrp_validation.specs.declared.fault.TableFault.{TableFault}
 use Rattle.mrp_master_data.specs.Turns.{row_count}
-use Rattle.mrp_qty.specs.declared.limits.TheConstants.{MAX_TURNS}
+use Rattle.mrp_master_data.specs.Table.{most}
+use Rattle.mrp_qty.specs.Limits.{limits_of}
+use Rattle.mrp_qty.specs.declared.limits.LimitSet.{LimitSet}
+use Rattle.mrp_tables.proofs.TurnCount.{turns_some}
+use Rattle.mrp_validation.proofs.LimitsStay.{start_limits}
 use Rattle.mrp_validation.proofs.Listed.{first_no_read_fault}
 use Rattle.mrp_tables.proofs.Asked.{left_as, whole_as, whole_ends}
 use Rattle.mrp_validation.proofs.Loop.{none_there, some_there}
@@ -14,11 +18,12 @@ use Rattle.mrp_tables.proofs.StepCount.{first_step, later_step, of_each, of_miss
 use Rattle.mrp_validation.proofs.Whole.{bad_first, first_fault, no_first, rest_fault}
 use Rattle.mrp_validation.proofs.KeepingSteps.{handed_on}
 use Rattle.mrp_tables.proofs.reading.read_rows.Goals as goal
+use Rattle.std.proofs.Common.{◌∙◌, subst}
 
 pub returns-in_err-next_row-clause-table : goal.returns-in_err-next_row-clause-table
 returns-in_err-next_row-clause-table g c = rw (handed_on c.from_residual.result _ c.from_residual.ensures.1)
     (left_as c.args.reading (rows_left g.R.Read.remaining c.args.rows.now) _
-    (bad_first (rows_left g.R.Read.remaining c.args.rows.now) _ c.in_err-next_row.ensures.number c.in_err-next_row.ensures.exact))
+    (bad_first c.args.reading.limits (rows_left g.R.Read.remaining c.args.rows.now) _ c.in_err-next_row.ensures.number c.in_err-next_row.ensures.exact))
 
 pub returns-in_err-draft-clause-table : goal.returns-in_err-draft-clause-table
 returns-in_err-draft-clause-table g c =
@@ -26,7 +31,7 @@ returns-in_err-draft-clause-table g c =
     (fields_of c.next_row.new.row) c.if-not-branch.false c.in_ok-next_row.ensures.exact in
     rw (handed_on c.from_residual-in_err-draft.result _ c.from_residual-in_err-draft.ensures.1)
     (left_as c.args.reading (rows_left g.R.Read.remaining c.args.rows.now) _
-    (first_fault (rows_left g.R.Read.remaining c.args.rows.now) (rows_left g.R.Read.remaining c.next_row.new.rows)
+    (first_fault c.args.reading.limits (rows_left g.R.Read.remaining c.args.rows.now) (rows_left g.R.Read.remaining c.next_row.new.rows)
     (fields_of c.next_row.new.row) _ takes c.in_err-draft.ensures.exact))
 
 pub returns-in-Ok-clause-table : goal.returns-in-Ok-clause-table
@@ -72,7 +77,7 @@ returns-in_err-next_row-clause-failed g c = rw (handed_on c.from_residual.result
 pub returns-in_err-draft-clause-failed : goal.returns-in_err-draft-clause-failed
 returns-in_err-draft-clause-failed g c =
     rw (handed_on c.from_residual-in_err-draft.result _ c.from_residual-in_err-draft.ensures.1)
-    (λ failed. absurd (first_no_read_fault (fields_of c.next_row.new.row) _ c.in_err-draft.ensures.exact.0 failed))
+    (λ failed. absurd (first_no_read_fault c.args.reading.limits (fields_of c.next_row.new.row) _ c.in_err-draft.ensures.exact.0 failed))
 
 pub returns-in-Ok-clause-failed : goal.returns-in-Ok-clause-failed
 returns-in-Ok-clause-failed g c = waited_own c.read_rest.new.draft.lists c.accept.result _ c.accept.ensures.waited
@@ -144,7 +149,7 @@ returns-clause-table g c =
     let takes = some_there c.in_ok-next_row.field-0 (rows_left g.R.Read.remaining c.args.rows.now) (rows_left g.R.Read.remaining c.next_row.new.rows) 1
     (fields_of c.next_row.new.row) c.if-not-branch.false c.in_ok-next_row.ensures.exact in
     left_as c.args.reading (rows_left g.R.Read.remaining c.args.rows.now) _
-    (rest_fault (rows_left g.R.Read.remaining c.args.rows.now) (rows_left g.R.Read.remaining c.next_row.new.rows)
+    (rest_fault c.args.reading.limits (rows_left g.R.Read.remaining c.args.rows.now) (rows_left g.R.Read.remaining c.next_row.new.rows)
     (fields_of c.next_row.new.row) c.in_ok-draft.draft.lists c.in_ok-draft.draft.last c.in-Err.fault takes c.in_ok-draft.ensures.exact
     c.in-Err.ensures.exact)
 
@@ -157,14 +162,15 @@ returns-clause-ends g c =
 
 -- ---- the turns so far
 
-turns_first : (old new : ℕ) → new ≡ old + 1 → new ≤ old + MAX_TURNS
-turns_first old new tick = omega (arith, tick)
+turns_first : (limits : LimitSet) (old new : ℕ) → new ≡ old + 1 → new ≤ old + (limits_of limits).turns
+turns_first limits old new tick = omega (arith, tick, turns_some limits)
 
 least_first : (old new : ℕ) → new ≡ old + 1 → old + 1 ≤ new
 least_first old new tick = omega (arith, tick)
 
-turns_rest : (old mid new : ℕ) → mid ≡ old + 1 → new + 1 ≤ mid + MAX_TURNS → new ≤ old + MAX_TURNS
-turns_rest old mid new tick turns = omega (arith, tick, turns)
+turns_rest : (limits : LimitSet) (N : Table) (old mid new : ℕ) → N.limits ≡ limits → mid ≡ old + 1 → new + 1 ≤ mid + (most N).turns
+    → new ≤ old + (limits_of limits).turns
+turns_rest limits N old mid new same tick turns = omega (arith, tick, turns, ap (λ (s : LimitSet). (limits_of s).turns) same)
 
 least_rest : (old mid new row : ℕ) → 2 ≤ row → mid ≡ old + 1 → new + 1 ≡ mid + row → old + max 1 row ≤ new
 least_rest old mid new row later tick turns = omega (arith, later, tick, turns)
@@ -173,19 +179,21 @@ pub returns-in_err-next_row-clause-counted : goal.returns-in_err-next_row-clause
 returns-in_err-next_row-clause-counted g c = rw (handed_on c.from_residual.result _ c.from_residual.ensures.1) tt
 
 pub returns-in_err-next_row-clause-turns : goal.returns-in_err-next_row-clause-turns
-returns-in_err-next_row-clause-turns g c = turns_first _ _ c.tick.ensures
+returns-in_err-next_row-clause-turns g c = turns_first c.args.reading.limits _ _ c.tick.ensures
 
 pub returns-in_err-draft-clause-counted : goal.returns-in_err-draft-clause-counted
 returns-in_err-draft-clause-counted g c = rw (handed_on c.from_residual-in_err-draft.result _ c.from_residual-in_err-draft.ensures.1) tt
 
 pub returns-in_err-draft-clause-turns : goal.returns-in_err-draft-clause-turns
-returns-in_err-draft-clause-turns g c = turns_first _ _ c.tick.ensures
+returns-in_err-draft-clause-turns g c = turns_first c.args.reading.limits _ _ c.tick.ensures
 
 pub returns-in-Ok-clause-turns : goal.returns-in-Ok-clause-turns
-returns-in-Ok-clause-turns g c = turns_rest _ _ _ c.tick.ensures c.in-Ok.ensures.turns
+returns-in-Ok-clause-turns g c = turns_rest c.args.reading.limits c.in_ok-draft.draft.lists _ _ _
+    (start_limits c.args.reading.limits c.in_ok-draft.draft.lists _ c.in_ok-draft.ensures.exact.0) c.tick.ensures c.in-Ok.ensures.turns
 
 pub returns-clause-turns : goal.returns-clause-turns
-returns-clause-turns g c = turns_rest _ _ _ c.tick.ensures c.in-Err.ensures.turns
+returns-clause-turns g c = turns_rest c.args.reading.limits c.in_ok-draft.draft.lists _ _ _
+    (start_limits c.args.reading.limits c.in_ok-draft.draft.lists _ c.in_ok-draft.ensures.exact.0) c.tick.ensures c.in-Err.ensures.turns
 
 pub returns-clause-least : goal.returns-clause-least
 returns-clause-least g c = least_rest _ _ _ _ c.in-Err.ensures.later c.tick.ensures c.in-Err.ensures.least
@@ -193,7 +201,7 @@ returns-clause-least g c = least_rest _ _ _ _ c.in-Err.ensures.later c.tick.ensu
 pub returns-then-not-branch-clause-table : goal.returns-then-not-branch-clause-table
 returns-then-not-branch-clause-table g c =
     left_as c.args.reading (rows_left g.R.Read.remaining c.args.rows.now) (record { row = 0; kind = fault.Empty })
-    (no_first (rows_left g.R.Read.remaining c.args.rows.now) (none_there c.in_ok-next_row.field-0 (rows_left g.R.Read.remaining c.args.rows.now)
+    (no_first c.args.reading.limits (rows_left g.R.Read.remaining c.args.rows.now) (none_there c.in_ok-next_row.field-0 (rows_left g.R.Read.remaining c.args.rows.now)
     (rows_left g.R.Read.remaining c.next_row.new.rows) 1 (fields_of c.next_row.new.row) c.if-not-branch.true c.in_ok-next_row.ensures.exact))
 
 pub returns-then-not-branch-clause-failed : goal.returns-then-not-branch-clause-failed
@@ -209,7 +217,7 @@ pub returns-then-not-branch-clause-least : goal.returns-then-not-branch-clause-l
 returns-then-not-branch-clause-least g c = least_first _ _ c.tick.ensures
 
 pub returns-then-not-branch-clause-turns : goal.returns-then-not-branch-clause-turns
-returns-then-not-branch-clause-turns g c = turns_first _ _ c.tick.ensures
+returns-then-not-branch-clause-turns g c = turns_first c.args.reading.limits _ _ c.tick.ensures
 
 pub read_rest-requires-clause-gives : goal.read_rest-requires-clause-gives
 read_rest-requires-clause-gives g c = c.in_ok-next_row.ensures.gives
@@ -234,3 +242,16 @@ returns-clause-failed g c = c.in-Err.ensures.failed
 
 pub returns-clause-counted : goal.returns-clause-counted
 returns-clause-counted g c = tt
+
+-- ---- the limits
+
+pub returns-in-Ok-clause-limits : goal.returns-in-Ok-clause-limits
+returns-in-Ok-clause-limits g c =
+    subst (λ (s : LimitSet). IfOk c.accept.result (λ tables. tables.limits ≡ s)) (c.in-Ok.ensures.limits ∙ c.in_ok-draft.ensures.limits)
+    c.accept.ensures.limits
+
+pub returns-in_err-next_row-clause-limits : goal.returns-in_err-next_row-clause-limits
+returns-in_err-next_row-clause-limits g c = rw (handed_on c.from_residual.result _ c.from_residual.ensures.1) tt
+
+pub returns-in_err-draft-clause-limits : goal.returns-in_err-draft-clause-limits
+returns-in_err-draft-clause-limits g c = rw (handed_on c.from_residual-in_err-draft.result _ c.from_residual-in_err-draft.ensures.1) tt

@@ -2,4 +2,4 @@ use Rattle.mrp_validation.proofs.OneWay.{reads_one_way}
 use Rattle.mrp_validation.proofs.laws.reads_are_one.Goals as goal
 
 pub returns : goal.returns
-returns c = reads_one_way
+returns c = λ limits. reads_one_way limits

@@ -20,16 +20,16 @@ returns-then-day-get-gt-ALL_DAYS-clause-fault c =
 
 pub bounds-self-inside-self-inside : goal.bounds-self-inside-self-inside
 bounds-self-inside-self-inside c =
-    let fits : c.self.inside.given ≤ 103 = c.self.invariant.1 in
-    let long : length c.self.inside.begun ≡ 103 = first_of (assumption c.self.ranges, search (rules, c.self.ranges)) in
+    let fits : c.self.inside.given ≤ 519 = c.self.invariant.1 in
+    let long : length c.self.inside.begun ≡ 519 = first_of (assumption c.self.ranges, search (rules, c.self.ranges)) in
     room c.args.self.now c.args.period c.self.inside.given c.self.inside.begun (subst IsCalendar c.self.view_is c.self.invariant.0) c.requires.later
     c.requires.within (ap (λ x. x.begun) c.self.view_is) (omega (arith, fits, long))
 
 pub returns-clause-value : goal.returns-clause-value
 returns-clause-value c =
-    let fits : c.self.inside.given ≤ 103 = c.self.invariant.1 in
-    let long : length c.self.inside.begun ≡ 103 = first_of (assumption c.self.ranges, search (rules, c.self.ranges)) in
-    let less : c.self.inside.given < 103 = room c.args.self.now c.args.period c.self.inside.given c.self.inside.begun
+    let fits : c.self.inside.given ≤ 519 = c.self.invariant.1 in
+    let long : length c.self.inside.begun ≡ 519 = first_of (assumption c.self.ranges, search (rules, c.self.ranges)) in
+    let less : c.self.inside.given < 519 = room c.args.self.now c.args.period c.self.inside.given c.self.inside.begun
     (subst IsCalendar c.self.view_is c.self.invariant.0) c.requires.later c.requires.within (ap (λ x. x.begun) c.self.view_is) (omega (arith, fits, long)) in
     let t = taken c.args.self.now c.args.period c.in-Some.day c.self.inside.horizon c.self.inside.days c.self.inside.first c.args.date.now _
     (subst IsCalendar c.self.view_is c.self.invariant.0) c.requires.later c.requires.within (sym c.day_of.ensures.value ∙ c.in-Some.is)
@@ -41,9 +41,9 @@ returns-clause-value c =
 
 pub invariant_of-self : goal.invariant_of-self
 invariant_of-self c =
-    let fits : c.self.inside.given ≤ 103 = c.self.invariant.1 in
-    let long : length c.self.inside.begun ≡ 103 = first_of (assumption c.self.ranges, search (rules, c.self.ranges)) in
-    let less : c.self.inside.given < 103 = room c.args.self.now c.args.period c.self.inside.given c.self.inside.begun
+    let fits : c.self.inside.given ≤ 519 = c.self.invariant.1 in
+    let long : length c.self.inside.begun ≡ 519 = first_of (assumption c.self.ranges, search (rules, c.self.ranges)) in
+    let less : c.self.inside.given < 519 = room c.args.self.now c.args.period c.self.inside.given c.self.inside.begun
     (subst IsCalendar c.self.view_is c.self.invariant.0) c.requires.later c.requires.within (ap (λ x. x.begun) c.self.view_is) (omega (arith, fits, long)) in
     let t = taken c.args.self.now c.args.period c.in-Some.day c.self.inside.horizon c.self.inside.days c.self.inside.first c.args.date.now _
     (subst IsCalendar c.self.view_is c.self.invariant.0) c.requires.later c.requires.within (sym c.day_of.ensures.value ∙ c.in-Some.is)
@@ -51,5 +51,5 @@ invariant_of-self c =
     (take_more_set c.self.inside.begun c.self.inside.given (record { period = c.args.period; day = c.in-Some.day }) (omega (arith, less, long))
     ∙ ap (λ xs. xs ++ record { period = c.args.period; day = c.in-Some.day } ∷ []) (ap (λ x. x.begun) c.self.view_is))
     (rw (← c.get.ensures.value) c.if-day-get-gt-ALL_DAYS.false) in
-    let more : c.self.inside.given + 1 ≤ 103 = omega (arith, less) in
+    let more : c.self.inside.given + 1 ≤ 519 = omega (arith, less) in
     (t.1, more)

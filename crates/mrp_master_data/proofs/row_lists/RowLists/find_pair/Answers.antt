@@ -1,4 +1,4 @@
-use Rattle.std.proofs.Common.{◌∙◌, ap, ◌==◌, ◌&&◌, length, option_map, position}
+use Rattle.std.proofs.Common.{◌∙◌, ap, option_map, position}
 use Rattle.mrp_master_data.specs.Places.{is_at}
 use Rattle.mrp_master_data.specs.Table.{Table}
 use Rattle.mrp_master_data.specs.declared.numbers.PairNo.{PairNo}

@@ -6,7 +6,7 @@ use Rattle.mrp_netting.proofs.plan.PairPlan.copy.Goals as goal
 pub copy_from-requires : goal.copy_from-requires
 copy_from-requires c =
     let counted : c.unwrap-horizon.result ≡ c.len.result =
-    subst (λ (h : Option ℕ). IfSome h (λ n. n ≡ c.len.result)) c.unwrap-horizon.ensures c.new.ensures.value in
+    subst (λ (h : Option ℕ). IfSome h (λ n. n ≡ c.len.result)) c.unwrap-horizon.ensures c.within.ensures.value in
     ap (λ (rows : PlanRows). length rows.gross) c.in_ok-copy.ensures
     ∙ length-replicate c.unwrap-horizon.result 0
     ∙ counted

@@ -3,6 +3,8 @@ use Rattle.csv.specs.Records.{fields_of}
 use Rattle.mrp_tables.proofs.Starting.{after-bad_kind, after-bad_order, after-fault, after-made, follows_open, told}
 use Rattle.mrp_validation.proofs.KeepingSteps.{handed_on}
 use Rattle.mrp_tables.proofs.draft.Draft.add.Goals as goal
+use Rattle.mrp_tables.proofs.TurnCount.{draft_rows-le}
+use Rattle.std.proofs.Common.{arith}
 
 pub returns-in_err-kind-clause-exact : goal.returns-in_err-kind-clause-exact
 returns-in_err-kind-clause-exact c =
@@ -34,3 +36,6 @@ returns-clause-exact c =
 pub add_row-requires-clause-endless : goal.add_row-requires-clause-endless
 add_row-requires-clause-endless c =
     c.requires.kept.ended (follows_open c.in_ok-kind.kind c.args.self.now.last (sym c.may_follow.ensures ∙ c.if-not-may_follow.false))
+
+pub overflow_add-self : goal.overflow_add-self
+overflow_add-self c = omega (arith, draft_rows-le c.args.self.now c.requires.draft, c.in_ok-add_row.ensures.adds.counted)

@@ -71,8 +71,8 @@ pub add_pair-requires-clause-row : goal.add_pair-requires-clause-row
 add_pair-requires-clause-row c = record {
   plant = rw c.in_ok-item.ensures.table c.requires.fits.within;
   item = c.in_ok-item.ensures.within;
-  rule = c.requires.spelled.rule;
-  lead = c.requires.spelled.lead;
+  rule = rw c.in_ok-item.ensures.table c.requires.spelled.rule;
+  lead = rw c.in_ok-item.ensures.table c.requires.spelled.lead;
   on_hand = rw c.of.ensures c.requires.spelled.on_hand;
   safety = rw c.of-2.ensures c.requires.spelled.safety;
 }

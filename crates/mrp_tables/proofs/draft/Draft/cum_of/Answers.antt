@@ -5,7 +5,8 @@ use Rattle.mrp_master_data.specs.declared.numbers.PairNo.{PairNo}
 use Rattle.mrp_master_data.specs.declared.numbers.PlantNo.{PlantNo}
 use Rattle.mrp_master_data.specs.declared.rows.CumRow.{CumRow}
 use Rattle.mrp_tables.specs.Spelled.{terms_of_lane}
-use Rattle.mrp_qty.specs.declared.limits.TheConstants.{MOST_OF_A_KIND}
+use Rattle.mrp_master_data.specs.Table.{most}
+use Rattle.mrp_tables.proofs.Room.{full_of, room_of}
 use Rattle.mrp_tables.proofs.Finding.{cum_full, cum_known, cum_repeated, cum_unknown, of_found}
 use Rattle.mrp_validation.proofs.KeepingSteps.{handed_on}
 use Rattle.mrp_tables.proofs.draft.Draft.cum_of.Goals as goal
@@ -18,9 +19,9 @@ returns-in_err-lane-clause-exact c =
     c.if-has_cum.ensures.exact
     c.in_err-lane.ensures.exact)
 
-pub returns-then-cums-ge-MOST_OF_A_KIND-clause-exact : goal.returns-then-cums-ge-MOST_OF_A_KIND-clause-exact
-returns-then-cums-ge-MOST_OF_A_KIND-clause-exact c =
-    let many : MOST_OF_A_KIND ≤ length c.args.self.now.lists.cums = omega (arith, ap length c.cums.ensures.value, c.if-cums-ge-MOST_OF_A_KIND.true) in
+pub returns-then-cums-limits-clause-exact : goal.returns-then-cums-limits-clause-exact
+returns-then-cums-limits-clause-exact c =
+    let many = full_of (λ l. l.of_a_kind) c.limits.result c.args.self.now.lists c.cums.result.now c.args.self.now.lists.cums c.limits.ensures.value c.cums.ensures.value c.if-cums-limits.true in
     cum_full c.args.self.now.lists (fields_of c.args.row.now) (terms_of_lane (fields_of c.args.row.now), c.in_ok-figure.figure) c.lane_named-named.result _
     c.in_ok-figure.ensures.exact c.lane_named-named.ensures.exact c.if-has_cum.ensures.exact
     c.in_ok-lane.ensures.exact many
@@ -57,18 +58,18 @@ returns-in_err-lane-clause-fresh c = rw (handed_on c.from_residual-in_err-lane.r
 pub returns-in_err-lane-clause-room : goal.returns-in_err-lane-clause-room
 returns-in_err-lane-clause-room c = rw (handed_on c.from_residual-in_err-lane.result _ c.from_residual-in_err-lane.ensures.1) tt
 
-pub returns-then-cums-ge-MOST_OF_A_KIND-clause-row : goal.returns-then-cums-ge-MOST_OF_A_KIND-clause-row
-returns-then-cums-ge-MOST_OF_A_KIND-clause-row c = tt
+pub returns-then-cums-limits-clause-row : goal.returns-then-cums-limits-clause-row
+returns-then-cums-limits-clause-row c = tt
 
-pub returns-then-cums-ge-MOST_OF_A_KIND-clause-fresh : goal.returns-then-cums-ge-MOST_OF_A_KIND-clause-fresh
-returns-then-cums-ge-MOST_OF_A_KIND-clause-fresh c = tt
+pub returns-then-cums-limits-clause-fresh : goal.returns-then-cums-limits-clause-fresh
+returns-then-cums-limits-clause-fresh c = tt
 
-pub returns-then-cums-ge-MOST_OF_A_KIND-clause-room : goal.returns-then-cums-ge-MOST_OF_A_KIND-clause-room
-returns-then-cums-ge-MOST_OF_A_KIND-clause-room c = tt
+pub returns-then-cums-limits-clause-room : goal.returns-then-cums-limits-clause-room
+returns-then-cums-limits-clause-room c = tt
 
 pub returns-clause-exact : goal.returns-clause-exact
 returns-clause-exact c =
-    let room = subst (λ (xs : List CumRow). length xs < MOST_OF_A_KIND) c.cums.ensures.value c.if-cums-ge-MOST_OF_A_KIND.false in
+    let room = room_of (λ l. l.of_a_kind) c.limits.result c.args.self.now.lists c.cums.result.now c.args.self.now.lists.cums c.limits.ensures.value c.cums.ensures.value c.if-cums-limits.false in
     rw c.of.ensures
     (cum_known c.args.self.now.lists (fields_of c.args.row.now) (terms_of_lane (fields_of c.args.row.now), c.in_ok-figure.figure) c.lane_named-named.result
     c.in_ok-lane.lane c.in_ok-figure.ensures.exact c.lane_named-named.ensures.exact c.if-has_cum.ensures.exact
@@ -84,4 +85,4 @@ returns-clause-row c =
     }
 
 pub returns-clause-room : goal.returns-clause-room
-returns-clause-room c = subst (λ (xs : List CumRow). length xs < MOST_OF_A_KIND) c.cums.ensures.value c.if-cums-ge-MOST_OF_A_KIND.false
+returns-clause-room c = room_of (λ l. l.of_a_kind) c.limits.result c.args.self.now.lists c.cums.result.now c.args.self.now.lists.cums c.limits.ensures.value c.cums.ensures.value c.if-cums-limits.false

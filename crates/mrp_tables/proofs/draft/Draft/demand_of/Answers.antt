@@ -1,6 +1,7 @@
 use Rattle.std.proofs.Common.{◌<◌, ◌≤◌, List, length, nat_lt, subst}
 use Rattle.csv.specs.Records.{fields_of}
-use Rattle.mrp_qty.specs.declared.limits.TheConstants.{MOST_OF_A_KIND}
+use Rattle.mrp_master_data.specs.Table.{most}
+use Rattle.mrp_tables.proofs.Room.{full_of, room_of}
 use Rattle.mrp_master_data.specs.declared.rows.DemandRow.{DemandRow}
 use Rattle.mrp_validation.specs.Grammar.{demand_made, demand_of}
 use Rattle.mrp_tables.proofs.AmountFacts.{has_none, has_some, row_made, row_refused, row_too_many}
@@ -12,23 +13,23 @@ unfolding demand_of
 returns-in_err-amount-clause-exact c =
     let N = c.args.self.now.lists in
     rw (handed_on c.from_residual.result _ c.from_residual.ensures.1)
-    (row_refused N (fields_of c.args.row.now) (nat_lt (length N.demands) MOST_OF_A_KIND) demand_made _ c.in_err-amount.ensures.exact)
+    (row_refused N (fields_of c.args.row.now) (nat_lt (length N.demands) (most N).demands) demand_made _ c.in_err-amount.ensures.exact)
 
-pub returns-then-demands-ge-MOST_OF_A_KIND-clause-exact : goal.returns-then-demands-ge-MOST_OF_A_KIND-clause-exact
+pub returns-then-demands-limits-clause-exact : goal.returns-then-demands-limits-clause-exact
 unfolding demand_of
-returns-then-demands-ge-MOST_OF_A_KIND-clause-exact c =
+returns-then-demands-limits-clause-exact c =
     let N = c.args.self.now.lists in
-    let many = subst (λ (xs : List DemandRow). MOST_OF_A_KIND ≤ length xs) c.demands.ensures.value c.if-demands-ge-MOST_OF_A_KIND.true in
-    row_too_many N (fields_of c.args.row.now) (nat_lt (length N.demands) MOST_OF_A_KIND) demand_made
+    let many = full_of (λ l. l.demands) c.limits.result c.args.self.now.lists c.demands.result.now c.args.self.now.lists.demands c.limits.ensures.value c.demands.ensures.value c.if-demands-limits.true in
+    row_too_many N (fields_of c.args.row.now) (nat_lt (length N.demands) (most N).demands) demand_made
     (c.in_ok-amount.amount.pair, c.in_ok-amount.amount.period, c.in_ok-amount.amount.quantity) c.in_ok-amount.ensures.exact
-    (has_none (length N.demands) MOST_OF_A_KIND many)
+    (has_none (length N.demands) (most N).demands many)
 
 pub returns-clause-exact : goal.returns-clause-exact
 unfolding demand_of
 returns-clause-exact c =
     let N = c.args.self.now.lists in
-    let room = subst (λ (xs : List DemandRow). length xs < MOST_OF_A_KIND) c.demands.ensures.value c.if-demands-ge-MOST_OF_A_KIND.false in
+    let room = room_of (λ l. l.demands) c.limits.result c.args.self.now.lists c.demands.result.now c.args.self.now.lists.demands c.limits.ensures.value c.demands.ensures.value c.if-demands-limits.false in
     rw c.of.ensures
-    (row_made N (fields_of c.args.row.now) (nat_lt (length N.demands) MOST_OF_A_KIND) demand_made
+    (row_made N (fields_of c.args.row.now) (nat_lt (length N.demands) (most N).demands) demand_made
     (c.in_ok-amount.amount.pair, c.in_ok-amount.amount.period, c.in_ok-amount.amount.quantity) c.in_ok-amount.ensures.exact
-    (has_some (length N.demands) MOST_OF_A_KIND room))
+    (has_some (length N.demands) (most N).demands room))

@@ -13,19 +13,19 @@ use Rattle.mrp_tables.proofs.draft.Draft.first.Goals as goal
 pub returns-in_err-row_kind-clause-exact : goal.returns-in_err-row_kind-clause-exact
 returns-in_err-row_kind-clause-exact c =
     let row = fields_of c.args.row.now in
-    let bad = first-bad_kind row c.requires.text c.in_err-row_kind.field-0.0 (sym c.row_kind.ensures ∙ c.in_err-row_kind.was) in
+    let bad = first-bad_kind row c.requires.text c.args.limits c.in_err-row_kind.field-0.0 (sym c.row_kind.ensures ∙ c.in_err-row_kind.was) in
     rw (handed_on c.from_residual.result _ c.from_residual.ensures.1) (unless_memory _ _ bad)
 
 pub returns-then-ne-clause-exact : goal.returns-then-ne-clause-exact
 returns-then-ne-clause-exact c =
     let k = c.in_ok-row_kind.field-0 in
-    first-bad_order (fields_of c.args.row.now) c.requires.text k (sym c.row_kind.ensures ∙ c.in_ok-row_kind.was) (other_kind k c.if-ne.ensures)
+    first-bad_order (fields_of c.args.row.now) c.requires.text c.args.limits k (sym c.row_kind.ensures ∙ c.in_ok-row_kind.was) (other_kind k c.if-ne.ensures)
 
 pub returns-in_err-calendar-clause-exact : goal.returns-in_err-calendar-clause-exact
 returns-in_err-calendar-clause-exact c =
     let k = c.in_ok-row_kind.field-0 in
     let row = fields_of c.args.row.now in
-    let bad = first-calendar row c.requires.text k _ (sym c.row_kind.ensures ∙ c.in_ok-row_kind.was)
+    let bad = first-calendar row c.requires.text c.args.limits k _ (sym c.row_kind.ensures ∙ c.in_ok-row_kind.was)
     (run_kind k c.if-ne.ensures) c.in_err-calendar.ensures.exact in
     rw (handed_on c.from_residual-in_err-calendar.result _ c.from_residual-in_err-calendar.ensures.1) (unless_memory _ _ bad)
 
@@ -33,9 +33,9 @@ pub returns-clause-exact : goal.returns-clause-exact
 returns-clause-exact c =
     let k = c.in_ok-row_kind.field-0 in
     let row = fields_of c.args.row.now in
-    let starts = first-calendar row c.requires.text k _ (sym c.row_kind.ensures ∙ c.in_ok-row_kind.was)
+    let starts = first-calendar row c.requires.text c.args.limits k _ (sym c.row_kind.ensures ∙ c.in_ok-row_kind.was)
     (run_kind k c.if-ne.ensures) c.in_ok-calendar.ensures.exact in
-    (subst (λ (N : Table). Starts row (Ok N)) (sym c.new.ensures.table) starts, refl)
+    (subst (λ (N : Table). Starts c.args.limits row (Ok N)) (sym c.new.ensures.table) starts, refl)
 
 pub returns-clause-draft : goal.returns-clause-draft
 returns-clause-draft c = record {
@@ -62,6 +62,6 @@ returns-clause-draft c = record {
       omega (
         arith,
         ap row_count c.new.ensures.table,
-        ap length (no_days (run_terms (fields_of c.args.row.now)) _ c.in_ok-calendar.ensures.exact),
+        ap length (no_days c.args.limits (run_terms c.args.limits (fields_of c.args.row.now)) _ c.in_ok-calendar.ensures.exact),
       );
 }

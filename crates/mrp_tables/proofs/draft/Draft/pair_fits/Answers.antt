@@ -14,9 +14,9 @@ pub returns-then-names_plant-clause-exact : goal.returns-then-names_plant-clause
 unfolding pair_fits
 returns-then-names_plant-clause-exact c = search rules
 
-pub returns-then-pairs-ge-MOST_PAIRS-clause-exact : goal.returns-then-pairs-ge-MOST_PAIRS-clause-exact
+pub returns-then-pairs-limits-clause-exact : goal.returns-then-pairs-limits-clause-exact
 unfolding pair_fits
-returns-then-pairs-ge-MOST_PAIRS-clause-exact c = search rules
+returns-then-pairs-limits-clause-exact c = search rules
 
 pub returns-clause-exact : goal.returns-clause-exact
 unfolding pair_fits

@@ -7,6 +7,7 @@ use Rattle.mrp_tables.specs.Spelled.{terms_of_policy}
 use Rattle.mrp_tables.proofs.AmountFacts.{policy_fresh, policy_of_none}
 use Rattle.mrp_validation.proofs.KeepingSteps.{handed_on}
 use Rattle.mrp_tables.proofs.draft.Draft.policy_of.Goals as goal
+use Rattle.mrp_qty.specs.declared.limits.LimitSet.{LimitSet}
 
 pub returns-in_err-pair-clause-exact : goal.returns-in_err-pair-clause-exact
 returns-in_err-pair-clause-exact c =
@@ -19,7 +20,8 @@ returns-in_err-pair-clause-exact c =
     let new = ap (has_policy N) (sym named) ∙ sym c.if-has_policy.ensures.exact in
     rw (handed_on c.from_residual-in_err-pair.result _ c.from_residual-in_err-pair.ensures.1)
     (sym (policy_of_none N row (terms_of_policy row p.fence p.sooner p.cover p.least p.multiple) _
-    (sym (c.in_ok-policy.ensures.exact ∙ ap (policy_terms row) periods)) new c.in_err-pair.ensures.exact))
+    (sym (c.in_ok-policy.ensures.exact ∙ ap (λ (s : LimitSet). policy_terms s row c.horizon-horizon.result) c.limit_set.ensures.value
+    ∙ ap (policy_terms N.limits row) periods)) new c.in_err-pair.ensures.exact))
 
 pub returns-clause-fresh : goal.returns-clause-fresh
 returns-clause-fresh c =

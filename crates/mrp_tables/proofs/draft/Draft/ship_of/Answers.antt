@@ -5,7 +5,8 @@ use Rattle.mrp_master_data.specs.Table.{IsPair}
 use Rattle.mrp_master_data.specs.declared.numbers.PairNo.{PairNo}
 use Rattle.mrp_master_data.specs.declared.numbers.PlantNo.{PlantNo}
 use Rattle.mrp_master_data.specs.declared.rows.ShipRow.{ShipRow}
-use Rattle.mrp_qty.specs.declared.limits.TheConstants.{MOST_OF_A_KIND}
+use Rattle.mrp_master_data.specs.Table.{most}
+use Rattle.mrp_tables.proofs.Room.{full_of, room_of}
 use Rattle.mrp_tables.specs.Spelled.{terms_of_lane}
 use Rattle.mrp_tables.proofs.Finding.{of_found, placed, ship_full, ship_known, ship_unknown}
 use Rattle.mrp_validation.proofs.KeepingSteps.{handed_on}
@@ -37,19 +38,19 @@ returns-in_err-lane-clause-place c = rw (handed_on c.from_residual-in_err-lane.r
 pub returns-in_err-lane-clause-room : goal.returns-in_err-lane-clause-room
 returns-in_err-lane-clause-room c = rw (handed_on c.from_residual-in_err-lane.result _ c.from_residual-in_err-lane.ensures.1) tt
 
-pub returns-then-ships-ge-MOST_OF_A_KIND-clause-row : goal.returns-then-ships-ge-MOST_OF_A_KIND-clause-row
-returns-then-ships-ge-MOST_OF_A_KIND-clause-row c = tt
+pub returns-then-ships-limits-clause-row : goal.returns-then-ships-limits-clause-row
+returns-then-ships-limits-clause-row c = tt
 
-pub returns-then-ships-ge-MOST_OF_A_KIND-clause-place : goal.returns-then-ships-ge-MOST_OF_A_KIND-clause-place
-returns-then-ships-ge-MOST_OF_A_KIND-clause-place c = tt
+pub returns-then-ships-limits-clause-place : goal.returns-then-ships-limits-clause-place
+returns-then-ships-limits-clause-place c = tt
 
-pub returns-then-ships-ge-MOST_OF_A_KIND-clause-room : goal.returns-then-ships-ge-MOST_OF_A_KIND-clause-room
-returns-then-ships-ge-MOST_OF_A_KIND-clause-room c = tt
+pub returns-then-ships-limits-clause-room : goal.returns-then-ships-limits-clause-room
+returns-then-ships-limits-clause-room c = tt
 
-pub returns-then-ships-ge-MOST_OF_A_KIND-clause-exact : goal.returns-then-ships-ge-MOST_OF_A_KIND-clause-exact
-returns-then-ships-ge-MOST_OF_A_KIND-clause-exact c =
+pub returns-then-ships-limits-clause-exact : goal.returns-then-ships-limits-clause-exact
+returns-then-ships-limits-clause-exact c =
     let periods = c.horizon-horizon.ensures.value ∙ ap (λ (k : CalendarTerms). k.periods) c.calendar.ensures.value in
-    let many = subst (λ (xs : List ShipRow). MOST_OF_A_KIND ≤ length xs) c.ships.ensures.value c.if-ships-ge-MOST_OF_A_KIND.true in
+    let many = full_of (λ l. l.of_a_kind) c.limits.result c.args.self.now.lists c.ships.result.now c.args.self.now.lists.ships c.limits.ensures.value c.ships.ensures.value c.if-ships-limits.true in
     ship_full c.args.self.now.lists (fields_of c.args.row.now) _
     (terms_of_lane (fields_of c.args.row.now), c.in_ok-period.period, c.in_ok-period.quantity) c.lane_named-named.result c.in_ok-lane.lane
     c.in_ok-period.ensures.exact periods c.lane_named-named.ensures.exact c.in_ok-lane.ensures.exact many
@@ -57,7 +58,7 @@ returns-then-ships-ge-MOST_OF_A_KIND-clause-exact c =
 pub returns-clause-exact : goal.returns-clause-exact
 returns-clause-exact c =
     let periods = c.horizon-horizon.ensures.value ∙ ap (λ (k : CalendarTerms). k.periods) c.calendar.ensures.value in
-    let room = subst (λ (xs : List ShipRow). length xs < MOST_OF_A_KIND) c.ships.ensures.value c.if-ships-ge-MOST_OF_A_KIND.false in
+    let room = room_of (λ l. l.of_a_kind) c.limits.result c.args.self.now.lists c.ships.result.now c.args.self.now.lists.ships c.limits.ensures.value c.ships.ensures.value c.if-ships-limits.false in
     rw c.of.ensures
     (ship_known c.args.self.now.lists (fields_of c.args.row.now) _
     (terms_of_lane (fields_of c.args.row.now), c.in_ok-period.period, c.in_ok-period.quantity) c.lane_named-named.result c.in_ok-lane.lane

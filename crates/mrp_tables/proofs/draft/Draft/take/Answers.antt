@@ -6,6 +6,8 @@ use Rattle.mrp_tables.specs.Drafts.{draft_state}
 use Rattle.mrp_tables.proofs.BulkFacts.{taken-bad_order, taken-fault, taken-made}
 use Rattle.mrp_validation.proofs.KeepingSteps.{handed_on}
 use Rattle.mrp_tables.proofs.draft.Draft.take.Goals as goal
+use Rattle.mrp_tables.proofs.TurnCount.{draft_rows-le}
+use Rattle.std.proofs.Common.{arith}
 
 pub returns-then-not-may_follow-clause-exact : goal.returns-then-not-may_follow-clause-exact
 returns-then-not-may_follow-clause-exact c =
@@ -28,3 +30,6 @@ returns-clause-exact c =
     (taken-made (draft_state self) c.args.row _
     (subst (λ (k : Kind). may_follow k self.last ≡ _) c.kind-kind.ensures (sym c.may_follow.ensures ∙ c.if-not-may_follow.false))
     c.in_ok-take_row.ensures.exact)
+
+pub overflow_add-self : goal.overflow_add-self
+overflow_add-self c = omega (arith, draft_rows-le c.args.self.now c.requires.draft, c.in_ok-take_row.ensures.adds.counted)

@@ -22,9 +22,9 @@ pub returns-then-not-has_bill-clause-exact : goal.returns-then-not-has_bill-clau
 unfolding usage_fits
 returns-then-not-has_bill-clause-exact c = search rules
 
-pub returns-then-usages-ge-MOST_USAGES-clause-exact : goal.returns-then-usages-ge-MOST_USAGES-clause-exact
+pub returns-then-usages-limits-clause-exact : goal.returns-then-usages-limits-clause-exact
 unfolding usage_fits
-returns-then-usages-ge-MOST_USAGES-clause-exact c = search rules
+returns-then-usages-limits-clause-exact c = search rules
 
 pub returns-clause-exact : goal.returns-clause-exact
 unfolding usage_fits

@@ -9,6 +9,8 @@ use Rattle.mrp_tables.proofs.TurnCount.{draft_rows-le}
 use Rattle.mrp_validation.proofs.KeepingSteps.{handed_on}
 use Rattle.mrp_tables.proofs.pieces.Piece.take_into.Goals as goal
 use Rattle.mrp_tables.proofs.pieces.Piece.take_into.Goals.{After-row-item}
+use Rattle.std.proofs.Common.{ap}
+use Rattle.mrp_master_data.specs.Table.{Table}
 
 -- the row at hand is the next that was said
 so : (c : After-row-item)
@@ -19,9 +21,6 @@ so c = subst (λ (said : List BulkRow). TakenSo (rows_in c.args.self.now.text.it
 
 pub overflow_add-number : goal.overflow_add-number
 overflow_add-number c = omega (arith, draft_rows-le c.rows.draft c.rows.invariant.draft)
-
-pub take-requires-clause-room : goal.take-requires-clause-room
-take-requires-clause-room c = omega (arith, draft_rows-le c.rows.draft c.rows.invariant.draft)
 
 pub take-requires-clause-row : goal.take-requires-clause-row
 take-requires-clause-row c = taken_bulk _ _ _ _ _ (so (goal.at.take-requires-clause-row c).After-row-item)
@@ -50,3 +49,9 @@ returns-clause-exact c =
     taken_all _ _ _ (tt {0}) (subst (λ (said : List BulkRow). TakenSo (rows_in c.args.self.now.text.items) c.args.draft.now c.rows.draft said)
     (drop_all c.rows.row-index c.args.self.now.said.items
     (omega (arith, c.rows-test.false, c.deref-row-items.ensures.len))) c.rows.invariant.taken)
+
+pub returns-in_err-at_row-clause-limits : goal.returns-in_err-at_row-clause-limits
+returns-in_err-at_row-clause-limits c = rw (handed_on c.from_residual.result _ c.from_residual.ensures.1) tt
+
+pub returns-clause-limits : goal.returns-clause-limits
+returns-clause-limits c = ap (λ (N : Table). N.limits) c.rows.invariant.names
