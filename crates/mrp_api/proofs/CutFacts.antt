@@ -12,18 +12,19 @@ use Rattle.mrp_validation.specs.Reading.{Reads}
 use Rattle.mrp_validation.proofs.CutEnd.{whole_table}
 use Rattle.mrp_api.specs.Text.{IsTableOf}
 use Rattle.mrp_api.proofs.TableFacts.{are_rows, tables_are_read}
+use Rattle.mrp_qty.specs.declared.limits.LimitSet.{LimitSet}
 
 -- what has no row, or one field alone, is no table
 two_fields : (field first second : List ℕ) (fields : List (List ℕ)) (rows : List (List (List ℕ)))
     → ◌≡◌ {A = List (List (List ℕ))} ((field ∷ []) ∷ []) ((first ∷ second ∷ fields) ∷ rows) → ⊥
 two_fields field first second fields rows is = cc
 
-one_field : (text field : List ℕ) (N : Table) → records default_config text ≡ (field ∷ []) ∷ [] → Reads (records default_config text) (Ok N) → ⊥
-one_field text field N is read = two_fields field _ _ _ _ (sym is ∙ (are_rows (records default_config text) N read).0)
+one_field : (limits : LimitSet) (text field : List ℕ) (N : Table) → records default_config text ≡ (field ∷ []) ∷ [] → Reads limits (records default_config text) (Ok N) → ⊥
+one_field limits text field N is read = two_fields field _ _ _ _ (sym is ∙ (are_rows limits (records default_config text) N read).0)
 
-no_row : (N : Table) → Reads (records default_config []) (Ok N) → ⊥
+no_row : (limits : LimitSet) (N : Table) → Reads limits (records default_config []) (Ok N) → ⊥
 unfolding records_from next_record
-no_row N read =
+no_row limits N read =
     let same : ◌≡◌ {A = Result Table TableFault} (Ok N) (Err (record { row = 0; kind = kind.Empty })) = read in
     absurd (cc)
 
@@ -56,27 +57,27 @@ unchosen true a b c rest none = absurd (none refl)
 unchosen false a b c rest none = refl
 
 -- a table's bytes hold a byte order mark whole, or don't begin one: so it is left out before more bytes as before none
-mark_left_out : (bytes more : List ℕ) (N : Table) → Reads (records default_config (strip_bom bytes)) (Ok N) → strip_bom (bytes ++ more) ≡ strip_bom bytes ++ more
+mark_left_out : (limits : LimitSet) (bytes more : List ℕ) (N : Table) → Reads limits (records default_config (strip_bom bytes)) (Ok N) → strip_bom (bytes ++ more) ≡ strip_bom bytes ++ more
 unfolding strip_bom
-mark_left_out [] more N read = absurd (no_row N read)
-mark_left_out (a ∷ []) [] N read = refl
-mark_left_out (a ∷ []) (b ∷ []) N read = refl
-mark_left_out (a ∷ []) (b ∷ c ∷ rest) N read =
+mark_left_out limits [] more N read = absurd (no_row limits N read)
+mark_left_out limits (a ∷ []) [] N read = refl
+mark_left_out limits (a ∷ []) (b ∷ []) N read = refl
+mark_left_out limits (a ∷ []) (b ∷ c ∷ rest) N read =
     unchosen (is_bom a b c) a b c rest (λ mark.
-    let Read : ℕ → Type 0 = λ x. Reads (records default_config (x ∷ [])) (Ok N) in
-    one_field (0xEF ∷ []) (0xEF ∷ []) N first_byte (subst Read (mark_begins a b c mark).0 read))
-mark_left_out (a ∷ b ∷ []) [] N read = refl
-mark_left_out (a ∷ b ∷ []) (c ∷ rest) N read =
+    let Read : ℕ → Type 0 = λ x. Reads limits (records default_config (x ∷ [])) (Ok N) in
+    one_field limits (0xEF ∷ []) (0xEF ∷ []) N first_byte (subst Read (mark_begins a b c mark).0 read))
+mark_left_out limits (a ∷ b ∷ []) [] N read = refl
+mark_left_out limits (a ∷ b ∷ []) (c ∷ rest) N read =
     unchosen (is_bom a b c) a b c rest (λ mark.
     let begins = mark_begins a b c mark in
-    let First : ℕ → Type 0 = λ x. Reads (records default_config (x ∷ b ∷ [])) (Ok N) in
-    let Second : ℕ → Type 0 = λ y. Reads (records default_config (0xEF ∷ y ∷ [])) (Ok N) in
-    one_field (0xEF ∷ 0xBB ∷ []) (0xEF ∷ 0xBB ∷ []) N two_bytes (subst Second begins.1 (subst First begins.0 read)))
-mark_left_out (a ∷ b ∷ c ∷ rest) more N read = chosen (is_bom a b c) a b c rest more
+    let First : ℕ → Type 0 = λ x. Reads limits (records default_config (x ∷ b ∷ [])) (Ok N) in
+    let Second : ℕ → Type 0 = λ y. Reads limits (records default_config (0xEF ∷ y ∷ [])) (Ok N) in
+    one_field limits (0xEF ∷ 0xBB ∷ []) (0xEF ∷ 0xBB ∷ []) N two_bytes (subst Second begins.1 (subst First begins.0 read)))
+mark_left_out limits (a ∷ b ∷ c ∷ rest) more N read = chosen (is_bom a b c) a b c rest more
 
 -- bytes whose table ends with its `end` row are those of no other table cut off
-pub cut_off : (bytes more : List ℕ) (N M : Table) → IsTableOf (Some bytes) N → IsTableOf (Some (bytes ++ more)) M → N.ended ≡ true → N ≡ M
-cut_off bytes more N M is whole ended =
-    let read = (tables_are_read bytes N).0 is in
-    let Whole : List ℕ → Type 0 = λ text. Reads (records default_config text) (Ok M) in
-    whole_table (strip_bom bytes) more N M read (subst Whole (mark_left_out bytes more N read) ((tables_are_read (bytes ++ more) M).0 whole)) ended
+pub cut_off : (limits : LimitSet) (bytes more : List ℕ) (N M : Table) → IsTableOf limits (Some bytes) N → IsTableOf limits (Some (bytes ++ more)) M → N.ended ≡ true → N ≡ M
+cut_off limits bytes more N M is whole ended =
+    let read = (tables_are_read limits bytes N).0 is in
+    let Whole : List ℕ → Type 0 = λ text. Reads limits (records default_config text) (Ok M) in
+    whole_table limits (strip_bom bytes) more N M read (subst Whole (mark_left_out limits bytes more N read) ((tables_are_read limits (bytes ++ more) M).0 whole)) ended

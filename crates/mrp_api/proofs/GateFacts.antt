@@ -11,7 +11,8 @@ use Rattle.mrp_api.specs.Answer.{IsNoShutGate, question_of}
 use Rattle.mrp_api.specs.Fault.{IsLate}
 use Rattle.mrp_api.specs.Gates.{GateExplains, IsGateFault}
 use Rattle.mrp_api.specs.Refusals.{AskByThreads}
-use Rattle.mrp_api.specs.Text.{IsTableOf, OfTable}
+use Rattle.mrp_api.specs.Text.{IsTableOf, OfTableWithin}
+use Rattle.mrp_qty.specs.declared.limits.LimitSet.{LimitSet}
 
 -- ---- what the gate explains
 
@@ -24,11 +25,11 @@ late_fault Shut Spent N (fault.GateShut name) late = absurd late
 late_fault Shut Spent N fault.Stopped late = absurd late
 late_fault Shut Spent N _ late = tt
 
-text_fault : (Shut Spent : ℕ → Type 0) (known : Option (List ℕ)) (N : Table) (f : TextFault) → IsTableOf known N → IsGateFault Shut Spent (InTable N) f
-    → IsGateFault Shut Spent (OfTable known) f
-text_fault Shut Spent known N (fault.GateShut name) is said = (N, is, said)
-text_fault Shut Spent known N fault.Stopped is said = (N, is, said)
-text_fault Shut Spent known N _ is said = tt
+text_fault : (Shut Spent : ℕ → Type 0) (limits : LimitSet) (known : Option (List ℕ)) (N : Table) (f : TextFault) → IsTableOf limits known N → IsGateFault Shut Spent (InTable N) f
+    → IsGateFault Shut Spent (OfTableWithin limits known) f
+text_fault Shut Spent limits known N (fault.GateShut name) is said = (N, is, said)
+text_fault Shut Spent limits known N fault.Stopped is said = (N, is, said)
+text_fault Shut Spent limits known N _ is said = tt
 
 module _ (Open Shut Worker : ℕ → ℕ → Type 0) (workers turns : ℕ) where
   abbrev Was : ℕ → Type 0
@@ -53,11 +54,11 @@ module _ (Open Shut Worker : ℕ → ℕ → Type 0) (workers turns : ℕ) where
   }
 
   -- so of the text
-  pub gate_of : {U : Type 0} (known : Option (List ℕ)) (N : Table) (r : Result U TextFault) → IsTableOf known N
+  pub gate_of : {U : Type 0} (limits : LimitSet) (known : Option (List ℕ)) (N : Table) (r : Result U TextFault) → IsTableOf limits known N
       → GateExplains Open Shut Worker workers turns (InTable N) r
-      → GateExplains Open Shut Worker workers turns (OfTable known) r
-  gate_of known N (Ok u) is gate = record { turned = (N, is, gate.turned); shut = tt }
-  gate_of known N (Err f) is gate = record { turned = tt; shut = text_fault Was Spent known N f is gate.shut }
+      → GateExplains Open Shut Worker workers turns (OfTableWithin limits known) r
+  gate_of limits known N (Ok u) is gate = record { turned = (N, is, gate.turned); shut = tt }
+  gate_of limits known N (Err f) is gate = record { turned = tt; shut = text_fault Was Spent limits known N f is gate.shut }
 
 -- ---- a gate that is always open
 
@@ -65,15 +66,15 @@ module _ (Open Shut Worker : ℕ → ℕ → Type 0) (workers turns : ℕ) where
 never_shut : (Open : ℕ → ℕ → Type 0) (crew turns p : ℕ) → WasShut Open (λ _ _. ⊥) (λ _ _. ⊥) crew turns p → ⊥
 never_shut Open crew turns p shut = ⊎_elim (λ turn. turn.3) (λ worker. worker.3) shut
 
-open_fault : (Open : ℕ → ℕ → Type 0) (crew turns : ℕ) (Spent : ℕ → Type 0) (known : Option (List ℕ)) (f : TextFault)
-    → IsGateFault (WasShut Open (λ _ _. ⊥) (λ _ _. ⊥) crew turns) Spent (OfTable known) f → IsNoShutGate f
-open_fault Open crew turns Spent known (fault.GateShut name) said = never_shut Open crew turns said.2.0 said.2.2
-open_fault Open crew turns Spent known _ said = tt
+open_fault : (Open : ℕ → ℕ → Type 0) (crew turns : ℕ) (Spent : ℕ → Type 0) (limits : LimitSet) (known : Option (List ℕ)) (f : TextFault)
+    → IsGateFault (WasShut Open (λ _ _. ⊥) (λ _ _. ⊥) crew turns) Spent (OfTableWithin limits known) f → IsNoShutGate f
+open_fault Open crew turns Spent limits known (fault.GateShut name) said = never_shut Open crew turns said.2.0 said.2.2
+open_fault Open crew turns Spent limits known _ said = tt
 
-pub open_gate : {U : Type 0} (Open : ℕ → ℕ → Type 0) (crew turns : ℕ) (known : Option (List ℕ)) (r : Result U TextFault)
-    → GateExplains Open (λ _ _. ⊥) (λ _ _. ⊥) crew turns (OfTable known) r → IfErr r IsNoShutGate
-open_gate Open crew turns known (Ok u) gate = tt
-open_gate Open crew turns known (Err f) gate = open_fault Open crew turns (WasSpent Open turns) known f gate.shut
+pub open_gate : {U : Type 0} (Open : ℕ → ℕ → Type 0) (crew turns : ℕ) (limits : LimitSet) (known : Option (List ℕ)) (r : Result U TextFault)
+    → GateExplains Open (λ _ _. ⊥) (λ _ _. ⊥) crew turns (OfTableWithin limits known) r → IfErr r IsNoShutGate
+open_gate Open crew turns limits known (Ok u) gate = tt
+open_gate Open crew turns limits known (Err f) gate = open_fault Open crew turns (WasSpent Open turns) limits known f gate.shut
 
 -- a plan that isn't asked for on one thread
 pub asks_threads : (workers capacity : ℕ) (single : Bool) → single ≡ false → question_of (Plan workers capacity single) ≡ AskByThreads

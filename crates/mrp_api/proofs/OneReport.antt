@@ -50,6 +50,7 @@ use Rattle.mrp_api.specs.Reports.{AreWholeIf, IsAdviceReport, IsHeaded, IsCodeRe
 use Rattle.mrp_api.proofs.CutFacts.{cut_off}
 use Rattle.mrp_api.proofs.TableFacts.{tables_are_read}
 use Rattle.mrp_api.specs.Reports.{IsKnownPlant, IsKnownSupplier, IsPegsReport}
+use Rattle.mrp_qty.specs.declared.limits.LimitSet.TheVariants as set
 
 -- ---- the plan
 
@@ -74,8 +75,8 @@ are_plan_rows N plans sized fits = (sized, (plans, fits, refl))
 
 -- bytes make one table
 pub one_table : BytesMakeOneTable
-one_table bytes N M a b =
-    let same = reads_one_way (records default_config (strip_bom bytes)) (Ok N) (Ok M) ((tables_are_read bytes N).0 a) ((tables_are_read bytes M).0 b) in
+one_table limits bytes N M a b =
+    let same = reads_one_way limits (records default_config (strip_bom bytes)) (Ok N) (Ok M) ((tables_are_read limits bytes N).0 a) ((tables_are_read limits bytes M).0 b) in
     cc
 
 -- names are those of one pair
@@ -135,8 +136,8 @@ one_answer (Advice until reach heading) N a b table x y = one_advice_report unti
 one_answer (Shortages heading) N a b table x y = one_of_plan N (shortage_text heading N) a b x.0 x.1 y.1
 
 pub one_report : ReportsAreOne
-one_report choice bytes a b x y =
-    one_answer choice y.0 a b y.1.table (subst (λ (N : Table). IsAnswer choice N a) (one_table bytes x.0 y.0 x.1 y.1) x.2) y.2
+one_report limits choice bytes a b x y =
+    one_answer choice y.0 a b y.1.table (subst (λ (N : Table). IsAnswer choice N a) (one_table limits bytes x.0 y.0 x.1 y.1) x.2) y.2
 
 -- ---- no refusal beside it
 
@@ -225,18 +226,18 @@ answer_passes choice N text fault.WriteFault is said = refl
 answer_passes choice N text fault.Memory is said = refl
 
 -- nor are rows that make a table
-rows_pass : (rows : List (List (List ℕ))) (N : Table) (e : TableFault) (k : TableFaultKind) (above : Type 0) → Reads rows (Ok N)
-    → OfRows k above (Reads rows (Err e)) → table_status_of k ≡ 3
+rows_pass : (rows : List (List (List ℕ))) (N : Table) (e : TableFault) (k : TableFaultKind) (above : Type 0) → Reads set.Usual rows (Ok N)
+    → OfRows k above (Reads set.Usual rows (Err e)) → table_status_of k ≡ 3
 rows_pass rows N e kind.ReadFault above read said = refl
 rows_pass rows N e kind.Memory above read said = refl
-rows_pass rows N e _ above read said = let same = reads_one_way rows (Ok N) (Err e) read said in absurd (cc)
+rows_pass rows N e _ above read said = let same = reads_one_way set.Usual rows (Ok N) (Err e) read said in absurd (cc)
 
 pub accepted_passes : ReportsExcludeRefusals
 accepted_passes choice bytes text (fault.Table e) is said = rows_pass (records default_config (strip_bom bytes)) is.0 e e.kind _
-    ((tables_are_read bytes is.0).0 is.1) said
+    ((tables_are_read set.Usual bytes is.0).0 is.1) said
 accepted_passes choice bytes text fault.Memory is said = refl
 accepted_passes choice bytes text f is said =
-    answer_passes choice is.0 text f is.2 (subst (λ (N : Table). RefusesTable (question_of choice) N f) (one_table bytes said.0 is.0 said.1 is.1) said.2)
+    answer_passes choice is.0 text f is.2 (subst (λ (N : Table). RefusesTable (question_of choice) N f) (one_table set.Usual bytes said.0 is.0 said.1 is.1) said.2)
 
 -- nor where a request says how the rows are to be read
 rows_pass_as : (reading : Reading) (rows : List (List (List ℕ))) (N : Table) (e : TableFault) (k : TableFaultKind) (above : Type 0) → ReadsAs reading rows (Ok N)
@@ -248,18 +249,18 @@ rows_pass_as reading rows N e _ above read said = let same = one_way_as reading 
 pub requested_passes : RequestsExcludeRefusals
 requested_passes request bytes text (fault.Table e) is said =
     let rows = records default_config (strip_bom bytes) in
-    rows_pass_as request.reading rows is.0 e e.kind _ ((whole_end request.reading rows is.0).1 ((tables_are_read bytes is.0).0 is.1, is.2.0)) said
+    rows_pass_as request.reading rows is.0 e e.kind _ ((whole_end request.reading rows is.0).1 ((tables_are_read request.reading.limits bytes is.0).0 is.1, is.2.0)) said
 requested_passes request bytes text fault.Memory is said = refl
 requested_passes request bytes text f is said =
     answer_passes request.choice is.0 text f is.2.1
-    (subst (λ (N : Table). RefusesTable (question_of request.choice) N f) (one_table bytes said.0 is.0 said.1 is.1) said.2.1)
+    (subst (λ (N : Table). RefusesTable (question_of request.choice) N f) (one_table request.reading.limits bytes said.0 is.0 said.1 is.1) said.2.1)
 
 -- ---- tables that are cut off
 
 pub cut_tables_are_one : CutTablesAreOne
-cut_tables_are_one bytes more N M is whole ended = cut_off bytes more N M is whole ended
+cut_tables_are_one limits bytes more N M is whole ended = cut_off limits bytes more N M is whole ended
 
 pub no_other_report : CutTablesHaveNoOtherReport
 no_other_report request bytes more a b asked x y =
-    let same = cut_off bytes more x.0 y.0 x.1 y.1 (x.2.0 asked) in
+    let same = cut_off request.reading.limits bytes more x.0 y.0 x.1 y.1 (x.2.0 asked) in
     one_answer request.choice y.0 a b y.1.table (subst (λ (N : Table). IsAnswer request.choice N a) same x.2.1) y.2.1

@@ -23,13 +23,13 @@ writes-of a b (Err fault.Memory) P Q along written =
 writes-of a b (Err _) P Q along written = written
 
 -- what a fault says of a table that was read, it says of the text
-refused-of : (reading : Reading) (known : Option (List ℕ)) (asked : Question) (N : Table) (f : TextFault) → IsTableOf known N → Suits reading N
+refused-of : (reading : Reading) (known : Option (List ℕ)) (asked : Question) (N : Table) (f : TextFault) → IsTableOf reading.limits known N → Suits reading N
     → RefusesTable asked N f → RefusesAs reading known asked f
 refused-of reading known asked N (fault.Table e) is suits said = absurd said
 refused-of reading known asked N fault.Memory is suits said = tt
 refused-of reading known asked N _ is suits said = (N, is, (suits, said))
 
-pub refuses-of : {U : Type 0} (reading : Reading) (known : Option (List ℕ)) (asked : Question) (N : Table) (r : Result U TextFault) → IsTableOf known N
+pub refuses-of : {U : Type 0} (reading : Reading) (known : Option (List ℕ)) (asked : Question) (N : Table) (r : Result U TextFault) → IsTableOf reading.limits known N
     → Suits reading N → IfErr r (RefusesTable asked N) → IfErr r (RefusesAs reading known asked)
 refuses-of reading known asked N (Ok u) is suits said = tt
 refuses-of reading known asked N (Err f) is suits said = refused-of reading known asked N f is suits said

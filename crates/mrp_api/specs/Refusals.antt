@@ -17,7 +17,8 @@ use Rattle.mrp_api.specs.declared.fault.PairName.{PairName}
 use Rattle.mrp_api.specs.declared.fault.TextFault.{TextFault}
 use Rattle.mrp_api.specs.declared.fault.TextFault.TheVariants as fault
 use Rattle.mrp_api.specs.Reports.{is_vendor}
-use Rattle.mrp_api.specs.Text.{OfTable, Suits}
+use Rattle.mrp_api.specs.Text.{OfTable, OfTableWithin, Suits}
+use Rattle.mrp_qty.specs.declared.limits.LimitSet.TheVariants as set
 
 -- the names of the pair
 abbrev pub IsPairName : Table → ℕ → PairName → Type 0
@@ -107,7 +108,7 @@ RefusesTable asked N fault.Memory = Unit {0}
 -- what a fault says of these bytes: it is the first fault of their rows; or they make a table, and the fault says this
 -- of it. Of refused memory it says nothing
 abbrev pub Refuses : Option (List ℕ) → Question → TextFault → Type 0
-Refuses known asked (fault.Table e) = OfRecords (option_map strip_bom known) (TellsRows (Err e))
+Refuses known asked (fault.Table e) = OfRecords (option_map strip_bom known) (TellsRows set.Usual (Err e))
 Refuses known asked fault.Memory = Unit {0}
 Refuses known asked other = OfTable known (λ N. RefusesTable asked N other)
 
@@ -115,4 +116,4 @@ Refuses known asked other = OfTable known (λ N. RefusesTable asked N other)
 abbrev pub RefusesAs : Reading → Option (List ℕ) → Question → TextFault → Type 0
 RefusesAs reading known asked (fault.Table e) = OfRecords (option_map strip_bom known) (TellsRowsAs reading (Err e))
 RefusesAs reading known asked fault.Memory = Unit {0}
-RefusesAs reading known asked other = OfTable known (λ N. Suits reading N × RefusesTable asked N other)
+RefusesAs reading known asked other = OfTableWithin reading.limits known (λ N. Suits reading N × RefusesTable asked N other)

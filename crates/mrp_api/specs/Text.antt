@@ -4,6 +4,8 @@ use Rattle.std.specs.Prelude.{◌≡◌, true, ℕ, ◌⊎◌, List, ◌++◌, O
 use Rattle.std.specs.Io.KnownBytes.{Appends, Keeps}
 use Rattle.csv.specs.Reading.{strip_bom}
 use Rattle.mrp_commands.specs.declared.reading.Reading.{Reading}
+use Rattle.mrp_qty.specs.declared.limits.LimitSet.{LimitSet}
+use Rattle.mrp_qty.specs.declared.limits.LimitSet.TheVariants as set
 use Rattle.mrp_master_data.specs.Table.{Table, IsTable}
 use Rattle.mrp_validation.specs.Written.{OfRecords}
 use Rattle.mrp_validation.specs.Written.{AreNumbered, rows_of}
@@ -16,17 +18,23 @@ use Rattle.mrp_api.specs.declared.fault.TextFault.TheVariants as fault
 
 -- ---- the table of a text
 
--- the bytes are the table, written out: it says what a table says, the records of the bytes, without a byte order mark,
--- are its rows, and its items are numbered in the order in which its pairs name them. Of bytes that aren't known
--- nothing is said but that it is a table
-pub record IsTableOf (known : Option (List ℕ)) (N : Table) : Type 0 where
+-- the bytes are the table of these limits, written out: it says what a table says, the records of the bytes, without
+-- a byte order mark, are its rows, and its items are numbered in the order in which its pairs name them. Of bytes that
+-- aren't known nothing is said but that it is a table of these limits
+pub record IsTableOf (limits : LimitSet) (known : Option (List ℕ)) (N : Table) : Type 0 where
+  pub limits_are : N.limits ≡ limits
   pub table : IsTable N
   pub rows : OfRecords (option_map strip_bom known)
       (λ rows. (rows ≡ rows_of N) × AreNumbered 0 N.pairs (length N.items))
 
--- so it is of some table of these bytes, of which there is one at most; where they aren't known, of some table
+-- so it is of some table of these bytes within the limits, of which there is one at most; where they aren't known, of
+-- some table
+abbrev pub OfTableWithin : LimitSet → Option (List ℕ) → (Table → Type 0) → Type 0
+OfTableWithin limits known says = (N : Table) × IsTableOf limits known N × says N
+
+-- so it is of some table within the usual limits
 abbrev pub OfTable : Option (List ℕ) → (Table → Type 0) → Type 0
-OfTable known says = (N : Table) × IsTableOf known N × says N
+OfTable = OfTableWithin set.Usual
 
 -- a table that has to be whole ends with an `end` row
 abbrev pub Suits : Reading → Table → Type 0

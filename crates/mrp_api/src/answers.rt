@@ -3,7 +3,7 @@
 ghost use Rattle.std.specs.Prelude.{◌≡◌, IfErr};
 ghost use Rattle.mrp_commands.specs.Range.{IsInRange};
 ghost use Rattle.mrp_api.specs.Answer.{IsRequested, question_of, IsBeforeReport, IsNoShutGate, exit_status_of};
-ghost use Rattle.mrp_api.specs.Text.{Writes, OfTable};
+ghost use Rattle.mrp_api.specs.Text.{Writes, OfTableWithin};
 ghost use Rattle.mrp_api.specs.Refusals.{RefusesAs};
 ghost use Rattle.mrp_api.specs.Reports.{WritesRows, IsPlanRows};
 
@@ -32,9 +32,9 @@ pub fn answer<T: Threads + Wait + Sync, R: Read + Drop, W: Write>(
 ) -> Result<(), TextFault>
     requires { IsInRange request.choice }
     ensures text { Writes (W.contents writer.old) (W.contents writer.new) result
-        (λ text. OfTable (R.remaining reader) (λ N. IsRequested request.entry N text)) }
+        (λ text. OfTableWithin request.entry.reading.limits (R.remaining reader) (λ N. IsRequested request.entry N text)) }
     ensures rows { WritesRows W.contents writer.old writer.new result
-        (λ rows. OfTable (R.remaining reader) (λ N. IsPlanRows N rows)) }
+        (λ rows. OfTableWithin request.entry.reading.limits (R.remaining reader) (λ N. IsPlanRows N rows)) }
     ensures refusal { IfErr result (RefusesAs request.entry.reading (R.remaining reader)
         (question_of request.entry.choice)) }
     ensures untouched { IfErr result (λ fault. IsBeforeReport request.entry.choice fault → writer.new ≡ writer.old) }

@@ -32,7 +32,7 @@ pub(crate) fn network_of<R: Read + Drop>(
     reading: Reading,
     reader: R,
 ) -> Result<Network, TextFault>
-    ensures rows { IfOk result (IsTableOf (R.remaining reader)) }
+    ensures rows { IfOk result (IsTableOf reading.limits (R.remaining reader)) }
     ensures whole { IfOk result (Suits reading) }
     ensures refusal { IfErr result (NetworkAnswers reading (R.remaining reader)) }
 {
@@ -50,7 +50,7 @@ pub(crate) fn network_by_threads<T: Threads + Sync, R: Read + Drop>(
     reading: Reading,
     reader: R,
 ) -> Result<Network, TextFault>
-    ensures rows { IfOk result (IsTableOf (R.remaining reader)) }
+    ensures rows { IfOk result (IsTableOf reading.limits (R.remaining reader)) }
     ensures whole { IfOk result (Suits reading) }
     ensures refusal { IfErr result (NetworkAnswers reading (R.remaining reader)) }
 {

@@ -11,7 +11,7 @@ ghost use Rattle.std.specs.Prelude.{◌≡◌, ◌≢◌, ◌≤◌, IfErr};
 ghost use Rattle.mrp_qty.specs.declared.limits.TheConstants.{MOST_TURNS};
 ghost use Rattle.mrp_api.specs.Answer.{IsAlone, IsAnswer, IsBeforeReport, IsRequested, question_of};
 ghost use Rattle.mrp_api.specs.Fault.{IsBeforeWriting};
-ghost use Rattle.mrp_api.specs.Text.{Writes, OfTable, IsPlanReport, Suits};
+ghost use Rattle.mrp_api.specs.Text.{Writes, OfTable, OfTableWithin, IsPlanReport, Suits};
 ghost use Rattle.mrp_api.specs.Reports.{WritesRows, IsPlanRows, IsCodeReport};
 ghost use Rattle.mrp_report.specs.Headings.{pegs_names};
 ghost use Rattle.mrp_api.specs.Reports.{IsPegReport, IsCumReport, IsOrderReport, IsHeaded};
@@ -27,6 +27,7 @@ use crate::network::{network_by_threads, network_of};
 use crate::run::write_run;
 use crate::writing::write_report;
 use mrp_commands::{Choice, Heading, MOST_CAPACITY, Reading, Request};
+use mrp_master_data::LimitSet;
 use mrp_run::{Gate, Settings};
 use std::alloc::Global;
 use std::io::{Read, Write};
@@ -34,7 +35,10 @@ use std::sync::Wait;
 use std::thread::Threads;
 
 /// Any table will do, whether it ends with an `end` row or not.
-const READ_ALL: Reading = Reading { whole: false };
+const READ_ALL: Reading = Reading {
+    whole: false,
+    limits: LimitSet::Usual,
+};
 
 /// Reads a table and writes its plan: a row for each pair and period, then a row for each late order. Each plant plans
 /// in a thread of its own, with the workers and the mailboxes of `settings`.
@@ -81,13 +85,13 @@ pub(crate) fn plan_as<T: Threads + Wait + Sync, R: Read + Drop, W: Write, G: Gat
     gate: &G,
 ) -> Result<(), TextFault>
     ensures text { Writes (W.contents writer.old) (W.contents writer.new) result
-        (λ text. OfTable (R.remaining reader) (λ N. Suits reading N × IsPlanReport N text)) }
+        (λ text. OfTableWithin reading.limits (R.remaining reader) (λ N. Suits reading N × IsPlanReport N text)) }
     ensures rows { WritesRows W.contents writer.old writer.new result
-        (λ rows. OfTable (R.remaining reader) (λ N. IsPlanRows N rows)) }
+        (λ rows. OfTableWithin reading.limits (R.remaining reader) (λ N. IsPlanRows N rows)) }
     ensures refusal { IfErr result (RefusesAs reading (R.remaining reader) AskByThreads) }
     ensures untouched { IfErr result (λ fault. IsBeforeWriting fault → writer.new ≡ writer.old) }
     ensures gate { GateExplains G.turn_open G.turn_shut G.worker_shut settings.workers MOST_TURNS
-        (OfTable (R.remaining reader)) result }
+        (OfTableWithin reading.limits (R.remaining reader)) result }
 {
     let network = network_by_threads(rt, alloc, reading, reader)?;
     let written = write_run(rt, alloc, &network, writer, settings, gate);
@@ -400,9 +404,9 @@ pub fn report_text<R: Read + Drop, W: Write>(
 ) -> Result<(), TextFault>
     requires alone { IsAlone request.choice }
     ensures text { Writes (W.contents writer.old) (W.contents writer.new) result
-        (λ text. OfTable (R.remaining reader) (λ N. IsRequested request.entry N text)) }
+        (λ text. OfTableWithin request.entry.reading.limits (R.remaining reader) (λ N. IsRequested request.entry N text)) }
     ensures rows { WritesRows W.contents writer.old writer.new result
-        (λ rows. OfTable (R.remaining reader) (λ N. IsPlanRows N rows)) }
+        (λ rows. OfTableWithin request.entry.reading.limits (R.remaining reader) (λ N. IsPlanRows N rows)) }
     ensures refusal { IfErr result (RefusesAs request.entry.reading (R.remaining reader)
         (question_of request.entry.choice)) }
     ensures untouched { IfErr result (λ fault. IsBeforeReport request.entry.choice fault → writer.new ≡ writer.old) }
@@ -423,9 +427,9 @@ pub(crate) fn report_by_threads<T: Threads + Sync, R: Read + Drop, W: Write>(
 ) -> Result<(), TextFault>
     requires alone { IsAlone request.choice }
     ensures text { Writes (W.contents writer.old) (W.contents writer.new) result
-        (λ text. OfTable (R.remaining reader) (λ N. IsRequested request.entry N text)) }
+        (λ text. OfTableWithin request.entry.reading.limits (R.remaining reader) (λ N. IsRequested request.entry N text)) }
     ensures rows { WritesRows W.contents writer.old writer.new result
-        (λ rows. OfTable (R.remaining reader) (λ N. IsPlanRows N rows)) }
+        (λ rows. OfTableWithin request.entry.reading.limits (R.remaining reader) (λ N. IsPlanRows N rows)) }
     ensures refusal { IfErr result (RefusesAs request.entry.reading (R.remaining reader)
         (question_of request.entry.choice)) }
     ensures untouched { IfErr result (λ fault. IsBeforeReport request.entry.choice fault → writer.new ≡ writer.old) }

@@ -1,6 +1,7 @@
 -- Tests of the library: a table with firm planned orders, worked by hand, one beside planned orders, which takes its
 -- components, and one that calls for pieces of another plant.
 use Rattle.std.specs.Prelude.{◌≡◌, [], ◌∷◌, ◌++◌, false, None, codes}
+use Rattle.mrp_qty.specs.declared.limits.LimitSet.TheVariants as set
 use Rattle.mrp_lot.specs.declared.rule.Rule.TheVariants.{LotForLot}
 use Rattle.mrp_master_data.specs.declared.rows.Supply.TheVariants.{Make, Buy, From}
 use Rattle.mrp_master_data.specs.Table.{Table}
@@ -53,6 +54,7 @@ firm_and_planned = record {
   usages = [];
   vendors = [];
   ended = false;
+  limits = set.Usual;
 }
 
 abbrev pub FirmAndPlannedIsWritten : Type 0
@@ -138,6 +140,7 @@ firm_call = record {
   usages = [];
   vendors = [];
   ended = false;
+  limits = set.Usual;
 }
 
 -- the firm order is a call in the period of its release, and the cumulative figure has it

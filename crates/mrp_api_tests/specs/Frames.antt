@@ -1,6 +1,7 @@
 -- Tests of the library: a table of frames and bicycles, worked by hand, for the reach of its plan, messages within it;
 -- and the table with its end, as it is and cut off.
 use Rattle.std.specs.Prelude.{◌≡◌, true, false, [], ◌∷◌, ◌++◌, None, Some, Ok, Err, codes}
+use Rattle.mrp_qty.specs.declared.limits.LimitSet.TheVariants as set
 use Rattle.mrp_lot.specs.declared.rule.Rule.TheVariants.{LotForLot, Periods}
 use Rattle.mrp_master_data.specs.declared.rows.Supply.TheVariants.{Buy, Make}
 use Rattle.mrp_master_data.specs.Table.{Table}
@@ -78,6 +79,7 @@ frames = record {
   usages = [];
   vendors = [];
   ended = true;
+  limits = set.Usual;
 }
 
 -- its rows, with the `end` row, which counts the thirteen above it
@@ -142,11 +144,11 @@ frames_without_end = record frames { ended = false }
 
 -- as it stands it is taken where a table has to be whole, and cut off it is refused at the row behind its last
 abbrev pub FramesAreUncut : Type 0
-FramesAreUncut = uncut (record { whole = true }) frames ≡ Ok frames
+FramesAreUncut = uncut (record { whole = true; limits = set.Usual }) frames ≡ Ok frames
 
 abbrev pub FramesAreCut : Type 0
-FramesAreCut = uncut (record { whole = true }) frames_without_end ≡ Err (record { row = 14; kind = Cut })
+FramesAreCut = uncut (record { whole = true; limits = set.Usual }) frames_without_end ≡ Err (record { row = 14; kind = Cut })
 
 -- and where it need not be whole it is taken
 abbrev pub FramesNeedNoEnd : Type 0
-FramesNeedNoEnd = uncut (record { whole = false }) frames_without_end ≡ Ok frames_without_end
+FramesNeedNoEnd = uncut (record { whole = false; limits = set.Usual }) frames_without_end ≡ Ok frames_without_end

@@ -1,6 +1,7 @@
 -- Tests of the library: tables with policies, worked by hand, with a fence, an open order that is counted sooner than
 -- it comes, and a period of cover.
 use Rattle.std.specs.Prelude.{◌≡◌, [], ◌∷◌, ◌++◌, false, None, codes}
+use Rattle.mrp_qty.specs.declared.limits.LimitSet.TheVariants as set
 use Rattle.mrp_lot.specs.declared.rule.Rule.TheVariants.{LotForLot}
 use Rattle.mrp_master_data.specs.declared.rows.Supply.TheVariants.{Buy}
 use Rattle.mrp_master_data.specs.Table.{Table}
@@ -84,6 +85,7 @@ by_policy = record {
   usages = [];
   vendors = [];
   ended = false;
+  limits = set.Usual;
 }
 
 abbrev pub ByPolicyIsWritten : Type 0

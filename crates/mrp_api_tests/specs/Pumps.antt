@@ -2,6 +2,7 @@
 -- and sold from a depot, with each lot rule, safety stocks, receipts, shipments, shares of two sources, figures
 -- that start anew, and late orders.
 use Rattle.std.specs.Prelude.{◌≡◌, [], ◌∷◌, ◌++◌, false, codes}
+use Rattle.mrp_qty.specs.declared.limits.LimitSet.TheVariants as set
 use Rattle.mrp_lot.specs.declared.rule.Rule.TheVariants.{Fixed, LotForLot, MinMultiple, Periods}
 use Rattle.mrp_master_data.specs.declared.rows.Supply.TheVariants.{Buy, From, Make}
 use Rattle.mrp_master_data.specs.Table.{Table}
@@ -176,6 +177,7 @@ pumps = record {
   usages = [];
   vendors = [];
   ended = false;
+  limits = set.Usual;
 }
 
 -- its rows, field by field

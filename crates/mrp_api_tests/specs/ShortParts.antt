@@ -1,6 +1,7 @@
 -- Tests of the library: tables with requirements that lack parts, worked by hand, of a phantom and a pair inside its
 -- fence; and two demanders of one pair.
 use Rattle.std.specs.Prelude.{◌≡◌, [], ◌∷◌, ◌++◌, false, codes}
+use Rattle.mrp_qty.specs.declared.limits.LimitSet.TheVariants as set
 use Rattle.mrp_lot.specs.declared.rule.Rule.TheVariants.{LotForLot}
 use Rattle.mrp_master_data.specs.declared.rows.Supply.TheVariants.{Buy, From, Make}
 use Rattle.mrp_master_data.specs.Table.{Table}
@@ -79,6 +80,7 @@ phantom = record {
   usages = [];
   vendors = [];
   ended = false;
+  limits = set.Usual;
 }
 
 abbrev pub PhantomIsWritten : Type 0
@@ -172,6 +174,7 @@ two_demanders = record {
   usages = [];
   vendors = [];
   ended = false;
+  limits = set.Usual;
 }
 
 abbrev pub TwoDemandersAreWritten : Type 0

@@ -1,6 +1,7 @@
 -- Tests of the library: tables with usages, worked by hand, with scrap, a fraction, a component that replaces another,
 -- and one that isn't used for a while.
 use Rattle.std.specs.Prelude.{◌≡◌, [], ◌∷◌, ◌++◌, false, codes}
+use Rattle.mrp_qty.specs.declared.limits.LimitSet.TheVariants as set
 use Rattle.mrp_lot.specs.declared.rule.Rule.TheVariants.{Fixed, LotForLot}
 use Rattle.mrp_master_data.specs.declared.rows.Supply.TheVariants.{Buy, Make}
 use Rattle.mrp_master_data.specs.Table.{Table}
@@ -118,6 +119,7 @@ by_usage = record {
       ∷ [];
   vendors = [];
   ended = false;
+  limits = set.Usual;
 }
 
 abbrev pub ByUsageIsWritten : Type 0
@@ -276,6 +278,7 @@ scrapped_thrice = record {
       ∷ [];
   vendors = [];
   ended = false;
+  limits = set.Usual;
 }
 
 abbrev pub ScrappedThriceIsWritten : Type 0

@@ -1,5 +1,6 @@
 -- Tests of the library: tables with vendors, and with periods whose first days are given, worked by hand.
 use Rattle.std.specs.Prelude.{◌≡◌, [], ◌∷◌, ◌++◌, false, Some, None, codes}
+use Rattle.mrp_qty.specs.declared.limits.LimitSet.TheVariants as set
 use Rattle.mrp_lot.specs.declared.rule.Rule.TheVariants.{Fixed, LotForLot}
 use Rattle.mrp_master_data.specs.declared.rows.Supply.TheVariants.{Buy, From}
 use Rattle.mrp_master_data.specs.Table.{Table}
@@ -53,6 +54,7 @@ by_vendor = record {
       record { name = codes "V-MOTORS"; pair = record { 0 = 0 }; figure = 2300; transit = 100; reset = Some 3 }
       ∷ [];
   ended = false;
+  limits = set.Usual;
 }
 
 abbrev pub ByVendorIsWritten : Type 0
@@ -150,6 +152,7 @@ two_vendors = record {
       ∷ record { name = codes "NORTH"; pair = record { 0 = 1 }; figure = 0; transit = 0; reset = None }
       ∷ [];
   ended = false;
+  limits = set.Usual;
 }
 
 abbrev pub TwoVendorsAreWritten : Type 0
@@ -234,6 +237,7 @@ over_new_year = record {
   usages = [];
   vendors = [];
   ended = false;
+  limits = set.Usual;
 }
 
 abbrev pub OverNewYearIsWritten : Type 0
@@ -295,6 +299,7 @@ working_days = record {
   usages = [];
   vendors = record { name = codes "V"; pair = record { 0 = 0 }; figure = 0; transit = 0; reset = Some 5 } ∷ [];
   ended = false;
+  limits = set.Usual;
 }
 
 abbrev pub WorkingDaysAreWritten : Type 0

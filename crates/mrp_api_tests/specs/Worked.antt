@@ -1,5 +1,6 @@
 -- Tests of the library: two tables that were worked by hand, by the rows that say them, and the report of their plan.
 use Rattle.std.specs.Prelude.{◌≡◌, [], ◌∷◌, ◌++◌, false, codes}
+use Rattle.mrp_qty.specs.declared.limits.LimitSet.TheVariants as set
 use Rattle.mrp_lot.specs.declared.rule.Rule.TheVariants.{LotForLot}
 use Rattle.mrp_master_data.specs.declared.rows.Supply.TheVariants.{Make, Buy, From}
 use Rattle.mrp_master_data.specs.Table.{Table}
@@ -46,6 +47,7 @@ bicycle = record {
   usages = [];
   vendors = [];
   ended = false;
+  limits = set.Usual;
 }
 
 -- its rows, field by field
@@ -112,6 +114,7 @@ firm_of_two = record {
   usages = [];
   vendors = [];
   ended = false;
+  limits = set.Usual;
 }
 
 abbrev pub FirmOfTwoIsWritten : Type 0

@@ -5,6 +5,7 @@ mod blocks;
 mod endings;
 mod fitting;
 mod gates;
+mod large;
 mod memory;
 mod outcomes;
 mod record_faults;
@@ -15,6 +16,7 @@ mod streams;
 mod vendors;
 
 use mrp_commands::Reading;
+use mrp_master_data::LimitSet;
 use mrp_net::Network;
 use mrp_tables::read_tables_uncounted;
 use std::alloc::Global;
@@ -22,7 +24,10 @@ use std::process::Abort;
 use std::test::Fail;
 
 /// Any table will do, whether it ends with an `end` row or not.
-const READ_ALL: Reading = Reading { whole: false };
+const READ_ALL: Reading = Reading {
+    whole: false,
+    limits: LimitSet::Usual,
+};
 
 /// The network of a table's text.
 fn network(alloc: Global, text: &str) -> Result<Network, Fail> {

@@ -3,6 +3,7 @@ use Rattle.std.specs.Prelude.{◌≡◌, ℕ, true, false, List, [], ◌∷◌, 
 use mathlib.Core.Option.{some}
 use lib.ListN.{get_elem?}
 use Rattle.mrp_master_data.specs.Table.{Table}
+use Rattle.mrp_qty.specs.declared.limits.LimitSet.TheVariants as set
 use Rattle.mrp_master_data.specs.Growing.{empty_table}
 use Rattle.mrp_net.specs.Lanes.{lane_at}
 use Rattle.mrp_record.specs.declared.record.Record.{Record}
@@ -18,7 +19,7 @@ IsLegal N l records = IsBeginning (loads N (lane_at N l)) records
 
 -- the first pass of a mailbox may push and pop, and isn't told yet whose mailbox it is
 abbrev pub blank : Table
-blank = empty_table (record { first = 0; days = 0; periods = 0; begun = [] })
+blank = empty_table set.Usual (record { first = 0; days = 0; periods = 0; begun = [] })
 
 abbrev pub unnamed : LaneView
 unnamed = record {

@@ -40,6 +40,7 @@ use Rattle.mrp_loops.proofs.Edges.{demanders_only, HasEdge-from_in, HasEdge-pair
 use Rattle.mrp_net.proofs.Members.{In}
 use Rattle.mrp_loops.proofs.OnePlan.{one_plan}
 use Rattle.mrp_loops.proofs.Upstream.{demanders_decide, needs_are_one}
+use Rattle.mrp_master_data.proofs.LimitFacts.{any_limited, lead_of_pair, rule_of_pair}
 
 sum_in-le : {X : Type 0} (f g : X → ℕ) (xs : List X) → ((x : X) → In xs x → f x ≤ g x) → sum_by f xs ≤ sum_by g xs
 sum_in-le f g [] each = omega arith
@@ -83,14 +84,14 @@ data_is_within N table x is pair total =
     let firms = firms_are_kept N is x in
     let periods = length-row_of N (gross N table x) in
     record {
-      rule = own.rule;
-      lead = own.lead;
+      rule = rule_of_pair N (pair_at N x) own;
+      lead = lead_of_pair N (pair_at N x) own;
       fence = omega (arith, periods, policy.fence);
       sooner = policy.sooner;
       cover = policy.cover;
       least = policy.least;
       multiple = policy.multiple;
-      periods = omega (arith, periods, is.read.limits.periods);
+      periods = omega (arith, periods, (any_limited N is.read.limits).periods);
       receipts = omega (arith, periods, received_sooner-few N x);
       arrivals = omega (arith, periods, length-row_of N (incoming N x));
       firm_start = omega (arith, periods, length-row_of N (firm_start N x));

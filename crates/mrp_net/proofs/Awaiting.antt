@@ -24,6 +24,7 @@ use Rattle.mrp_net.specs.Sums.{row_of, incoming, received, received_when_due, sh
 use Rattle.mrp_net.proofs.PolicyRows.{sooner_none}
 use Rattle.mrp_net.proofs.Sooner.{when_due-all, when_due-le}
 use Rattle.mrp_net.proofs.Summing.{received_within, row_at, shipped_within}
+use Rattle.mrp_master_data.proofs.LimitFacts.{any_limited}
 
 -- ---- rows
 
@@ -119,7 +120,7 @@ incoming_is N pairs first rows i is size are had long back adds =
         long,
         had.size,
         mul-le (length pairs) (horizon N) (MOST_OF_A_KIND + MOST_PAIRS) LONGEST
-            (omega (arith, are.few, is.read.limits.ships, is.read.limits.policies)) is.read.limits.periods,
+            (omega (arith, are.few, (any_limited N is.read.limits).ships, (any_limited N is.read.limits).policies)) (any_limited N is.read.limits).periods,
       );
       none = λ x t pair none. shipped_none N pairs places x t are none;
       when_due = λ x pair none. sooner_none places x N.policies are.sooner none;
@@ -262,7 +263,7 @@ incoming_is_received N M i x place same are pair read none =
 -- the row of a pair that has a place is within all rows
 pub row_room : (N M : Table) (i : Incoming) (x place periods : ℕ) → N ≡ M → IsIncoming N i → IsPair M x → place ≡ get_or i.places.items x place → 0 < place
     → periods ≡ horizon M
-    → (place * periods ≤ length i.rows.items) × (length i.rows.items < 2 ^ 32)
+    → (place * periods ≤ length i.rows.items) × (length i.rows.items < 2 ^ 40)
 row_room N M i x place periods same are pair read some width =
     let is : IsIncoming M i = subst (λ (z : Table). IsIncoming z i) same are in
     let at = place_is M i x place is pair read in (

@@ -24,6 +24,7 @@ use Rattle.mrp_net.specs.Sources.{no_source, source_no}
 use Rattle.mrp_net.specs.SourceRows.{sent}
 use Rattle.mrp_net.specs.Sums.{pair_at, no_pair}
 use Rattle.mrp_net.proofs.Local.{item_is}
+use Rattle.mrp_master_data.proofs.LimitFacts.{any_limited}
 
 -- one more row, and all of them
 pub map_pushed : {X Y : Type 0} (f : X → Y) (xs : List X) (k : ℕ) (d : X) (y : Y) (so_far next : List Y) → k < length xs → y ≡ f (get_or xs k d)
@@ -91,7 +92,7 @@ sent_read N s read source is value = ap (sent_by s) value ∙ ap (sent N) is
 pub route_fits : (N : Table) (customer supplier plants : ℕ) → IsTable N → customer < length N.plants → supplier < length N.plants → plants ≡ length N.plants
     → customer * plants + supplier + 1 < 2 ^ 32
 route_fits N customer supplier plants is h g size =
-    let few : length N.plants ≤ MOST_PLANTS = is.read.limits.plants in
+    let few : length N.plants ≤ MOST_PLANTS = (any_limited N is.read.limits).plants in
     let place : customer * plants + supplier ≡ route_no N customer supplier = ap (λ (z : ℕ). customer * z + supplier) size in
     omega (arith, place, mul-add-lt customer (length N.plants) supplier (length N.plants) h g, mul-le-mul_left (length N.plants) few, few)
 

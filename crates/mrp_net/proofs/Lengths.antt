@@ -14,6 +14,7 @@ use Rattle.mrp_net.specs.declared.lane.LaneKind.TheVariants.{Despatch, Schedule}
 use Rattle.mrp_net.specs.Lanes.{lane_items, shipments, shipment_of, ships_from, taken_over, item_of_source, reset, pair_on, customer_of, supplier_of}
 use Rattle.mrp_net.specs.Sums.{pair_at}
 use Rattle.mrp_net.specs.Texts.{most_lines, longest_block}
+use Rattle.mrp_master_data.proofs.LimitFacts.{any_limited}
 
 lines_by_kind : (N : Table) (lane : Lane) (item : ItemNo) (kind : LaneKind) → lane.kind ≡ kind → IsTable N → most_lines N lane item ≤ MOST_OF_A_KIND
 lines_by_kind N lane item Despatch e is =
@@ -27,12 +28,12 @@ lines_by_kind N lane item Despatch e is =
       length-map (ships_from N x (supplier_of lane)) shipment_of,
       length-filter test N.ships,
       count_by-le-length test N.ships,
-      is.read.limits.ships,
+      (any_limited N is.read.limits).ships,
     )
 lines_by_kind N lane item Schedule e is =
     let lines : most_lines N lane item ≡ horizon N = ap (λ (k : LaneKind). elim k as
     (λ _. ℕ) [ Despatch ↦ length (shipments N lane item) | Schedule ↦ horizon N ]) e in
-    omega (arith, lines, is.read.limits.periods)
+    omega (arith, lines, (any_limited N is.read.limits).periods)
 
 one_at_most : (b : Bool) → cond b 1 0 ≤ 1
 one_at_most true = omega arith
@@ -50,5 +51,5 @@ lane_items_are_few N lane is =
           (item_of_source N),
       length-filter test N.sources,
       count_by-le-length test N.sources,
-      is.read.limits.sources,
+      (any_limited N is.read.limits).sources,
     )

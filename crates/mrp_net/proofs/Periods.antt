@@ -108,6 +108,17 @@ pub demand-le : (N : Table) (x t : ℕ) → t < horizon N → demand N x t ≤ d
 demand-le N x t within =
     omega (arith, demands-le N x, sum-map (demand N x) (range_with_len 0 (horizon N)), period-le (demand N x) (horizon N) t within)
 
+pub arrivals-le : (N : Table) (x t : ℕ) → t < horizon N → received N x t + shipped N x t ≤ received_total N x + shipped_total N x
+arrivals-le N x t within =
+    omega (
+      arith,
+      receipts-le N x,
+      sum-map (received N x) (range_with_len 0 (horizon N)),
+      period-le (received N x) (horizon N) t within,
+      periods-le (λ (s : ShipRow). s.pair.0 == x) (λ (s : ShipRow). s.period) (λ (s : ShipRow). s.quantity) (horizon N) N.ships,
+      period-le (shipped N x) (horizon N) t within,
+    )
+
 pub incoming-le : (N : Table) (x t : ℕ) → t < horizon N → incoming N x t ≤ received_total N x + shipped_total N x
 incoming-le N x t within =
     omega (arith, incomings-le N x, sum-map (incoming N x) (range_with_len 0 (horizon N)), period-le (incoming N x) (horizon N) t within)

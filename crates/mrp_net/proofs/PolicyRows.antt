@@ -14,6 +14,7 @@ use Rattle.mrp_master_data.specs.declared.rows.PolicyRow.{PolicyRow}
 use Rattle.mrp_master_data.specs.Table.{Table, IsTable, IsPair, IsPolicyRow, horizon}
 use Rattle.mrp_net.specs.Built.{ArePolicies}
 use Rattle.mrp_net.specs.Policies.{first_policy, policy_of}
+use Rattle.mrp_master_data.proofs.LimitFacts.{cover_of_policy, sooner_of_policy}
 
 -- what a look-up past the policy rows reads
 abbrev pub no_policy_row : PolicyRow
@@ -32,7 +33,7 @@ first_within N some [] each =
     record { fence = omega (arith, some); sooner = omega arith; cover = omega arith; least = omega arith; multiple = omega arith }
 first_within N some (p ∷ rows) each =
     let row = All-head (IsPolicyRow N) p rows each in
-    record { fence = row.fence; sooner = row.sooner; cover = row.cover; least = row.least; multiple = row.multiple }
+    record { fence = row.fence; sooner = sooner_of_policy N p row; cover = cover_of_policy N p row; least = row.least; multiple = row.multiple }
 
 -- the policy of a pair is in range, whether it has a row or not
 pub policy_within : (N : Table) (x : ℕ) → IsTable N → IsPolicyIn N (policy_of N x)

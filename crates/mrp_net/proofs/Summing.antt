@@ -13,7 +13,7 @@ use Rattle.std.proofs.lemmas.Map.Keys.{IsDistinct-head, IsDistinct-tail}
 use Rattle.std.proofs.lemmas.Nat.{mul-add-lt}
 use Rattle.std.proofs.Math.Nat.{mul_comm, mul-le-mul_left}
 use Rattle.mrp_qty.specs.declared.quantity.TheConstants.{MOST}
-use Rattle.mrp_qty.specs.declared.limits.TheConstants.{MOST_IN_ROW, MOST_OF_A_KIND, MOST_PAIRS}
+use Rattle.mrp_qty.specs.declared.limits.TheConstants.{MOST_DEMANDS, MOST_IN_ROW, MOST_OF_A_KIND, MOST_PAIRS}
 use Rattle.mrp_master_data.specs.declared.rows.DemandRow.{DemandRow}
 use Rattle.mrp_master_data.specs.declared.rows.ReceiptRow.{ReceiptRow}
 use Rattle.mrp_master_data.specs.declared.rows.ShipRow.{ShipRow}
@@ -29,32 +29,37 @@ use Rattle.mrp_net.specs.Sums.{pair_at, no_pair, row_of, demand, demand_total, r
 use Rattle.mrp_net.specs.Lanes.{figure, shipped_from}
 use Rattle.mrp_net.specs.Built.{AreTotals, ArePeriods, capped_supply}
 use Rattle.mrp_net.proofs.Sharing.{sum_map}
+use Rattle.mrp_master_data.proofs.LimitFacts.{any_limited}
 
--- some of as many amounts as there may be rows of a kind, each within what a row may have
-some_within : {R : Type 0} (test : R → Bool) (amount : R → ℕ) (rows : List R) → All (λ r. amount r ≤ MOST_IN_ROW) rows → length rows ≤ MOST_OF_A_KIND
-    → sum_by (λ r. cond (test r) (amount r) 0) rows ≤ MOST_OF_A_KIND * MOST_IN_ROW
-some_within test amount rows small few =
+-- some of so many amounts at most, each within what a row may have
+some_within : {R : Type 0} (most : ℕ) (test : R → Bool) (amount : R → ℕ) (rows : List R) → All (λ r. amount r ≤ MOST_IN_ROW) rows → length rows ≤ most
+    → sum_by (λ r. cond (test r) (amount r) 0) rows ≤ most * MOST_IN_ROW
+some_within most test amount rows small few =
     let each : All (λ r. cond (test r) (amount r) 0 ≤ MOST_IN_ROW) rows =
     λ k d h. cond_both (test (get_or rows k d)) (amount (get_or rows k d)) 0 (λ n. n ≤ MOST_IN_ROW) (λ _. small k d h) (λ _. omega arith) in
-    omega (arith, sum_by-le (λ r. cond (test r) (amount r) 0) MOST_IN_ROW rows each)
+    omega (arith, sum_by-le (λ r. cond (test r) (amount r) 0) MOST_IN_ROW rows each, mul-le-mul_left MOST_IN_ROW few)
 
-pub demand_within : (N : Table) → IsTable N → (x t : ℕ) → demand N x t ≤ MOST_OF_A_KIND * MOST_IN_ROW
-demand_within N is x t = some_within (λ d. eqb d.pair.0 x && eqb d.period t) (λ d. d.quantity) N.demands
-    (λ k d h. (is.read.demands k d h).quantity) is.read.limits.demands
+pub demand_within : (N : Table) → IsTable N → (x t : ℕ) → demand N x t ≤ MOST_DEMANDS * MOST_IN_ROW
+demand_within N is x t = some_within MOST_DEMANDS (λ d. eqb d.pair.0 x && eqb d.period t) (λ d. d.quantity) N.demands
+    (λ k d h. (is.read.demands k d h).quantity) (any_limited N is.read.limits).demands
 
-pub demand_total_within : (N : Table) → IsTable N → (x : ℕ) → demand_total N x ≤ MOST_OF_A_KIND * MOST_IN_ROW
-demand_total_within N is x = some_within (λ d. eqb d.pair.0 x) (λ d. d.quantity) N.demands (λ k d h. (is.read.demands k d h).quantity) is.read.limits.demands
+pub demand_total_within : (N : Table) → IsTable N → (x : ℕ) → demand_total N x ≤ MOST_DEMANDS * MOST_IN_ROW
+demand_total_within N is x = some_within MOST_DEMANDS (λ d. eqb d.pair.0 x) (λ d. d.quantity) N.demands (λ k d h. (is.read.demands k d h).quantity) (any_limited N is.read.limits).demands
 
 pub firm_total_within : (N : Table) → IsTable N → (x : ℕ) → firm_total N x ≤ MOST_OF_A_KIND * MOST_IN_ROW
-firm_total_within N is x = some_within (λ f. eqb f.pair.0 x) (λ f. f.quantity) N.firms (λ k d h. (is.read.firms k d h).quantity) is.read.limits.firms
+firm_total_within N is x = some_within MOST_OF_A_KIND (λ f. eqb f.pair.0 x) (λ f. f.quantity) N.firms (λ k d h. (is.read.firms k d h).quantity) (any_limited N is.read.limits).firms
 
 pub received_within : (N : Table) → IsTable N → (x t : ℕ) → received N x t ≤ MOST_OF_A_KIND * MOST_IN_ROW
-received_within N is x t = some_within (λ r. eqb r.pair.0 x && eqb r.period t) (λ r. r.quantity) N.receipts
-    (λ k d h. (is.read.receipts k d h).quantity) is.read.limits.receipts
+received_within N is x t = some_within MOST_OF_A_KIND (λ r. eqb r.pair.0 x && eqb r.period t) (λ r. r.quantity) N.receipts
+    (λ k d h. (is.read.receipts k d h).quantity) (any_limited N is.read.limits).receipts
+
+-- that is less than demand may be
+pub received_small : (N : Table) → IsTable N → (x t : ℕ) → received N x t ≤ MOST_DEMANDS * MOST_IN_ROW
+received_small N is x t = omega (arith, received_within N is x t)
 
 pub shipped_within : (N : Table) → IsTable N → (x t : ℕ) → shipped N x t ≤ MOST_OF_A_KIND * MOST_IN_ROW
-shipped_within N is x t = some_within (λ s. eqb s.pair.0 x && eqb s.period t) (λ s. s.quantity) N.ships
-    (λ k d h. (is.read.ships k d h).quantity) is.read.limits.ships
+shipped_within N is x t = some_within MOST_OF_A_KIND (λ s. eqb s.pair.0 x && eqb s.period t) (λ s. s.quantity) N.ships
+    (λ k d h. (is.read.ships k d h).quantity) (any_limited N is.read.limits).ships
 
 -- a pair and a period have a place
 place_within : (N : Table) (amounts : List ℕ) (x t : ℕ) → length amounts ≡ length N.pairs * horizon N → IsPair N x → t < horizon N
@@ -73,8 +78,8 @@ places_within pair period N periods rows amounts size width pairs small k d h =
 -- places are few
 pub place_fits : (N : Table) (x n : ℕ) → IsTable N → IsPair N x → n ≡ horizon N → (x + 1) * n < 2 ^ 32
 place_fits N x n is pair width =
-    let few : x + 1 ≤ MOST_PAIRS = omega (arith, is.read.limits.pairs) in
-    omega (arith, mul-le-mul_left n few, width, is.read.limits.periods)
+    let few : x + 1 ≤ MOST_PAIRS = omega (arith, (any_limited N is.read.limits).pairs) in
+    omega (arith, mul-le-mul_left n few, width, (any_limited N is.read.limits).periods)
 
 -- amounts that stand together are a row
 pub row_at : (amounts : List ℕ) (from n : ℕ) (amount : ℕ → ℕ) → from + n ≤ length amounts → ((t : ℕ) → t < n → get_or amounts (from + t) 0 ≡ amount t)
@@ -115,7 +120,7 @@ total_read N M amount totals x v is are pair read =
 -- what is added to zeros, in a slice of a list that is put back, are the sums
 pub sums_built : {R : Type 0} (pair period amount : R → ℕ) (N : Table) (periods : ℕ) (rows : List R) (first slice after : List ℕ) (n : ℕ)
     → first ≡ replicate (length N.pairs * horizon N) 0 → periods ≡ horizon N → slice ≡ first → length after ≡ length slice → length after ≡ n
-    → AddsAmounts pair period amount periods rows slice after → ((x t : ℕ) → sum_in pair period amount x t rows ≤ MOST_OF_A_KIND * MOST_IN_ROW)
+    → AddsAmounts pair period amount periods rows slice after → ((x t : ℕ) → sum_in pair period amount x t rows ≤ MOST_DEMANDS * MOST_IN_ROW)
     → ArePeriods N (λ x t. sum_in pair period amount x t rows) (take n (after ++ drop (length after) first))
 sums_built pair period amount N periods rows first slice after n zeros width same long back adds few =
     let room : length first ≡ length N.pairs * horizon N = ap length zeros ∙ length-replicate (length N.pairs * horizon N) 0 in
@@ -197,8 +202,8 @@ supplies_built N before with_receipts with_ships with_cums with_firms after vend
     }
 
 pub shipped_from_within : (N : Table) → IsTable N → (x p : ℕ) → shipped_from N x p ≤ MOST_OF_A_KIND * MOST_IN_ROW
-shipped_from_within N is x p = some_within (λ s. eqb s.pair.0 x && eqb s.from.0 p) (λ s. s.quantity) N.ships
-    (λ k d h. (is.read.ships k d h).quantity) is.read.limits.ships
+shipped_from_within N is x p = some_within MOST_OF_A_KIND (λ s. eqb s.pair.0 x && eqb s.from.0 p) (λ s. s.quantity) N.ships
+    (λ k d h. (is.read.ships k d h).quantity) (any_limited N is.read.limits).ships
 
 -- a plant's cumulative figure for a pair stands once, so it is that of one row at most
 abbrev is_of : ℕ → ℕ → CumRow → Bool

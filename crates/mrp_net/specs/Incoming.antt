@@ -28,7 +28,7 @@ pub record AreRows (N : Table) (amount : ℕ → ℕ → ℕ) (pairs rows : List
 -- they come
 pub record IsIncoming (N : Table) (i : Incoming) : Type 0 where
   pub size : length i.places.items ≡ length N.pairs
-  pub few : length i.rows.items < 2 ^ 32
+  pub few : length i.rows.items < 2 ^ 40
   pub none : (x t : ℕ) → IsPair N x → slice_index i.places.items x ≡ 0 → shipped N x t ≡ 0
   pub when_due : (x : ℕ) → IsPair N x → slice_index i.places.items x ≡ 0 → (policy_of N x).sooner ≡ 0
   pub room : (x : ℕ) → IsPair N x → 0 < slice_index i.places.items x

@@ -8,7 +8,7 @@ ghost use Rattle.mrp_net.specs.Terms.{terms_given};
 use crate::firm_rows::FirmRows;
 use mrp_master_data::FirmRow;
 use mrp_netting::{PairParams, PairPlan, PlanningData, Policy, plan_from};
-use mrp_qty::{Horizon, Row};
+use mrp_qty::{Horizon, LimitSet, Row};
 
 /// What planners say of a pair.
 #[derive(Clone, Copy)]
@@ -75,7 +75,7 @@ pub fn plan_by_terms(
         plan_from(&terms.data_with(incoming, &[], &[]), gross, into);
         return;
     }
-    let mut rows = FirmRows::new(Horizon::new(gross.len() as u64).unwrap());
+    let mut rows = FirmRows::new(Horizon::within(LimitSet::Large, gross.len() as u64).unwrap());
     rows.write(terms.orders);
     plan_from(&rows.planning_data(terms, incoming), gross, into);
 }

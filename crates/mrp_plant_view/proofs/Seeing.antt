@@ -23,6 +23,7 @@ use Rattle.mrp_net.proofs.Members.{In, In-from_contains, Contains-from_in, In-fi
 use Rattle.mrp_plant_view.proofs.Once.{count-map, count-filter, count_range, count_within}
 use Rattle.mrp_net.proofs.Sharing.{pairs_are_found}
 use Rattle.mrp_grouping.proofs.Sorting.{All-sorted_by}
+use Rattle.mrp_master_data.proofs.LimitFacts.{lead_of_pair, rule_of_pair}
 
 -- ---- pairs
 
@@ -105,7 +106,7 @@ pub pairs_are_planned : (N : Table) (plant : ℕ) → IsTable N → All IsPlantP
 pairs_are_planned N plant is =
     All-map IsPlantPair (plant_pair N) (own N plant)
     (λ k d h. let row = is.read.pairs (get_or (own N plant) k d) no_pair (own_are_pairs N plant k d h) in
-    record { rule = row.rule; lead = row.lead; on_hand = row.on_hand; safety = row.safety })
+    record { rule = rule_of_pair N _ row; lead = lead_of_pair N _ row; on_hand = row.on_hand; safety = row.safety })
 
 -- a pair of the table at the plant is one of the plant's
 own_pair : (N : Table) (plant x : ℕ) → IsPair N x → (pair_at N x).plant.0 ≡ plant → Contains (plant_pairs N plant) (plant_pair N x)

@@ -14,12 +14,13 @@ use Rattle.mrp_plant_view.proofs.OwnEdges.{numbers_rise, by_component}
 use Rattle.mrp_net.proofs.Routing.{map-map}
 use Rattle.mrp_plant_view.proofs.Seeing.{pairs_are_few, numbers_stand_once, items_stand_once, pairs_are_planned, edges_are_own, amounts_length}
 use Rattle.mrp_plant_view.proofs.SeeingLanes.{incoming_are, incoming_stand_once, outgoing_are, outgoing_stand_once, despatches_are, schedules_are}
+use Rattle.mrp_master_data.proofs.LimitFacts.{any_limited}
 
 pub views_say_enough : ViewsSayEnough
 views_say_enough N is plant = record {
   some_periods = is.read.limits.some_periods;
-  periods = is.read.limits.periods;
-  few_pairs = omega (arith, pairs_are_few N plant, is.read.limits.pairs);
+  periods = (any_limited N is.read.limits).periods;
+  few_pairs = omega (arith, pairs_are_few N plant, (any_limited N is.read.limits).pairs);
   numbers_rise = numbers_rise N plant;
   numbers_once = numbers_stand_once N plant;
   items_once = λ item. items_stand_once N plant item is;

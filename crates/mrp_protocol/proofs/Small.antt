@@ -52,6 +52,7 @@ use Rattle.mrp_protocol.specs.LoadLaws.{LegalFiguresAreSmall, LegalCumsAreSmall,
 use Rattle.mrp_protocol.specs.LoadLaws.{LaneBeginningsAreNoLonger, StepsAreFew}
 use Rattle.mrp_protocol.proofs.Calling.{source_over, source_item}
 use Rattle.mrp_protocol.proofs.Delivered.{by_period_total, by_period_some, by_period_inside, by_period_rises, by_period_length, in_order, rises_in_order}
+use Rattle.mrp_master_data.proofs.LimitFacts.{any_limited}
 
 -- ---- each item has one load
 
@@ -121,8 +122,8 @@ lanes_are_few N is =
     let pieces : (f : ℕ → List Lane) (most : ℕ) → ((k : ℕ) → length (f k) ≤ most) → length (flat_map f plants) ≤ length plants * most =
     λ f most each. omega (arith, length-flat_map f plants, sum_by-le (λ k. length (f k)) most plants (λ k d h. each (get_or plants k d))) in
     let of_one : (customer : ℕ) → length (lanes_of N customer) ≤ 2 * MOST_PLANTS =
-    λ customer. omega (arith, pieces (lanes_between N customer) 2 (between_are_two N customer), size, is.read.limits.plants) in
-    omega (arith, pieces (lanes_of N) (2 * MOST_PLANTS) of_one, size, is.read.limits.plants)
+    λ customer. omega (arith, pieces (lanes_between N customer) 2 (between_are_two N customer), size, (any_limited N is.read.limits).plants) in
+    omega (arith, pieces (lanes_of N) (2 * MOST_PLANTS) of_one, size, (any_limited N is.read.limits).plants)
 
 -- the texts of lanes together: their closing lines, and the blocks of their items
 texts_by_items : (N : Table) (ls : List Lane) → IsTable N
@@ -139,7 +140,7 @@ texts_by_items N (lane ∷ ls) is =
     )
 
 pub steps_are_few : StepsAreFew
-steps_are_few N is = omega (arith, texts_by_items N (lanes N) is, items_are_few N, lanes_are_few N is, is.read.limits.sources)
+steps_are_few N is = omega (arith, texts_by_items N (lanes N) is, items_are_few N, lanes_are_few N is, (any_limited N is.read.limits).sources, (any_limited N is.read.limits).pairs)
 
 -- ---- shipments
 

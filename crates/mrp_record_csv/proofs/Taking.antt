@@ -9,6 +9,7 @@ use Rattle.csv.specs.declared.error.ErrorKind.TheVariants as error
 use Rattle.csv.specs.declared.reader.Reader.{Reader}
 use Rattle.csv.specs.declared.reader.Trim.TheVariants as trim
 use Rattle.mrp_master_data.specs.Table.{Table}
+use Rattle.mrp_qty.specs.declared.limits.LimitSet.TheVariants as set
 use Rattle.mrp_master_data.specs.Growing.{empty_table}
 use Rattle.mrp_validation.specs.declared.fault.TableFaultKind.TheVariants as table_fault
 use Rattle.mrp_validation.specs.Left.{GivesAll, rows_left, OfLeft, StartsBadly, TakesRow}
@@ -82,4 +83,4 @@ pub one_more : (before after : Option (List (List (List ℕ)))) (row : List (Lis
 one_more before after row answer kind failed full is own taken same = inr (is, row_there none before after row answer own (taken none))
   where
     none : Table
-    none = empty_table (record { first = 0; days = 0; periods = 0; begun = [] })
+    none = empty_table set.Usual (record { first = 0; days = 0; periods = 0; begun = [] })

@@ -13,6 +13,7 @@ mod places;
 mod stops;
 mod trials;
 
+use mrp_master_data::LimitSet;
 use mrp_net::Network;
 use mrp_tables::{Reading, read_tables_uncounted};
 use std::alloc::Global;
@@ -20,7 +21,10 @@ use std::test::Fail;
 
 /// The network of a table's text.
 fn network_of(alloc: Global, text: &str) -> Result<Network, Fail> {
-    let reading = Reading { whole: false };
+    let reading = Reading {
+        whole: false,
+        limits: LimitSet::Usual,
+    };
     let tables = read_tables_uncounted(alloc, reading, text.as_bytes())?;
     Ok(Network::of(alloc, tables)?)
 }

@@ -1,5 +1,5 @@
 -- Shortages: what is there of a pair in period 0, and that it is within 64 bits.
-use Rattle.std.proofs.Common.{◌≡◌, ◌∙◌, ℕ, ◌+◌, ◌*◌, ◌^◌, ◌<◌, ◌≤◌, ◌==◌, cond, List, [], ◌∷◌, length, ap, arith}
+use Rattle.std.proofs.Common.{◌≡◌, ◌∙◌, ℕ, ◌+◌, ◌*◌, ◌^◌, ◌<◌, ◌≤◌, ◌==◌, cond, List, [], ◌∷◌, length, slice_index, ap, arith}
 use Rattle.std.specs.List.{sum_by}
 use Rattle.std.proofs.lemmas.Bool.{cond_both}
 use Rattle.std.proofs.lemmas.List.FromFn.{length-map-range_with_len}
@@ -8,14 +8,16 @@ use Rattle.mrp_netting.specs.PlanRows.{PlanRows}
 use Rattle.mrp_netting.proofs.OneRows.{length-one-order}
 use Rattle.mrp_master_data.specs.declared.rows.FirmRow.{FirmRow}
 use Rattle.mrp_master_data.specs.Table.{Table, IsTable, IsPair, horizon}
-use Rattle.mrp_net.specs.FirmOrders.{due_in, firms_of}
+use Rattle.mrp_net.specs.FirmOrders.{due_in, firm_total, firms_of}
 use Rattle.mrp_net.specs.Plan.{gross, pair_data, rows_at}
 use Rattle.mrp_net.specs.PlanLaws.{Fits}
 use Rattle.mrp_net.specs.Policies.{policy_of}
-use Rattle.mrp_net.specs.Sums.{incoming, received, shipped}
+use Rattle.mrp_net.specs.Sums.{incoming, opening_total, pair_at, received, received_total, shipped, shipped_total, vendor_total}
 use Rattle.mrp_net.proofs.Firms.{firm_total-is}
 use Rattle.mrp_net.proofs.Sooner.{when_due-all, when_due-none}
-use Rattle.mrp_net.proofs.Summing.{firm_total_within, received_within, shipped_within}
+use Rattle.mrp_net.proofs.Periods.{arrivals-le}
+use Rattle.mrp_loops.specs.Sized.{IsSized}
+use Rattle.mrp_qty.specs.declared.quantity.TheConstants.{MOST}
 
 -- there is a period 0
 pub some_period : (N : Table) → IsTable N → 0 < horizon N
@@ -28,9 +30,15 @@ come_sooner N x some = omega (arith, when_due-none N x 0 some)
 pub come_when_due : (N : Table) (x : ℕ) → (policy_of N x).sooner ≡ 0 → incoming N x 0 ≡ received N x 0 + shipped N x 0
 come_when_due N x none = omega (arith, when_due-all N x 0 none)
 
--- what comes in is within the limits of its rows
-pub come_within : (N : Table) (x : ℕ) → IsTable N → received N x 0 + shipped N x 0 ≤ 2 * 10 ^ 18
-come_within N x is = omega (arith, received_within N is x 0, shipped_within N is x 0)
+-- in a sized network what comes in and the firm planned orders of a pair are within its bound
+supply_within : (N : Table) (x : ℕ) → IsSized N → IsPair N x → received_total N x + shipped_total N x + firm_total N x ≤ MOST
+supply_within N x is pair =
+    let all : (pair_at N x).on_hand + received_total N x + shipped_total N x + opening_total N x + firm_total N x + vendor_total N x
+    + slice_index is.needs x ≤ MOST = is.within x pair in
+    omega (arith, all)
+
+pub come_within : (N : Table) (x : ℕ) → IsSized N → IsPair N x → received N x 0 + shipped N x 0 ≤ MOST
+come_within N x is pair = omega (arith, arrivals-le N x 0 (some_period N is.table), supply_within N x is pair)
 
 -- the orders of a plan that fits have all periods
 pub order_length : (N : Table) (table : List PlanRows) (x : ℕ) → Fits N table → IsPair N x → length (rows_at table x).order ≡ horizon N
@@ -40,9 +48,9 @@ order_length N table x fits in_table =
     ∙ length-map-range_with_len (gross N table x) 0 (horizon N)
 
 -- all firm planned orders of a pair
-pub firms_within : (N : Table) (x : ℕ) (orders : List FirmRow) → IsTable N → orders ≡ firms_of N x → sum_by (λ f. f.quantity) orders ≤ 10 ^ 18
-firms_within N x orders is are =
-    omega (arith, ap (λ (fs : List FirmRow). sum_by (λ (f : FirmRow). f.quantity) fs) are, firm_total-is N x, firm_total_within N is x)
+pub firms_within : (N : Table) (x : ℕ) (orders : List FirmRow) → IsSized N → IsPair N x → orders ≡ firms_of N x → sum_by (λ f. f.quantity) orders ≤ MOST
+firms_within N x orders is pair are =
+    omega (arith, ap (λ (fs : List FirmRow). sum_by (λ (f : FirmRow). f.quantity) fs) are, firm_total-is N x, supply_within N x is pair)
 
 -- those that are due in a period are no more than all
 pub due_le : (orders : List FirmRow) (t : ℕ) → due_in orders t ≤ sum_by (λ f. f.quantity) orders

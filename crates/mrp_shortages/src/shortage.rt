@@ -1,7 +1,9 @@
 //! Shortages: what is there of a pair in period 0, and what each requirement of the period lacks of it.
 
-ghost use Rattle.std.specs.Prelude.{◌≡◌, ◌==◌, ◌≤◌, ◌+◌, ◌-◌, ◌*◌, ◌^◌, if◌then◌else◌, sum_by};
-ghost use Rattle.mrp_master_data.specs.Table.{IsPair, IsTable};
+ghost use Rattle.std.specs.Prelude.{◌≡◌, ◌==◌, ◌≤◌, ◌+◌, ◌-◌, ◌*◌, if◌then◌else◌, sum_by};
+ghost use Rattle.mrp_loops.specs.Sized.{IsSized};
+ghost use Rattle.mrp_master_data.specs.Table.{IsPair};
+ghost use Rattle.mrp_qty.specs.declared.quantity.TheConstants.{MOST};
 ghost use Rattle.mrp_net.specs.FirmOrders.{due_in};
 ghost use Rattle.mrp_net.specs.PlanLaws.{Fits};
 ghost use Rattle.mrp_net.specs.Sums.{received, shipped};
@@ -23,7 +25,7 @@ pub struct Shortage {
 /// The pieces of a pair that are there in period 0: on hand, its receipts and the shipments to it that come in the period
 /// by their rows, and its orders that are due in it where it is made at once.
 pub(crate) fn there(network: &Network, plan: &Plan, x: PairNo) -> u64
-    requires table { IsTable network.now }
+    requires sized { IsSized network.now }
     requires fits { Fits network.now plan.now }
     requires pair { IsPair network.now x.0 }
     ensures { result ≡ there network.now plan.now x.0 }
@@ -34,10 +36,10 @@ pub(crate) fn there(network: &Network, plan: &Plan, x: PairNo) -> u64
 /// What comes in for a pair in period 0 by the rows of its receipts and of the shipments to it, whether receipts may be
 /// counted sooner or not.
 fn come(network: &Network, x: PairNo) -> u64
-    requires table { IsTable network.now }
+    requires sized { IsSized network.now }
     requires pair { IsPair network.now x.0 }
     ensures pieces { result ≡ received network.now x.0 0 + shipped network.now x.0 0 }
-    ensures within { result ≤ 2 * 10 ^ 18 }
+    ensures within { result ≤ 2 * MOST }
 {
     let incoming = network.incoming(x, 0);
     if network.policy(x).sooner > 0 {
@@ -50,11 +52,11 @@ fn come(network: &Network, x: PairNo) -> u64
 /// The orders of a pair that are due in period 0, firm and planned, where it is made at once. Of every other pair there
 /// are none.
 fn made_at_once(network: &Network, plan: &Plan, x: PairNo) -> u64
-    requires table { IsTable network.now }
+    requires sized { IsSized network.now }
     requires fits { Fits network.now plan.now }
     requires pair { IsPair network.now x.0 }
     ensures pieces { result ≡ made_at_once network.now plan.now x.0 }
-    ensures within { result ≤ 2 * 10 ^ 18 }
+    ensures within { result ≤ 2 * MOST }
 {
     if is_made_at_once(network, x) {
         firm_pieces(network.firm_orders(x)) + plan.pair(x).order().get(0).get()
@@ -76,9 +78,9 @@ fn is_made_at_once(network: &Network, x: PairNo) -> bool
 
 /// The pieces of firm planned orders that are due in period 0.
 fn firm_pieces(orders: &[FirmRow]) -> u64
-    requires { sum_by (λ f. f.quantity) orders.now ≤ 10 ^ 18 }
+    requires { sum_by (λ f. f.quantity) orders.now ≤ MOST }
     ensures pieces { result ≡ due_in orders.now 0 }
-    ensures within { result ≤ 10 ^ 18 }
+    ensures within { result ≤ MOST }
 {
     let mut pieces = 0;
     'orders: for order in orders {

@@ -1,7 +1,8 @@
 //! Shortages: their rows, each requirement of period 0 that lacks pieces.
 
 ghost use Rattle.std.specs.Prelude.{◌≡◌, ◌-◌, ◌++◌, All, Err, OnOk, IfOk, IfErr, length, map};
-ghost use Rattle.mrp_master_data.specs.Table.{IsPair, IsTable};
+ghost use Rattle.mrp_loops.specs.Sized.{IsSized};
+ghost use Rattle.mrp_master_data.specs.Table.{IsPair};
 ghost use Rattle.mrp_net.specs.PlanLaws.{Fits};
 ghost use Rattle.mrp_plan.specs.Peg.{IsPeggable, edge_term};
 ghost use Rattle.mrp_csv_out.specs.Writing.{IsBetweenRows, written};
@@ -74,7 +75,7 @@ fn shortage_text(
     plan: &Plan,
     heading: Heading,
 ) -> Result<Vec<u8>, ReportFault>
-    requires table { IsTable network.now }
+    requires sized { IsSized network.now }
     requires fits { Fits network.now plan.now }
     ensures text { IfOk result (λ text. text.items ≡ shortage_text heading network.now plan.now) }
     ensures fault { IfErr result (λ fault. fault ≡ ReportFault.Memory) }
@@ -102,7 +103,7 @@ fn shortage_text(
 /// Adds the rows of all pairs.
 fn put_pairs(rows: &mut Writer<Vec<u8>>, network: &Network, plan: &Plan) -> Result<(), ReportFault>
     requires between { IsBetweenRows rows.old }
-    requires table { IsTable network.now }
+    requires sized { IsSized network.now }
     requires fits { Fits network.now plan.now }
     ensures rows { OnOk result (written rows.new ≡ written rows.old ++ shortages_text network.now plan.now) }
     ensures between { OnOk result (IsBetweenRows rows.new) }
@@ -122,7 +123,7 @@ fn put_pair_shortages(
     x: PairNo,
 ) -> Result<(), ReportFault>
     requires between { IsBetweenRows rows.old }
-    requires table { IsTable network.now }
+    requires sized { IsSized network.now }
     requires fits { Fits network.now plan.now }
     requires pair { IsPair network.now x.0 }
     ensures rows { OnOk result (written rows.new ≡ written rows.old

@@ -4,6 +4,7 @@ use super::is_report;
 use super::outcomes::outcome;
 use mrp_api::{answer, report_text};
 use mrp_commands::{Choice, Heading, Reading, Request};
+use mrp_master_data::LimitSet;
 use std::alloc::{AllocError, Global};
 use std::sync::Wait;
 use std::test::Fail;
@@ -31,7 +32,10 @@ demand,A,X,1,5,,,\nend,4,,,,,,";
 fn planned(alloc: Global, text: &str, whole: bool) -> Result<String, AllocError> {
     let mut written = Vec::new(alloc);
     let request = Request {
-        reading: Reading { whole },
+        reading: Reading {
+            whole,
+            limits: LimitSet::Usual,
+        },
         choice: Choice::Plan {
             workers: 1,
             capacity: 4,
@@ -51,7 +55,10 @@ fn planned_by_threads<T: Threads + Wait + Sync>(
 ) -> Result<String, AllocError> {
     let mut written = Vec::new(alloc);
     let request = Request {
-        reading: Reading { whole },
+        reading: Reading {
+            whole,
+            limits: LimitSet::Usual,
+        },
         choice: Choice::Plan {
             workers: 1,
             capacity: 4,

@@ -10,6 +10,7 @@ use super::reports::{
 };
 use mrp_api::{TextFault, answer, check_text, drive_text, status};
 use mrp_commands::{Choice, Heading, Reading, Request};
+use mrp_master_data::LimitSet;
 use mrp_run_tests::{BICYCLE, TWO_PLANTS};
 use mrp_validation::TableFaultKind;
 use std::alloc::{AllocError, Global};
@@ -313,7 +314,10 @@ fn request_of(asked: Asked) -> Request<'static>
     ensures { IsInRange result.choice }
 {
     Request {
-        reading: Reading { whole: false },
+        reading: Reading {
+            whole: false,
+            limits: LimitSet::Usual,
+        },
         choice: choice_of(asked),
     }
 }

@@ -1,4 +1,4 @@
-use Rattle.std.proofs.Common.{option_map, Ok, subst, sym}
+use Rattle.std.proofs.Common.{◌≡◌, option_map, Ok, subst, sym}
 use Rattle.csv.specs.Reading.{strip_bom}
 use Rattle.mrp_master_data.specs.Table.{Table}
 use Rattle.mrp_validation.specs.Reading.{TellsRowsAs}
@@ -12,6 +12,7 @@ returns-clause-rows g c =
     let known = g.R.Read.remaining c.args.reader in
     let Told : Table → Type 0 = λ N. OfRecords (option_map strip_bom known) (TellsRowsAs c.args.reading (Ok N)) in
     is_table_of c.args.reading known c.in_ok-network.network c.pairs-pairs.ensures.table
+    (subst (λ (N : Table). N.limits ≡ c.args.reading.limits) (sym c.in_ok-network.ensures) c.in_ok-tables.ensures.limits)
     (subst Told (sym c.in_ok-network.ensures) c.in_ok-tables.ensures.table)
 
 pub returns-clause-whole : goal.returns-clause-whole

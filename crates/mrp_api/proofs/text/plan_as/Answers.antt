@@ -24,5 +24,5 @@ returns-clause-rows g c =
 
 pub returns-clause-gate : goal.returns-clause-gate
 returns-clause-gate g c =
-    gate_of g.G.Gate.turn_open g.G.Gate.turn_shut g.G.Gate.worker_shut c.args.settings.workers MOST_TURNS _ c.in_ok-network.network c.write_run-written.result
+    gate_of g.G.Gate.turn_open g.G.Gate.turn_shut g.G.Gate.worker_shut c.args.settings.workers MOST_TURNS _ _ c.in_ok-network.network c.write_run-written.result
     c.in_ok-network.ensures.rows c.write_run-written.ensures.gate

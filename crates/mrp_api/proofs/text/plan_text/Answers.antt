@@ -10,7 +10,7 @@ pub returns-clause-text : goal.returns-clause-text
 returns-clause-text g c = writes-of _ _ c.plan_as.result _ _ (λ text is. (is.0, is.1, is.2.1)) c.plan_as.ensures.text
 
 pub returns-clause-refusal : goal.returns-clause-refusal
-returns-clause-refusal g c = usual_refuses _ _ AskByThreads c.plan_as.result refl c.plan_as.ensures.refusal
+returns-clause-refusal g c = usual_refuses _ _ AskByThreads c.plan_as.result refl refl c.plan_as.ensures.refusal
 
 pub returns-clause-rows : goal.returns-clause-rows
 returns-clause-rows g c = c.plan_as.ensures.rows

@@ -3,12 +3,13 @@ use Rattle.mrp_master_data.specs.declared.rows.SourceRow.{SourceRow}
 use Rattle.mrp_master_data.specs.Table.{IsPair}
 use Rattle.mrp_net.proofs.Sourcing.{no_source, source_within, taker_within, source_from_start, source_after, source_found}
 use Rattle.mrp_net.proofs.lanes.source_of.Goals as goal
+use Rattle.mrp_master_data.proofs.LimitFacts.{any_limited}
 
 pub offset_bounds-starts-pair : goal.offset_bounds-starts-pair
 offset_bounds-starts-pair c =
     let N = c.args.tables.now in
     let pair : IsPair N c.args.pair.0 = taker_within N c.args.pair.0 c.args.plant.0 c.rows.ensures.table c.requires.taken in
-    omega (arith, c.rows.ensures.table.read.limits.pairs)
+    omega (arith, (any_limited N c.rows.ensures.table.read.limits).pairs)
 
 pub bounds-starts-pair : goal.bounds-starts-pair
 bounds-starts-pair c =

@@ -51,7 +51,7 @@ written given incoming gross starts dues periods same few_starts few_dues start 
 rows_written : (c : After-write) → AreFirmRows (planned (terms_given (length c.args.gross.now) c.args.terms.now) c.args.incoming.now c.args.gross.now)
     c.write.new.self.start c.write.new.self.due
 rows_written c =
-    let counted : c.unwrap.result ≡ c.len.result = subst (λ (h : Option ℕ). IfSome h (λ n. n ≡ c.len.result)) c.unwrap.ensures c.new.ensures.value in
+    let counted : c.unwrap.result ≡ c.len.result = subst (λ (h : Option ℕ). IfSome h (λ n. n ≡ c.len.result)) c.unwrap.ensures c.within.ensures.value in
     written c.args.terms.now c.args.incoming.now c.args.gross.now c.write.new.self.start c.write.new.self.due c.new-rows.result.periods
     (c.new-rows.ensures.periods ∙ counted ∙ c.len.ensures.value) c.write.ensures.few_starts c.write.ensures.few_dues c.write.ensures.start c.write.ensures.due
 

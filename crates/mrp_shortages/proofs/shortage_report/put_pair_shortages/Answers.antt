@@ -8,10 +8,10 @@ use Rattle.mrp_shortages.proofs.There.{some_period}
 use Rattle.mrp_shortages.proofs.shortage_report.put_pair_shortages.Goals as goal
 
 pub demand_term-requires-clause-period : goal.demand_term-requires-clause-period
-demand_term-requires-clause-period c = some_period c.args.network.now c.requires.table
+demand_term-requires-clause-period c = some_period c.args.network.now c.requires.sized.table
 
 pub asking_edges-edges-requires-clause-period : goal.asking_edges-edges-requires-clause-period
-asking_edges-edges-requires-clause-period c = some_period c.args.network.now c.requires.table
+asking_edges-edges-requires-clause-period c = some_period c.args.network.now c.requires.sized.table
 
 pub returns-clause-rows : goal.returns-clause-rows
 returns-clause-rows c =

@@ -2,9 +2,10 @@ use Rattle.std.proofs.Common.{arith, ap, ◌∙◌, subst}
 use Rattle.mrp_master_data.specs.Table.{horizon, IsTable}
 use Rattle.mrp_net.proofs.Summing.{place_fits}
 use Rattle.mrp_net.proofs.network.Network.places_of.Goals as goal
+use Rattle.mrp_master_data.proofs.LimitFacts.{any_limited}
 
 pub overflow_add-result : goal.overflow_add-result
-overflow_add-result c = omega (arith, (subst IsTable c.self.view_is c.self.invariant.table).read.limits.pairs, c.requires)
+overflow_add-result c = omega (arith, (any_limited c.args.self.now (subst IsTable c.self.view_is c.self.invariant.table).read.limits).pairs, c.requires)
 
 pub overflow_mul-result-2 : goal.overflow_mul-result-2
 overflow_mul-result-2 c =
