@@ -8,15 +8,15 @@ _mrp() {
         words="plan check peg cums orders schedule pegs advice shortages help --help --version"
     else
         case ${COMP_WORDS[1]} in
-            plan) words="--workers --capacity --single --whole --help" ;;
-            check) words="--reach --header --whole --help" ;;
-            peg) words="--header --whole --help" ;;
-            cums) words="--header --whole --help" ;;
-            orders) words="--until --header --whole --help" ;;
-            schedule) words="--from --to --header --whole --help" ;;
-            pegs) words="--header --whole --help" ;;
-            advice) words="--until --reach --header --whole --help" ;;
-            shortages) words="--header --whole --help" ;;
+            plan) words="--workers --capacity --single --whole --large --help" ;;
+            check) words="--reach --header --whole --large --help" ;;
+            peg) words="--header --whole --large --help" ;;
+            cums) words="--header --whole --large --help" ;;
+            orders) words="--until --header --whole --large --help" ;;
+            schedule) words="--from --to --header --whole --large --help" ;;
+            pegs) words="--header --whole --large --help" ;;
+            advice) words="--until --reach --header --whole --large --help" ;;
+            shortages) words="--header --whole --large --help" ;;
             help) words="plan check peg cums orders schedule pegs advice shortages" ;;
             *) words="--help" ;;
         esac

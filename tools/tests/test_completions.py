@@ -24,9 +24,9 @@ def test_completes_in_bash(room):
     line = "source {0}; COMP_WORDS=(mrp {1}); COMP_CWORD={2}; _mrp; echo ${{COMPREPLY[@]}}"
     path = f"{TOP}/completions/mrp.bash"
     assert room.run(line.format(path, "p", 1)) == "plan peg pegs\n"
-    assert room.run(line.format(path, "schedule --", 2)) == "--from --to --header --whole --help\n"
+    assert room.run(line.format(path, "schedule --", 2)) == "--from --to --header --whole --large --help\n"
     assert room.run(line.format(path, "schedule --to S", 3)) == "\n"
-    assert room.run(line.format(path, "advice --", 2)) == "--until --reach --header --whole --help\n"
+    assert room.run(line.format(path, "advice --", 2)) == "--until --reach --header --whole --large --help\n"
     assert room.run(line.format(path, "advice --h", 2)) == "--header --help\n"
     assert room.run(line.format(path, "advice --until 1", 3)) == "\n"
     assert room.run(line.format(path, "plan --s", 2)) == "--single\n"
@@ -45,10 +45,10 @@ def test_completes_in_zsh(room):
         "mrp plan --s": ["--single"],
         "mrp --": ["--help", "--version"],
         "mrp help o": ["orders"],
-        "mrp check --": ["--header", "--help", "--reach", "--whole"],
-        "mrp advice --": ["--header", "--help", "--reach", "--until", "--whole"],
+        "mrp check --": ["--header", "--help", "--large", "--reach", "--whole"],
+        "mrp advice --": ["--header", "--help", "--large", "--reach", "--until", "--whole"],
     }
-    for line, words in (*shown.items(), ("mrp schedule --", ["--from", "--header", "--help", "--to", "--whole"])):
+    for line, words in (*shown.items(), ("mrp schedule --", ["--from", "--header", "--help", "--large", "--to", "--whole"])):
         assert shown_by_zsh(room, line) == words, line
 
 
@@ -89,15 +89,15 @@ def test_completes_in_fish(room):
     said = room.run(
         f'HOME={room.folder} fish -c \'source {TOP}/completions/mrp.fish; complete -C "mrp check --"; complete -C "mrp plan --workers "\''
     )
-    assert [it.split("\t")[0] for it in said.splitlines()] == ["--header", "--help", "--reach", "--whole"]
+    assert [it.split("\t")[0] for it in said.splitlines()] == ["--header", "--help", "--large", "--reach", "--whole"]
     said = room.run(
         f'HOME={room.folder} fish -c \'source {TOP}/completions/mrp.fish; complete -C "mrp schedule --"; complete -C "mrp schedule --to "\''
     )
-    assert [it.split("\t")[0] for it in said.splitlines()] == ["--from", "--header", "--help", "--to", "--whole"]
+    assert [it.split("\t")[0] for it in said.splitlines()] == ["--from", "--header", "--help", "--large", "--to", "--whole"]
     said = room.run(
         f'HOME={room.folder} fish -c \'source {TOP}/completions/mrp.fish; complete -C "mrp advice --"; complete -C "mrp advice --until "\''
     )
-    assert [it.split("\t")[0] for it in said.splitlines()] == ["--header", "--help", "--reach", "--until", "--whole"]
+    assert [it.split("\t")[0] for it in said.splitlines()] == ["--header", "--help", "--large", "--reach", "--until", "--whole"]
     said = room.run(
         f'HOME={room.folder} fish -c \'source {TOP}/completions/mrp.fish; complete -C "mrp help o"; complete -C "mrp he"\''
     )

@@ -178,13 +178,13 @@ def test_program_says_why_words_are_refused(room, program):
     refused += (
         "plan --single --single",
         "peg P1 WHEEL",
-        "peg P1 WHEEL 104",
+        "peg P1 WHEEL 520",
         "peg P1 WHEEL 01 2",
         "check now",
         "cums A",
     )
     refused += (
-        "orders --until 104",
+        "orders --until 520",
         "orders --until -1",
         "orders --until",
         "orders 3",
@@ -207,7 +207,7 @@ def test_program_says_why_words_are_refused(room, program):
         "pegs --header=1",
         "advice P1",
         "advice --until",
-        "advice --until 104",
+        "advice --until 520",
         "advice --until -1",
         "advice --from P1",
     )
@@ -223,6 +223,10 @@ def test_program_says_why_words_are_refused(room, program):
         "cums --whole=1",
         "check --wholes",
         "--whole plan",
+        "plan --large --large",
+        "cums --large=1",
+        "check --larges",
+        "--large plan",
     )
     for words in refused:
         said = room.run(f"mrp {words} < examples/bicycle.csv", status=2)
@@ -240,6 +244,11 @@ def test_program_says_why_words_are_refused(room, program):
     for words in taken:
         room.run(f"mrp {words} < examples/bicycle.csv")
     assert room.run("mrp peg P1 WHEEL 103 < examples/bicycle.csv", status=1) == "mrp: no period\n"
+    for words in ("peg P1 WHEEL 104", "orders --until 104", "advice --header --until=519"):
+        assert room.run(f"mrp {words} < examples/bicycle.csv", status=2) == "mrp: a period above 103 wants --large\n"
+    assert room.run("mrp peg --large P1 WHEEL 519 < examples/bicycle.csv", status=1) == "mrp: no period\n"
+    for words in ("orders --until 519 --large", "advice --large --until 104", "plan --large --whole"):
+        room.run(f"(cat examples/bicycle.csv; echo end,6,,,,,,) | mrp {words}")
     for words in ("--from P2", "--to P2", "--from P2 --to=P3 --header", "--from=-P1"):
         assert room.run(f"mrp schedule {words} < examples/bicycle.csv", status=1) == "mrp: no plant\n"
     assert room.run("mrp plan $'\\xff'", status=2) == "mrp: a word of the command is not UTF-8\n"

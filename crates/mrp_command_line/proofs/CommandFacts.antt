@@ -20,9 +20,9 @@ use Rattle.clap.specs.declared.error.Error.{Error}
 use Rattle.clap.specs.declared.builder.value_parser.ValueParser.TheVariants.{Unsigned, Bool as Truth}
 use Rattle.clap.proofs.OnLiterals.{clap_on_literals}
 use Rattle.clap.proofs.ValueTestLemmas.{accepts-Accepts}
-use Rattle.mrp_command_line.specs.Choice.{IsCommand, IsMeantBy, ReadsTable, flag_at, number_value}
+use Rattle.mrp_command_line.specs.Choice.{IsCommand, IsMeantBy, ReadsTable, number_value}
 use Rattle.mrp_command_line.specs.CommandLine.{advice_words, check_words, cums_words, mrp, orders_words, peg_words, pegs_words, plan_words, program_words}
-use Rattle.mrp_command_line.specs.CommandLine.{schedule_words, shortages_words, whole}
+use Rattle.mrp_command_line.specs.CommandLine.{large, schedule_words, shortages_words, whole}
 use Rattle.mrp_commands.specs.declared.choice.TheConstants.{MOST_WORKERS, MOST_CAPACITY, LAST_PERIOD}
 use Rattle.mrp_commands.specs.declared.choice.Choice.{Choice}
 use Rattle.mrp_commands.specs.declared.reading.Reading.{Reading}
@@ -39,7 +39,7 @@ abbrev top : Shape
 top = with_leaf_noted (marked_built (record (program_words (codes "mrp")).top { is_leaf = false }))
 
 abbrev leaf : App → Shape
-leaf words = built_leaf (inherited top (with_rule words whole).top)
+leaf words = built_leaf (inherited top (with_rule (with_rule words whole) large).top)
 
 abbrev plan_leaf : Shape
 plan_leaf = leaf plan_words
@@ -271,38 +271,47 @@ picked : (words : List Text) (plan check peg cums orders schedule pegs advice sh
 picked words true check peg cums orders schedule pegs advice shortages help e some off = (
   inl (refl, plan_whole words e),
   flag_known (codes "whole") plan_leaf words refl refl (λ v known. only _ known) e,
+  flag_known (codes "large") plan_leaf words refl refl (λ v known. only _ known) e,
 )
 picked words false true peg cums orders schedule pegs advice shortages help e some off = (
   inr (inl (refl, check_whole words e)),
   flag_known (codes "whole") check_leaf words refl refl (λ v known. only _ known) e,
+  flag_known (codes "large") check_leaf words refl refl (λ v known. only _ known) e,
 )
 picked words false false true cums orders schedule pegs advice shortages help e some off = (
   inr (inr (inl (refl, peg_whole words e))),
   flag_known (codes "whole") peg_leaf words refl refl (λ v known. only _ known) e,
+  flag_known (codes "large") peg_leaf words refl refl (λ v known. only _ known) e,
 )
 picked words false false false true orders schedule pegs advice shortages help e some off = (
   inr (inr (inr (inl (refl, cums_whole words e)))),
   flag_known (codes "whole") cums_leaf words refl refl (λ v known. only _ known) e,
+  flag_known (codes "large") cums_leaf words refl refl (λ v known. only _ known) e,
 )
 picked words false false false false true schedule pegs advice shortages help e some off = (
   inr (inr (inr (inr (inl (refl, orders_whole words e))))),
   flag_known (codes "whole") orders_leaf words refl refl (λ v known. only _ known) e,
+  flag_known (codes "large") orders_leaf words refl refl (λ v known. only _ known) e,
 )
 picked words false false false false false true pegs advice shortages help e some off = (
   inr (inr (inr (inr (inr (inl (refl, schedule_whole words e)))))),
   flag_known (codes "whole") schedule_leaf words refl refl (λ v known. only _ known) e,
+  flag_known (codes "large") schedule_leaf words refl refl (λ v known. only _ known) e,
 )
 picked words false false false false false false true advice shortages help e some off = (
   inr (inr (inr (inr (inr (inr (inl (refl, pegs_whole words e))))))),
   flag_known (codes "whole") pegs_leaf words refl refl (λ v known. only _ known) e,
+  flag_known (codes "large") pegs_leaf words refl refl (λ v known. only _ known) e,
 )
 picked words false false false false false false false true shortages help e some off = (
   inr (inr (inr (inr (inr (inr (inr (inl (refl, advice_whole words e)))))))),
   flag_known (codes "whole") advice_leaf words refl refl (λ v known. only _ known) e,
+  flag_known (codes "large") advice_leaf words refl refl (λ v known. only _ known) e,
 )
 picked words false false false false false false false false true help e some off = (
   inr (inr (inr (inr (inr (inr (inr (inr (refl, shortages_whole words e)))))))),
   flag_known (codes "whole") shortages_leaf words refl refl (λ v known. only _ known) e,
+  flag_known (codes "large") shortages_leaf words refl refl (λ v known. only _ known) e,
 )
 picked words false false false false false false false false false true e some off = absurd (true≢false off)
 picked words false false false false false false false false false false e some off = absurd (true≢false (sym some))
@@ -394,12 +403,17 @@ pub found_reading : {B : Type 0} (o : Option B) (f : B → Text) (g : B → List
     → Some rows ≡ option_map second (paired f g o) → IsWholeCommand (paired f g o) → HasFlag (codes "whole") rows
 found_reading o f g name rows e h values = (subst IsWholeCommand (pair_is o f g name rows e h) values).1
 
+-- and within which limits
+pub found_limits : {B : Type 0} (o : Option B) (f : B → Text) (g : B → List Row) (name : Text) (rows : List Row) → Some name ≡ option_map f o
+    → Some rows ≡ option_map second (paired f g o) → IsWholeCommand (paired f g o) → HasFlag (codes "large") rows
+found_limits o f g name rows e h values = (subst IsWholeCommand (pair_is o f g name rows e h) values).2
+
 pub other_name : (name other : Text) (r : Bool) → r ≡ bytes_eq name other → r ≡ false → name ≡ other → ⊥
 other_name name other r e off is = true≢false (sym ((bytes_eq-Decides name other).1 is) ∙ (sym e ∙ off))
 
 -- what the rows say of the table is what the command's say of it
 pub read_so : {B : Type 0} (o : Option B) (f : B → Text) (g : B → List Row) (name : Text) (rows : List Row) (reading : Reading)
-    → Some name ≡ option_map f o → Some rows ≡ option_map second (paired f g o) → flag_at (codes "whole") rows ≡ reading.whole
+    → Some name ≡ option_map f o → Some rows ≡ option_map second (paired f g o) → ReadsTable (Some (name, rows)) reading
     → ReadsTable (paired f g o) reading
 read_so o f g name rows reading e h right = subst (λ w. ReadsTable w reading) (sym (pair_is o f g name rows e h)) right
 

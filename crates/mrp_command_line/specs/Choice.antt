@@ -1,6 +1,6 @@
 -- The command line: what its arguments ask, which choice they are, and how the table is to be read.
 use Rattle.std.specs.Prelude.{◌≡◌, ℕ, Bool, false, true, List, Option, Some, None, codes}
-use Rattle.std.specs.Prelude.{map, option_map}
+use Rattle.std.specs.Prelude.{[], map, option_map}
 use Rattle.std.specs.Borrow.{Bor}
 use Rattle.std.specs.Option.{option_map_or}
 use Rattle.std.specs.Str.{bytes_eq}
@@ -13,9 +13,13 @@ use Rattle.mrp_commands.specs.declared.choice.Choice.TheVariants.{Plan, Check, R
 use Rattle.mrp_commands.specs.declared.choice.Choice.TheVariants.{Orders, Schedule, Pegs, Advice, Shortages}
 use Rattle.mrp_commands.specs.declared.choice.Heading.{Heading}
 use Rattle.mrp_commands.specs.declared.choice.Heading.TheVariants.{Without, Names}
+use Rattle.mrp_commands.specs.Range.{IsWithinLimits}
 use Rattle.mrp_commands.specs.declared.reading.Reading.{Reading}
+use Rattle.mrp_commands.specs.declared.request.Request.{Request}
 use Rattle.mrp_command_line.specs.declared.words.ChooseFault.{ChooseFault}
-use Rattle.mrp_command_line.specs.declared.words.ChooseFault.TheVariants.{Words, Memory}
+use Rattle.mrp_command_line.specs.declared.words.ChooseFault.TheVariants.{Words, Memory, Period}
+use Rattle.mrp_qty.specs.declared.limits.LimitSet.{LimitSet}
+use Rattle.mrp_qty.specs.declared.limits.LimitSet.TheVariants.{Usual, Large}
 
 -- the texts of the words
 abbrev pub texts_of : List (Bor Text) → List Text
@@ -84,21 +88,43 @@ IsMeantBy (Some command) choice = IsCommand command.0 command.1 choice
 abbrev pub IsChosenBy : List Text → Choice → Type 0
 IsChosenBy words = IsMeantBy (subcommand_of mrp words)
 
--- the table has to be whole where the subcommand has the flag for it
+-- the limits are those of any table where the flag is given, and else the usual ones
+abbrev pub is_large : LimitSet → Bool
+is_large Usual = false
+is_large Large = true
+
+abbrev pub HasLimits : List Row → LimitSet → Type 0
+HasLimits rows limits = flag_at (codes "large") rows ≡ is_large limits
+
+-- the table has to be whole where the subcommand has the flag for it, and so has it the limits of any table
 abbrev pub ReadsTable : Option (Text × List Row) → Reading → Type 0
 ReadsTable None reading = ⊥
-ReadsTable (Some command) reading = flag_at (codes "whole") command.1 ≡ reading.whole
+ReadsTable (Some command) reading =
+    (flag_at (codes "whole") command.1 ≡ reading.whole) × HasLimits command.1 reading.limits
 
 -- the reading is the one that clap reads in the words
 abbrev pub IsReadBy : List Text → Reading → Type 0
 IsReadBy words = ReadsTable (subcommand_of mrp words)
 
--- a growth was refused, in clap or here
-abbrev pub IsMemory : ChooseFault → Type 0
-IsMemory (Words error) = kind_of error ≡ OutOfMemory
-IsMemory Memory = Unit {0}
+-- a table within the limits that the words name may have the period that they ask about, if they ask about one
+abbrev pub IsAllowedBy : List Text → Choice → Type 0
+IsAllowedBy words choice =
+    (reading : Reading) × IsReadBy words reading × IsWithinLimits (record { reading = reading; choice = choice })
 
--- clap's refusal has a kind that these words have, or memory was refused
+-- the words ask about a period that no table within the limits that they name has
+abbrev pub AskBeyond : List Text → Type 0
+AskBeyond words = (request : Request) × IsChosenBy words request.choice × IsReadBy words request.reading
+    × ¬ IsWithinLimits request
+
+-- a growth was refused, in clap or here, or the period is beyond the limits
+abbrev pub IsMemoryOrPeriod : ChooseFault → Type 0
+IsMemoryOrPeriod (Words error) = kind_of error ≡ OutOfMemory
+IsMemoryOrPeriod Memory = Unit {0}
+IsMemoryOrPeriod Period = Unit {0}
+
+-- clap's refusal has a kind that these words have, or memory was refused, or clap finds no fault in the words, and they
+-- ask about a period beyond the limits
 abbrev pub IsRefusalOf : List Text → ChooseFault → Type 0
 IsRefusalOf words (Words error) = HasKind (fault_of mrp words) error
 IsRefusalOf words Memory = Unit {0}
+IsRefusalOf words Period = (fault_of mrp words ≡ []) × AskBeyond words

@@ -62,6 +62,10 @@ reach = flag (codes "reach")
 abbrev pub whole : Rule
 whole = flag (codes "whole")
 
+-- a table beyond the usual limits is taken
+abbrev pub large : Rule
+large = flag (codes "large")
+
 -- the last period of a release, or in which an open order comes
 abbrev pub until : Rule
 until = free_number_option (codes "until") 0 LAST_PERIOD
@@ -125,9 +129,9 @@ program_words name =
       top = record (new_app name).top { has_version = true; subcommand_required = true };
     }
 
--- the command line with one command more, which has `[--whole]` too
+-- the command line with one command more, which has `[--whole] [--large]` too
 abbrev pub with_command : App → App → App
-with_command line command = with_subcommand line (with_rule command whole).top
+with_command line command = with_subcommand line (with_rule (with_rule command whole) large).top
 
 -- the command line up to each command
 abbrev pub up_to_check : App

@@ -84,3 +84,4 @@ HasCommandValues name rows = ((name ≡ codes "plan") × HasPlanValues rows)
 abbrev pub IsWholeCommand : Option (Text × List Row) → Type 0
 IsWholeCommand None = ⊥
 IsWholeCommand (Some command) = HasCommandValues command.0 command.1 × HasFlag (codes "whole") command.1
+    × HasFlag (codes "large") command.1

@@ -17,5 +17,6 @@ pub use meaning::{Meaning, means};
 pub use mrp_commands::{
     Choice, Heading, LAST_PERIOD, MOST_CAPACITY, MOST_WORKERS, Reading, Request,
 };
+pub use mrp_qty::LimitSet;
 pub use named::named_words;
 pub use words::{ChooseFault, choose, request};

@@ -4,10 +4,10 @@ ghost use Rattle.std.specs.Prelude.{◌≡◌, ◌≤◌, Some, true, [], codes,
 ghost use Rattle.clap.specs.Words.{App, app_of, fault_of, found_of, new_app, rows_of, subcommand_rows_of, takes};
 ghost use Rattle.clap.specs.Words.{with_rule};
 ghost use Rattle.clap.specs.declared.builder.value_parser.ValueParser.TheVariants.{Unsigned};
-ghost use Rattle.mrp_commands.specs.Range.{IsInRange};
-ghost use Rattle.mrp_command_line.specs.Choice.{IsChosenBy, IsCommand, IsHeadedBy, IsMeantBy, IsMemory, IsReadBy};
-ghost use Rattle.mrp_command_line.specs.Choice.{IsRefusalOf, ReadsTable, flag_at, number_value, text_at, word_text};
-ghost use Rattle.mrp_command_line.specs.Choice.{texts_of};
+ghost use Rattle.mrp_commands.specs.Range.{IsInRange, IsWithinLimits};
+ghost use Rattle.mrp_command_line.specs.Choice.{HasLimits, IsChosenBy, IsCommand, IsHeadedBy, IsMeantBy, IsReadBy};
+ghost use Rattle.mrp_command_line.specs.Choice.{IsAllowedBy, IsMemoryOrPeriod, IsRefusalOf, ReadsTable, flag_at};
+ghost use Rattle.mrp_command_line.specs.Choice.{number_value, text_at, texts_of, word_text};
 ghost use Rattle.mrp_command_line.specs.CommandLine.{IsRuled, IsWorded, advice_words, check_words, mrp, orders_words};
 ghost use Rattle.mrp_command_line.specs.CommandLine.{peg_words, plan_words, program_words, schedule_words};
 ghost use Rattle.mrp_command_line.specs.CommandLine.{with_command};
@@ -20,6 +20,7 @@ ghost use Rattle.mrp_command_line.specs.Values.{IsWholeReport, MayHaveNumber};
 use clap::builder::ValueParser;
 use clap::{Arg, ArgAction, ArgMatches, Command, value_parser};
 use mrp_commands::{Choice, Heading, LAST_PERIOD, MOST_CAPACITY, MOST_WORKERS, Reading, Request};
+use mrp_qty::LimitSet;
 use std::alloc::{AllocError, Global};
 use thiserror::Error;
 
@@ -32,6 +33,9 @@ pub enum ChooseFault {
     /// A growth was refused.
     #[error("out of memory")]
     Memory,
+    /// A period above 103 is asked about without `--large`.
+    #[error("a period above 103 wants --large")]
+    Period,
 }
 
 /// The release, and the logic (`rt version`) that its proofs are for, as `--version` prints them. It is a constant,
@@ -121,7 +125,8 @@ order,PLANT,ITEM,SUPPLY,QUANTITY,RELEASE,RELEASE_DATE,DUE,DUE_DATE,LATE";
 
 const ORDERS_EXAMPLE: &str = "Example: mrp orders --until 0 < bicycle.csv";
 
-const ORDERS_UNTIL: &str = "The last period of a release, 0 to 103; without it all orders";
+const ORDERS_UNTIL: &str =
+    "The last period of a release, 0 to 103, or with --large 519; without it all orders";
 
 const SCHEDULE: &str = "Write the delivery schedules of plants and vendors";
 
@@ -158,7 +163,8 @@ advice,ACTION,KIND,PLANT,ITEM,SUPPLIER,PERIOD,DATE,QUANTITY,NEEDED,NEEDED_DATE";
 
 const ADVICE_EXAMPLE: &str = "Example: mrp advice --until 3 < firm.csv";
 
-const ADVICE_UNTIL: &str = "The last period in which an open order comes, 0 to 103; without it all";
+const ADVICE_UNTIL: &str =
+    "The last period in which an open order comes, 0 to 103, or with --large 519; without it all";
 
 const ADVICE_REACH: &str = "Tell messages that the horizon makes as beyond it";
 
@@ -176,33 +182,44 @@ shortage,PLANT,ITEM,SOURCE,BY_PLANT,BY_ITEM,QUANTITY,SHORT";
 const SHORTAGES_EXAMPLE: &str = "Example: mrp shortages < bicycle.csv";
 
 /// Reads the words of a command line, of which the first is the program's name: the choice is the
-/// subcommand that `clap` reads in them, with its values, and the table has to be whole exactly where
-/// the subcommand has `--whole`. A request is made only of words in which `clap` finds no fault.
+/// subcommand that `clap` reads in them, with its values, the table has to be whole exactly where
+/// the subcommand has `--whole`, and it is read within the limits of any table exactly where the subcommand has
+/// `--large`, and else within the usual ones. A request is made only of words in which `clap` finds no fault, and
+/// which ask about a period that a table within those limits may have, if they ask about one.
 ///
 /// # Errors
 ///
 /// [`ChooseFault::Words`] where `clap` refuses the words, was asked for help or the version, or ran out of
 /// memory: the error has one of the kinds that the words have, or `OutOfMemory`. [`ChooseFault::Memory`] where a
-/// growth was refused. Where `clap` takes the words, memory alone is missing.
+/// growth was refused. [`ChooseFault::Period`] where `clap` finds no fault in the words, and the period that they ask
+/// about is beyond the limits. Where `clap` takes the words, memory alone is missing, or the period is beyond the limits.
 pub fn request<'a>(alloc: Global, words: &'a [&'a str]) -> Result<Request<'a>, ChooseFault>
     ensures range { IfOk result (λ request. IsInRange request.choice) }
     ensures choice { IfOk result (λ request. IsChosenBy (texts_of words.now) request.choice) }
     ensures reading { IfOk result (λ request. IsReadBy (texts_of words.now) request.reading) }
+    ensures limits { IfOk result IsWithinLimits }
     ensures free { IfOk result (λ _. fault_of mrp (texts_of words.now) ≡ []) }
-    ensures taken { takes mrp (texts_of words.now) ≡ true → IfErr result IsMemory }
+    ensures taken { takes mrp (texts_of words.now) ≡ true → IfErr result IsMemoryOrPeriod }
     ensures refused { IfErr result (IsRefusalOf (texts_of words.now)) }
 {
     let Ok(command) = program(alloc) else {
         return Err(ChooseFault::Memory);
     };
     match command.try_get_matches_from(words) {
-        Ok(matches) => Ok(asked(&matches)),
+        Ok(matches) => {
+            let request = asked(&matches);
+            if request.is_within_limits() {
+                Ok(request)
+            } else {
+                Err(ChooseFault::Period)
+            }
+        }
         Err(error) => Err(ChooseFault::Words(error)),
     }
 }
 
 /// The choice of the request that [`request`] reads. It leaves out how the table is to be read: words
-/// with `--whole` and without it are the same choice.
+/// with `--whole` and without it are the same choice, and so are words with `--large` and without it.
 ///
 /// # Errors
 ///
@@ -210,8 +227,9 @@ pub fn request<'a>(alloc: Global, words: &'a [&'a str]) -> Result<Request<'a>, C
 pub fn choose<'a>(alloc: Global, words: &'a [&'a str]) -> Result<Choice<'a>, ChooseFault>
     ensures range { IfOk result IsInRange }
     ensures choice { IfOk result (IsChosenBy (texts_of words.now)) }
+    ensures limits { IfOk result (IsAllowedBy (texts_of words.now)) }
     ensures free { IfOk result (λ _. fault_of mrp (texts_of words.now) ≡ []) }
-    ensures taken { takes mrp (texts_of words.now) ≡ true → IfErr result IsMemory }
+    ensures taken { takes mrp (texts_of words.now) ≡ true → IfErr result IsMemoryOrPeriod }
     ensures refused { IfErr result (IsRefusalOf (texts_of words.now)) }
 {
     match request(alloc, words) {
@@ -246,7 +264,7 @@ fn program<'a>(alloc: Global) -> Result<Command<'a>, AllocError>
     with(alloc, line, shortages)
 }
 
-/// The command line with one command more, which has `--whole` too, where both were made.
+/// The command line with one command more, which has `--whole` and `--large` too, where both were made.
 fn with<'a>(
     alloc: Global,
     line: Result<Command<'a>, AllocError>,
@@ -266,17 +284,21 @@ fn with<'a>(
     old.subcommand(more)
 }
 
-/// The command with `--whole`, where it was made.
+/// The command with `--whole` and `--large`, where it was made.
 fn readable<'a>(
     alloc: Global,
     command: Result<Command<'a>, AllocError>,
 ) -> Result<Command<'a>, AllocError>
-    ensures { (app : App) → IfOk command.entry (IsWorded app) → IfOk result (IsWorded (with_rule app rule.whole)) }
+    ensures { (app : App) → IfOk command.entry (IsWorded app)
+        → IfOk result (IsWorded (with_rule (with_rule app rule.whole) rule.large)) }
 {
     let Ok(bare) = command else {
         return Err(AllocError);
     };
-    bare.arg(whole_flag(alloc))
+    let Ok(with_whole) = bare.arg(whole_flag(alloc)) else {
+        return Err(AllocError);
+    };
+    with_whole.arg(large_flag(alloc))
 }
 
 /// `--whole`.
@@ -287,6 +309,16 @@ fn whole_flag<'a>(alloc: Global) -> Arg<'a>
         .long("whole")
         .action(ArgAction::SetTrue)
         .help("Refuse a table without an end row: one that was cut off")
+}
+
+/// `--large`.
+fn large_flag<'a>(alloc: Global) -> Arg<'a>
+    ensures { IsRuled rule.large result }
+{
+    Arg::new(alloc, "large")
+        .long("large")
+        .action(ArgAction::SetTrue)
+        .help("Take a table beyond the usual limits: up to 1,000,000 pairs and 520 periods")
 }
 
 /// What the command line says of itself, without a command.
@@ -543,7 +575,8 @@ fn period_argument<'a>(alloc: Global) -> Arg<'a>
     ensures { IsRuled rule.period result }
 {
     let parser = numbers(0, LAST_PERIOD);
-    wanted_argument(alloc, "period", "PERIOD", "The period, 0 to 103").value_parser(parser)
+    let help = "The period, 0 to 103, or with --large 519";
+    wanted_argument(alloc, "period", "PERIOD", help).value_parser(parser)
 }
 
 /// The argument that is called `name` and has to be there.
@@ -579,6 +612,19 @@ fn reading(matches: &ArgMatches<'_>) -> Reading
     };
     Reading {
         whole: is_given(values, "whole"),
+        limits: limits(values),
+    }
+}
+
+/// The limits of the table: those of any table where `--large` is given, and else the usual ones.
+fn limits(values: &ArgMatches<'_>) -> LimitSet
+    requires { HasFlag (codes "large") (rows_of (found_of values.now)) }
+    ensures { HasLimits (rows_of (found_of values.now)) result }
+{
+    if is_given(values, "large") {
+        LimitSet::Large
+    } else {
+        LimitSet::Usual
     }
 }
 
