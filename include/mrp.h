@@ -77,6 +77,35 @@ uint32_t mrp_advice(const uint8_t *table, size_t table_size, const mrp_reading *
 uint32_t mrp_shortages(const uint8_t *table, size_t table_size, const mrp_reading *reading, bool header,
                        uint8_t *buffer, size_t buffer_size, size_t *size);
 
+/* Each as the call of that name without _large, for tables up to 1,000 plants, 1,000,000 pairs and 520 periods: as with mrp's
+ * option --large. */
+uint32_t mrp_plan_large(const uint8_t *table, size_t table_size, const mrp_reading *reading,
+                        uint8_t *buffer, size_t buffer_size, size_t *size);
+
+uint32_t mrp_orders_large(const uint8_t *table, size_t table_size, const mrp_reading *reading,
+                          bool limited, uint64_t until, bool header,
+                          uint8_t *buffer, size_t buffer_size, size_t *size);
+
+uint32_t mrp_schedule_large(const uint8_t *table, size_t table_size, const mrp_reading *reading,
+                            const uint8_t *from, size_t from_size, const uint8_t *to, size_t to_size, bool header,
+                            uint8_t *buffer, size_t buffer_size, size_t *size);
+
+uint32_t mrp_check_large(const uint8_t *table, size_t table_size, const mrp_reading *reading, bool header,
+                         uint8_t *buffer, size_t buffer_size, size_t *size);
+
+uint32_t mrp_reach_large(const uint8_t *table, size_t table_size, const mrp_reading *reading, bool header,
+                         uint8_t *buffer, size_t buffer_size, size_t *size);
+
+uint32_t mrp_cums_large(const uint8_t *table, size_t table_size, const mrp_reading *reading, bool header,
+                        uint8_t *buffer, size_t buffer_size, size_t *size);
+
+uint32_t mrp_advice_large(const uint8_t *table, size_t table_size, const mrp_reading *reading,
+                          bool limited, uint64_t until, bool reach, bool header,
+                          uint8_t *buffer, size_t buffer_size, size_t *size);
+
+uint32_t mrp_shortages_large(const uint8_t *table, size_t table_size, const mrp_reading *reading, bool header,
+                             uint8_t *buffer, size_t buffer_size, size_t *size);
+
 #ifdef __cplusplus
 }
 #endif

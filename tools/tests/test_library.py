@@ -18,7 +18,7 @@ def exported():
         "&Reading": "mrp_reading*",
         "Global": "",
     }
-    found = rattle.exported("crates/mrp_c_api/src/lib.rt").items()
+    found = [it for name in ("lib", "large") for it in rattle.exported(f"crates/mrp_c_api/src/{name}.rt").items()]
     return {
         name: " ".join(types[it.partition(": ")[2].strip()] for it in words.split(",") if it.strip()).split()
         for name, words in found
@@ -175,6 +175,19 @@ def test_library_takes_options(room, program):
             by.ask(name, table, **options) for by in (mrp.Library(f"{room.folder}/lib/libmrp.so"), mrp.Program(program))
         )
         assert got == wanted, (name, options)
+
+
+def test_library_takes_large_tables(room):
+    """Of 65 plants, one more than the usual limits have: only the call for large tables takes it."""
+    library(room)
+    calls = ctypes.CDLL(f"{room.folder}/lib/libmrp.so")
+    plants = "".join(f"plant,P{it},,,,,,\n" for it in range(65))
+    table = f"run,2026-01-05,7,2,,,,\n{plants}pair,P64,X,buy,lot,1,0,0\n".encode()
+    for call, wanted in (("mrp_check", (1, b"mrp: row 66: TooMany\n")), ("mrp_check_large", (0, b"code,P64,X,0\n"))):
+        size, buffer = ctypes.c_size_t(0), ctypes.create_string_buffer(64)
+        flags = ctypes.byref(ctypes.c_bool(False)), ctypes.c_bool(False)
+        status = calls[call](table, ctypes.c_size_t(len(table)), *flags, buffer, ctypes.c_size_t(64), ctypes.byref(size))
+        assert (status, buffer.raw[: size.value]) == wanted, call
 
 
 def test_python_reads_each_report_of_the_library(room, program):

@@ -6,7 +6,7 @@ use Rattle.mrp_master_data.specs.Table.{Table}
 use Rattle.mrp_api.specs.declared.fault.TextFault.{TextFault}
 use Rattle.mrp_api.specs.declared.fault.TextFault.TheVariants.{Memory, WriteFault}
 use Rattle.mrp_api.specs.Refusals.{Question, RefusesAs}
-use Rattle.mrp_api.specs.Text.{OfTable, Suits, Writes}
+use Rattle.mrp_api.specs.Text.{OfTableWithin, Suits, Writes}
 use Rattle.mrp_c_api.specs.Answers.{Answers, Tells}
 use Rattle.mrp_c_api.specs.Buffer.{HandsOver}
 
@@ -21,7 +21,7 @@ hands-text start held text old new size empty appended handed =
 -- what a text function wrote into an empty report, and what was told of it
 pub answers-of : {U : Type 0} (bytes : List ℕ) (reading : Reading) (start report : List ℕ) (asked : Question) (IsReport : Table → List ℕ → Type 0)
     (done : Result U TextFault) (status : ℕ) (old new : List ℕ) (size : ℕ)
-    → start ≡ [] → Writes (Some start) (Some report) done (λ text. OfTable (Some bytes) (λ N. Suits reading N × IsReport N text))
+    → start ≡ [] → Writes (Some start) (Some report) done (λ text. OfTableWithin reading.limits (Some bytes) (λ N. Suits reading N × IsReport N text))
     → IfErr done (RefusesAs reading (Some bytes) asked) → Tells done report status old new size
     → Answers bytes reading asked IsReport status old new size
 answers-of bytes reading start report asked IsReport (Ok u) status old new size empty written refused told =

@@ -10,7 +10,7 @@ use Rattle.mrp_api.specs.Fault.{status_of}
 use Rattle.mrp_api.specs.Lines.{fault_line}
 use Rattle.mrp_api.specs.Refusals.{Question, AskPlants, RefusesAs}
 use Rattle.mrp_api.specs.Reports.{IsScheduleReport}
-use Rattle.mrp_api.specs.Text.{OfTable, Suits}
+use Rattle.mrp_api.specs.Text.{OfTableWithin, Suits}
 use Rattle.mrp_c_api.specs.Buffer.{HandsOver}
 use Rattle.mrp_c_api.specs.Options.{name_given}
 
@@ -36,7 +36,7 @@ Tells (Err fault) report status old new size = TellsOrMemory fault status old ne
 -- a fault that is theirs, never of a failed write, and the status is that of the fault, 1 or 3
 abbrev pub Answers : List ℕ → Reading → Question → (Table → List ℕ → Type 0) → ℕ → List ℕ → List ℕ → ℕ → Type 0
 Answers bytes reading asked IsReport status old new size =
-    ((text : List ℕ) × OfTable (Some bytes) (λ N. Suits reading N × IsReport N text) × (status ≡ 0)
+    ((text : List ℕ) × OfTableWithin reading.limits (Some bytes) (λ N. Suits reading N × IsReport N text) × (status ≡ 0)
     × HandsOver text old new size)
     ⊎ ((fault : TextFault) × (fault ≢ WriteFault) × RefusesAs reading (Some bytes) asked fault
     × TellsFault fault status old new size)

@@ -10,6 +10,9 @@
 //! **Reading.** Each call is told how the table is to be read: where [`Reading::whole`] is true, one that does not end with
 //! an `end` row is refused, as with the option `--whole` of the program.
 //!
+//! **Limits.** A call takes a table within the usual limits. The call of its name with `_large` behind it is the same for a
+//! table within the large ones, as with the option `--large` of the program: 1,000 plants, 1,000,000 pairs, 520 periods.
+//!
 //! **Buffer.** `size` tells the length of the text in bytes. Where that is at most the length of the buffer, the buffer
 //! begins with the text and goes on as it was. Else the whole buffer is as it was, and the caller asks again with as
 //! much room. No byte behind the text and none outside the buffer is written.
@@ -22,6 +25,8 @@
 #![tactic(auto)]
 
 mod buffer;
+mod calls;
+mod large;
 mod options;
 
 ghost use Rattle.mrp_c_api.specs.Answers.{Answers, AnswersNamed};
@@ -32,12 +37,9 @@ ghost use Rattle.mrp_api.specs.Reports.{IsAdviceReport, IsCodeReport, IsCumRepor
 ghost use Rattle.mrp_api.specs.Reports.{IsReachReport, IsShortagesReport};
 ghost use Rattle.mrp_api.specs.Text.{IsPlanReport};
 
-use crate::buffer::{answer, refuse_name};
-use crate::options::{given, heading, limit, reading_of};
-use mrp_commands::{Choice, Request};
+use crate::options::reading_of;
 pub use options::Reading;
 use std::alloc::Global;
-use std::str::from_utf8;
 
 /// Plans a table: a row for each pair and period, then a row for each late order.
 ///
@@ -58,12 +60,7 @@ pub extern "C" fn mrp_plan(
         buffer.old buffer.new size.new }
 {
     let reading = reading_of(reading);
-    let choice = Choice::Plan {
-        workers: 1,
-        capacity: 64,
-        single: true,
-    };
-    answer(alloc, table, Request { reading, choice }, buffer, size)
+    calls::plan(alloc, table, reading, buffer, size)
 }
 
 /// Writes the planned and firm orders of a table: where `limited` is true those alone that are released in period `until` or
@@ -90,10 +87,7 @@ pub extern "C" fn mrp_orders(
         (IsOrderReport (limit_of limited until) (heading_of header)) result buffer.old buffer.new size.new }
 {
     let reading = reading_of(reading);
-    let until = limit(limited, until);
-    let heading = heading(header);
-    let choice = Choice::Orders { until, heading };
-    answer(alloc, table, Request { reading, choice }, buffer, size)
+    calls::orders(alloc, table, reading, limited, until, header, buffer, size)
 }
 
 /// Writes the delivery schedules of a table: those of the plant or the vendor `from` alone and to the customer plant
@@ -121,18 +115,8 @@ pub extern "C" fn mrp_schedule(
     ensures { AnswersNamed table.now (reading_of reading.now) from.now to.now (heading_of header) result
         buffer.old buffer.new size.new }
 {
-    let Ok(supplier) = from_utf8(from) else {
-        return refuse_name(buffer, size);
-    };
-    let Ok(customer) = from_utf8(to) else {
-        return refuse_name(buffer, size);
-    };
     let reading = reading_of(reading);
-    let from = given(supplier);
-    let to = given(customer);
-    let heading = heading(header);
-    let choice = Choice::Schedule { from, to, heading };
-    answer(alloc, table, Request { reading, choice }, buffer, size)
+    calls::schedule(alloc, table, reading, from, to, header, buffer, size)
 }
 
 /// Writes the low-level code of each pair of a table.
@@ -155,9 +139,7 @@ pub extern "C" fn mrp_check(
         (λ N. IsHeaded (heading_of header) code_names (IsCodeReport N)) result buffer.old buffer.new size.new }
 {
     let reading = reading_of(reading);
-    let heading = heading(header);
-    let choice = Choice::Check { heading };
-    answer(alloc, table, Request { reading, choice }, buffer, size)
+    calls::check(alloc, table, reading, header, buffer, size)
 }
 
 /// Writes until which period the gross requirements of each pair of a table, and its releases, are whole: nothing that is
@@ -181,9 +163,7 @@ pub extern "C" fn mrp_reach(
         result buffer.old buffer.new size.new }
 {
     let reading = reading_of(reading);
-    let heading = heading(header);
-    let choice = Choice::Reach { heading };
-    answer(alloc, table, Request { reading, choice }, buffer, size)
+    calls::reach(alloc, table, reading, header, buffer, size)
 }
 
 /// Writes the cumulative figures of the lanes between the plants of a table, once all plants have planned.
@@ -206,9 +186,7 @@ pub extern "C" fn mrp_cums(
         (λ N. IsHeaded (heading_of header) lane_names (IsCumReport N)) result buffer.old buffer.new size.new }
 {
     let reading = reading_of(reading);
-    let heading = heading(header);
-    let choice = Choice::Cums { heading };
-    answer(alloc, table, Request { reading, choice }, buffer, size)
+    calls::cums(alloc, table, reading, header, buffer, size)
 }
 
 /// Writes which open orders of a table to expedite, to defer and to cancel: where `limited` is true of those alone that
@@ -238,14 +216,9 @@ pub extern "C" fn mrp_advice(
         (IsAdviceReport (limit_of limited until) reach (heading_of header)) result buffer.old buffer.new size.new }
 {
     let reading = reading_of(reading);
-    let until = limit(limited, until);
-    let heading = heading(header);
-    let choice = Choice::Advice {
-        until,
-        reach,
-        heading,
-    };
-    answer(alloc, table, Request { reading, choice }, buffer, size)
+    calls::advice(
+        alloc, table, reading, limited, until, reach, header, buffer, size,
+    )
 }
 
 /// Writes which requirements of a table's plan in period 0 lack parts, and how many pieces.
@@ -268,7 +241,5 @@ pub extern "C" fn mrp_shortages(
         result buffer.old buffer.new size.new }
 {
     let reading = reading_of(reading);
-    let heading = heading(header);
-    let choice = Choice::Shortages { heading };
-    answer(alloc, table, Request { reading, choice }, buffer, size)
+    calls::shortages(alloc, table, reading, header, buffer, size)
 }

@@ -1,10 +1,11 @@
 //! The library for C: what a call says of a table and of a report, as a request takes it.
 
 ghost use Rattle.std.specs.Prelude.{◌≡◌};
-ghost use Rattle.mrp_c_api.specs.Options.{heading_of, limit_of, name_given, reading_of};
+ghost use Rattle.mrp_c_api.specs.Options.{heading_of, large_reading_of, limit_of, name_given, reading_of};
 ghost use Rattle.mrp_commands.specs.Given.{name_of};
 
 use mrp_commands::Heading;
+use mrp_master_data::LimitSet;
 
 /// How a table is to be read.
 #[repr(C)]
@@ -13,12 +14,23 @@ pub struct Reading {
     pub whole: bool,
 }
 
-/// The same, as a request takes it.
+/// The same, as a request takes it: within the usual limits.
 pub(crate) fn reading_of(reading: &Reading) -> mrp_commands::Reading
     ensures { result ≡ reading_of reading.now }
 {
     mrp_commands::Reading {
         whole: reading.whole,
+        limits: LimitSet::Usual,
+    }
+}
+
+/// The same, within the large ones.
+pub(crate) fn large_reading_of(reading: &Reading) -> mrp_commands::Reading
+    ensures { result ≡ large_reading_of reading.now }
+{
+    mrp_commands::Reading {
+        limits: LimitSet::Large,
+        ..reading_of(reading)
     }
 }
 

@@ -1,4 +1,4 @@
-use Rattle.std.proofs.Common.{subst, sym}
+use Rattle.std.proofs.Common.{subst}
 use Rattle.mrp_commands.specs.declared.reading.Reading.{Reading}
 use Rattle.mrp_report.specs.Headings.{lane_names}
 use Rattle.mrp_api.specs.Refusals.{AskWhole}
@@ -10,5 +10,5 @@ use Rattle.mrp_c_api.proofs.mrp_cums.Goals as goal
 pub returns : goal.returns
 returns c =
     subst (λ (reading : Reading). Answers c.args.table.now reading AskWhole (λ N. IsHeaded (heading_of c.args.header) lane_names (IsCumReport N))
-    c.answer.result c.args.buffer.now c.answer.new.buffer c.answer.new.size)
-    c.reading_of-reading.ensures (rw (sym c.heading-heading.ensures) c.answer.ensures)
+    c.cums.result c.args.buffer.now c.cums.new.buffer c.cums.new.size)
+    c.reading_of-reading.ensures c.cums.ensures

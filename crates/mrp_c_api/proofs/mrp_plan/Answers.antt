@@ -8,5 +8,5 @@ use Rattle.mrp_c_api.proofs.mrp_plan.Goals as goal
 pub returns : goal.returns
 returns c =
     subst (λ (reading : Reading). Answers c.args.table.now reading AskWhole IsPlanReport
-    c.answer.result c.args.buffer.now c.answer.new.buffer c.answer.new.size)
-    c.reading_of-reading.ensures c.answer.ensures
+    c.plan.result c.args.buffer.now c.plan.new.buffer c.plan.new.size)
+    c.reading_of-reading.ensures c.plan.ensures

@@ -1,4 +1,4 @@
-use Rattle.std.proofs.Common.{subst, sym}
+use Rattle.std.proofs.Common.{subst}
 use Rattle.mrp_commands.specs.declared.reading.Reading.{Reading}
 use Rattle.mrp_api.specs.Refusals.{AskWhole}
 use Rattle.mrp_api.specs.Reports.{IsShortagesReport}
@@ -9,5 +9,5 @@ use Rattle.mrp_c_api.proofs.mrp_shortages.Goals as goal
 pub returns : goal.returns
 returns c =
     subst (λ (reading : Reading). Answers c.args.table.now reading AskWhole (IsShortagesReport (heading_of c.args.header))
-    c.answer.result c.args.buffer.now c.answer.new.buffer c.answer.new.size)
-    c.reading_of-reading.ensures (rw (sym c.heading-heading.ensures) c.answer.ensures)
+    c.shortages.result c.args.buffer.now c.shortages.new.buffer c.shortages.new.size)
+    c.reading_of-reading.ensures c.shortages.ensures
