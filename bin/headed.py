@@ -339,8 +339,10 @@ def is_zero(text, form=None):
     return text == "0" or bool(form and re.fullmatch(f"0[{form[5]}]0+", text))
 
 
-def number(least, most, part=SMALLER, form=None):
-    """Returns what reads a whole number between two, in the form that --numbers says, and for a part of one says what is given."""
+def number(least, most, part=SMALLER, form=None, large=0):
+    """Returns what reads a whole number between two, in the form that --numbers says, and for a part of one says what is given. Of a
+    greater one it says that --large takes it, where that takes up to as many.
+    """
 
     def read(cell):
         text = unsigned(cell, form, part) if form else cell
@@ -351,7 +353,8 @@ def number(least, most, part=SMALLER, form=None):
                 raise Slip(f"{text!r} begins with a 0; write {int(text)}{meant}")
             raise Slip(f"{text!r} is no whole number" + (f"; {more}" if (more := instead(text, part)) else ""))
         if not least <= int(text) <= most:
-            raise Slip(f"{text!r} is not from {least} to {most}")
+            cure = f"; with --large up to {large}" * (most < int(text) <= large)
+            raise Slip(f"{text!r} is not from {least} to {most}{cure}")
         return int(text)
 
     return read

@@ -23,7 +23,7 @@ MOST_OTHERS = 60
 
 def report(words, table):
     """Yields the rows of a report that the program makes of the table at a path. Where it refuses, it has said why, and the tool ends."""
-    with open(table, "rb") as file, subprocess.Popen([reports.program(), *words.split()], stdin=file, stdout=subprocess.PIPE) as child:
+    with open(table, "rb") as file, subprocess.Popen(reports.asking(*words.split()), stdin=file, stdout=subprocess.PIPE) as child:
         yield from child.stdout
     if child.returncode:
         sys.exit(1)

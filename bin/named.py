@@ -131,6 +131,7 @@ def words(usage, text, until):
     sums = "sums by item of each vendor, or of each customer, in place of the rows"
     parser.add_argument("--sums", choices=("vendor", "customer"), help=sums)
     reports.add_names(parser)
+    reports.add_large(parser)
     reports.add_out(parser)
     return parser
 

@@ -1,6 +1,7 @@
 """Two plans beside each other, order by order, for bin/compare and bin/page."""
 import functools
 import itertools
+import sys
 from array import array
 from collections import namedtuple
 from datetime import date
@@ -8,6 +9,8 @@ from datetime import date
 import reports
 import mrp
 
+# (the orders of two plans are taken one by one, each a call deeper, and in a large plan 520 of a pair)
+sys.setrecursionlimit(5_000)
 MONTH = 31
 # What a day between partners weighs, beside the pieces by which they differ.
 DAY = 10**18

@@ -453,6 +453,22 @@ def add_forms(parser):
     parser.add_argument("--numbers", metavar="FORM", choices=headed.FORMS, help=text)
 
 
+# Behind the word of each report that a tool asks for: --large, where the tool was given it.
+LIMITS = []
+
+
+class Large(argparse.Action):
+    """Has all reports that a tool asks for be within the limits of --large."""
+
+    def __call__(self, *_):
+        LIMITS[:] = ["--large"]
+
+
+def add_large(parser):
+    """Adds the option of a tool that asks the program."""
+    parser.add_argument("--large", action=Large, nargs=0, help="ask mrp with --large, which takes greater tables")
+
+
 def add_out(parser):
     """Adds the option of a tool that writes one file."""
     text = "write this file, in whose place it comes once all went well, and not standard output"
@@ -592,16 +608,16 @@ def no_pair(where, plant, item, pairs, names):
     raise Refused(f"{where} has no pair {plant} {item}{meant}")
 
 
-def program():
-    """Returns the path of mrp: the one that MRP names, else the one on the path, else bin/mrp."""
-    return mrp.program().path
+def asking(word, *more):
+    """Returns the command that has the program answer: the one that MRP names, else the one on the path, else bin/mrp."""
+    return [mrp.program().path, word, *LIMITS, *more]
 
 
 def ask(words, table, file):
     """Has the program write a report of a table into a file. Where it refuses, it has said why, and the tool ends."""
     file.flush()
     with open(table, "rb") as rows:
-        if subprocess.run([program(), *words.split()], stdin=rows, stdout=file, check=False).returncode:
+        if subprocess.run(asking(*words.split()), stdin=rows, stdout=file, check=False).returncode:
             sys.exit(1)
 
 
@@ -628,7 +644,7 @@ class Answers:
     def ask(self, words):
         """Has the program write a report, and returns what it says and its status."""
         with open(self.table, "rb") as rows, open(self.path(words), "wb") as file:
-            done = subprocess.run([program(), *words.split()], stdin=rows, stdout=file, stderr=subprocess.PIPE, check=False)
+            done = subprocess.run(asking(*words.split()), stdin=rows, stdout=file, stderr=subprocess.PIPE, check=False)
         return done.stderr, done.returncode
 
     def open(self, words, name=""):

@@ -18,7 +18,7 @@ WEEK = (
 WEEKDAYS = {word: place for place, words in enumerate(WEEK) for word in words.split()}
 AND = {"and", "und", "et", "y"}
 # So many periods before the first one of a plan and behind the last one are known too: as far as orders consume forecasts.
-AROUND = 2 * 104
+AROUND = 2 * 520
 
 
 def weekdays(text):

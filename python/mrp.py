@@ -10,7 +10,8 @@
 
 It needs this file and either the library or the program. The library is the shared object that MRP_LIBRARY names, or
 libmrp.so beside this file; the program is the one that MRP names, else the mrp on the path, else the one beside this
-file or in bin/ of the sources. Both answer with the same bytes. What is refused raises Fault.
+file or in bin/ of the sources. Both answer with the same bytes. What is refused raises Fault. With large=True a report is of
+a table up to the limits of --large, and the program answers.
 
 Tables, reports and dates are read without either. The tools for planners read by this module: here stand the columns
 of each row of a table and of a report, once, with how each is spelled and what it is read as.
@@ -28,7 +29,8 @@ from datetime import date, datetime, timedelta
 from typing import NamedTuple
 
 HERE = os.path.dirname(os.path.abspath(__file__))
-LAST_PERIOD, FIELDS = 103, 8
+# (the last period of a table, usually and with --large)
+LAST_PERIOD, LAST_OF_LARGE, FIELDS = 103, 519, 8
 
 
 class Refused(Exception):
@@ -827,16 +829,17 @@ class Library:
 
 
 class Program:
-    """The planner in a process of its own for each report."""
+    """The planner in a process of its own for each report, within the usual limits or those of --large."""
 
-    def __init__(self, path):
-        self.path = path
+    def __init__(self, path, large=False):
+        self.path, self.large = path, large
 
     def ask(self, name, table, until=None, supplier=None, customer=None, reach=False, whole=False):
         """Returns the status and what the program writes."""
-        options = {"--until": until if until is None else min(until, LAST_PERIOD)}
+        options = {"--until": until if until is None else min(until, LAST_OF_LARGE if self.large else LAST_PERIOD)}
         options |= {"--from": supplier or None, "--to": customer or None}
-        words = [name, *["--reach"] * reach, *["--whole"] * whole, *(f"{word}={it}" for word, it in options.items() if it is not None)]
+        words = [name, *["--reach"] * reach, *["--whole"] * whole, *["--large"] * self.large]
+        words += [f"{word}={it}" for word, it in options.items() if it is not None]
         done = subprocess.run([self.path, *words], input=table, capture_output=True, check=False)
         return done.returncode, done.stderr if done.returncode else done.stdout
 
@@ -848,11 +851,16 @@ def library():
     return Library(path) if os.environ.get("MRP_LIBRARY") or os.path.exists(path) else None
 
 
-def program():
+def program(large=False):
     """Returns the program."""
     beside = f"{HERE}/mrp"
     here = beside if os.path.isfile(beside) else f"{os.path.dirname(HERE)}/bin/mrp"
-    return Program(os.environ.get("MRP") or shutil.which("mrp") or here)
+    return Program(os.environ.get("MRP") or shutil.which("mrp") or here, large)
+
+
+def answering(large):
+    """Returns who answers: the library, or the program where there is none or the table may be large."""
+    return program(large) if large else library() or program()
 
 
 def report(by, name, table, **options):
@@ -866,52 +874,52 @@ def report(by, name, table, **options):
     raise Fault(row and int(row), fault, line)
 
 
-def plan(table):
+def plan(table, large=False):
     """Returns the plan: the Plan of each pair and period, and the late orders."""
-    rows = report(library() or program(), "plan", table)
+    rows = report(answering(large), "plan", table)
     return [it for it in rows if isinstance(it, Plan)], [it for it in rows if isinstance(it, Late)]
 
 
-def orders(table, until=None):
+def orders(table, until=None, large=False):
     """Returns the planned orders, each as an Order, and the firm ones, each as a FirmOrder: with `until` those that are
     released up to that period.
     """
-    return report(library() or program(), "orders", table, until=until)
+    return report(answering(large), "orders", table, until=until)
 
 
-def schedule(table, supplier=None, customer=None):
+def schedule(table, supplier=None, customer=None, large=False):
     """Returns the delivery schedules, row by row: those from one plant or vendor and to one plant, where these are named."""
-    return report(library() or program(), "schedule", table, supplier=supplier, customer=customer)
+    return report(answering(large), "schedule", table, supplier=supplier, customer=customer)
 
 
-def check(table):
+def check(table, large=False):
     """Returns the low-level code of each pair, as a Code."""
-    return report(library() or program(), "check", table)
+    return report(answering(large), "check", table)
 
 
-def reach(table):
+def reach(table, large=False):
     """Returns how far the plan of each pair is whole, as a Reach."""
-    return report(library() or program(), "check", table, reach=True)
+    return report(answering(large), "check", table, reach=True)
 
 
-def cums(table):
+def cums(table, large=False):
     """Returns the cumulative figures of the lanes between plants, each as a Lane."""
-    return report(library() or program(), "cums", table)
+    return report(answering(large), "cums", table)
 
 
-def pegs(table):
+def pegs(table, large=False):
     """Returns what each gross requirement consists of, each term as a Peg. The program answers."""
-    return report(program(), "pegs", table)
+    return report(program(large), "pegs", table)
 
 
-def advice(table, until=None, reach=False):
+def advice(table, until=None, reach=False, large=False):
     """Returns which open orders to expedite, to defer and to cancel, each as an Advice: with `until` those that come up to
     that period. With `reach` no message follows from where the horizon ends: of an order whose action is `beyond` it isn't known
     yet when it is needed.
     """
-    return report(library() or program(), "advice", table, until=until, reach=reach)
+    return report(answering(large), "advice", table, until=until, reach=reach)
 
 
-def shortages(table):
+def shortages(table, large=False):
     """Returns which of this period's requirements lack parts, each term that does as a Shortage."""
-    return report(library() or program(), "shortages", table)
+    return report(answering(large), "shortages", table)

@@ -39,9 +39,6 @@ COLUMNS = {
 KINDS = list(COLUMNS)
 RANGES = {
     "days": (0, 10**16 - 1),
-    "periods": (1, 104),
-    "lead": (0, 104),
-    "ahead": (0, 104),
     "stock": (0, 10**12),
     "per": (1, 10**6),
     "any per": (0, 10**6),
@@ -50,7 +47,11 @@ RANGES = {
 }
 # The last day that a plan may have.
 LAST_DAY = date(2199, 12, 31)
-MOST = {"plant": 64, "pair": 20_000, "bill": 200_000, "usage": 200_000, **dict.fromkeys(("demand", "receipt", "ship", "cum", "firm"), 10**6)}
+# How many rows of a kind a table may have, and how many periods, without --large and with it.
+MOST_IN = {"plant": 64, "pair": 20_000, "bill": 200_000, "usage": 200_000, **dict.fromkeys(("demand", "receipt", "ship", "cum", "firm"), 10**6)}
+MOST_IN_LARGE = {"plant": 1000, "pair": 10**6, "bill": 10**7, "usage": 10**7, "demand": 18 * 10**6}
+MOST_IN_LARGE |= dict.fromkeys(("receipt", "ship", "cum", "firm"), 9 * 10**6)
+LONGEST, LONGEST_LARGE = 104, 520
 # The names of the columns, as --header writes them above a report.
 HEADERS = {
     "check": "row,plant,item,code",
@@ -203,11 +204,11 @@ def number(text, least, most):
     return int(text) if NUMBER.fullmatch(text) and least <= int(text) <= most else None
 
 
-def rule_of(text):
-    """Returns the word of a lot rule and its numbers, or nothing."""
+def rule_of(text, longest):
+    """Returns the word of a lot rule and its numbers, or nothing. It covers at most so many periods."""
     found = RULE.fullmatch(text)
     word = text.partition(":")[0]
-    given = [number(it, 1, 104 if word == "periods" else 10**12) for it in found.groups() if it is not None] if found else [None]
+    given = [number(it, 1, longest if word == "periods" else 10**12) for it in found.groups() if it is not None] if found else [None]
     return None if None in given else (word, *given)
 
 
@@ -250,7 +251,8 @@ def calendar_fault(first, days, periods):
 class Firm:
     """The firm of a table, and its reports."""
 
-    def __init__(self, table):
+    def __init__(self, table, large=False):
+        self.longest, self.most = (LONGEST_LARGE, MOST_IN_LARGE) if large else (LONGEST, MOST_IN)
         self.rows, self.periods, self.kind, self.counts, self.said = 0, 0, None, {}, set()
         self.plants, self.pairs, self.bills, self.cums, self.ships, self.resets = [], {}, {}, {}, [], {}
         self.demand, self.incoming, self.receipts, self.open_orders, self.firm_orders, self.policies = {}, {}, {}, {}, {}, {}
@@ -298,7 +300,8 @@ class Firm:
         values = list(zip(columns, texts[1:]))
         if not all(NAME.fullmatch(it) for column, it in values if column == "name"):
             return "BadName"
-        ranges = {**RANGES, "period": (0, self.periods - 1), "any period": (0, self.periods - 1)}
+        ranges = {**RANGES, "periods": (1, self.longest), **dict.fromkeys(("lead", "ahead"), (0, self.longest))}
+        ranges |= dict.fromkeys(("period", "any period"), (0, self.periods - 1))
         ranges["later period"] = max(self.begun, default=0) + 1, self.periods - 1
         ranges["rows before"] = 2 * (self.rows - 1,)
         # (a vendor may have no reset)
@@ -307,7 +310,7 @@ class Firm:
             return "BadNumber"
         if texts[0] == "firm" and int(texts[4]) < int(texts[3]):
             return "BadNumber"
-        if texts[0] == "pair" and not rule_of(texts[4]):
+        if texts[0] == "pair" and not rule_of(texts[4], self.longest):
             return "BadRule"
         return "BadSupply" if texts[0] == "pair" and sources_of(texts[3]) is None else None
 
@@ -342,7 +345,7 @@ class Firm:
             return "NotSourced"
         if plant in sources or vendor in self.plants:
             return "SelfSource"
-        if self.counts.get(kind, 0) == MOST.get(kind):
+        if self.counts.get(kind, 0) == self.most.get(kind):
             return "TooMany"
         # (of a million rows none but these looks at all shipments)
         arrivals = [it[1] for it in self.ships if it[0] == tuple(texts[1:4])] if kind == "reset" else []
@@ -373,7 +376,7 @@ class Firm:
         elif kind == "plant":
             self.plants.append(first)
         elif kind == "pair":
-            self.pairs[first, second] = Pair(count, third, sources_of(third), rule_of(more[0]), *map(int, more[1:4]))
+            self.pairs[first, second] = Pair(count, third, sources_of(third), rule_of(more[0], self.longest), *map(int, more[1:4]))
             self.demand[first, second], self.incoming[first, second] = [0] * self.periods, [0] * self.periods
             self.receipts[first, second] = [0] * self.periods
             self.open_orders[first, second], self.firm_orders[first, second] = [], []
@@ -540,7 +543,7 @@ class Firm:
                 if quantity:
                     yield "late", *pair, t, quantity, self.earliest(pair) - t
 
-    def order_report(self, until=103):
+    def order_report(self, until=LONGEST_LARGE):
         """Yields the fields of the firm and the order rows: of each order that is released in that period or before it."""
         for pair, plan in self.plans.items():
             row, earliest = self.pairs[pair], self.earliest(pair)
@@ -673,7 +676,7 @@ class Firm:
                 found.append((t, 1, "call", quantity, opening + sum(calls[: t + 1]) - closed * (t >= anew)))
         return [("opening", "", "", transit, opening), *((kind, t, self.day(t), *it) for t, _, kind, *it in sorted(found))]
 
-    def advice_report(self, until=103):
+    def advice_report(self, until=LONGEST_LARGE):
         """Yields the fields of the advice rows, of open orders that come in that period or before it: one is needed where what is
         had before it no longer covers requirements and safety stock.
         """
@@ -684,7 +687,7 @@ class Firm:
                     when = ("", "") if action == "cancel" else (needed, self.day(needed))
                     yield "advice", action, kind, *pair, supplier, period, self.day(period), quantity, *when
 
-    def advice_within_reach(self, until=103):
+    def advice_within_reach(self, until=LONGEST_LARGE):
         """Yields the fields of the advice rows, where no message speaks of periods whose requirements aren't whole. An order that comes in
         one that is, and is to be moved out of it, or is never needed, is needed beyond those periods.
         """
@@ -723,12 +726,12 @@ REPORTS |= {"shortages": Firm.shortage_report, "check --reach": Firm.reach_repor
 
 
 class Oracle:
-    """What mrp has to answer of a table."""
+    """What mrp has to answer of a table, with --large or without."""
 
-    def __init__(self, table):
-        self.firm, self.refused, self.cut = None, None, None
+    def __init__(self, table, large=False):
+        self.firm, self.refused, self.cut, self.large = None, None, None, large
         try:
-            firm = Firm(table)
+            firm = Firm(table, large)
             self.cut = firm.cut()
             firm.plan()
             self.firm = firm

@@ -97,6 +97,16 @@ def test_compare_pairs_as_no_other_way_does_better(room):
     assert "104 changes in 1 pair;" in room.run("bin/compare --within 104 old.csv new.csv")
 
 
+def test_compare_pairs_all_periods_of_large_plans(room):
+    """520 of them: each order is a piece larger than before, and one that comes a week later is its own partner."""
+    room.write("old.csv", plan_rows("2026-01-05", 7, {"X": range(1, 521), "Y": [0] * 519 + [5]}))
+    room.write("new.csv", plan_rows("2026-01-05", 7, {"X": range(2, 522), "Y": [0] * 518 + [5, 0]}))
+    said = room.run("bin/compare old.csv new.csv").splitlines()
+    assert said[:2] == ["A X", "  2026-01-05  grew    from 1 to 2"]
+    assert said[-3:-1] == ["A Y", "  2035-12-10  moved   5 from 2035-12-17"]
+    assert said[-1] == "521 changes in 2 pairs; late orders: none before, none now."
+
+
 def weight(partners, old, new):
     """Returns the days between partners, with three for each order that has none in the days from 2 to 7, and the
     pieces by which they differ.

@@ -485,6 +485,17 @@ def test_forecasts_of_an_item_at_a_plant_alone(tmp_path):
     assert "\ndemand,P1,BIKE,1,2026-01-18,10,,,forecast\n" in names
 
 
+def test_large_sheets_consume_further_back(tmp_path):
+    """By working days: 50 weeks before the first day are 250 of them. With --large alone orders consume so far back."""
+    firm = "First day,Days,Periods,Backward consumption (periods),Forward consumption (periods),Closed on\n2026-01-05,1,4,{},0,Sat Sun\n"
+    for back, left in ((250, 13), (249, 20)):
+        found = {**forecast("", (("2025-01-20", 20),), (("2026-01-05", 7),)), "firm.csv": firm.format(back)}
+        said = f"forecasts.csv: {left} left of periods before 2026-01-05 dropped (row 2)\n"
+        status, table, told = sheets(tmp_path, found, "--large")
+        assert (status, "demand,P1,BIKE,0,7,,,\n" in table, told) == (0, True, said)
+    assert "'249' is not from 0 to 104; with --large up to 520\n" in sheets(tmp_path, found)[2]
+
+
 def test_a_piece_consumes_the_first_forecast_that_is_left():
     """Piece by piece: of its own period, else of the nearest before, else of the nearest after."""
     demand = module_of("demand.py", "bin")
@@ -519,7 +530,7 @@ def test_a_piece_consumes_the_first_forecast_that_is_left():
             "firm.csv row 1: it has no column Backward consumption (Backward consumption (days)?)",
         ),
         ({"firm.csv": FORECASTS["firm.csv"].replace("4,1,1", "4,,1")}, "firm.csv row 2, Backward consumption (periods): nothing stands here"),
-        ({"firm.csv": FORECASTS["firm.csv"].replace("4,1,1", "4,1,105")}, "firm.csv row 2, Forward consumption (periods): '105' is not from 0 to 104"),
+        ({"firm.csv": FORECASTS["firm.csv"].replace("4,1,1", "4,1,105")}, "firm.csv row 2, Forward consumption (periods): '105' is not from 0 to 104; with --large up to 520"),
         ({"forecasts.csv": FORECASTS["forecasts.csv"] + "P1,BIKE,2026-01-12,-1\n"}, "forecasts.csv row 2, Quantity: '-1' is not from 1 to 1000000000000"),
         ({"forecasts.csv": FORECASTS["forecasts.csv"] + "P1,BIKE,W3,1\n"}, "forecasts.csv row 2, Due: 'W3' is no date; write it as 2026-12-01"),
         ({"forecasts.csv": FORECASTS["forecasts.csv"] + "P1,BIK,2026-01-12,1\n"}, "forecasts.csv row 2, Item: P1 has no item 'BIK' (BIKE?)"),

@@ -442,6 +442,25 @@ def test_page_has_200_pairs_at_once(room):
     assert "200 of 200 records" in open_page(room, "page.html")
 
 
+def test_page_of_many_pairs_wants_a_plant(room):
+    """Of 20,001 pairs, of a table before the program is asked, and of a report; not of one item, or of a plant, or of as many as there may be."""
+    refused = "bin/page: a page of more than 20,000 pairs wants a plant: --plant PLANT\n"
+    head, pairs = "run,2026-01-05,7,1,,,,\nplant,P,,,,,,\nplant,Q,,,,,,\npair,Q,X,buy,lot,0,0,0\n", [f"I{it}" for it in range(20_000)]
+    room.write("table.csv", head + "".join(f"pair,P,{it},buy,lot,0,0,0\n" for it in pairs))
+    room.write("plan.csv", "plan,Q,X,0,2026-01-05,0,0,0,0,0\n" + "".join(f"plan,P,{it},0,2026-01-05,0,0,0,0,0\n" for it in pairs))
+    for it in ("orders", "advice", "schedule", "shortages"):
+        room.write(f"{it}.csv", "")
+    room.stand_in("words/files", "from_files")
+    room.variables["MRP"] = f"{room.folder}/words/files"
+    assert room.run("bin/page --large < table.csv; ls asked", status=1).startswith(refused)
+    assert room.run("ls asked 2>&1 || true").startswith("ls: cannot access")
+    assert room.run("bin/page < plan.csv", status=1) == refused
+    for words, count in (("--plant Q", 1), ("--plant P --pairs 3", 3), ("--item X", 1)):
+        for source in ("--large < table.csv", "< plan.csv"):
+            assert len(Tags(room.run(f"bin/page {words} {source}")).articles) == count
+    assert len(Tags(room.run("head -n 20000 plan.csv | bin/page --pairs 2")).articles) == 2
+
+
 def test_page_marks_frozen_releases(room):
     """By hand, of the worked figure: the two periods below the fence, of which the first has a firm order that starts."""
     reports_from_files(room, FENCED, *ASKED)

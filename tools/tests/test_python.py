@@ -1,8 +1,10 @@
 """python/mrp.py."""
 import csv
 import datetime
+import itertools
 
 import cases
+import pytest
 from support import COMMANDS, module_of, reads_each_report, some_tables, TOP, wants
 
 
@@ -94,10 +96,39 @@ end,3,,,,,,
 def test_python_asks_for_what_comes_up_to_a_period(room):
     """By a program that says its words: up to the last period that there can be."""
     room.write("says", '#!/bin/sh\necho "$*" >&2\nexit 1\n')
-    by = module_of("mrp.py", "python").Program(f"{room.folder}/says")
-    for name in ("orders", "advice"):
-        for until, words in ((None, ""), (0, " --until=0"), (103, " --until=103"), (10**6, " --until=103")):
-            assert by.ask(name, b"", until=until) == (1, f"{name}{words}\n".encode())
+    mrp = module_of("mrp.py", "python")
+    for name, (large, last) in itertools.product(("orders", "advice"), (("", 103), (" --large", 519))):
+        by = mrp.Program(f"{room.folder}/says", bool(large))
+        for until, words in ((None, ""), (0, " --until=0"), (last, f" --until={last}"), (10**6, f" --until={last}")):
+            assert by.ask(name, b"", until=until) == (1, f"{name}{large}{words}\n".encode())
+
+
+def test_python_asks_the_program_for_large_tables(room, monkeypatch):
+    """For each report, also where there is a library, which would have failed; it alone is asked without the word. By a program that says
+    its words.
+    """
+    room.write("says", '#!/bin/sh\necho "$*" >&2\nexit 1\n')
+    monkeypatch.setenv("MRP", f"{room.folder}/says")
+    monkeypatch.setenv("MRP_LIBRARY", f"{room.folder}/none.so")
+    mrp = module_of("mrp.py", "python")
+    table = mrp.Table([])
+    for call, more, words in (
+        (mrp.plan, {}, "plan --large"),
+        (mrp.orders, {"until": 600}, "orders --large --until=519"),
+        (mrp.schedule, {"supplier": "A", "customer": "B"}, "schedule --large --from=A --to=B"),
+        (mrp.check, {}, "check --large"),
+        (mrp.reach, {}, "check --reach --large"),
+        (mrp.cums, {}, "cums --large"),
+        (mrp.pegs, {}, "pegs --large"),
+        (mrp.advice, {"until": 110, "reach": True}, "advice --reach --large --until=110"),
+        (mrp.shortages, {}, "shortages --large"),
+    ):
+        with pytest.raises(mrp.Fault) as fault:
+            call(table, large=True, **more)
+        assert str(fault.value) == words
+        with pytest.raises(mrp.Fault if call is mrp.pegs else OSError) as fault:
+            call(table, **more)
+        assert call is not mrp.pegs or str(fault.value) == "pegs"
 
 
 def test_python_asks_how_far_a_plan_is_whole(room):

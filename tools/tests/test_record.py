@@ -1,6 +1,6 @@
 """bin/record."""
 import reports
-from support import DELAYED, DELAYED_PLAN, reports_from_files, WITH_DELAYS
+from support import DELAYED, DELAYED_PLAN, plan_rows, reports_from_files, WITH_DELAYS
 from test_oracle import FENCED, SOONER
 
 # P takes two weeks and has 5; 30 are wanted in period 3 and 10 in period 4, and 20 are firm, from period 0 to 3.
@@ -107,6 +107,14 @@ def test_record_fits_100_columns(room):
     assert "284" in said
     assert "1000000000000000" in said
     assert [it for it in said.split("\n") if len(it) > 100] == []
+
+
+def test_record_has_all_periods_of_a_large_plan(room):
+    """520 of them, block after block."""
+    room.write("plan.csv", plan_rows("2026-01-05", 7, {"X": [0] * 519 + [7]}))
+    lines = room.run("bin/record A X < plan.csv").splitlines()
+    assert [it for line in lines if line.startswith("Period ") for it in line.split()[1:]] == [*map(str, range(520))]
+    assert [it.split()[-1] for it in lines if it.startswith("Planned order receipts") and len(it.split()) > 3] == ["7"]
 
 
 def test_record_names_the_nearest(room):

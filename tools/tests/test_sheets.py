@@ -293,7 +293,7 @@ items.csv row 6, Supply: there is no plant 'WROKS' (WORKS?)
 items.csv row 7, On hand: nothing stands here
 items.csv row 7, Supply: 'from:WORKS:600:DEPOT:400' names DEPOT itself
 items.csv row 8: it has more cells than headings, as 'Bob'; a separator within a cell wants quotes
-items.csv row 8, Lead (weeks): '105' is not from 0 to 104
+items.csv row 8, Lead (weeks): '105' is not from 0 to 104; with --large up to 520
 items.csv row 10, Item: 'BOLT_8' and 'BOLT/8' are both BOLT_8 in the table; rename one
 items.csv row 11, Supply: the shares of 'from:WORKS:600:PLANT:300' don't sum to 1000
 bills.csv row 2, Per: '0' is not from 1 to 1000000
@@ -365,7 +365,7 @@ def test_sheets_tell_all_slips_at_once(room):
         (
             "plants.csv",
             "Plant\nP1\n" + "".join(f"P{it}\n" for it in range(2, 66)),
-            "mrp takes 64 rows of plant, and these are 65\nbin/sheets: 1 slip",
+            "mrp takes 64 rows of plant, and these are 65; with --large 1,000\nbin/sheets: 1 slip",
         ),
     ):
         write_sheets(room, "firm", {**BICYCLE, sheet: text})

@@ -766,7 +766,9 @@ LEAD_OF_2 = "behind a lead time of 2 periods are beyond the plan of 6"
         ("Fence (days)", "36", "2, Fence (days)", "'36' is not from 0 to 35"),
         ("Fence (weeks)", "1.5", "2, Fence (weeks)", "'1.5' is no whole number; round it up, or head the column Fence (days)"),
         ("Sooner (weeks)", "1.5", "2, Sooner (weeks)", "'1.5' is no whole number; round it down, or head the column Sooner (days)"),
-        ("Cover (periods)", "105", "2, Cover (periods)", "'105' is not from 0 to 104"),
+        ("Cover (periods)", "105", "2, Cover (periods)", "'105' is not from 0 to 104; with --large up to 520"),
+        ("Cover (periods)", "521", "2, Cover (periods)", "'521' is not from 0 to 104"),
+        ("Sooner (days)", "729", "2, Sooner (days)", "'729' is not from 0 to 728; with --large up to 3640"),
         ("Least", "1000000000001", "2, Least", "'1000000000001' is not from 0 to 1000000000000"),
         ("Multiple", "-1", "2, Multiple", "'-1' is not from 0 to 1000000000000"),
         ("Multiple", "2.5", "2, Multiple", f"'2.5' is no whole number; {SMALLER}"),
@@ -782,6 +784,65 @@ def test_slips_of_policies(tmp_path, heads, bike, place, told):
     rows = ITEM_ROWS.format(f",{bike}", "," * (heads.count(",") + 1))
     status, _, said = sheets(tmp_path, with_policies(f"{ITEM_HEADS},{heads}\n{rows}"))
     assert (status, said) == ((1, f"items.csv row {place}: {told}\n{REFUSED}") if told else (0, ""))
+
+
+# What --large takes.
+
+
+def test_limits_of_sheets_are_those_of_tables():
+    """As docs/tables.md has them, in its order."""
+    tool, mrp = support.module_of("sheets", "bin"), support.module_of("mrp.py", "python")
+    with open(f"{TOP}/docs/tables.md", encoding="utf-8") as file:
+        found = re.findall(r"^\|.*\| ([0-9,]+) \| ([0-9,]+) \|$", file.read().partition("## Limits")[2], re.MULTILINE)
+    kinds = ("plant",), ("pair",), ("bill", "usage"), ("demand",), ("receipt", "ship", "firm"), ("cum", "reset")
+    for limits, (*rows, periods), last in zip((tool.USUAL, tool.LARGE), zip(*found), (mrp.LAST_PERIOD, mrp.LAST_OF_LARGE)):
+        numbers = (int(it.replace(",", "")) for it in rows)
+        assert limits.rows == {kind: most for same, most in zip(kinds, numbers) for kind in same}
+        assert limits.periods == int(periods) == last + 1
+
+
+LARGE_ITEMS = "Plant,Item,Supply,Lot rule,Lead (weeks),On hand,Safety stock,Fence (periods),Sooner (days),Cover (periods)\n"
+LARGE_FIRM = "First day,Days,Periods,Backward consumption (periods),Forward consumption (periods)\n2026-01-05,7,{0},{1},{1}\n"
+
+
+def large_sheets(periods, most):
+    """Returns sheets of so many periods, whose item has the greatest number wherever periods are counted."""
+    items = f"P1,BIKE,buy,periods:{most},{most},0,0,{periods - 1},{7 * most},{most}\n"
+    day = datetime.date.fromisoformat(MONDAY) + datetime.timedelta(7 * (periods - 1))
+    found = {"firm.csv": LARGE_FIRM.format(periods, most), "items.csv": LARGE_ITEMS + items, "receipts.csv": BICYCLE["receipts.csv"]}
+    return {**found, "demands.csv": f"Plant,Item,Due,Quantity\nP1,BIKE,{day},10\n", "forecasts.csv": "Plant,Item,Due,Quantity\n"}
+
+
+def test_large_sheets_have_more_periods(tmp_path):
+    """With --large 520 wherever there are 104 without it."""
+    table = "run,2026-01-05,7,520,,,,\nplant,P1,,,,,,\npair,P1,BIKE,buy,periods:520,520,0,0\ndemand,P1,BIKE,519,10,,,\npolicy,P1,BIKE,519,520,520,0,0\n"
+    assert sheets(tmp_path, large_sheets(520, 520), "--large") == (0, table, "")
+    cells = "Backward consumption (periods)", "Forward consumption (periods)"
+    firm, item = [f"firm.csv row 2, {it}: " for it in cells], "items.csv row 2, "
+    for words, most, cell, cure in (((), 104, 105, "; with --large up to {}"), ((), 104, 521, ""), (("--large",), 520, 521, "")):
+        last = 520 if cure else 0
+        told = [f"{it}'{cell}' is not from 0 to {most}{cure.format(last)}" for it in firm]
+        told += [f"{item}Lot rule: 'periods:{cell}': '{cell}' is not from 1 to {most}{cure.format(last)}"]
+        told += [f"{item}Lead (weeks): '{cell}' is not from 0 to {most}{cure.format(last)}"]
+        told += [f"{item}Sooner (days): '{7 * cell}' is not from 0 to {7 * most}{cure.format(7 * last)}"]
+        told += [f"{item}Cover (periods): '{cell}' is not from 0 to {most}{cure.format(last)}"]
+        assert sheets(tmp_path, large_sheets(most, cell), *words) == (1, "", "\n".join([*told, REFUSED.replace("1 slip", "6 slips")]))
+        said = sheets(tmp_path, large_sheets(cell, most), *words)[2].splitlines()
+        assert said[0] == f"firm.csv row 2, Periods: '{cell}' is not from 1 to {most}{cure.format(last)}"
+
+
+def test_large_sheets_have_more_rows(tmp_path):
+    """Of plants as many as there may be, and one more; and of items one more than without --large."""
+    plants, said = "Plant\nP1\n" + "".join(f"Q{it}\n" for it in range(999)), "mrp takes {} rows of {}, and these are {}"
+    assert sheets(tmp_path, {**BICYCLE, "plants.csv": plants}, "--large")[1].count("\nplant,") == 1000
+    assert said.format(64, "plant", "1,000; with --large 1,000\n") in sheets(tmp_path, {**BICYCLE, "plants.csv": plants})[2]
+    for words, most in (((), 64), (("--large",), "1,000")):
+        told = said.format(most, "plant", f"1,001\n{REFUSED}")
+        assert sheets(tmp_path, {**BICYCLE, "plants.csv": f"{plants}R\n"}, *words) == (1, "", told)
+    items = BICYCLE["items.csv"] + "".join(f"P1,I{it},buy,lot,1,0,1\n" for it in range(19_999))
+    told = said.format("20,000", "pair", f"20,001; with --large 1,000,000\n{REFUSED}")
+    assert sheets(tmp_path, {**BICYCLE, "items.csv": items}) == (1, "", told)
+    assert sheets(tmp_path, {**BICYCLE, "items.csv": items}, "--large")[1].count("\npair,") == 20_001
 
 
 # What sheets say of scrap, fractions, and bills that change. A plan has four weeks, from 2026-01-05 on: they begin on the 5th, 12th, 19th and 26th.

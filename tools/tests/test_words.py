@@ -1,6 +1,7 @@
 """What all tools have in common: help, bad words, bad input, and the program that they find."""
 import os
 
+import pytest
 from support import TOP
 
 # (bin/mrp has the words of the program, and the other files of both folders are read by the tools)
@@ -140,6 +141,65 @@ def test_bad_input(room):
     for command in (*(f"bin/{it}" for it in commands), "tools/torture --program none"):
         said = room.run(command, status=1)
         assert said.count("\n") == 1, f"{command} said\n{said}"
+
+
+# A firm with 110 periods, whose bicycles are wanted in the 109th and whose wheels are on order from a vendor, as far as 20 of them.
+LONG = {
+    "firm.csv": "First day,Days,Periods\n2026-01-05,7,110\n",
+    "items.csv": "Plant,Item,Supply,Lot rule,Lead (periods),On hand,Safety stock\nP1,BIKE,make,lot,1,0,0\nP1,WHEEL,buy,lot,1,0,0\n",
+    "bills.csv": "Plant,Parent,Component,Per\nP1,BIKE,WHEEL,4\n",
+    "demands.csv": "Plant,Item,Due,Quantity,Order\nP1,BIKE,2028-01-31,10,4711\n",
+    "receipts.csv": "Plant,Item,Due,Quantity,Advice\nP1,WHEEL,2028-01-17,20,L-1\n",
+    "vendors.csv": "Vendor,Plant,Item,Figure received,In transit\nLumen,P1,WHEEL,40,20\n",
+}
+
+
+@pytest.fixture
+def long(room):
+    """A room with the sheets of that firm, its table and names; tools/oracle.py plans."""
+    room.stand_in("words/planner", "planner", top=TOP)
+    room.variables["MRP"] = f"{room.folder}/words/planner"
+    os.mkdir(f"{room.folder}/firm")
+    for name, text in LONG.items():
+        room.write(f"firm/{name}", text)
+    room.run("bin/sheets --large --names names.csv --out table.csv firm")
+    return room
+
+
+def test_tools_ask_for_large_tables(long):
+    """With --large each tool that asks the program hands the word on; without it the program refuses the table."""
+    for tool in ("why P1 WHEEL 106", "hit", "orders", "schedule", "page", "renew plan.csv plan", "releases --sheets firm --out out"):
+        word, _, more = tool.partition(" ")
+        assert "mrp: row 1: " in long.run(f"bin/{tool} < table.csv", status=1), tool
+        long.run(f"bin/{word} --large {more} < table.csv > {word}.said")
+    assert "20 released in period 106, due in period 107 " in long.run("cat why.said")
+    assert "plan,P1,BIKE,109," in long.run("cat plan.csv")
+    assert "2028-01-24" in long.run("cat page.said")
+    assert ",2028-01-17,2028-01-24,20," in long.run("cat out/Lumen.csv")
+
+
+def test_large_page_has_what_changed(long):
+    """The table of the earlier Monday is asked for with --large too."""
+    long.run("sed s/BIKE,108,10/BIKE,108,11/ table.csv > last.csv")
+    said = long.run("bin/page --large --last last.csv < table.csv 2>&1 > page.html")
+    assert said == "last.csv begins on 2026-01-05 as this plan does: what changed is told since a plan of this Monday\n"
+    page = long.run("cat page.html")
+    assert "2 pairs, 110 weeks, 0 late orders" in page
+    assert "<b>shrank</b></td><td>10</td>" in page
+
+
+def test_large_tables_are_booked(long):
+    """With what the sheets say of orders beyond the 104th period; the table is made with --large too."""
+    long.run("bin/orders --large --names names.csv --out orders.csv < table.csv")
+    orders = long.run("cat orders.csv").splitlines()
+    assert orders[1].startswith("order,P1,BIKE,make,10,107,2028-01-24,108,2028-01-31,0,")
+    assert "10 of 2028-01-31: Order 4711" in orders[1]
+    schedule = long.run("bin/schedule --large --names names.csv < table.csv").splitlines()
+    assert schedule[1].startswith("schedule,opening,Lumen,P1,WHEEL,,,20,60,")
+    assert schedule[1].endswith(",20 of 2028-01-17: Advice L-1")
+    assert "'110' is not from 1 to 104; with --large up to 520" in long.run("bin/book --number K-1 orders.csv firm", status=1)
+    booked = "firm_orders.csv: K-1, 10 of P1 BIKE, due 2028-01-31\nfirm_orders.csv: K-2, 20 of P1 WHEEL, due 2028-01-24\n"
+    assert long.run("bin/book --large --number K-1 orders.csv firm") == booked
 
 
 def test_tools_find_the_program(room):
