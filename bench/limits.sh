@@ -2,13 +2,16 @@
 # Runs the program over tables at the limits of docs/tables.md and one past them, and prints for each the
 # rows of the table, the command, seconds of processor time, peak memory and whether the answer is right.
 #
-#   bench/limits.sh [PROGRAM]
+#   bench/limits.sh [--large] [PROGRAM]
 #
+# With --large the tables are those at the limits of that word: it takes some five minutes, and 8 GB of memory.
 # PROGRAM is bin/mrp's where it isn't given. It needs awk and GNU time. Exit status: 1 where an answer is wrong.
 # (the conditions are awk's)
 # shellcheck disable=SC2016
 set -eu
 top=$(CDPATH='' cd -- "$(dirname -- "$0")/.." && pwd)
+large=
+[ "${1:-}" != --large ] || { large=--large && shift; }
 program=${1:-}
 if [ -z "$program" ]; then
     "$top/bin/mrp" --help >/dev/null
@@ -32,13 +35,14 @@ rows() {
     }'
 }
 
-# 20,000 pairs, each made of the next; seven pieces of the first are wanted in the last period.
+# So many pairs, 20,000 where nothing is said, each made of the next; seven pieces of the first are wanted in the last of
+# so many periods.
 chain() {
-    awk 'BEGIN {
-        print "run,2026-01-05,7,104,,,,\nplant,P,,,,,,"
-        for (i = 0; i < 20000; i++) print "pair,P,I" i "," (i < 19999 ? "make" : "buy") ",lot,0,0,0"
-        for (i = 0; i < 19999; i++) print "bill,P,I" i ",I" i + 1 ",1,,,"
-        print "demand,P,I0,103,7,,,"
+    awk -v pairs="${1:-20000}" -v periods="${2:-104}" 'BEGIN {
+        print "run,2026-01-05,7," periods ",,,,\nplant,P,,,,,,"
+        for (i = 0; i < pairs; i++) print "pair,P,I" i "," (i < pairs - 1 ? "make" : "buy") ",lot,0,0,0"
+        for (i = 0; i < pairs - 1; i++) print "bill,P,I" i ",I" i + 1 ",1,,,"
+        print "demand,P,I0," periods - 1 ",7,,,"
     }'
 }
 
@@ -52,14 +56,15 @@ one_for_all() {
     }'
 }
 
-# 10,000 parents of 20 components each, each of which has 20 parents, and so many bill rows more of a last pair.
+# So many parents, 10,000 where nothing is said, of 20 components each, each of which has 20 parents, and so many bill rows
+# more of a last pair.
 bills() {
-    awk -v more="$1" 'BEGIN {
+    awk -v more="$1" -v half="${2:-10000}" 'BEGIN {
         print "run,2026-01-05,7,104,,,,\nplant,P,,,,,,"
-        for (i = 0; i < 20000; i++) print "pair,P,I" i "," (i < 10000 ? "make" : "buy") ",lot,0,0,0"
-        for (i = 0; i < 10000; i++) for (k = 0; k < 20; k++) print "bill,P,I" i ",I" 10000 + (i * 20 + k) % 10000 ",1,,,"
-        for (k = 0; k < more; k++) print "bill,P,I0,I" 19999 - k ",1,,,"
-        for (i = 0; i < 10000; i++) print "demand,P,I" i ",103,1,,,"
+        for (i = 0; i < 2 * half; i++) print "pair,P,I" i "," (i < half ? "make" : "buy") ",lot,0,0,0"
+        for (i = 0; i < half; i++) for (k = 0; k < 20; k++) print "bill,P,I" i ",I" half + (i * 20 + k) % half ",1,,,"
+        for (k = 0; k < more; k++) print "bill,P,I0,I" 2 * half - 1 - k ",1,,,"
+        for (i = 0; i < half; i++) print "demand,P,I" i ",103,1,,,"
     }'
 }
 
@@ -112,7 +117,7 @@ try() {
     name=$1 command=$2 wanted=$3 holds=${4:-0}
     status=0
     # shellcheck disable=SC2086
-    command time -q -f '%U %S %M' -o "$folder/time" "$program" $command <"$table" >"$folder/out" 2>"$folder/err" || status=$?
+    command time -q -f '%U %S %M' -o "$folder/time" "$program" $command $large <"$table" >"$folder/out" 2>"$folder/err" || status=$?
     said=$(cat "$folder/err")
     if [ -z "$said" ] && [ "$status" -eq 0 ]; then
         said=$(awk -F, "$holds { good++ } END { print good + 0, \"of\", NR }" "$folder/out")
@@ -123,7 +128,38 @@ try() {
     printf '%-18s %8s  %-34s %s  %s\n' "$name" "$(wc -l <"$table")" "$command" "$spent" "$verdict"
 }
 
+# The tables at the limits of --large, and one past them.
+large() {
+    chain 1000000 4 >"$table"
+    try "million levels" orders "1000000 of 1000000" '$5 == 7 && $9 == "2026-01-26"'
+    chain 1000 520 >"$table"
+    try "520 periods" plan "1000 of 520000" '$4 == 519 && $6 == 7 && $8 == 7'
+    try "520 periods" "peg P I999 519" "1 of 1" '$2 == "bill" && $7 == 7'
+    bills 0 500000 >"$table"
+    try "million pairs" orders "1000000 of 1000000" '$5 == (substr($3, 2) + 0 < 500000 ? 1 : 20)'
+    bills 1 500000 >"$table"
+    try "10,000,001 bills" check "mrp: row 11000003: TooMany"
+    rows 1001 0 0 0 0 >"$table"
+    try "1,001 plants" check "mrp: row 1002: TooMany"
+    rows 2 1000001 0 0 0 >"$table"
+    try "1,000,001 pairs" check "mrp: row 1000004: TooMany"
+    rows 2 2 18000000 0 0 >"$table"
+    try "18,000,000 demands" "peg P0 I0 0" "1 of 1" '$2 == "demand" && $5 == 173077'
+    rows 2 2 18000001 0 0 >"$table"
+    try "18,000,001 demands" check "mrp: row 18000006: TooMany"
+    rows 2 2 0 9000000 0 >"$table"
+    try "9,000,000 receipts" plan "104 of 208" '$2 == "P0" && $7 > 86500'
+    rows 2 2 0 9000001 0 >"$table"
+    try "9,000,001 receipts" check "mrp: row 9000006: TooMany"
+    rows 2 2 0 0 9000001 >"$table"
+    try "9,000,001 ships" check "mrp: row 9000006: TooMany"
+    rows 2 2 0 0 0 9000001 >"$table"
+    try "9,000,001 firm" check "mrp: row 9000006: TooMany"
+    exit "$wrong"
+}
+
 printf '%-18s %8s  %-34s %8s %8s\n' table rows command seconds memory
+[ -z "$large" ] || large
 chain >"$table"
 try chain plan "20000 of 2080000" '$4 == 103 && $6 == 7 && $8 == 7 && $9 == 7 && $10 == 0'
 try chain check "20000 of 20000" '$4 == NR - 1'

@@ -14,18 +14,18 @@ QUANTITIES = (1, 2, 5, 7, 30, 99, 1000, 10**6)
 FIELDS = ("", "0", "1", "31", "32", "104", "105", "02", "+1", "1.5", "1000000000000", "1000000000001", "9999999999999999")
 FIELDS += ("A", "B", "X" * 21, "a b", "make", "buy", "lot", "fixed:0", "fixed:7", "periods:105", "min:3:2", "min:1")
 FIELDS += ("from:A", "from:A:500:B:500", "from:B:600:A:300", "2026-02-30", "2199-12-31", '"A"', '"', "103", "policy", "usage", "1000000", "1000001")
-FIELDS += ("vendor", "day", "end", "V-1", "1000000000000000", "1000000000000001", "2026-01-12", "2199-12-01", "9999-12-31", "1969-12-31")
+FIELDS += ("520", "521", "vendor", "day", "end", "V-1", "1000000000000000", "1000000000000001", "2026-01-12", "2199-12-01", "9999-12-31", "1969-12-31")
 BYTES = b',,,"\r\n\n019ABXx:-._ \x00\x7f\xc3\xff'
 
 
-def table(chance, plants=12, pairs=30):
-    """Returns the table of a firm, as bytes. Nearly all have no loop and stay within the bound."""
+def table(chance, plants=12, pairs=30, longest=104):
+    """Returns the table of a firm, as bytes. Nearly all have no loop and stay within the bound, and at most so many periods."""
     size = chance.randint(1, plants)
     names, items = chance.sample(NAMES, size), chance.sample(NAMES, chance.randint(1, 8))
     kept = chance.sample([(plant, item) for plant in names for item in items], min(chance.randint(1, pairs), size * len(items)))
-    periods = chance.choice((1, 2, 3, 4, 6, 12, 12, 26, 104))
+    periods = chance.choice((1, 2, 3, 4, 6, 12, 12, 26, longest))
     quantities = QUANTITIES if chance.random() < 0.9 else (10**12, 1, 10**11)
-    firm = Draft(chance, kept, periods, quantities)
+    firm = Draft(chance, kept, periods, quantities, longest)
     run = mrp.Run(chance.choice(("2026-01-05", "1970-01-01", "2028-02-28")), chance.randint(1, 31), periods)
     rows = [run, *map(mrp.Plant, names), *firm.pair_rows(), *firm.bill_rows()]
     rows += [*firm.period_rows(mrp.Demand, kept), *firm.period_rows(mrp.Receipt, kept), *firm.lane_rows()]
@@ -46,8 +46,8 @@ def unended(text):
 class Draft:
     """A firm in the making. A pair takes from pairs of a higher rank alone, but now and then from any."""
 
-    def __init__(self, chance, kept, periods, quantities):
-        self.chance, self.kept, self.periods, self.quantities = chance, kept, periods, quantities
+    def __init__(self, chance, kept, periods, quantities, longest):
+        self.chance, self.kept, self.periods, self.quantities, self.longest = chance, kept, periods, quantities, longest
         self.rank = dict(zip(chance.sample(kept, len(kept)), range(len(kept))))
         self.any_rank = chance.random() < 0.05
         self.sources = {it: self.some_sources(it) for it in kept}
@@ -73,13 +73,13 @@ class Draft:
 
     def rule(self):
         least, most = self.chance.choice(self.quantities), self.chance.choice(self.quantities)
-        rules = ("lot", f"fixed:{most}", f"periods:{self.chance.choice((1, 2, 3, 104))}", f"min:{most}:{least}", f"min:{least}:{most}")
+        rules = ("lot", f"fixed:{most}", f"periods:{self.chance.choice((1, 2, 3, self.longest))}", f"min:{most}:{least}", f"min:{least}:{most}")
         return self.chance.choice(rules)
 
     def pair_rows(self):
         for pair in self.kept:
             stock = [self.chance.choice((0, 0, *self.quantities)) for _ in "12"]
-            yield mrp.Pair(*pair, self.supply(pair), self.rule(), self.chance.choice((0, 0, 1, 1, 2, 3, 104)), *stock)
+            yield mrp.Pair(*pair, self.supply(pair), self.rule(), self.chance.choice((0, 0, 1, 1, 2, 3, self.longest)), *stock)
 
     def bill_rows(self):
         for pair in self.kept:
@@ -139,7 +139,7 @@ class Draft:
             near = min(max(0, lead + self.chance.randint(-1, 3)), last)
             return self.chance.choice((near, near, self.chance.randint(0, last)))
         if column in ("sooner", "cover"):
-            return self.chance.choice((1, 1, 2, 3, self.periods - 1, self.periods, 104))
+            return self.chance.choice((1, 1, 2, 3, self.periods - 1, self.periods, self.longest))
         return self.chance.choice(self.quantities)
 
     def usage_rows(self, bills):
