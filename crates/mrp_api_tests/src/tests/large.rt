@@ -30,32 +30,38 @@ const LONGER_LEAD: &str = "run,2026-01-05,7,2,,,,\nplant,A,,,,,,\npair,A,X,buy,l
 
 const LONGER_RULE: &str = "run,2026-01-05,7,2,,,,\nplant,A,,,,,,\npair,A,X,buy,periods:521,1,0,0\n";
 
-/// What is asked of a table within those limits, or the line of its fault.
-fn asked(
-    alloc: Global,
-    text: &[u8],
-    limits: LimitSet,
-    choice: Choice<'_>,
-) -> Result<String, AllocError> {
+/// The orders of a table within these limits, or the line of its fault.
+fn ordered(alloc: Global, text: &str, limits: LimitSet) -> Result<String, AllocError> {
     let mut written = Vec::new(alloc);
-    let reading = Reading {
-        whole: false,
-        limits,
+    let request = Request {
+        reading: Reading {
+            whole: false,
+            limits,
+        },
+        choice: Choice::Orders {
+            until: None,
+            heading: Heading::Without,
+        },
     };
-    let answer = report_text(alloc, text, &mut written, Request { reading, choice });
+    let answer = report_text(alloc, text.as_bytes(), &mut written, request);
     outcome(alloc, written.as_slice(), &answer)
 }
 
-/// The orders of a table.
-const ORDERS: Choice<'_> = Choice::Orders {
-    until: None,
-    heading: Heading::Without,
-};
-
-/// The low-level codes of a table.
-const CHECK: Choice<'_> = Choice::Check {
-    heading: Heading::Without,
-};
+/// The low-level codes of a table within these limits, or the line of its fault.
+fn coded(alloc: Global, text: &[u8], limits: LimitSet) -> Result<String, AllocError> {
+    let mut written = Vec::new(alloc);
+    let request = Request {
+        reading: Reading {
+            whole: false,
+            limits,
+        },
+        choice: Choice::Check {
+            heading: Heading::Without,
+        },
+    };
+    let answer = report_text(alloc, text, &mut written, request);
+    outcome(alloc, written.as_slice(), &answer)
+}
 
 /// The codes of the text function, which takes the usual limits.
 fn checked(alloc: Global, text: &str) -> Result<String, AllocError> {
@@ -67,15 +73,11 @@ fn checked(alloc: Global, text: &str) -> Result<String, AllocError> {
 #[test]
 fn long_horizons_want_the_large_limits(rt: HostRuntime) -> Result<(), Fail> {
     let alloc = rt.alloc();
-    let usual = asked(alloc, LONG.as_bytes(), LimitSet::Usual, ORDERS)?;
+    let usual = ordered(alloc, LONG, LimitSet::Usual)?;
     is_report(&rt, usual, "1 mrp: row 1: BadNumber\n");
     is_report(&rt, checked(alloc, LONG)?, "1 mrp: row 1: BadNumber\n");
-    is_report(
-        &rt,
-        asked(alloc, LONG.as_bytes(), LimitSet::Large, ORDERS)?,
-        RELEASED,
-    );
-    let longer = asked(alloc, LONGER.as_bytes(), LimitSet::Large, ORDERS)?;
+    is_report(&rt, ordered(alloc, LONG, LimitSet::Large)?, RELEASED);
+    let longer = ordered(alloc, LONGER, LimitSet::Large)?;
     is_report(&rt, longer, "1 mrp: row 1: BadNumber\n");
     Ok(())
 }
@@ -83,11 +85,11 @@ fn long_horizons_want_the_large_limits(rt: HostRuntime) -> Result<(), Fail> {
 #[test]
 fn long_lead_times_want_the_large_limits(rt: HostRuntime) -> Result<(), Fail> {
     let alloc = rt.alloc();
-    let usual = asked(alloc, LEAD.as_bytes(), LimitSet::Usual, CHECK)?;
+    let usual = coded(alloc, LEAD.as_bytes(), LimitSet::Usual)?;
     is_report(&rt, usual, "1 mrp: row 3: BadNumber\n");
-    let large = asked(alloc, LEAD.as_bytes(), LimitSet::Large, CHECK)?;
+    let large = coded(alloc, LEAD.as_bytes(), LimitSet::Large)?;
     is_report(&rt, large, "code,A,X,0\n");
-    let longer = asked(alloc, LONGER_LEAD.as_bytes(), LimitSet::Large, CHECK)?;
+    let longer = coded(alloc, LONGER_LEAD.as_bytes(), LimitSet::Large)?;
     is_report(&rt, longer, "1 mrp: row 3: BadNumber\n");
     Ok(())
 }
@@ -95,11 +97,11 @@ fn long_lead_times_want_the_large_limits(rt: HostRuntime) -> Result<(), Fail> {
 #[test]
 fn long_rules_want_the_large_limits(rt: HostRuntime) -> Result<(), Fail> {
     let alloc = rt.alloc();
-    let usual = asked(alloc, RULE.as_bytes(), LimitSet::Usual, CHECK)?;
+    let usual = coded(alloc, RULE.as_bytes(), LimitSet::Usual)?;
     is_report(&rt, usual, "1 mrp: row 3: BadRule\n");
-    let large = asked(alloc, RULE.as_bytes(), LimitSet::Large, CHECK)?;
+    let large = coded(alloc, RULE.as_bytes(), LimitSet::Large)?;
     is_report(&rt, large, "code,A,X,0\n");
-    let longer = asked(alloc, LONGER_RULE.as_bytes(), LimitSet::Large, CHECK)?;
+    let longer = coded(alloc, LONGER_RULE.as_bytes(), LimitSet::Large)?;
     is_report(&rt, longer, "1 mrp: row 3: BadRule\n");
     Ok(())
 }
@@ -107,9 +109,9 @@ fn long_rules_want_the_large_limits(rt: HostRuntime) -> Result<(), Fail> {
 #[test]
 fn long_policies_want_the_large_limits(rt: HostRuntime) -> Result<(), Fail> {
     let alloc = rt.alloc();
-    let usual = asked(alloc, POLICY.as_bytes(), LimitSet::Usual, CHECK)?;
+    let usual = coded(alloc, POLICY.as_bytes(), LimitSet::Usual)?;
     is_report(&rt, usual, "1 mrp: row 4: BadNumber\n");
-    let large = asked(alloc, POLICY.as_bytes(), LimitSet::Large, CHECK)?;
+    let large = coded(alloc, POLICY.as_bytes(), LimitSet::Large)?;
     is_report(&rt, large, "code,A,X,0\n");
     Ok(())
 }
@@ -139,12 +141,12 @@ fn many_plants(alloc: Global, count: usize) -> Result<Vec<u8>, AllocError> {
 fn many_plants_want_the_large_limits(rt: HostRuntime) -> Result<(), Fail> {
     let alloc = rt.alloc();
     let text = many_plants(alloc, 65)?;
-    let usual = asked(alloc, text.as_slice(), LimitSet::Usual, CHECK)?;
+    let usual = coded(alloc, text.as_slice(), LimitSet::Usual)?;
     is_report(&rt, usual, "1 mrp: row 66: TooMany\n");
-    let large = asked(alloc, text.as_slice(), LimitSet::Large, CHECK)?;
+    let large = coded(alloc, text.as_slice(), LimitSet::Large)?;
     is_report(&rt, large, "");
     let text = many_plants(alloc, 1001)?;
-    let more = asked(alloc, text.as_slice(), LimitSet::Large, CHECK)?;
+    let more = coded(alloc, text.as_slice(), LimitSet::Large)?;
     is_report(&rt, more, "1 mrp: row 1002: TooMany\n");
     Ok(())
 }
