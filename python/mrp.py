@@ -11,7 +11,7 @@
 It needs this file and either the library or the program. The library is the shared object that MRP_LIBRARY names, or
 libmrp.so beside this file; the program is the one that MRP names, else the mrp on the path, else the one beside this
 file or in bin/ of the sources. Both answer with the same bytes. What is refused raises Fault. With large=True a report is of
-a table up to the limits of --large, and the program answers.
+a table up to the limits of --large.
 
 Tables, reports and dates are read without either. The tools for planners read by this module: here stand the columns
 of each row of a table and of a report, once, with how each is spelled and what it is read as.
@@ -794,9 +794,9 @@ class Names:
 
 
 class Library:
-    """The planner in this process, by a shared object (include/mrp.h)."""
+    """The planner in this process, by a shared object (include/mrp.h), within the usual limits or those of --large."""
 
-    def __init__(self, path):
+    def __init__(self, path, large=False):
         # (who reads reports alone needs none of it)
         import ctypes
 
@@ -806,7 +806,7 @@ class Library:
         options = {"plan": [], "orders": [*limited, flag], "advice": [*limited, flag, flag], "schedule": [*name, *name, flag]}
         options |= {it: [flag] for it in ("check", "reach", "cums", "shortages")}
         for it, types in options.items():
-            call = self.calls[it] = library[f"mrp_{it}"]
+            call = self.calls[it] = library[f"mrp_{it}{'_large' * large}"]
             # (how a table is to be read is a struct of a flag)
             call.argtypes = [*name, ctypes.POINTER(flag), *types, ctypes.c_char_p, size, ctypes.POINTER(size)]
             call.restype = ctypes.c_uint32
@@ -845,10 +845,10 @@ class Program:
 
 
 @functools.lru_cache(None)
-def library():
+def library(large=False):
     """Returns the library, or nothing where there is none."""
     path = os.environ.get("MRP_LIBRARY") or f"{HERE}/libmrp.so"
-    return Library(path) if os.environ.get("MRP_LIBRARY") or os.path.exists(path) else None
+    return Library(path, large) if os.environ.get("MRP_LIBRARY") or os.path.exists(path) else None
 
 
 def program(large=False):
@@ -859,8 +859,8 @@ def program(large=False):
 
 
 def answering(large):
-    """Returns who answers: the library, or the program where there is none or the table may be large."""
-    return program(large) if large else library() or program()
+    """Returns who answers: the library, or the program where there is none."""
+    return library(large) or program(large)
 
 
 def report(by, name, table, **options):

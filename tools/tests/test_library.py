@@ -177,17 +177,18 @@ def test_library_takes_options(room, program):
         assert got == wanted, (name, options)
 
 
-def test_library_takes_large_tables(room):
-    """Of 65 plants, one more than the usual limits have: only the call for large tables takes it."""
+def test_library_takes_large_tables(room, program):
+    """Of 65 plants, one more than the usual limits have: only the calls for large tables take it, each as the program."""
     library(room)
-    calls = ctypes.CDLL(f"{room.folder}/lib/libmrp.so")
+    mrp = module_of("mrp.py", "python")
     plants = "".join(f"plant,P{it},,,,,,\n" for it in range(65))
-    table = f"run,2026-01-05,7,2,,,,\n{plants}pair,P64,X,buy,lot,1,0,0\n".encode()
-    for call, wanted in (("mrp_check", (1, b"mrp: row 66: TooMany\n")), ("mrp_check_large", (0, b"code,P64,X,0\n"))):
-        size, buffer = ctypes.c_size_t(0), ctypes.create_string_buffer(64)
-        flags = ctypes.byref(ctypes.c_bool(False)), ctypes.c_bool(False)
-        status = calls[call](table, ctypes.c_size_t(len(table)), *flags, buffer, ctypes.c_size_t(64), ctypes.byref(size))
-        assert (status, buffer.raw[: size.value]) == wanted, call
+    table = f"run,2026-01-05,7,2,,,,\n{plants}pair,P64,X,buy,lot,1,0,0\ndemand,P64,X,1,5,,,\n".encode()
+    one, other = (mrp.Library(f"{room.folder}/lib/libmrp.so", large) for large in (False, True))
+    for name in ("plan", *REPORTS):
+        asked, options = ("check", {"reach": True}) if name == "reach" else (name, {})
+        assert one.ask(asked, table, **options) == (1, b"mrp: row 66: TooMany\n"), name
+        wanted = mrp.Program(program, large=True).ask(asked, table, **options)
+        assert other.ask(asked, table, **options) == wanted and wanted[0] == 0, name
 
 
 def test_python_reads_each_report_of_the_library(room, program):

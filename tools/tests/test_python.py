@@ -103,13 +103,12 @@ def test_python_asks_for_what_comes_up_to_a_period(room):
             assert by.ask(name, b"", until=until) == (1, f"{name}{large}{words}\n".encode())
 
 
-def test_python_asks_the_program_for_large_tables(room, monkeypatch):
-    """For each report, also where there is a library, which would have failed; it alone is asked without the word. By a program that says
-    its words.
+def test_python_asks_for_large_tables(room, monkeypatch):
+    """For each report, of the program where there is no library and for pegs: by a program that says its words, and a library that is
+    not there.
     """
     room.write("says", '#!/bin/sh\necho "$*" >&2\nexit 1\n')
     monkeypatch.setenv("MRP", f"{room.folder}/says")
-    monkeypatch.setenv("MRP_LIBRARY", f"{room.folder}/none.so")
     mrp = module_of("mrp.py", "python")
     table = mrp.Table([])
     for call, more, words in (
@@ -123,12 +122,17 @@ def test_python_asks_the_program_for_large_tables(room, monkeypatch):
         (mrp.advice, {"until": 110, "reach": True}, "advice --reach --large --until=110"),
         (mrp.shortages, {}, "shortages --large"),
     ):
+        mrp.library.cache_clear()
+        monkeypatch.delenv("MRP_LIBRARY", raising=False)
         with pytest.raises(mrp.Fault) as fault:
             call(table, large=True, **more)
         assert str(fault.value) == words
-        with pytest.raises(mrp.Fault if call is mrp.pegs else OSError) as fault:
-            call(table, **more)
-        assert call is not mrp.pegs or str(fault.value) == "pegs"
+        mrp.library.cache_clear()
+        monkeypatch.setenv("MRP_LIBRARY", f"{room.folder}/none.so")
+        for large in (False, True):
+            with pytest.raises(mrp.Fault if call is mrp.pegs else OSError) as fault:
+                call(table, large=large, **more)
+            assert call is not mrp.pegs or str(fault.value) == "pegs" + " --large" * large
 
 
 def test_python_asks_how_far_a_plan_is_whole(room):
