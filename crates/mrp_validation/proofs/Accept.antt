@@ -68,7 +68,8 @@ pub waited : (N M : Table) (o : Option ℕ) → unless_lacking N o ≡ Ok M → 
 waited N M None e = (refl, cc)
 waited N M (Some x) e = absurd (cc)
 
-read_is_table : (limits : LimitSet) (start : Result Table TableFaultKind) (row : List (List ℕ)) (rows : List (List (List ℕ))) (N : Table) → Starts limits row start
+read_is_table : (limits : LimitSet) (start : Result Table TableFaultKind) (row : List (List ℕ)) (rows : List (List (List ℕ))) (N : Table)
+    → Starts limits row start
     → Ok N ≡ read_from start rows → IsTable N
 read_is_table limits (Ok first) row rows N starts e =
     let a = went_on (rows_after 2 (first, kind.Run) rows) waiting N (sym e) in

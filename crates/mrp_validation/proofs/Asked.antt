@@ -55,7 +55,8 @@ all_no_cut rows s e is cut = by (rows_after 2 s rows) refl is
     by (Ok N) read is = waits_no_cut N (first_lacking N N.sources) e is cut
     by (Err f) read is = rows_no_cut rows 2 s e (read ∙ is) cut
 
-start_no_cut : (limits : LimitSet) (row : List (List ℕ)) (rows : List (List (List ℕ))) (start : Result Table TableFaultKind) (e : TableFault) → Starts limits row start
+start_no_cut : (limits : LimitSet) (row : List (List ℕ)) (rows : List (List (List ℕ))) (start : Result Table TableFaultKind) (e : TableFault)
+    → Starts limits row start
     → Err e ≡ read_from start rows → e.kind ≡ fault.Cut → ⊥
 start_no_cut limits row rows (Ok N) e starts is cut = all_no_cut rows (N, kind.Run) e (sym is) cut
 start_no_cut limits row rows (Err k) e starts is cut = row_no_cut row 1 k e (first-listed limits row k starts) (same_Err _ e (sym is)) cut
@@ -133,11 +134,19 @@ whole_end reading rows N = (
 row_behind : (limits : LimitSet) (rows : List (List (List ℕ))) (M : Table) → Reads limits rows (Ok M) → row_count M + 1 ≡ length rows + 1
 row_behind limits rows M reads = ap (λ (n : ℕ). n + 1) (sym (ap length (written_out limits rows M reads) ∙ rows_counted M))
 
-cut_is : (reading : Reading) (rows : List (List (List ℕ))) (e : TableFault) → e.kind ≡ fault.Cut → (plain : Result Table TableFault) → Reads reading.limits rows plain
+cut_is : (reading : Reading) (rows : List (List (List ℕ))) (e : TableFault) → e.kind ≡ fault.Cut → (plain : Result Table TableFault)
+    → Reads reading.limits rows plain
     → Err e ≡ go_on plain (uncut reading) → (reading.whole ≡ true) × LacksItsEnd reading.limits rows e
 cut_is reading rows e cut (Ok M) reads is =
-    let c = asked_err reading.whole M.ended (row_count M + 1) M e (sym is) in
-    (c.whole_is, record { table = M; reads = reads; unended = c.ended_is; row = ap (λ (f : TableFault). f.row) c.fault_is ∙ row_behind reading.limits rows M reads })
+    let c = asked_err reading.whole M.ended (row_count M + 1) M e (sym is) in (
+      c.whole_is,
+      record {
+        table = M;
+        reads = reads;
+        unended = c.ended_is;
+        row = ap (λ (f : TableFault). f.row) c.fault_is ∙ row_behind reading.limits rows M reads;
+      },
+    )
 cut_is reading rows e cut (Err f) reads is = absurd (reads_no_cut reading.limits rows f reads (ap (λ (g : TableFault). g.kind) (sym (same_Err e f is)) ∙ cut))
 
 same_fault : (e : TableFault) (row : ℕ) → e.kind ≡ fault.Cut → e.row ≡ row → e ≡ record { row = row; kind = fault.Cut }
@@ -156,7 +165,8 @@ cut_refused reading rows e cut = (
   λ h. lacks_end reading rows e cut h.0 h.1,
 )
 
-other_is : (reading : Reading) (rows : List (List (List ℕ))) (e : TableFault) → ¬ (e.kind ≡ fault.Cut) → (plain : Result Table TableFault) → Reads reading.limits rows plain
+other_is : (reading : Reading) (rows : List (List (List ℕ))) (e : TableFault) → ¬ (e.kind ≡ fault.Cut) → (plain : Result Table TableFault)
+    → Reads reading.limits rows plain
     → Err e ≡ go_on plain (uncut reading) → Reads reading.limits rows (Err e)
 other_is reading rows e other (Ok M) reads is =
     let c = asked_err reading.whole M.ended (row_count M + 1) M e (sym is) in

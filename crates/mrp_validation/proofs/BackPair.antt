@@ -182,7 +182,8 @@ all_sources x ss low = filter_everything (λ s. ltb s.pair.0 x) ss (λ k d lt. t
 
 pair_read : (N : Table) (a b c r l o s : List ℕ) (p lead on_hand safety : ℕ) (rule : Rule) (from : SupplyTerms) → is_name a ≡ true → is_name b ≡ true
     → number_within l 0 (most N).lead ≡ Some lead
-    → number_within o 0 MOST_IN_ROW ≡ Some on_hand → number_within s 0 MOST_IN_ROW ≡ Some safety → rule_of (most N).periods r ≡ Some rule → supply_of c ≡ Some from
+    → number_within o 0 MOST_IN_ROW ≡ Some on_hand → number_within s 0 MOST_IN_ROW ≡ Some safety → rule_of (most N).periods r ≡ Some rule → supply_of c ≡ Some
+    from
     → plant_no N a ≡ Some p → pair_named N (Some p) b ≡ None → knows_sources N (named_sources from) ≡ true → names_plant (named_sources from) a ≡ false
     → ltb (length N.pairs) (most N).pairs ≡ true
     → pair_row N (codes "pair" ∷ a ∷ b ∷ c ∷ r ∷ l ∷ o ∷ s ∷ [])
@@ -451,14 +452,16 @@ module _ (N : Table) (table : IsTable N) where
         row_read old (with_pairs (before ++ p ∷ []) next.has (x + 1)) last kind.Pair (pair_fields N x p)
         (kind_read (pair_fields N x p) kind.Pair (eight_texts (codes "pair") (plant_name N p.plant.0) (item_name N p.item.0) (supply_text from)
         (rule_text p.rule) (decimal p.lead) (decimal p.on_hand) (decimal p.safety)
-        (word_is_text (codes "pair") refl) (name_is_text _ na) (name_is_text _ nb) (supply_is_text from is_whole) (rule_is_text p.rule (rule_of_pair N p is_row))
+        (word_is_text (codes "pair") refl) (name_is_text _ na) (name_is_text _ nb) (supply_is_text from is_whole)
+        (rule_is_text p.rule (rule_of_pair N p is_row))
         (number_is_text p.lead lead) (number_is_text p.on_hand on_hand)
         (number_is_text p.safety safety)) refl refl refl)
         (may_stand kind.Pair last (omega arith) low (omega (arith, low)))
         (pair_read old (plant_name N p.plant.0) (item_name N p.item.0) (supply_text from) (rule_text p.rule) (decimal p.lead) (decimal p.on_hand)
         (decimal p.safety) p.plant.0 p.lead p.on_hand p.safety p.rule from na nb
         (number_written 0 (most N).lead p.lead (omega arith) is_row.lead lead) (number_written 0 MOST_IN_ROW p.on_hand (omega arith) is_row.on_hand on_hand)
-        (number_written 0 MOST_IN_ROW p.safety (omega arith) is_row.safety safety) (rule_written (most N).periods p.rule (periods_short N.limits) is_row.rule) (supply_written from is_whole)
+        (number_written 0 MOST_IN_ROW p.safety (omega arith) is_row.safety safety) (rule_written (most N).periods p.rule (periods_short N.limits) is_row.rule)
+        (supply_written from is_whole)
         (plant_at_place N table p.plant.0 is_row.plant) new_pair (known x p.supply)
         (other_plants x p.plant.0 p.supply (ap (λ o. unwrap_or (option_map (λ p. p.plant.0) o) 0) stands_here) is_row.plant)
         (has_room before p after N.pairs (most N).pairs e table.read.limits.pairs)

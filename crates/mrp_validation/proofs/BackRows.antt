@@ -390,7 +390,8 @@ module _ (N : Table) (table : IsTable N) where
       (number_is_text s.quantity few)) refl refl refl)
       (may_stand kind.Ship last (omega arith) low (omega (arith, low)))
       (ship_read (with_ships before) _ _ _ (decimal s.period) (decimal s.quantity) s.from.0 (plant_at N s.pair.0) s.pair.0 s.period s.quantity lane
-      (period_written s.period (horizon N) is.period (any_limited N table.read.limits).periods) (number_written 1 MOST_IN_ROW s.quantity is.some is.quantity few)
+      (period_written s.period (horizon N) is.period (any_limited N table.read.limits).periods)
+      (number_written 1 MOST_IN_ROW s.quantity is.some is.quantity few)
       (has_room before s after N.ships (most N).of_a_kind e table.read.limits.ships))
 
   -- a row of a lane and one number, after others

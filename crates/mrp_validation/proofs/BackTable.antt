@@ -139,7 +139,8 @@ module _ (N : Table) (table : IsTable N) where
         record { first = first_spelled N.calendar table.read.calendar; days = refl; periods = refl; begun = refl } in
         let starts : StartsWith N.limits (Ok t) (Ok (empty_table N.limits c)) = (Ok c, (from, undated_is N.calendar table.read.calendar), refl) in (
           Ok (empty_table N.limits c),
-          subst (λ r. StartsWith N.limits r (Ok (empty_table N.limits c))) (sym (run_read N.limits N.calendar table.read.calendar table.read.limits.periods)) starts,
+          subst (λ r. StartsWith N.limits r (Ok (empty_table N.limits c))) (sym (run_read N.limits N.calendar table.read.calendar table.read.limits.periods))
+              starts,
           sym (ap (λ r. go_on r waiting) (rows_end 2) ∙ (missing_told N).none table.source_pairs),
         )
 

@@ -190,7 +190,8 @@ run_open limits row N b ended =
     let same = no_rows 2 (b.run, kind.Run) N b.rest in
     open_yet b.run kind.Run (first_keeps limits b.run row b.starts) (ap (λ (m : Table). m.ended) same ∙ ended) (omega arith)
 
-begun_whole : (limits : LimitSet) (row next : Row) (rows more : List Row) (N M : Table) → AreRowsCutOff (row ∷ rows) (next ∷ more) → Begun limits row rows N → Begun limits next more M
+begun_whole : (limits : LimitSet) (row next : Row) (rows more : List Row) (N M : Table) → AreRowsCutOff (row ∷ rows) (next ∷ more) → Begun limits row rows N
+    → Begun limits next more M
     → N.ended ≡ true → row ∷ rows ≡ next ∷ more
 unfolding AreRowsCutOff
 begun_whole limits row next rows more N M (inl same) f g ended =
@@ -202,14 +203,17 @@ begun_whole limits row next rows more N M (inl same) f g ended =
 begun_whole limits row next rows more N M (inr ends) f g ended =
     absurd (run_open limits row N (subst (λ (l : List Row). Begun limits row l N) ends.0 f) ended)
 
-ended_whole : (limits : LimitSet) (rows whole : List Row) (N M : Table) → AreRowsCutOff rows whole → Reads limits rows (Ok N) → Reads limits whole (Ok M) → N.ended ≡ true → rows ≡ whole
+ended_whole : (limits : LimitSet) (rows whole : List Row) (N M : Table) → AreRowsCutOff rows whole → Reads limits rows (Ok N) → Reads limits whole (Ok M)
+    → N.ended ≡ true → rows ≡ whole
 unfolding AreRowsCutOff
 ended_whole limits [] whole N M cut r w ended = absurd (cc)
 ended_whole limits (row ∷ rows) [] N M cut r w ended = absurd cut
-ended_whole limits (row ∷ rows) (next ∷ more) N M cut r w ended = begun_whole limits row next rows more N M cut (begun limits row rows N r) (begun limits next more M w) ended
+ended_whole limits (row ∷ rows) (next ∷ more) N M cut r w ended = begun_whole limits row next rows more N M cut (begun limits row rows N r)
+    (begun limits next more M w) ended
 
 -- a text whose table ends with its `end` row is no other table's text cut off
-pub whole_table : (limits : LimitSet) (text more : List ℕ) (N M : Table) → Reads limits (records default_config text) (Ok N) → Reads limits (records default_config (text ++ more)) (Ok M)
+pub whole_table : (limits : LimitSet) (text more : List ℕ) (N M : Table) → Reads limits (records default_config text) (Ok N)
+    → Reads limits (records default_config (text ++ more)) (Ok M)
     → N.ended ≡ true → N ≡ M
 whole_table limits text more N M r w ended =
     let same = ended_whole limits (records default_config text) (records default_config (text ++ more)) N M (rows_cut text more) r w ended in

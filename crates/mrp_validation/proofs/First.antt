@@ -201,7 +201,8 @@ number_names row most t e =
 pair_refusal : (limits : LimitSet) (row : List (List ℕ)) → result_err (pair_terms limits row)
     ≡ cond (not (two_names row)) (Some fault.BadName) (cond (not (has_number row 5 0 (limits_of limits).lead && has_number row 6 0 MOST_IN_ROW
     && has_number row 7 0 MOST_IN_ROW)) (Some fault.BadNumber)
-    (cond (not (is_some (rule_of (limits_of limits).periods (field row 4)))) (Some fault.BadRule) (cond (not (is_some (supply_of (field row 3)))) (Some fault.BadSupply) None)))
+    (cond (not (is_some (rule_of (limits_of limits).periods (field row 4)))) (Some fault.BadRule)
+    (cond (not (is_some (supply_of (field row 3)))) (Some fault.BadSupply) None)))
 unfolding pair_terms
 pair_refusal limits row =
     by (is_name (field row 1)) (is_name (field row 2)) (field row 1) (field row 2) (number_within (field row 5) 0 (limits_of limits).lead)
@@ -312,7 +313,8 @@ policy_refusal limits row periods =
     by true false x y f s c l m = refl
     by false b x y f s c l m = refl
 
-policy_names : (limits : LimitSet) (row : List (List ℕ)) (periods : ℕ) (t : PolicyTerms) → policy_terms limits row periods ≡ Ok t → (t.plant ≡ field row 1) × (t.item ≡ field row 2)
+policy_names : (limits : LimitSet) (row : List (List ℕ)) (periods : ℕ) (t : PolicyTerms) → policy_terms limits row periods ≡ Ok t
+    → (t.plant ≡ field row 1) × (t.item ≡ field row 2)
 unfolding policy_terms
 policy_names limits row periods t e =
     let a = after (name_field (field row 1)) _ t e in
@@ -485,7 +487,8 @@ plant-first N row = by (is_name (field row 1)) (field row 1)
     by false x = refl
     by true x = tested (not (has_plant N x)) (nat_lt (length N.plants) (most N).plants) x
 
-pair-first : (N : Table) (row : List (List ℕ)) → result_err (pair_terms N.limits row >>= pair_fits N) ≡ first_failed (pair_passes N row) (faults_of_kind kind.Pair)
+pair-first : (N : Table) (row : List (List ℕ))
+    → result_err (pair_terms N.limits row >>= pair_fits N) ≡ first_failed (pair_passes N row) (faults_of_kind kind.Pair)
 pair-first N row =
     more (pair_passes N row) (fault.BadName ∷ fault.BadNumber ∷ fault.BadRule ∷ fault.BadSupply ∷ [])
     (fault.Repeated ∷ fault.UnknownPlant ∷ fault.SelfSource ∷ fault.TooMany ∷ []) (pair_terms N.limits row) (pair_fits N)
@@ -650,7 +653,8 @@ later s row = by (kind_of_row row) refl
 
 -- ---- the first row
 
-run_refusal : (limits : LimitSet) (row : List (List ℕ)) → result_err (run_terms limits row) ≡ cond (not (is_some (spelled_number (field row 2)) && has_number row 3 1 (limits_of limits).periods))
+run_refusal : (limits : LimitSet) (row : List (List ℕ))
+    → result_err (run_terms limits row) ≡ cond (not (is_some (spelled_number (field row 2)) && has_number row 3 1 (limits_of limits).periods))
     (Some fault.BadNumber) None
 unfolding run_terms
 run_refusal limits row = by (spelled_number (field row 2)) (number_within (field row 3) 1 (limits_of limits).periods)
@@ -662,7 +666,8 @@ run_refusal limits row = by (spelled_number (field row 2)) (number_within (field
     by (Some m) None = refl
     by (Some m) (Some n) = refl
 
-first : (limits : LimitSet) (row : List (List ℕ)) → result_err (first_terms limits row) ≡ first_failed (run_passes limits row) (faults_of_any ++ fault.BadNumber ∷ [])
+first : (limits : LimitSet) (row : List (List ℕ))
+    → result_err (first_terms limits row) ≡ first_failed (run_passes limits row) (faults_of_any ++ fault.BadNumber ∷ [])
 unfolding first_terms
 first limits row =
     more (run_passes limits row) (fault.NotUtf8 ∷ fault.FieldCount ∷ fault.UnknownKind ∷ []) (fault.KindOrder ∷ fault.BadNumber ∷ []) (kind_of_row row) _

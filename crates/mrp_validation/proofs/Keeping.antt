@@ -36,8 +36,7 @@ use Rattle.mrp_validation.proofs.KeepingRead.{usage_read}
 use Rattle.mrp_validation.proofs.KeepingRows.{plant_keeps, demand_keeps, receipt_keeps, ship_keeps, cum_keeps, reset_keeps, firm_keeps, policy_keeps}
 use Rattle.mrp_validation.proofs.KeepingSteps.{after, after_check, same_Ok}
 use Rattle.mrp_validation.proofs.KeepingUsage.{usage_keeps}
-use Rattle.mrp_validation.proofs.KeepingDay.{day_once, day_read, day_sourced}
-use Rattle.mrp_validation.proofs.KeepingEnd.{end_once, end_sourced}
+use Rattle.mrp_validation.proofs.KeepingDay.{day_read, once_but, sourced_but}
 use Rattle.mrp_validation.proofs.KeepingVendor.{vendor_keeps, vendor_read}
 use Rattle.mrp_qty.specs.declared.limits.LimitSet.{LimitSet}
 use Rattle.mrp_qty.specs.Limits.{limits_of}
@@ -223,8 +222,8 @@ module _ (N : Table) (last : Kind) (row : List (List ℕ)) (so_far : IsReadSoFar
   day_more : (c : CalendarTerms) → kind_place last ≤ 13 → day_in_row N row ≡ Ok c → IsReadSoFar (with_calendar N c) kind.Day
   day_more c before is = record {
     read = day_read N row c so_far.read is;
-    once = day_once N c so_far.once;
-    sourced = day_sourced N c so_far.sourced;
+    once = once_but N c N.ended so_far.once;
+    sourced = sourced_but N c N.ended so_far.sourced;
     items = so_far.items;
     sources = so_far.sources;
     resets = λ lt. absurd (omega arith);
@@ -235,8 +234,8 @@ module _ (N : Table) (last : Kind) (row : List (List ℕ)) (so_far : IsReadSoFar
   end_more : IsReadSoFar (with_end N) kind.End
   end_more = record {
     read = read-with_end N so_far.read;
-    once = end_once N so_far.once;
-    sourced = end_sourced N so_far.sourced;
+    once = once_but N N.calendar true so_far.once;
+    sourced = sourced_but N N.calendar true so_far.sourced;
     items = so_far.items;
     sources = so_far.sources;
     resets = λ lt. absurd (omega arith);

@@ -1,5 +1,6 @@
--- A valid day row more: the calendar has one period more whose first day is given, and nothing else changes.
-use Rattle.std.proofs.Common.{◌≡◌, ℕ, ◌+◌, ◌-◌, List, Result, Ok, Err, ap, arith}
+-- A valid day row more: the calendar has one period more whose first day is given, and nothing else changes. Or a valid end
+-- row: the table says that it ends, and nothing else changes.
+use Rattle.std.proofs.Common.{◌≡◌, ℕ, ◌+◌, ◌-◌, Bool, List, Result, Ok, Err, ap, arith}
 use Rattle.mrp_cal.specs.Begins.{begins, latest_begun}
 use Rattle.mrp_cal.specs.Calendar.{CalendarTerms, IsCalendar}
 use Rattle.mrp_cal.specs.declared.fault.CalFault.{CalFault}
@@ -37,9 +38,9 @@ day_read N row c read is =
     let p = day_parts N row c is in
     read-with_calendar N c read (day_calendar N row c read.calendar p) (begun-is N.calendar p.period (field row 2) c p.made).1.periods
 
--- no row stands twice, whatever the calendar is
-pub day_once : (N : Table) (c : CalendarTerms) → IsOnce N → IsOnce (with_calendar N c)
-day_once N c once = record {
+-- no row stands twice, whatever the calendar is, and ended or not
+pub once_but : (N : Table) (c : CalendarTerms) (ended : Bool) → IsOnce N → IsOnce (record N { calendar = c; ended = ended })
+once_but N c ended once = record {
   plants = once.plants;
   items = once.items;
   pairs = once.pairs;
@@ -53,8 +54,8 @@ day_once N c once = record {
 }
 
 -- and pairs come from where they did
-pub day_sourced : (N : Table) (c : CalendarTerms) → IsSourced N → IsSourced (with_calendar N c)
-day_sourced N c sourced = record {
+pub sourced_but : (N : Table) (c : CalendarTerms) (ended : Bool) → IsSourced N → IsSourced (record N { calendar = c; ended = ended })
+sourced_but N c ended sourced = record {
   items = sourced.items;
   order = sourced.order;
   few = sourced.few;

@@ -352,7 +352,14 @@ module _ (N : Table) (plant : PlantNo) (t : PairTerms) (read : IsRead N) (once :
   more_sources = omega (arith, length-append N.sources new_rows, new_size)
 
   grows : Grows N M
-  grows = record { limits = refl; calendar = λ is. is; periods = refl; plants = omega arith; items = (length-add_item-le N.items t.item).0; pairs = omega (arith, more_pairs) }
+  grows = record {
+    limits = refl;
+    calendar = λ is. is;
+    periods = refl;
+    plants = omega arith;
+    items = (length-add_item-le N.items t.item).0;
+    pairs = omega (arith, more_pairs);
+  }
 
   row_in : IsPairRow M new_row
   row_in = record {

@@ -267,7 +267,8 @@ pub record PolicyRead (limits : LimitSet) (row : List (List ℕ)) (periods : ℕ
   pub least : ranged (field row 6) 0 MOST_IN_ROW ≡ Ok t.least
   pub multiple : ranged (field row 7) 0 MOST_IN_ROW ≡ Ok t.multiple
 
-pub policy_terms_read : (limits : LimitSet) (row : List (List ℕ)) (periods : ℕ) (t : PolicyTerms) → policy_terms limits row periods ≡ Ok t → PolicyRead limits row periods t
+pub policy_terms_read : (limits : LimitSet) (row : List (List ℕ)) (periods : ℕ) (t : PolicyTerms) → policy_terms limits row periods ≡ Ok t
+    → PolicyRead limits row periods t
 unfolding policy_terms
 policy_terms_read limits row periods t is =
     let n = two_names_read row _ t is in

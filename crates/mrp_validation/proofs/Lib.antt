@@ -21,7 +21,6 @@ pub mod FirstVendor
 pub mod Keeping
 pub mod KeepingBill
 pub mod KeepingDay
-pub mod KeepingEnd
 pub mod KeepingFew
 pub mod KeepingLists
 pub mod KeepingPair
@@ -33,8 +32,7 @@ pub mod KeepingShares
 pub mod KeepingSteps
 pub mod KeepingUsage
 pub mod KeepingVendor
-pub mod LargeFaults
-pub mod LargeTables
+pub mod LargeReading
 pub mod Listed
 pub mod ListedDay
 pub mod Loop

@@ -46,7 +46,8 @@ module _ (P : TableFaultKind → Type 0) where
 
   run-terms : (limits : LimitSet) (row : List (List ℕ)) → P fault.BadNumber → IfErr (run_terms limits row) P
   unfolding run_terms
-  run-terms limits row n = steps P _ _ (found P (spelled_number (field row 2)) _ n) (λ days. steps P _ _ (number (field row 3) 1 (limits_of limits).periods n) (λ periods. tt))
+  run-terms limits row n = steps P _ _ (found P (spelled_number (field row 2)) _ n)
+      (λ days. steps P _ _ (number (field row 3) 1 (limits_of limits).periods n) (λ periods. tt))
 
   bill-terms : (row : List (List ℕ)) → P fault.BadName → P fault.BadNumber → IfErr (bill_terms row) P
   unfolding bill_terms
@@ -109,7 +110,8 @@ module _ (P : TableFaultKind → Type 0) where
   unfolding lane_number
   lane-number row most m n = steps P _ _ (lane-terms row m) (λ lane. steps P _ _ (number (field row 4) 0 most n) (λ figure. tt))
 
-  pair-terms : (limits : LimitSet) (row : List (List ℕ)) → P fault.BadName → P fault.BadNumber → P fault.BadRule → P fault.BadSupply → IfErr (pair_terms limits row) P
+  pair-terms : (limits : LimitSet) (row : List (List ℕ)) → P fault.BadName → P fault.BadNumber → P fault.BadRule → P fault.BadSupply
+      → IfErr (pair_terms limits row) P
   unfolding pair_terms
   pair-terms limits row m n r s =
       steps P _ _ (name (field row 1) m) (λ plant. steps P _ _ (name (field row 2) m)
@@ -339,7 +341,8 @@ refused-start : (limits : LimitSet) (c : Result CalendarTerms CalFault) (e : Tab
 refused-start limits (Ok c) e same = absurd (cc)
 refused-start limits (Err f) e same = let is : fault.CalendarFault f ≡ e = cc in subst (Contains (faults_of (Ok kind.Run))) is (of-calendar f)
 
-of-terms : (limits : LimitSet) (r : Result RunTerms TableFaultKind) (e : TableFaultKind) → IfErr r (Contains (faults_of (Ok kind.Run))) → StartsWith limits r (Err e)
+of-terms : (limits : LimitSet) (r : Result RunTerms TableFaultKind) (e : TableFaultKind) → IfErr r (Contains (faults_of (Ok kind.Run)))
+    → StartsWith limits r (Err e)
     → Contains (faults_of (Ok kind.Run)) e
 of-terms limits (Ok t) e h starts = refused-start limits starts.0 e starts.2
 of-terms limits (Err k) e h starts = let is : k ≡ e = cc in subst (Contains (faults_of (Ok kind.Run))) is h
@@ -350,7 +353,8 @@ of-run limits row = run-terms (Contains (faults_of (Ok kind.Run))) limits row (4
 of-order : (limits : LimitSet) (k : Kind) (e : TableFaultKind) → StartsWith limits (Err fault.KindOrder) (Err e) → Contains (faults_of (Ok k)) e
 of-order limits k e starts = let is : fault.KindOrder ≡ e = cc in subst (Contains (faults_of (Ok k))) is (order k)
 
-by-kind : (limits : LimitSet) (k : Kind) (row : List (List ℕ)) (e : TableFaultKind) → StartsWith limits (check (is_run k) fault.KindOrder >>= λ u. run_terms limits row) (Err e)
+by-kind : (limits : LimitSet) (k : Kind) (row : List (List ℕ)) (e : TableFaultKind)
+    → StartsWith limits (check (is_run k) fault.KindOrder >>= λ u. run_terms limits row) (Err e)
     → Contains (faults_of (Ok k)) e
 by-kind limits kind.Run row e starts = of-terms limits (run_terms limits row) e (of-run limits row) starts
 by-kind limits kind.Plant row e starts = of-order limits kind.Plant e starts

@@ -65,7 +65,8 @@ one_calendar t (Err cal.PastEnd) (Err cal.PastEnd) h k = refl
 
 -- ---- the rows
 
-one_start : (limits : LimitSet) (terms : Result RunTerms TableFaultKind) (a b : Result Table TableFaultKind) → StartsWith limits terms a → StartsWith limits terms b → a ≡ b
+one_start : (limits : LimitSet) (terms : Result RunTerms TableFaultKind) (a b : Result Table TableFaultKind) → StartsWith limits terms a
+    → StartsWith limits terms b → a ≡ b
 one_start limits (Ok t) a b h k = h.2 ∙ ap (started limits) (one_calendar t h.0 k.0 h.1 k.1) ∙ sym k.2
 one_start limits (Err e) a b h k = h ∙ sym k
 

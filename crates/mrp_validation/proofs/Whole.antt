@@ -93,14 +93,17 @@ reads_as limits rows row rest start read same starts e = rw same (start, starts,
 -- a first row with a field that isn't text
 bad_reads : (limits : LimitSet) (rows : List (List (List ℕ))) (e : TableFault) → StartsBadly 1 rows e → Reads limits rows (Err e)
 bad_reads limits rows e bad =
-    reads_as limits rows bad.row bad.rest (Err fault.NotUtf8) (Err e) bad.rows_are (start_no_text limits (first_terms limits bad.row) (first_no_text limits bad.row bad.no_text))
+    reads_as limits rows bad.row bad.rest (Err fault.NotUtf8) (Err e) bad.rows_are
+    (start_no_text limits (first_terms limits bad.row) (first_no_text limits bad.row bad.no_text))
     (ap (λ (f : TableFault). Err f) bad.fault_is)
 
-pub bad_first : (limits : LimitSet) (left : Option (List (List (List ℕ)))) (e : TableFault) → e.row ≡ 1 → OfRows e.kind (Unit {0}) (OfLeft left (λ rows. StartsBadly 1 rows e))
+pub bad_first : (limits : LimitSet) (left : Option (List (List (List ℕ)))) (e : TableFault) → e.row ≡ 1
+    → OfRows e.kind (Unit {0}) (OfLeft left (λ rows. StartsBadly 1 rows e))
     → OfLeft left (TellsRows limits (Err e))
 bad_first limits left e one bad =
     says_under left e.kind (IsSoundAbove limits e.row) (λ rows. Reads limits rows (Err e))
-    (of_rows_from e.kind (Unit {0}) (OfLeft left (IsSoundAbove limits e.row)) (OfLeft left (λ rows. StartsBadly 1 rows e)) (OfLeft left (λ rows. Reads limits rows (Err e)))
+    (of_rows_from e.kind (Unit {0}) (OfLeft left (IsSoundAbove limits e.row)) (OfLeft left (λ rows. StartsBadly 1 rows e))
+    (OfLeft left (λ rows. Reads limits rows (Err e)))
     (λ above. left_sound limits left e.row one)
     (of_left_from left (λ rows. StartsBadly 1 rows e) (λ rows. Reads limits rows (Err e)) (λ rows. bad_reads limits rows e)) bad)
 
@@ -108,11 +111,13 @@ bad_first limits left e one bad =
 empty_reads : (limits : LimitSet) (rows : List (List (List ℕ))) → rows ≡ [] → Reads limits rows (Err (record { row = 0; kind = fault.Empty }))
 empty_reads limits rows same = rw same refl
 
-pub no_first : (limits : LimitSet) (left : Option (List (List (List ℕ)))) → OfLeft left (λ rows. rows ≡ []) → OfLeft left (TellsRows limits (Err (record { row = 0; kind = fault.Empty })))
+pub no_first : (limits : LimitSet) (left : Option (List (List (List ℕ)))) → OfLeft left (λ rows. rows ≡ [])
+    → OfLeft left (TellsRows limits (Err (record { row = 0; kind = fault.Empty })))
 no_first limits left none = of_left_from left (λ rows. rows ≡ []) (TellsRows limits (Err (record { row = 0; kind = fault.Empty }))) (empty_reads limits) none
 
 -- a first row with a fault
-first_reads : (limits : LimitSet) (e : TableFault) (row : List (List ℕ)) (rest rows : List (List (List ℕ))) → rows ≡ row ∷ rest → e.row ≡ 1 → Starts limits row (Err e.kind)
+first_reads : (limits : LimitSet) (e : TableFault) (row : List (List ℕ)) (rest rows : List (List (List ℕ))) → rows ≡ row ∷ rest → e.row ≡ 1
+    → Starts limits row (Err e.kind)
     → Reads limits rows (Err e)
 first_reads limits e row rest rows same one starts =
     reads_as limits rows row rest (Err e.kind) (Err e) same starts (ap (λ (n : ℕ). Err (record { row = n; kind = e.kind })) one)
@@ -133,13 +138,16 @@ from_first : (N : Table) (k : Kind) (rest : List (List (List ℕ))) (answer : Re
     → read ≡ go_on answer waiting → read ≡ read_from (Ok N) rest
 from_first N k rest answer read run after e = rw (← run) (rw after e)
 
-rest_reads : (limits : LimitSet) (N : Table) (k : Kind) (row : List (List ℕ)) (rest rows : List (List (List ℕ))) (answer read : Result Table TableFault) → rows ≡ row ∷ rest
+rest_reads : (limits : LimitSet) (N : Table) (k : Kind) (row : List (List ℕ)) (rest rows : List (List (List ℕ))) (answer read : Result Table TableFault)
+    → rows ≡ row ∷ rest
     → Starts limits row (Ok N) → k ≡ kind.Run
     → rows_after 2 (N, k) rest ≡ answer → read ≡ go_on answer waiting → Reads limits rows read
-rest_reads limits N k row rest rows answer read same starts run after e = reads_as limits rows row rest (Ok N) read same starts (from_first N k rest answer read run after e)
+rest_reads limits N k row rest rows answer read same starts run after e = reads_as limits rows row rest (Ok N) read same starts
+    (from_first N k rest answer read run after e)
 
 -- the rows above a later row, with the first
-sound_from : (limits : LimitSet) (N : Table) (k : Kind) (row : List (List ℕ)) (rest rows : List (List (List ℕ))) (n : ℕ) → rows ≡ row ∷ rest → Starts limits row (Ok N) → k ≡ kind.Run
+sound_from : (limits : LimitSet) (N : Table) (k : Kind) (row : List (List ℕ)) (rest rows : List (List (List ℕ))) (n : ℕ) → rows ≡ row ∷ rest
+    → Starts limits row (Ok N) → k ≡ kind.Run
     → IsSoundTo 2 (N, k) n rest → IsSoundAbove limits n rows
 sound_from limits N k row rest rows n same starts run h = record {
   above = row ∷ h.above;
@@ -150,35 +158,41 @@ sound_from limits N k row rest rows n same starts run h = record {
 }
 
 -- a later row with a fault
-pub rest_fault : (limits : LimitSet) (left after : Option (List (List (List ℕ)))) (row : List (List ℕ)) (N : Table) (k : Kind) (e : TableFault) → TakesRow left after row
+pub rest_fault : (limits : LimitSet) (left after : Option (List (List (List ℕ)))) (row : List (List ℕ)) (N : Table) (k : Kind) (e : TableFault)
+    → TakesRow left after row
     → Starts limits row (Ok N) × (k ≡ kind.Run)
     → OfRows e.kind (OfLeft after (IsSoundTo 2 (N, k) e.row)) (OfLeft after (λ rows. rows_after 2 (N, k) rows ≡ Err e)) → OfLeft left (TellsRows limits (Err e))
 rest_fault limits None after row N k e takes tells rest = tt
 rest_fault limits (Some rows) None row N k e takes tells rest = absurd takes
 rest_fault limits (Some rows) (Some more) row N k e takes tells rest =
     of_rows_from e.kind (IsSoundTo 2 (N, k) e.row more) (IsSoundAbove limits e.row rows) (rows_after 2 (N, k) more ≡ Err e) (Reads limits rows (Err e))
-    (sound_from limits N k row more rows e.row takes tells.0 tells.1) (λ after. rest_reads limits N k row more rows (Err e) (Err e) takes tells.0 tells.1 after refl) rest
+    (sound_from limits N k row more rows e.row takes tells.0 tells.1)
+    (λ after. rest_reads limits N k row more rows (Err e) (Err e) takes tells.0 tells.1 after refl) rest
 
 -- the rows are all there: what is answered then is the table, or the fault that waits
-waits_tells : (limits : LimitSet) (N : Table) (o : Option ℕ) (rows : List (List (List ℕ))) → Reads limits rows (unless_lacking N o) → TellsRows limits (unless_lacking N o) rows
+waits_tells : (limits : LimitSet) (N : Table) (o : Option ℕ) (rows : List (List (List ℕ))) → Reads limits rows (unless_lacking N o)
+    → TellsRows limits (unless_lacking N o) rows
 waits_tells limits N None rows reads = reads
 waits_tells limits N (Some x) rows reads = reads
 
-whole_tells : (limits : LimitSet) (N : Table) (rows : List (List (List ℕ))) (result : Result Table TableFault) → result ≡ waiting N → Reads limits rows result → TellsRows limits result rows
+whole_tells : (limits : LimitSet) (N : Table) (rows : List (List (List ℕ))) (result : Result Table TableFault) → result ≡ waiting N → Reads limits rows result
+    → TellsRows limits result rows
 whole_tells limits N rows result same reads = rw same (waits_tells limits N (first_lacking N N.sources) rows (rw same at reads))
 
 is_waiting : (N : Table) (result : Result Table TableFault) → MatchResult result (λ M. waiting N ≡ Ok M) (λ e. waiting N ≡ Err e) → result ≡ waiting N
 is_waiting N (Ok M) w = sym w
 is_waiting N (Err e) w = sym w
 
-pub whole : (limits : LimitSet) (left after : Option (List (List (List ℕ)))) (row : List (List ℕ)) (M : Table) (k : Kind) (N : Table) (result : Result Table TableFault)
+pub whole : (limits : LimitSet) (left after : Option (List (List (List ℕ)))) (row : List (List ℕ)) (M : Table) (k : Kind) (N : Table)
+    (result : Result Table TableFault)
     → TakesRow left after row → Starts limits row (Ok M) × (k ≡ kind.Run)
     → OfLeft after (λ rows. rows_after 2 (M, k) rows ≡ Ok N) → MatchResult result (λ M. waiting N ≡ Ok M) (λ e. waiting N ≡ Err e)
     → OfLeft left (TellsRows limits result)
 whole limits None after row M k N result takes tells rest w = tt
 whole limits (Some rows) None row M k N result takes tells rest w = absurd takes
 whole limits (Some rows) (Some more) row M k N result takes tells rest w =
-    whole_tells limits N rows result (is_waiting N result w) (rest_reads limits M k row more rows (Ok N) result takes tells.0 tells.1 rest (is_waiting N result w))
+    whole_tells limits N rows result (is_waiting N result w) (rest_reads limits M k row more rows (Ok N) result takes tells.0 tells.1 rest
+    (is_waiting N result w))
 
 -- the fault that waits is no failed read
 waits_own : (N : Table) (o : Option ℕ) (e : TableFault) → unless_lacking N o ≡ Err e → e.kind ≡ fault.ReadFault → ⊥
@@ -187,11 +201,6 @@ waits_own N (Some x) e same failed =
     let is : record { row = pair_row_number N x; kind = fault.UnknownPair } ≡ e = cc in
     let other : fault.UnknownPair ≡ fault.ReadFault = ap (λ (f : TableFault). f.kind) is ∙ failed in
     cc
-
-pub whole_own : (N : Table) (result : Result Table TableFault) (says : Type 0) → MatchResult result (λ M. waiting N ≡ Ok M) (λ e. waiting N ≡ Err e)
-    → IfErr result (λ e. e.kind ≡ fault.ReadFault → says)
-whole_own N (Ok M) says w = tt
-whole_own N (Err e) says w = λ failed. absurd (waits_own N (first_lacking N N.sources) e w failed)
 
 -- ---- the text
 

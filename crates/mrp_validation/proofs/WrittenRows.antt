@@ -309,7 +309,11 @@ run_terms_said limits row t is =
     let a = after_some (spelled_number (field row 2)) _ _ t is in
     let b = after (ranged (field row 3) 1 (limits_of limits).periods) _ t a.2 in
     let same : record { first = field row 1; days = a.0; periods = b.0 } ≡ t = same_Ok _ t b.2 in
-    subst (RunSaid row) same (record { first = refl; days = number_is_text (field row 2) a.0 a.1; periods = ranged_text (field row 3) 1 (limits_of limits).periods b.0 b.1 })
+    subst (RunSaid row) same (record {
+      first = refl;
+      days = number_is_text (field row 2) a.0 a.1;
+      periods = ranged_text (field row 3) 1 (limits_of limits).periods b.0 b.1;
+    })
 
 run_kind : (k : Kind) → is_run k ≡ true → k ≡ kind.Run
 run_kind kind.Run e = refl
@@ -328,7 +332,8 @@ run_kind kind.Vendor e = absurd (cc)
 run_kind kind.Day e = absurd (cc)
 run_kind kind.End e = absurd (cc)
 
-pub run_said : (limits : LimitSet) (row : List (List ℕ)) (t : RunTerms) (c : CalendarTerms) → first_terms limits row ≡ Ok t → IsCalendarFrom t.first t.days t.periods c → IsCalendar c
+pub run_said : (limits : LimitSet) (row : List (List ℕ)) (t : RunTerms) (c : CalendarTerms) → first_terms limits row ≡ Ok t
+    → IsCalendarFrom t.first t.days t.periods c → IsCalendar c
     → row ≡ run_fields c
 unfolding first_terms
 run_said limits row t c is from calendar =

@@ -592,7 +592,8 @@ pair_adds N M last row so_far fresh k is =
     let b = after (pair_fits N a.0) _ M a.2 in
     let same : with_pair_terms N b.0 a.0 ≡ M = same_Ok _ M b.2 in
     let fit = fits N a.0 b.0 b.1 in
-    let pairs = pairs_written N b.0 a.0 so_far.read so_far.once so_far.sourced fit (pair_terms_are N.limits row a.0 a.1) row k (pair_terms_said N.limits row a.0 a.1) in
+    let pairs = pairs_written N b.0 a.0 so_far.read so_far.once so_far.sourced fit (pair_terms_are N.limits row a.0 a.1) row k
+    (pair_terms_said N.limits row a.0 a.1) in
     subst (λ (m : Table). Adds N m kind.Pair row) same (record {
       limits = refl;
       calendar = refl;
@@ -697,7 +698,8 @@ record HasRun (limits : LimitSet) (N : Table) (row : Row) : Type 0 where
   numbered : IsNumbered N
   fresh : IsFresh N 0
 
-run_has : (limits : LimitSet) (N : Table) (row : Row) (t : RunTerms) (c : Result CalendarTerms CalFault) → first_terms limits row ≡ Ok t → IsCalendarOf t c → Ok N ≡ started limits c
+run_has : (limits : LimitSet) (N : Table) (row : Row) (t : RunTerms) (c : Result CalendarTerms CalFault) → first_terms limits row ≡ Ok t → IsCalendarOf t c
+    → Ok N ≡ started limits c
     → HasRun limits N row
 run_has limits N row t (Ok c) is says e =
     let same : empty_table limits c ≡ N = cc in
@@ -725,7 +727,8 @@ run_has limits N row t (Ok c) is says e =
     })
 run_has limits N row t (Err f) is says e = absurd (cc)
 
-start_has : (limits : LimitSet) (N : Table) (row : Row) (terms : Result RunTerms TableFaultKind) → first_terms limits row ≡ terms → StartsWith limits terms (Ok N) → HasRun limits N row
+start_has : (limits : LimitSet) (N : Table) (row : Row) (terms : Result RunTerms TableFaultKind) → first_terms limits row ≡ terms
+    → StartsWith limits terms (Ok N) → HasRun limits N row
 start_has limits N row (Ok t) is s = run_has limits N row t s.0 is s.1 s.2
 start_has limits N row (Err e) is s = absurd (cc s)
 
@@ -736,7 +739,8 @@ record IsWritten (limits : LimitSet) (rows : List Row) (N : Table) : Type 0 wher
   rows_are : rows ≡ rows_of N
   numbered : IsNumbered N
 
-whole_written : (limits : LimitSet) (start : Result Table TableFaultKind) (row : Row) (rows : List Row) (N : Table) → Starts limits row start → Ok N ≡ read_from start rows
+whole_written : (limits : LimitSet) (start : Result Table TableFaultKind) (row : Row) (rows : List Row) (N : Table) → Starts limits row start
+    → Ok N ≡ read_from start rows
     → IsWritten limits (row ∷ rows) N
 whole_written limits (Ok first) row rows N starts e =
     let a = went_on (rows_after 2 (first, kind.Run) rows) waiting N (sym e) in

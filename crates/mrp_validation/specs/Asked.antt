@@ -14,11 +14,13 @@ ReadsAreOneAs reading rows a b = ReadsAs reading rows a → ReadsAs reading rows
 
 -- where a table need not be whole, nothing is asked of its rows
 abbrev pub UsualReadingAsksNothing : Reading → List (List (List ℕ)) → Result Table TableFault → Type 0
-UsualReadingAsksNothing reading rows read = reading.whole ≡ false → (ReadsAs reading rows read ↔ Reads reading.limits rows read)
+UsualReadingAsksNothing reading rows read =
+    reading.whole ≡ false → (ReadsAs reading rows read ↔ Reads reading.limits rows read)
 
 -- a table is read as is asked where its rows make it, and where it has to be whole it ends with an `end` row
 abbrev pub WholeTablesEnd : Reading → List (List (List ℕ)) → Table → Type 0
-WholeTablesEnd reading rows N = ReadsAs reading rows (Ok N) ↔ (Reads reading.limits rows (Ok N) × (reading.whole ≡ true → N.ended ≡ true))
+WholeTablesEnd reading rows N =
+    ReadsAs reading rows (Ok N) ↔ (Reads reading.limits rows (Ok N) × (reading.whole ≡ true → N.ended ≡ true))
 
 -- the rows make a table that has no `end` row, and the fault is that of the row behind the last
 pub record LacksItsEnd (limits : LimitSet) (rows : List (List (List ℕ))) (e : TableFault) : Type 0 where
@@ -34,7 +36,8 @@ CutTablesAreRefused reading rows e =
 
 -- every other fault is the same, however the rows are read
 abbrev pub OtherFaultsStay : Reading → List (List (List ℕ)) → TableFault → Type 0
-OtherFaultsStay reading rows e = ¬ (e.kind ≡ fault.Cut) → (ReadsAs reading rows (Err e) ↔ Reads reading.limits rows (Err e))
+OtherFaultsStay reading rows e =
+    ¬ (e.kind ≡ fault.Cut) → (ReadsAs reading rows (Err e) ↔ Reads reading.limits rows (Err e))
 
 -- an `end` row stands behind all others, and says how many those are
 pub record EndsWithItsEnd (rows : List (List (List ℕ))) : Type 0 where

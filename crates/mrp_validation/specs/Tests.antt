@@ -264,6 +264,7 @@ first_failed passed faults = find (λ e. not (passed e)) faults
 -- above it
 pub record HasFirstFault (row : List (List ℕ)) : Type 0 where
   pub first : (limits : LimitSet)
-      → result_err (first_terms limits row) ≡ first_failed (run_passes limits row) (faults_of_any ++ fault.BadNumber ∷ [])
+      → result_err (first_terms limits row)
+      ≡ first_failed (run_passes limits row) (faults_of_any ++ fault.BadNumber ∷ [])
   pub later : (s : Table × Kind)
       → result_err (row_after s row) ≡ first_failed (passes s row) (faults_of (kind_of_row row))

@@ -30,19 +30,21 @@ pub fn what_is_read_is_a_table()
 /// period, its quantity and its other values each in the field where it is written, and nothing in the fields that it
 /// doesn't use.
 pub fn rows_are_the_table_written_out()
-    ensures { (limits : LimitSet) (rows : List (List (List ℕ))) (N : Table) → Reads limits rows (Ok N) → rows ≡ rows_of N }
+    ensures { (limits : LimitSet) (rows : List (List (List ℕ))) (N : Table) → Reads limits rows (Ok N)
+        → rows ≡ rows_of N }
 {}
 
 /// A table is read from one list of rows alone: reading loses nothing that a row says.
 pub fn tables_have_one_list_of_rows()
-    ensures { (limits : LimitSet) (a b : List (List (List ℕ))) (N : Table) → Reads limits a (Ok N) → Reads limits b (Ok N)
-        → a ≡ b }
+    ensures { (limits : LimitSet) (a b : List (List (List ℕ))) (N : Table) → Reads limits a (Ok N)
+        → Reads limits b (Ok N) → a ≡ b }
 {}
 
 /// Items are numbered in the order of their first pairs: each pair of a table that is read has an item of a pair
 /// above it, or the next one, and there is no other item.
 pub fn items_are_numbered_by_their_pairs()
-    ensures { (limits : LimitSet) (rows : List (List (List ℕ))) (N : Table) → Reads limits rows (Ok N) → AreNumbered 0 N.pairs (length N.items) }
+    ensures { (limits : LimitSet) (rows : List (List (List ℕ))) (N : Table) → Reads limits rows (Ok N)
+        → AreNumbered 0 N.pairs (length N.items) }
 {}
 
 /// Every table whose items are numbered by their pairs is read from what is written of it.
@@ -50,8 +52,8 @@ pub fn tables_written_out_are_read()
     ensures { (N : Table) → IsTable N → AreNumbered 0 N.pairs (length N.items) → Reads N.limits (rows_of N) (Ok N) }
 {}
 
-/// A table is read from its own rows alone: what is read is a table of these limits with its items numbered by its pairs, from the
-/// rows that are written of it, and each such table is read from them.
+/// A table is read from its own rows alone: what is read is a table of these limits with its items numbered by its
+/// pairs, from the rows that are written of it, and each such table is read from them.
 pub fn a_table_is_read_from_its_own_rows_alone()
     ensures { (limits : LimitSet) (rows : List (List (List ℕ))) (N : Table) → Reads limits rows (Ok N)
         ↔ ((N.limits ≡ limits) × (rows ≡ rows_of N) × IsTable N × AreNumbered 0 N.pairs (length N.items)) }
@@ -139,8 +141,8 @@ pub fn usual_tables_are_large_tables()
     ensures { (rows : List (List (List ℕ))) (N : Table) → Reads Usual rows (Ok N) → Reads Large rows (Ok (as_large N)) }
 {}
 
-/// Rows that are refused within the usual limits are refused for the same fault, at the same row, within the large ones,
-/// unless the fault is one row too many of a kind, a number or a lot rule.
+/// Rows that are refused within the usual limits are refused for the same fault, at the same row, within the large
+/// ones, unless the fault is one row too many of a kind, a number or a lot rule.
 pub fn usual_faults_are_large_faults()
     ensures { (rows : List (List (List ℕ))) (e : TableFault) → IsNoMatterOfLimits e.kind → Reads Usual rows (Err e)
         → Reads Large rows (Err e) }

@@ -1,5 +1,6 @@
-use Rattle.mrp_validation.proofs.LargeFaults.{fault_is_large}
+use Rattle.std.proofs.Common.{Err}
+use Rattle.mrp_validation.proofs.LargeReading.{read_is_large}
 use Rattle.mrp_validation.proofs.laws.usual_faults_are_large_faults.Goals as goal
 
 pub returns : goal.returns
-returns c = fault_is_large
+returns c = λ rows e. read_is_large rows (Err e)

@@ -1,5 +1,6 @@
-use Rattle.mrp_validation.proofs.LargeTables.{usual_is_large}
+use Rattle.std.proofs.Common.{Ok}
+use Rattle.mrp_validation.proofs.LargeReading.{read_is_large}
 use Rattle.mrp_validation.proofs.laws.usual_tables_are_large_tables.Goals as goal
 
 pub returns : goal.returns
-returns c = usual_is_large
+returns c = λ rows N. read_is_large rows (Ok N) tt

@@ -1,4 +1,5 @@
--- Validation within the usual limits: a fault that is no matter of limits is the first within the large limits too.
+-- Validation within the usual limits: what is read is read within the large limits too, a table as the same table, and a
+-- fault that is no matter of limits as the same fault.
 use Rattle.std.proofs.Common.{◌≡◌, ◌∙◌, ◌≤◌, ◌<◌, ◌^◌, ◌&&◌, ℕ, ◌+◌, ◌-◌, Bool, true, false, not, ltb, leb, if◌then◌else◌, List, [], ◌∷◌, length}
 use Rattle.std.proofs.Common.{Option, Some, None, Result, Ok, Err, ok_or, refl, sym, ap, subst, arith}
 use Rattle.std.specs.Prelude.{is_some}
@@ -30,9 +31,11 @@ use Rattle.mrp_validation.specs.declared.fault.TableFaultKind.{TableFaultKind}
 use Rattle.mrp_validation.specs.declared.fault.TableFaultKind.TheVariants as fault
 use Rattle.mrp_validation.specs.declared.kind.Kind.{Kind}
 use Rattle.mrp_validation.specs.declared.kind.Kind.TheVariants as kind
-use Rattle.mrp_validation.specs.Grammar.{◌>>=◌, amount_row, amount_terms, bill_fits, bill_of, bill_terms, BillTerms, check, cum_of, day_in_row, demand_made, demand_of}
+use Rattle.mrp_validation.specs.Grammar.{◌>>=◌, amount_row, amount_terms, bill_fits, bill_of, bill_terms, BillTerms, check, cum_of, day_in_row, demand_made}
+use Rattle.mrp_validation.specs.Grammar.{demand_of}
 use Rattle.mrp_validation.specs.Grammar.{end_in_row, field, firm_of, firm_terms, has_bill, has_cum, has_usage, is_made, known_lane, known_pair, knows_sources}
-use Rattle.mrp_validation.specs.Grammar.{lane_number, may_follow, name_field, pair_fits, pair_row, pair_terms, PairTerms, plant_in_row, plant_terms, policy_of, policy_terms}
+use Rattle.mrp_validation.specs.Grammar.{lane_number, may_follow, name_field, pair_fits, pair_row, pair_terms, PairTerms, plant_in_row, plant_terms}
+use Rattle.mrp_validation.specs.Grammar.{policy_of, policy_terms}
 use Rattle.mrp_validation.specs.Grammar.{ranged, receipt_made, receipt_of, reset_in_row, run_terms, RunTerms, ship_of, ship_terms, usage_fits, usage_of}
 use Rattle.mrp_validation.specs.Grammar.{usage_terms, UsageTerms, vendor_fits, vendor_in_row, with_pair_terms}
 use Rattle.mrp_validation.specs.LimitLaws.{as_large, IsNoMatterOfLimits}
@@ -200,7 +203,8 @@ policy_terms_follow limits row periods =
 
 policy_follows : (N : Table) (row : List (List ℕ)) → Follows (policy_of N row) (policy_of (as_large N) row)
 unfolding policy_of known_pair
-policy_follows N row = onward _ (policy_terms N.limits row (horizon N)) (policy_terms set.Large row (horizon N)) _ _ (policy_terms_follow N.limits row (horizon N)) (λ t. same _)
+policy_follows N row = onward _ (policy_terms N.limits row (horizon N)) (policy_terms set.Large row (horizon N)) _ _
+    (policy_terms_follow N.limits row (horizon N)) (λ t. same _)
 
 usage_follows : (N : Table) (t : UsageTerms) → Follows (usage_fits N t) (usage_fits (as_large N) t)
 unfolding usage_fits
@@ -240,14 +244,16 @@ grown read large made more follows is = onward as_large read large _ _ follows (
 
 pair_follows : (N : Table) (row : List (List ℕ)) → FollowsBy as_large (pair_row N row) (pair_row (as_large N) row)
 pair_follows N row = onward as_large (pair_terms N.limits row) (pair_terms set.Large row) _ _ (terms_follow N.limits row)
-    (λ t. grown (pair_fits N t) (pair_fits (as_large N) t) (λ plant. with_pair_terms N plant t) (λ plant. with_pair_terms (as_large N) plant t) (fits_follow N t) (λ plant. refl))
+    (λ t. grown (pair_fits N t) (pair_fits (as_large N) t) (λ plant. with_pair_terms N plant t) (λ plant. with_pair_terms (as_large N) plant t)
+    (fits_follow N t) (λ plant. refl))
 
 kind_follows : (k : Kind) (N : Table) (row : List (List ℕ)) → FollowsBy as_large (row_of_kind k N row) (row_of_kind k (as_large N) row)
 unfolding row_of_kind
 kind_follows kind.Run N row = λ other. refl
 kind_follows kind.Plant N row = grown _ _ (with_plant N) (with_plant (as_large N)) (plant_follows N row) (λ x. refl)
 kind_follows kind.Pair N row = pair_follows N row
-kind_follows kind.Bill N row = grown (bill_of N row) (bill_of (as_large N) row) (with_bill N) (with_bill (as_large N)) (alike _ (bill_terms row) _ _ (bill_follows N)) (λ x. refl)
+kind_follows kind.Bill N row = grown (bill_of N row) (bill_of (as_large N) row) (with_bill N) (with_bill (as_large N))
+    (alike _ (bill_terms row) _ _ (bill_follows N)) (λ x. refl)
 kind_follows kind.Demand N row = grown _ _ (with_demand N) (with_demand (as_large N)) (demand_follows N row) (λ x. refl)
 kind_follows kind.Receipt N row = grown _ _ (with_receipt N) (with_receipt (as_large N)) (receipt_follows N row) (λ x. refl)
 kind_follows kind.Ship N row = grown _ _ (with_ship N) (with_ship (as_large N)) (ship_follows N row) (λ x. refl)
@@ -257,7 +263,8 @@ kind_follows kind.Firm N row = grown _ _ (with_firm N) (with_firm (as_large N)) 
 kind_follows kind.Policy N row = grown _ _ (with_policy N) (with_policy (as_large N)) (policy_follows N row) (λ x. refl)
 kind_follows kind.Usage N row = grown (usage_of N row) (usage_of (as_large N) row) (with_usage N) (with_usage (as_large N))
     (alike _ (usage_terms row (horizon N)) _ _ (usage_follows N)) (λ x. refl)
-kind_follows kind.Vendor N row = grown (vendor_in_row N row) (vendor_in_row (as_large N) row) (with_vendor N) (with_vendor (as_large N)) (vendor_follows N row) (λ x. refl)
+kind_follows kind.Vendor N row = grown (vendor_in_row N row) (vendor_in_row (as_large N) row) (with_vendor N) (with_vendor (as_large N)) (vendor_follows N row)
+    (λ x. refl)
 kind_follows kind.Day N row = grown _ _ (with_calendar N) (with_calendar (as_large N)) (day_follows N row) (λ x. refl)
 kind_follows kind.End N row = grown _ _ (λ rows. with_end N) (λ rows. with_end (as_large N)) (end_follows N row) (λ x. refl)
 
@@ -313,43 +320,48 @@ all_follow N rows = by (rows_after 2 (N, kind.Run) rows) (rows_after 2 (as_large
 
 -- ---- the first row
 
-same_Err : (e f : TableFault) → ◌≡◌ {A = Result Table TableFault} (Err e) (Err f) → e ≡ f
-same_Err e f is = cc
-
 first_follows : (limits : LimitSet) (row : List (List ℕ)) → Follows (first_terms limits row) (first_terms set.Large row)
 unfolding first_terms run_terms
 first_follows limits row =
     alike _ (kind_of_row row) _ _ (λ k. alike _ (check (is_run k) fault.KindOrder) _ _ (λ u. alike _ (ok_or (spelled_number (field row 2)) fault.BadNumber) _ _
-    (λ days. onward _ _ _ _ _ (wider (field row 3) 1 (limits_of limits).periods (limits_of set.Large).periods (limits_within limits).periods) (λ periods. refl))))
+    (λ days. onward _ _ _ _ _ (wider (field row 3) 1 (limits_of limits).periods (limits_of set.Large).periods (limits_within limits).periods)
+    (λ periods. refl))))
+
+-- ---- what is read
+
+-- what rows are read as within the large limits, and of which answers that is so
+abbrev large_of : Result Table TableFault → Result Table TableFault
+large_of (Ok N) = Ok (as_large N)
+large_of (Err e) = Err e
+
+abbrev Stays : Result Table TableFault → Type 0
+Stays (Ok N) = Unit {0}
+Stays (Err e) = IsNoMatterOfLimits e.kind
+
+large_read : (read r next : Result Table TableFault) → ReadsBy r next → Stays read → read ≡ r → large_of read ≡ next
+large_read read (Ok N) next h stays is = ap large_of is ∙ sym h
+large_read read (Err e) next h stays is = ap large_of is ∙ sym (h (subst Stays is stays))
 
 -- the rows after a run
-run_follows : (limits : LimitSet) (c : Result CalendarTerms CalFault) (rows : List (List (List ℕ))) (e : TableFault) → IsNoMatterOfLimits e.kind
-    → Err e ≡ read_from (started limits c) rows → Err e ≡ read_from (started set.Large c) rows
-run_follows limits (Ok c) rows e other is =
+run_follows : (limits : LimitSet) (c : Result CalendarTerms CalFault) (rows : List (List (List ℕ))) (read : Result Table TableFault) → Stays read
+    → read ≡ read_from (started limits c) rows → large_of read ≡ read_from (started set.Large c) rows
+run_follows limits (Ok c) rows read stays is =
     let N = empty_table limits c in
-    by (go_on (rows_after 2 (N, kind.Run) rows) waiting) (go_on (rows_after 2 (as_large N, kind.Run) rows) waiting) (all_follow N rows) is
-  where
-    by : (r next : Result Table TableFault) → ReadsBy r next → Err e ≡ r → Err e ≡ next
-    by (Ok M) next h is = absurd (cc)
-    by (Err f) next h is =
-        let same_fault : e ≡ f = same_Err e f is in
-        is ∙ sym (h (subst (λ (g : TableFault). IsNoMatterOfLimits g.kind) same_fault other))
-run_follows limits (Err f) rows e other is = is
+    large_read read (go_on (rows_after 2 (N, kind.Run) rows) waiting) (go_on (rows_after 2 (as_large N, kind.Run) rows) waiting) (all_follow N rows) stays is
+run_follows limits (Err f) rows read stays is = ap large_of is
 
 start_follows : (limits : LimitSet) (terms next : Result RunTerms TableFaultKind) → Follows terms next → (start : Result Table TableFaultKind)
-    (rows : List (List (List ℕ))) (e : TableFault) → IsNoMatterOfLimits e.kind → StartsWith limits terms start → Err e ≡ read_from start rows
-    → (large : Result Table TableFaultKind) × StartsWith set.Large next large × (Err e ≡ read_from large rows)
-start_follows limits (Ok t) next h start rows e other s is =
-    let read = subst (λ (r : Result Table TableFaultKind). Err e ≡ read_from r rows) s.2 is in
-    rw h (started set.Large s.0, (s.0, s.1, refl), run_follows limits s.0 rows e other read)
-start_follows limits (Err k) next h start rows e other s is =
-    let read : Err e ≡ read_from (Err k) rows = subst (λ (r : Result Table TableFaultKind). Err e ≡ read_from r rows) s is in
-    let same_fault : e ≡ record { row = 1; kind = k } = same_Err _ _ read in
-    rw (h (subst (λ (g : TableFault). IsNoMatterOfLimits g.kind) same_fault other)) (Err k, refl, read)
+    (rows : List (List (List ℕ))) (read : Result Table TableFault) → Stays read → StartsWith limits terms start → read ≡ read_from start rows
+    → (large : Result Table TableFaultKind) × StartsWith set.Large next large × (large_of read ≡ read_from large rows)
+start_follows limits (Ok t) next h start rows read stays s is =
+    let from = subst (λ (r : Result Table TableFaultKind). read ≡ read_from r rows) s.2 is in
+    rw h (started set.Large s.0, (s.0, s.1, refl), run_follows limits s.0 rows read stays from)
+start_follows limits (Err k) next h start rows read stays s is =
+    let from : read ≡ read_from (Err k) rows = subst (λ (r : Result Table TableFaultKind). read ≡ read_from r rows) s is in
+    rw (h (subst Stays from stays)) (Err k, refl, ap large_of from)
 
--- ---- the law
-
-pub fault_is_large : (rows : List (List (List ℕ))) (e : TableFault) → IsNoMatterOfLimits e.kind → Reads set.Usual rows (Err e) → Reads set.Large rows (Err e)
-fault_is_large [] e other reads = reads
-fault_is_large (row ∷ rows) e other reads =
-    start_follows set.Usual (first_terms set.Usual row) (first_terms set.Large row) (first_follows set.Usual row) reads.0 rows e other reads.1 reads.2
+pub read_is_large : (rows : List (List (List ℕ))) (read : Result Table TableFault) → Stays read → Reads set.Usual rows read
+    → Reads set.Large rows (large_of read)
+read_is_large [] read stays reads = ap large_of reads
+read_is_large (row ∷ rows) read stays reads =
+    start_follows set.Usual (first_terms set.Usual row) (first_terms set.Large row) (first_follows set.Usual row) reads.0 rows read stays reads.1 reads.2
