@@ -50,14 +50,14 @@ def test_columns_are_those_of_the_program(run, report):
 # (a firm order has the columns of an order)
 @pytest.mark.parametrize("word", [it for it in mrp.ROWS if it not in ("firm", "hit")])
 def test_columns_are_those_of_the_help(word):
-    help_text = text_of("crates/mrp_command_line/src/words.rt")
+    help_text = text_of("crates/mrp_command_line/src/texts.rt")
     found = re.findall(rf"\b{word},([A-Z_,]+)", help_text)
     assert [it.lower().split(",") for it in found] == [list(mrp.ROWS[word]._fields)]
 
 
 def test_kinds_are_those_of_the_help():
     """In its order, each with as many fields, and empty ones up to eight."""
-    help_text = text_of("crates/mrp_command_line/src/words.rt")
+    help_text = text_of("crates/mrp_command_line/src/texts.rt")
     found = re.findall(r"^([a-z]+)((?:,[A-Z-]*){7})\\n", help_text, re.MULTILINE)
     fields = [(word, len([it for it in row.split(",") if it])) for word, row in found]
     assert fields == [(word, len(form.kind._fields)) for word, form in mrp.TABLE_FORMS.items()]

@@ -96,7 +96,8 @@ is_large Large = true
 abbrev pub HasLimits : List Row → LimitSet → Type 0
 HasLimits rows limits = flag_at (codes "large") rows ≡ is_large limits
 
--- the table has to be whole where the subcommand has the flag for it, and so has it the limits of any table
+-- the table has to be whole where the subcommand has the flag for it, and it is read within the limits that the flag for
+-- large tables says
 abbrev pub ReadsTable : Option (Text × List Row) → Reading → Type 0
 ReadsTable None reading = ⊥
 ReadsTable (Some command) reading =

@@ -10,6 +10,7 @@
 mod laws;
 mod meaning;
 mod named;
+mod texts;
 mod words;
 
 pub use laws::version_is_asked_for;

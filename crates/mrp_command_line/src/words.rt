@@ -17,6 +17,7 @@ ghost use Rattle.mrp_command_line.specs.Values.{HasAdviceValues, HasCheckValues,
 ghost use Rattle.mrp_command_line.specs.Values.{HasOrderValues, HasPegValues, HasPlanValues, IsWholeCommand};
 ghost use Rattle.mrp_command_line.specs.Values.{IsWholeReport, MayHaveNumber};
 
+use crate::texts;
 use clap::builder::ValueParser;
 use clap::{Arg, ArgAction, ArgMatches, Command, value_parser};
 use mrp_commands::{Choice, Heading, LAST_PERIOD, MOST_CAPACITY, MOST_WORKERS, Reading, Request};
@@ -42,145 +43,6 @@ pub enum ChooseFault {
 /// so it doesn't say that a build is proved.
 const VERSION: &str = "0.1.0, Rattle logic dac8208d650f15bf";
 
-const ABOUT: &str = "Plans the material of all plants of a firm. The table is read from standard\n\
-input, and the report is written to standard output.";
-
-const AFTER: &str = "A table is comma-separated rows of eight fields, kind by kind:\n\n  \
-run,FIRST,DAYS,PERIODS,,,,\n  \
-plant,PLANT,,,,,,\n  \
-pair,PLANT,ITEM,SUPPLY,RULE,LEAD,ONHAND,SAFETY\n  \
-bill,PLANT,PARENT,COMPONENT,PER,,,\n  \
-demand,PLANT,ITEM,PERIOD,QUANTITY,,,\n  \
-receipt,PLANT,ITEM,PERIOD,QUANTITY,,,\n  \
-ship,FROM,TO,ITEM,PERIOD,QUANTITY,,\n  \
-cum,FROM,TO,ITEM,FIGURE,,,\n  \
-reset,FROM,TO,ITEM,PERIOD,,,\n  \
-firm,PLANT,ITEM,START,DUE,QUANTITY,,\n  \
-policy,PLANT,ITEM,FENCE,SOONER,COVER,LEAST,MULTIPLE\n  \
-usage,PLANT,PARENT,COMPONENT,PERIOD,PER,BASE,\n  \
-vendor,VENDOR,PLANT,ITEM,FIGURE,TRANSIT,RESET,\n  \
-day,PERIOD,DATE,,,,,\n  \
-end,ROWS,,,,,,\n\n\
-SUPPLY is make, buy, from:PLANT, or from: with two to four plants and their\n\
-shares in thousandths, as from:B:600:C:400. RULE is lot, fixed:Q, periods:K or\n\
-min:M:K. Periods count from 0. ROWS counts the rows before the end row, which\n\
-may be left out.\n\n\
-Statuses: 0 done, 1 the table or the question is refused, 2 the words are\n\
-refused, 3 reading, writing, memory or a thread failed. After 1 and 3 one line\n\
-on standard error says why.";
-
-const PLAN: &str = "Write the plan of each pair, period by period, and the late orders";
-
-const PLAN_LONG: &str =
-    "Writes the plan: for each pair of a plant and an item, period by period, a row\n\n  \
-plan,PLANT,ITEM,PERIOD,DATE,GROSS,INCOMING,ORDER,RELEASE,AVAILABLE\n\n\
-and then, for each planned order that can't come in time, a row\n\n  \
-late,PLANT,ITEM,PERIOD,QUANTITY,BY";
-
-const PLAN_EXAMPLE: &str = "Example: mrp plan < bicycle.csv > bicycle.plan.csv";
-
-const CHECK: &str = "Write the low-level code of each pair";
-
-const CHECK_LONG: &str =
-    "Writes the low-level code of each pair: the length of the longest chain of\n\
-demanders above it. Refuses a table with a loop, or with quantities above 10^15.\n\n  \
-code,PLANT,ITEM,CODE\n\n\
-With --reach its rows say until which period the gross requirements of a pair,\n\
-and until which its releases are whole, whatever is wanted behind the horizon:\n\
-none where no period is.\n\n  \
-reach,PLANT,ITEM,PERIOD,RELEASE";
-
-const CHECK_EXAMPLE: &str = "Examples: mrp check < bicycle.csv\n          \
-mrp check --reach < firm.csv";
-
-const CHECK_REACH: &str = "Write until which period each pair is whole, and no codes";
-
-const PEG: &str = "Write what the gross requirement of a pair in a period consists of";
-
-const PEG_LONG: &str =
-    "Writes what the gross requirement of a pair in a period consists of, a row for\n\
-each source: demand for its own demand rows, bill for a parent at its plant,\n\
-plant for the item at a plant that takes it from this one.\n\n  \
-peg,SOURCE,PLANT,ITEM,RELEASE,PER,QUANTITY";
-
-const PEG_EXAMPLE: &str = "Example: mrp peg P1 WHEEL 2 < bicycle.csv";
-
-const CUMS: &str = "Write the cumulative figures of the lanes between plants";
-
-const CUMS_LONG: &str =
-    "Writes the cumulative figures of each item on each lane between two plants, once\n\
-all plants have planned: a despatch lane carries what its sender ships, a\n\
-schedule lane what its sender calls for. TRANSIT is SHIPPED less RECEIVED.\n\n  \
-lane,KIND,SENDER,RECEIVER,ITEM,OPENING,SHIPPED,RECEIVED,TRANSIT";
-
-const CUMS_EXAMPLE: &str = "Example: mrp cums < firm.csv";
-
-const ORDERS: &str = "Write planned and firm orders, with releases and how they are supplied";
-
-const ORDERS_LONG: &str =
-    "Writes planned and firm orders of each pair, those alone that are released in\n\
-PERIOD or before it where it is given. SUPPLY is that of the pair's row of the\n\
-table, and LATE how many periods are missing. A firm order's row begins with firm.\n\n  \
-order,PLANT,ITEM,SUPPLY,QUANTITY,RELEASE,RELEASE_DATE,DUE,DUE_DATE,LATE";
-
-const ORDERS_EXAMPLE: &str = "Example: mrp orders --until 0 < bicycle.csv";
-
-const ORDERS_UNTIL: &str =
-    "The last period of a release, 0 to 103, or with --large 519; without it all orders";
-
-const SCHEDULE: &str = "Write the delivery schedules of plants and vendors";
-
-const SCHEDULE_LONG: &str =
-    "Writes the delivery schedules, item by item: what is in transit (opening), then\n\
-each delivery that is called for (call), and where figures start anew (reset).\n\
-Those between plants come first, then those of vendors. --from keeps the\n\
-schedules of one supplier, a plant or a vendor, --to those of one customer\n\
-plant, and both together those between the two. CUMULATIVE is the figure in\n\
-force, at a reset the one that it closes.\n\n  \
-schedule,KIND,SUPPLIER,CUSTOMER,ITEM,PERIOD,DATE,QUANTITY,CUMULATIVE";
-
-const SCHEDULE_EXAMPLE: &str = "Example: mrp schedule --from BRN --to HAM < firm.csv";
-
-const PEGS: &str = "Write what each gross requirement of the plan consists of";
-
-const PEGS_LONG: &str =
-    "Writes the pegging of the whole plan: what peg writes, for each pair and period.\n\n  \
-pegs,PLANT,ITEM,PERIOD,SOURCE,BY_PLANT,BY_ITEM,RELEASE,PER,QUANTITY";
-
-const PEGS_EXAMPLE: &str = "Example: mrp pegs --header < bicycle.csv";
-
-const ADVICE: &str = "Write which open orders to expedite, to defer and to cancel";
-
-const ADVICE_LONG: &str =
-    "Writes the open orders, receipts, shipments and firm orders, that are needed in\n\
-another period than they come in: ACTION is expedite, defer, or cancel, the last\n\
-where what is there and comes before is enough in all periods. It changes no\n\
-plan. --until leaves out the orders that come after PERIOD, and no other.\n\
---reach writes beyond, with NEEDED and NEEDED_DATE empty, in the place of a\n\
-cancel or defer that the horizon makes, which a longer one may change, and\n\
-leaves out orders that come beyond it, unless they are needed before.\n\n  \
-advice,ACTION,KIND,PLANT,ITEM,SUPPLIER,PERIOD,DATE,QUANTITY,NEEDED,NEEDED_DATE";
-
-const ADVICE_EXAMPLE: &str = "Example: mrp advice --until 3 < firm.csv";
-
-const ADVICE_UNTIL: &str =
-    "The last period in which an open order comes, 0 to 103, or with --large 519; without it all";
-
-const ADVICE_REACH: &str = "Tell messages that the horizon makes as beyond it";
-
-const SHORTAGES: &str = "Write which requirements of period 0 lack parts";
-
-const SHORTAGES_LONG: &str =
-    "Writes what of the gross requirements of period 0 isn't there, so that no order is\n\
-started that lacks parts: the terms of a pair, in the order of pegs, take of what is\n\
-on hand, safety stock too, and comes in period 0, and each that gets less than\n\
-QUANTITY has a row. SHORT is what it lacks. Planned and firm orders aren't there, but\n\
-for those due in period 0 of a made pair without lead time and fence, whose own\n\
-components say what they lack.\n\n  \
-shortage,PLANT,ITEM,SOURCE,BY_PLANT,BY_ITEM,QUANTITY,SHORT";
-
-const SHORTAGES_EXAMPLE: &str = "Example: mrp shortages < bicycle.csv";
-
 /// Reads the words of a command line, of which the first is the program's name: the choice is the
 /// subcommand that `clap` reads in them, with its values, the table has to be whole exactly where
 /// the subcommand has `--whole`, and it is read within the limits of any table exactly where the subcommand has
@@ -192,7 +54,8 @@ const SHORTAGES_EXAMPLE: &str = "Example: mrp shortages < bicycle.csv";
 /// [`ChooseFault::Words`] where `clap` refuses the words, was asked for help or the version, or ran out of
 /// memory: the error has one of the kinds that the words have, or `OutOfMemory`. [`ChooseFault::Memory`] where a
 /// growth was refused. [`ChooseFault::Period`] where `clap` finds no fault in the words, and the period that they ask
-/// about is beyond the limits. Where `clap` takes the words, memory alone is missing, or the period is beyond the limits.
+/// about is beyond the limits. Where `clap` takes the words, memory alone is missing, or the period is beyond the
+/// limits.
 pub fn request<'a>(alloc: Global, words: &'a [&'a str]) -> Result<Request<'a>, ChooseFault>
     ensures range { IfOk result (λ request. IsInRange request.choice) }
     ensures choice { IfOk result (λ request. IsChosenBy (texts_of words.now) request.choice) }
@@ -247,19 +110,31 @@ fn program<'a>(alloc: Global) -> Result<Command<'a>, AllocError>
     let line = with(alloc, Ok(described(alloc)), plan_command(alloc));
     let line = with(alloc, line, check_command(alloc));
     let line = with(alloc, line, peg_command(alloc));
-    let cums = headed_command(alloc, "cums", CUMS, CUMS_LONG, CUMS_EXAMPLE);
+    let cums = headed_command(
+        alloc,
+        "cums",
+        texts::CUMS,
+        texts::CUMS_LONG,
+        texts::CUMS_EXAMPLE,
+    );
     let line = with(alloc, line, cums);
     let line = with(alloc, line, orders_command(alloc));
     let line = with(alloc, line, schedule_command(alloc));
-    let pegs = headed_command(alloc, "pegs", PEGS, PEGS_LONG, PEGS_EXAMPLE);
+    let pegs = headed_command(
+        alloc,
+        "pegs",
+        texts::PEGS,
+        texts::PEGS_LONG,
+        texts::PEGS_EXAMPLE,
+    );
     let line = with(alloc, line, pegs);
     let line = with(alloc, line, advice_command(alloc));
     let shortages = headed_command(
         alloc,
         "shortages",
-        SHORTAGES,
-        SHORTAGES_LONG,
-        SHORTAGES_EXAMPLE,
+        texts::SHORTAGES,
+        texts::SHORTAGES_LONG,
+        texts::SHORTAGES_EXAMPLE,
     );
     with(alloc, line, shortages)
 }
@@ -327,8 +202,8 @@ fn described<'a>(alloc: Global) -> Command<'a>
 {
     Command::new(alloc, "mrp")
         .version(VERSION)
-        .about(ABOUT)
-        .after_help(AFTER)
+        .about(texts::ABOUT)
+        .after_help(texts::AFTER)
         .subcommand_required(true)
 }
 
@@ -376,8 +251,14 @@ fn header_flag<'a>(alloc: Global) -> Arg<'a>
 fn check_command<'a>(alloc: Global) -> Result<Command<'a>, AllocError>
     ensures { IfOk result (IsWorded check_words) }
 {
-    let check = explained(alloc, "check", CHECK, CHECK_LONG, CHECK_EXAMPLE);
-    let Ok(with_reach) = check.arg(reach_flag(alloc, CHECK_REACH)) else {
+    let check = explained(
+        alloc,
+        "check",
+        texts::CHECK,
+        texts::CHECK_LONG,
+        texts::CHECK_EXAMPLE,
+    );
+    let Ok(with_reach) = check.arg(reach_flag(alloc, texts::CHECK_REACH)) else {
         return Err(AllocError);
     };
     with_reach.arg(header_flag(alloc))
@@ -397,7 +278,13 @@ fn reach_flag<'a>(alloc: Global, help: &'a str) -> Arg<'a>
 fn plan_command<'a>(alloc: Global) -> Result<Command<'a>, AllocError>
     ensures { IfOk result (IsWorded plan_words) }
 {
-    let plan = explained(alloc, "plan", PLAN, PLAN_LONG, PLAN_EXAMPLE);
+    let plan = explained(
+        alloc,
+        "plan",
+        texts::PLAN,
+        texts::PLAN_LONG,
+        texts::PLAN_EXAMPLE,
+    );
     let Ok(with_workers) = plan.arg(workers_option(alloc)) else {
         return Err(AllocError);
     };
@@ -467,8 +354,14 @@ fn single_flag<'a>(alloc: Global) -> Arg<'a>
 fn orders_command<'a>(alloc: Global) -> Result<Command<'a>, AllocError>
     ensures { IfOk result (IsWorded orders_words) }
 {
-    let orders = explained(alloc, "orders", ORDERS, ORDERS_LONG, ORDERS_EXAMPLE);
-    let Ok(with_until) = orders.arg(until_option(alloc, ORDERS_UNTIL)) else {
+    let orders = explained(
+        alloc,
+        "orders",
+        texts::ORDERS,
+        texts::ORDERS_LONG,
+        texts::ORDERS_EXAMPLE,
+    );
+    let Ok(with_until) = orders.arg(until_option(alloc, texts::ORDERS_UNTIL)) else {
         return Err(AllocError);
     };
     with_until.arg(header_flag(alloc))
@@ -478,11 +371,17 @@ fn orders_command<'a>(alloc: Global) -> Result<Command<'a>, AllocError>
 fn advice_command<'a>(alloc: Global) -> Result<Command<'a>, AllocError>
     ensures { IfOk result (IsWorded advice_words) }
 {
-    let advice = explained(alloc, "advice", ADVICE, ADVICE_LONG, ADVICE_EXAMPLE);
-    let Ok(with_until) = advice.arg(until_option(alloc, ADVICE_UNTIL)) else {
+    let advice = explained(
+        alloc,
+        "advice",
+        texts::ADVICE,
+        texts::ADVICE_LONG,
+        texts::ADVICE_EXAMPLE,
+    );
+    let Ok(with_until) = advice.arg(until_option(alloc, texts::ADVICE_UNTIL)) else {
         return Err(AllocError);
     };
-    let Ok(with_reach) = with_until.arg(reach_flag(alloc, ADVICE_REACH)) else {
+    let Ok(with_reach) = with_until.arg(reach_flag(alloc, texts::ADVICE_REACH)) else {
         return Err(AllocError);
     };
     with_reach.arg(header_flag(alloc))
@@ -503,7 +402,13 @@ fn until_option<'a>(alloc: Global, help: &'a str) -> Arg<'a>
 fn schedule_command<'a>(alloc: Global) -> Result<Command<'a>, AllocError>
     ensures { IfOk result (IsWorded schedule_words) }
 {
-    let schedule = explained(alloc, "schedule", SCHEDULE, SCHEDULE_LONG, SCHEDULE_EXAMPLE);
+    let schedule = explained(
+        alloc,
+        "schedule",
+        texts::SCHEDULE,
+        texts::SCHEDULE_LONG,
+        texts::SCHEDULE_EXAMPLE,
+    );
     let Ok(with_from) = schedule.arg(from_option(alloc)) else {
         return Err(AllocError);
     };
@@ -543,7 +448,13 @@ fn free_text_option<'a>(alloc: Global, name: &'a str, value_name: &'a str, help:
 fn peg_command<'a>(alloc: Global) -> Result<Command<'a>, AllocError>
     ensures { IfOk result (IsWorded peg_words) }
 {
-    let peg = explained(alloc, "peg", PEG, PEG_LONG, PEG_EXAMPLE);
+    let peg = explained(
+        alloc,
+        "peg",
+        texts::PEG,
+        texts::PEG_LONG,
+        texts::PEG_EXAMPLE,
+    );
     let Ok(with_plant) = peg.arg(plant_argument(alloc)) else {
         return Err(AllocError);
     };

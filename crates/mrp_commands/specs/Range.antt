@@ -26,7 +26,13 @@ abbrev pub asked_period : Choice → Option ℕ
 asked_period (Peg plant item period heading) = Some period
 asked_period (Orders until heading) = until
 asked_period (Advice until reach heading) = until
-asked_period _ = None
+asked_period (Plan workers capacity single) = None
+asked_period (Check heading) = None
+asked_period (Reach heading) = None
+asked_period (Cums heading) = None
+asked_period (Schedule from to heading) = None
+asked_period (Pegs heading) = None
+asked_period (Shortages heading) = None
 
 -- a table of the limits may have it
 abbrev pub IsWithinLimits : Request → Type 0

@@ -6,8 +6,8 @@ pub const MOST_WORKERS: u64 = mrp_qty::MOST_WORKERS;
 /// The most records that a mailbox between two plants may hold: 65,536.
 pub const MOST_CAPACITY: u64 = mrp_qty::MOST_ROOM;
 
-/// The last period that may be asked about: 519, that of the longest horizon, counted from 0. Of a table within the usual
-/// limits it is 103: [`Request::is_within_limits`].
+/// The last period that may be asked about: 519, that of the longest horizon, counted from 0. Of a table within the
+/// usual limits it is 103: [`Request::is_within_limits`].
 pub const LAST_PERIOD: u64 = mrp_qty::LONGEST - 1;
 
 /// Whether a report begins with a row that names its columns.

@@ -9,5 +9,6 @@ pub returns : goal.returns
 returns c app sub started worded =
     let begun = subst (λ it. IfOk it (λ old. app_of old ≡ app)) c.in-Ok.is started in
     let more = c.in-Ok-readable.ensures sub worded in
-    IfOk-weaker c.subcommand.result _ _ (λ r h. one_more app (with_rule (with_rule sub rule.whole) rule.large) c.in-Ok.old r c.in-Ok-readable.more begun more h.shape)
+    IfOk-weaker c.subcommand.result _ _ (λ r h. one_more app (with_rule (with_rule sub rule.whole) rule.large) c.in-Ok.old r c.in-Ok-readable.more begun more
+    h.shape)
     c.subcommand.ensures
