@@ -41,9 +41,6 @@ ends_by first days periods h =
     let all : periods - 0 ≡ periods = omega arith in
     rw (last_date-is, all) (omega arith)
 
-pub not_after : (day : ℕ) → day ≤ last_date → day ≤ 84005
-not_after day h = rw (← last_date-is) h
-
 -- so many days after day 0 is a day that the library has
 pub has_day : (first : ℤ) (number : ℕ) → first ≡ pos 0 → number ≤ 84005 → IsEpochDay (first +ℤ pos number)
 has_day first number e h = rw e (omega (arith, signed_arith), omega (arith, signed_arith))

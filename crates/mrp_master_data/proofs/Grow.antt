@@ -205,7 +205,14 @@ read_grows N M read g plants items pairs sources bills demands receipts ships cu
 
 pub read-with_plant : (N : Table) (x : List ℕ) → IsRead N → IsName x → length N.plants < (most N).plants → IsRead (with_plant N x)
 read-with_plant N x read named room =
-    let g : Grows N (with_plant N x) = record { limits = refl; calendar = λ is. is; periods = refl; plants = omega (arith, length_push N.plants x); items = omega arith; pairs = omega arith } in
+    let g : Grows N (with_plant N x) = record {
+      limits = refl;
+      calendar = λ is. is;
+      periods = refl;
+      plants = omega (arith, length_push N.plants x);
+      items = omega arith;
+      pairs = omega arith;
+    } in
     read_grows N (with_plant N x) read g (one_more x named room) same_rows same_rows same_rows same_rows same_rows same_rows same_rows same_rows same_rows same_rows same_rows
     same_rows same_rows
 
@@ -225,7 +232,14 @@ read-pushed_plant N x plants (Err _) read named room more same =
 
 pub read-with_pair : (N : Table) (x : PairRow) → IsRead N → IsPairRow N x → length N.pairs < (most N).pairs → IsRead (with_pair N x)
 read-with_pair N x read row room =
-    let g : Grows N (with_pair N x) = record { limits = refl; calendar = λ is. is; periods = refl; plants = omega arith; items = omega arith; pairs = omega (arith, length_push N.pairs x) } in
+    let g : Grows N (with_pair N x) = record {
+      limits = refl;
+      calendar = λ is. is;
+      periods = refl;
+      plants = omega arith;
+      items = omega arith;
+      pairs = omega (arith, length_push N.pairs x);
+    } in
     read_grows N (with_pair N x) read g same_rows same_rows (one_more x (pair_grows g x row) room) same_rows same_rows same_rows same_rows same_rows same_rows
     same_rows same_rows same_rows same_rows same_rows
 
@@ -298,7 +312,14 @@ read-with_vendor N x read row room =
 -- with another calendar of as many periods
 pub read-with_calendar : (N : Table) (c : CalendarTerms) → IsRead N → IsCalendar c → c.periods ≡ horizon N → IsRead (with_calendar N c)
 read-with_calendar N c read is periods =
-    let g : Grows N (with_calendar N c) = record { limits = refl; calendar = λ _. is; periods = periods; plants = omega arith; items = omega arith; pairs = omega arith } in
+    let g : Grows N (with_calendar N c) = record {
+      limits = refl;
+      calendar = λ _. is;
+      periods = periods;
+      plants = omega arith;
+      items = omega arith;
+      pairs = omega arith;
+    } in
     read_grows N (with_calendar N c) read g same_rows same_rows same_rows same_rows same_rows same_rows same_rows same_rows same_rows same_rows
     same_rows same_rows same_rows same_rows
 
@@ -319,14 +340,23 @@ names-add_item items name names named =
       | false ↦ All-push IsName items name names named
     ]
 
-pub name_added : (most_items : ℕ) (items : List (List ℕ)) (name : List ℕ) → IsName name → length items < most_items → Changes IsName most_items items (add_item items name)
+pub name_added : (most_items : ℕ) (items : List (List ℕ)) (name : List ℕ) → IsName name → length items < most_items
+    → Changes IsName most_items items (add_item items name)
 name_added most_items items name named room =
     record { each = λ all. names-add_item items name all named; few = λ _. omega (arith, (length-add_item-le items name).1, room) }
 
 pub read-with_item : (N : Table) (name : List ℕ) → IsRead N → IsName name → length N.items < (most N).pairs → IsRead (with_item N name)
 read-with_item N name read named room =
-    let g : Grows N (with_item N name) = record { limits = refl; calendar = λ is. is; periods = refl; plants = omega arith; items = (length-add_item-le N.items name).0; pairs = omega arith } in
-    read_grows N (with_item N name) read g same_rows (name_added (most N).pairs N.items name named room) same_rows same_rows same_rows same_rows same_rows same_rows same_rows
+    let g : Grows N (with_item N name) = record {
+      limits = refl;
+      calendar = λ is. is;
+      periods = refl;
+      plants = omega arith;
+      items = (length-add_item-le N.items name).0;
+      pairs = omega arith;
+    } in
+    read_grows N (with_item N name) read g same_rows (name_added (most N).pairs N.items name named room) same_rows same_rows same_rows same_rows same_rows
+    same_rows same_rows
     same_rows same_rows same_rows same_rows same_rows
 
 -- the items after one more was pushed, whether it found room or not

@@ -1,10 +1,10 @@
 -- Master data: what is within the limits of a table is within those of any table.
-use Rattle.std.proofs.Common.{◌≡◌, ℕ, ◌*◌, ◌≤◌, ◌<◌, ◌^◌, length, arith}
+use Rattle.std.proofs.Common.{◌≡◌, ◌*◌, ◌≤◌, ◌<◌, ◌^◌, length, arith}
 use Rattle.mrp_lot.specs.Lot.{IsRule, IsRuleWithin}
 use Rattle.mrp_lot.specs.declared.rule.Rule.{Rule}
 use Rattle.mrp_lot.specs.declared.rule.Rule.TheVariants.{LotForLot, Fixed, Periods, MinMultiple}
 use Rattle.mrp_lot.specs.declared.rule.TheConstants.{LONGEST_LEAD}
-use Rattle.mrp_master_data.specs.Table.{horizon, most, IsLimited, IsPairRow, IsPolicyRow, Table}
+use Rattle.mrp_master_data.specs.Table.{horizon, IsLimited, IsPairRow, IsPolicyRow, Table}
 use Rattle.mrp_master_data.specs.declared.rows.PairRow.{PairRow}
 use Rattle.mrp_master_data.specs.declared.rows.PolicyRow.{PolicyRow}
 use Rattle.mrp_qty.specs.Limits.{limits_of}

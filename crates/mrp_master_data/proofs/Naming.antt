@@ -24,15 +24,6 @@ pub place_within : (name : List ℕ) (names : List (List ℕ)) (found : Option �
 place_within name names None is = tt
 place_within name names (Some place) is = (position-Some (bytes_eq name) names place [] (sym is)).0
 
--- the names after one more
-pub names_more : (names roomy more : List (String Global)) (last : String Global) (name : List ℕ) → roomy ≡ names → more ≡ roomy ++ last ∷ []
-    → string_bytes last ≡ name
-    → map string_bytes more ≡ map string_bytes names ++ name ∷ []
-names_more names roomy more last name same grown is =
-    ap (map string_bytes) (grown ∙ ap (λ (ns : List (String Global)). ns ++ last ∷ []) same)
-    ∙ map-append string_bytes names (last ∷ [])
-    ∙ ap (λ (n : List ℕ). map string_bytes names ++ n ∷ []) is
-
 -- the table with an item that isn't there
 pub item_added : (N : Table) (name : List ℕ) (items : List (List ℕ)) → list_any (bytes_eq name) N.items ≡ false → items ≡ N.items ++ name ∷ []
     → (let M : Table = record N { items = items } in M) ≡ with_item N name

@@ -56,7 +56,8 @@ number_written low high n some few small =
 
 -- ---- rules
 
-rule_of_one : (longest : ℕ) (f : ℕ → Rule) (o : Option ℕ) (r : Rule) → ((n : ℕ) → o ≡ Some n → IsRuleWithin longest (f n)) → option_map f o ≡ Some r → IsRuleWithin longest r
+rule_of_one : (longest : ℕ) (f : ℕ → Rule) (o : Option ℕ) (r : Rule) → ((n : ℕ) → o ≡ Some n → IsRuleWithin longest (f n)) → option_map f o ≡ Some r
+    → IsRuleWithin longest r
 rule_of_one longest f (Some n) r is e = subst (IsRuleWithin longest) (same_Some (f n) r e) (is n refl)
 rule_of_one longest f None r is e = absurd (cc)
 

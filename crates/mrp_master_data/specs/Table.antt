@@ -132,7 +132,8 @@ pub record IsFirmRow (N : Table) (f : FirmRow) : Type 0 where
   pub some : 1 ≤ f.quantity
   pub quantity : IsAmount f.quantity
 
--- a planning time fence within the horizon, no more periods of each kind than a lead time may have, and pieces as a row may have them
+-- a planning time fence within the horizon, no more periods of each kind than a lead time may have, and pieces as a row
+-- may have them
 pub record IsPolicyRow (N : Table) (p : PolicyRow) : Type 0 where
   pub pair : IsPair N p.pair.0
   pub fence : p.policy.fence < horizon N

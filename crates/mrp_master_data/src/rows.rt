@@ -29,7 +29,7 @@ pub struct PairRow {
     pub supply: Supply,
     /// How its orders are sized.
     pub rule: Rule,
-    /// Lead time in periods, from release to receipt, 0 to 104. Of a pair that is taken from a plant it is the transit.
+    /// Lead time in periods, from release to receipt, 0 to 520. Of a pair that is taken from a plant it is the transit.
     pub lead: u64,
     /// Pieces on hand before period 0, at most 10^12.
     pub on_hand: Qty,

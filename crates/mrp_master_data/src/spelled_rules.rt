@@ -20,8 +20,8 @@ pub(crate) fn cut(text: &str) -> Option<(&str, &str)>
     text.split_once(':')
 }
 
-/// The lot rule that a text spells: `lot`, `fixed:Q`, `periods:K` or `min:M:K`, K being 1 to 104. Each rule has just one
-/// such text.
+/// The lot rule that a text spells, or `None` where it spells none: `lot`, `fixed:Q`, `periods:K` or `min:M:K`. The K of
+/// `periods:K` is 1 to 104. Each rule has just one such text.
 pub fn rule(text: &str) -> Option<Rule>
     ensures exact { result ≡ rule_of 104 text.now }
     ensures written { MatchOption result ((rule : Rule) → IsRuleWithin 104 rule → text.now ≢ rule_text rule)
@@ -31,8 +31,8 @@ pub fn rule(text: &str) -> Option<Rule>
     rule_within(LimitSet::Usual, text)
 }
 
-/// The lot rule that a text spells, as [`rule`] reads it, where it covers no more periods than a table of these limits
-/// may have.
+/// The lot rule that a text spells, as [`rule`] reads it, or `None`: of another text, or where it covers more periods
+/// than a table of these limits may have.
 pub fn rule_within(limits: LimitSet, text: &str) -> Option<Rule>
     ensures exact { result ≡ rule_of (limits_of limits).periods text.now }
     ensures written { MatchOption result

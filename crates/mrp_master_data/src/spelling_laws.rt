@@ -28,8 +28,8 @@ pub fn supplies_have_one_text()
 pub fn rules_have_one_text()
     ensures read { (limits : LimitSet) (rule : Rule) → IsRuleWithin (limits_of limits).periods rule
         → rule_of (limits_of limits).periods (rule_text rule) ≡ Some rule }
-    ensures text { (limits : LimitSet) (text : List ℕ) (rule : Rule) → rule_of (limits_of limits).periods text ≡ Some rule
-        → (text ≡ rule_text rule) × IsRuleWithin (limits_of limits).periods rule }
+    ensures text { (limits : LimitSet) (text : List ℕ) (rule : Rule)
+        → rule_of (limits_of limits).periods text ≡ Some rule → (text ≡ rule_text rule) × IsRuleWithin (limits_of limits).periods rule }
 {}
 
 /// A number has one text, and that text is read as it.

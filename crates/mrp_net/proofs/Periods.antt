@@ -101,9 +101,6 @@ all_incomings-le N x =
       periods-le (λ (s : ShipRow). s.pair.0 == x) (λ (s : ShipRow). s.period) (λ (s : ShipRow). s.quantity) (horizon N) N.ships,
     )
 
-pub incomings-le : (N : Table) (x : ℕ) → sum (row_of N (incoming N x)) ≤ received_total N x + shipped_total N x
-incomings-le N x = omega (arith, all_incomings-le N x)
-
 pub demand-le : (N : Table) (x t : ℕ) → t < horizon N → demand N x t ≤ demand_total N x
 demand-le N x t within =
     omega (arith, demands-le N x, sum-map (demand N x) (range_with_len 0 (horizon N)), period-le (demand N x) (horizon N) t within)
@@ -118,10 +115,6 @@ arrivals-le N x t within =
       periods-le (λ (s : ShipRow). s.pair.0 == x) (λ (s : ShipRow). s.period) (λ (s : ShipRow). s.quantity) (horizon N) N.ships,
       period-le (shipped N x) (horizon N) t within,
     )
-
-pub incoming-le : (N : Table) (x t : ℕ) → t < horizon N → incoming N x t ≤ received_total N x + shipped_total N x
-incoming-le N x t within =
-    omega (arith, incomings-le N x, sum-map (incoming N x) (range_with_len 0 (horizon N)), period-le (incoming N x) (horizon N) t within)
 
 -- an amount of a row that is written for all periods
 pub row_reads : (N : Table) (amount : ℕ → ℕ) (row : List ℕ) (t : ℕ) → row ≡ row_of N amount → t < horizon N → slice_index row t ≡ amount t

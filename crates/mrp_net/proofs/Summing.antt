@@ -44,10 +44,12 @@ demand_within N is x t = some_within MOST_DEMANDS (λ d. eqb d.pair.0 x && eqb d
     (λ k d h. (is.read.demands k d h).quantity) (any_limited N is.read.limits).demands
 
 pub demand_total_within : (N : Table) → IsTable N → (x : ℕ) → demand_total N x ≤ MOST_DEMANDS * MOST_IN_ROW
-demand_total_within N is x = some_within MOST_DEMANDS (λ d. eqb d.pair.0 x) (λ d. d.quantity) N.demands (λ k d h. (is.read.demands k d h).quantity) (any_limited N is.read.limits).demands
+demand_total_within N is x = some_within MOST_DEMANDS (λ d. eqb d.pair.0 x) (λ d. d.quantity) N.demands (λ k d h. (is.read.demands k d h).quantity)
+    (any_limited N is.read.limits).demands
 
 pub firm_total_within : (N : Table) → IsTable N → (x : ℕ) → firm_total N x ≤ MOST_OF_A_KIND * MOST_IN_ROW
-firm_total_within N is x = some_within MOST_OF_A_KIND (λ f. eqb f.pair.0 x) (λ f. f.quantity) N.firms (λ k d h. (is.read.firms k d h).quantity) (any_limited N is.read.limits).firms
+firm_total_within N is x = some_within MOST_OF_A_KIND (λ f. eqb f.pair.0 x) (λ f. f.quantity) N.firms (λ k d h. (is.read.firms k d h).quantity)
+    (any_limited N is.read.limits).firms
 
 pub received_within : (N : Table) → IsTable N → (x t : ℕ) → received N x t ≤ MOST_OF_A_KIND * MOST_IN_ROW
 received_within N is x t = some_within MOST_OF_A_KIND (λ r. eqb r.pair.0 x && eqb r.period t) (λ r. r.quantity) N.receipts

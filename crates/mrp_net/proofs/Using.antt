@@ -54,13 +54,6 @@ pieces_for-none u parents some none =
 pub pieces_for-zero : (u : Usage) → 1 ≤ u.base → pieces_for u 0 ≡ 0
 pieces_for-zero u some = pieces_only u 0 0 some (omega arith) (omega arith)
 
--- more parents take no fewer pieces
-pub pieces_for-rises : (u : Usage) (parents more : ℕ) → 1 ≤ u.base → parents ≤ more → pieces_for u parents ≤ pieces_for u more
-pieces_for-rises u parents more some le =
-    let rises : u.per * parents ≤ u.per * more = mul-le-mul_left u.per le in
-    let reach = pieces_reach u more some in
-    close u.base (pieces_for u parents) (pieces_for u more) (u.per * parents) (pieces_below u parents some) (omega arith)
-
 -- rounding up once is no more than rounding up for each parent
 pub pieces_for-le : (u : Usage) (parents : ℕ) → 1 ≤ u.base → pieces_for u parents ≤ pieces_for u 1 * parents
 pieces_for-le u parents some =
@@ -81,10 +74,7 @@ in_force-all P t before (u ∷ us) own all =
 pub in_force-some : (t per : ℕ) (us : List UsageRow) → All (λ u. 1 ≤ u.usage.base) us → 1 ≤ (in_force t (whole per) us).base
 in_force-some t per us some = in_force-all (λ (u : Usage). 1 ≤ u.base) t (whole per) us (omega arith) some
 
--- without rows, and before the first of them, the bill row is in force
-pub in_force-nil : (t : ℕ) (before : Usage) → in_force t before [] ≡ before
-in_force-nil t before = refl
-
+-- before the first row the bill row is in force
 pub in_force-before : (t : ℕ) (before : Usage) (us : List UsageRow) → All (λ u. t < u.period) us → in_force t before us ≡ before
 in_force-before t before [] later = refl
 in_force-before t before (u ∷ us) later =
@@ -96,13 +86,6 @@ in_force-before t before (u ∷ us) later =
 pub in_force-append : (t : ℕ) (before : Usage) (us vs : List UsageRow) → in_force t before (us ++ vs) ≡ in_force t (in_force t before us) vs
 in_force-append t before [] vs = refl
 in_force-append t before (u ∷ us) vs = in_force-append t (if nat_le u.period t then u.usage else before) us vs
-
-pub in_force-last : (t : ℕ) (before : Usage) (us : List UsageRow) (u : UsageRow) (vs : List UsageRow) → u.period ≤ t → All (λ v. t < v.period) vs
-    → in_force t before (us ++ u ∷ vs) ≡ u.usage
-in_force-last t before us u vs begun later =
-    in_force-append t before us (u ∷ vs)
-    ∙ ap (λ (v : Usage). in_force t v vs) (cond-true (nat_le u.period t) u.usage (in_force t before us) (le-leb u.period t begun))
-    ∙ in_force-before t u.usage vs later
 
 -- the greatest number of pieces for one parent is no less than the bill row's and than what is in force
 pub le-most_per : (per : ℕ) (us : List UsageRow) → per ≤ most_per per us

@@ -300,7 +300,7 @@ impl Network {
         x.0 * periods..(x.0 + 1) * periods
     }
 
-    /// The sum of the pair's demand rows in period `t`, at most 10^18 pieces.
+    /// The sum of the pair's demand rows in period `t`, at most 18 * 10^18 pieces.
     pub fn demand(&self, x: PairNo, t: usize) -> u64
         requires pair { IsPair self.now x.0 }
         requires period { t < horizon self.now }
@@ -309,7 +309,7 @@ impl Network {
         self.demand_row(x)[t]
     }
 
-    /// The sums of the pair's demand rows, period by period, each at most 10^18 pieces.
+    /// The sums of the pair's demand rows, period by period, each at most 18 * 10^18 pieces.
     pub fn demand_row(&self, x: PairNo) -> &[u64]
         requires { IsPair self.now x.0 }
         ensures { result.now ≡ row_of self.now (demand self.now x.0) }
@@ -317,7 +317,7 @@ impl Network {
         &self.amounts.demand[self.places_of(x)]
     }
 
-    /// The sum of the pair's demand rows, at most 10^18 pieces.
+    /// The sum of the pair's demand rows, at most 18 * 10^18 pieces.
     pub fn demand_total(&self, x: PairNo) -> u64
         requires { IsPair self.now x.0 }
         ensures { result ≡ demand_total self.now x.0 }
@@ -326,7 +326,7 @@ impl Network {
     }
 
     /// What comes in at its time for the pair in period `t`, beside firm planned orders: the shipments to it, and its
-    /// receipt rows but where they may be counted sooner, at most 2 * 10^18 pieces.
+    /// receipt rows but where they may be counted sooner, at most 18 * 10^18 pieces.
     pub fn incoming(&self, x: PairNo, t: usize) -> u64
         requires pair { IsPair self.now x.0 }
         requires period { t < horizon self.now }
@@ -336,7 +336,7 @@ impl Network {
     }
 
     /// What comes in at its time for the pair, beside firm planned orders, period by period: the shipments to it, and
-    /// its receipt rows but where they may be counted sooner, each at most 2 * 10^18 pieces.
+    /// its receipt rows but where they may be counted sooner, each at most 18 * 10^18 pieces.
     pub fn incoming_row(&self, x: PairNo) -> &[u64]
         requires { IsPair self.now x.0 }
         ensures { result.now ≡ row_of self.now (incoming self.now x.0) }
@@ -348,7 +348,7 @@ impl Network {
         }
     }
 
-    /// The sums of the pair's receipt rows, period by period, without shipments, each at most 10^18 pieces.
+    /// The sums of the pair's receipt rows, period by period, without shipments, each at most 9 * 10^18 pieces.
     pub fn received_row(&self, x: PairNo) -> &[u64]
         requires { IsPair self.now x.0 }
         ensures { result.now ≡ row_of self.now (received self.now x.0) }
@@ -356,8 +356,8 @@ impl Network {
         &self.amounts.received[self.places_of(x)]
     }
 
-    /// The pair's receipt rows that may be counted sooner than they come, period by period, each sum at most 10^18
-    /// pieces: of a pair whose policy has SOONER all, of others no row.
+    /// The pair's receipt rows that may be counted sooner than they come, period by period, each sum at most
+    /// 9 * 10^18 pieces: of a pair whose policy has SOONER all, of others no row.
     fn received_sooner(&self, x: PairNo) -> &[u64]
         requires { IsPair self.now x.0 }
         ensures { result.now ≡ received_sooner self.now x.0 }
@@ -399,7 +399,7 @@ impl Network {
         self.amounts.firms.get(x.0)
     }
 
-    /// The pieces of all firm planned orders of the pair, at most 10^18.
+    /// The pieces of all firm planned orders of the pair, at most 9 * 10^18.
     pub fn firm_total(&self, x: PairNo) -> u64
         requires { IsPair self.now x.0 }
         ensures { result ≡ firm_total self.now x.0 }
@@ -439,7 +439,7 @@ impl Network {
     }
 
     /// The first period for which planned orders of the pair can be released in time: the greater of its lead time and its
-    /// planning time fence, 0 to 104.
+    /// planning time fence, 0 to 520.
     pub fn earliest(&self, x: PairNo) -> u64
         requires { IsPair self.now x.0 }
         ensures { result ≡ earliest_at self.now x.0 }
@@ -557,7 +557,7 @@ impl Network {
 
     /// Where the cumulative figures of an item of the lane begin, in pieces: on a despatch lane the
     /// opening figure, at most 10^15, on a schedule lane that and all shipments of the table, at most
-    /// 10^18 more.
+    /// 9 * 10^18 more.
     pub fn opening(&self, l: LaneNo, item: ItemNo) -> u64
         requires lane { l.0 < length (lanes self.now) }
         requires item { Contains (lane_items self.now (lane_at self.now l.0)) item }
@@ -583,7 +583,7 @@ impl Network {
     }
 
     /// The pieces of an item of the lane that are on their way from the supplier to the customer, at most
-    /// 10^18: the same for both lanes of the two plants.
+    /// 9 * 10^18: the same for both lanes of the two plants.
     pub fn shipped(&self, l: LaneNo, item: ItemNo) -> u64
         requires lane { l.0 < length (lanes self.now) }
         requires item { Contains (lane_items self.now (lane_at self.now l.0)) item }

@@ -7,10 +7,10 @@ use crate::PairPlan;
 use mrp_qty::{Horizon, Memory};
 use std::alloc::Global;
 
-/// For so many plans the memory grows at once.
+/// For so many plans the memory grows at once, where they are of 104 periods; of 520 for some three.
 const AT_ONCE: usize = 16;
 
-/// A plan of 520 periods takes fewer bytes.
+/// A plan of 104 periods takes fewer bytes.
 const ROOM: usize = 4_500;
 
 /// So many plans of zeros with no late order, each as [`PairPlan::new`] makes it. The horizon is 1 to 520 periods.
@@ -30,7 +30,7 @@ pub fn blank_plans(alloc: Global, horizon: Horizon, count: usize) -> Result<Vec<
 }
 
 /// Before every sixteen plans takes room for them and gives it back. The C library lets the memory of a thread grow
-/// by what it is asked for at once: so it grows for sixteen plans, and not page by page. A refusal is no fault, since
+/// by what it is asked for at once: so it grows for many plans, and not page by page. A refusal is no fault, since
 /// what follows asks for less.
 fn grow(alloc: Global, place: usize) {
     if place % AT_ONCE == 0 {

@@ -44,10 +44,6 @@ abbrev pub is_released_by : Option ℕ → PlannedOrder → Bool
 is_released_by None order = true
 is_released_by (Some until) order = nat_le order.release until
 
--- the planned orders of a pair that are released by then
-abbrev pub orders_by : Option ℕ → Table → List PlanRows → ℕ → List PlannedOrder
-orders_by until N table x = filter (is_released_by until) (orders_of N table x)
-
 -- ---- firm planned orders beside them
 
 -- a firm planned order as it is listed: planners set its periods, and it is never late

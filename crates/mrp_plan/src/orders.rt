@@ -14,12 +14,12 @@ use mrp_qty::Qty;
 pub struct PlannedOrder {
     /// How many pieces are ordered, 1 to 10^15.
     pub quantity: Qty,
-    /// The period of the order's receipt, 0 to 103 and below the horizon.
+    /// The period of the order's receipt, 0 to 519 and below the horizon.
     pub due: usize,
     /// The period of its release: due less lead time; of an order that is due before the earliest period in which one
     /// can come in, that period less lead time; of a firm planned order that of its row.
     pub release: usize,
-    /// How many periods are missing: the earliest period in which the order can come in less due, at most 104, and 0
+    /// How many periods are missing: the earliest period in which the order can come in less due, at most 520, and 0
     /// where none is or the order is firm.
     pub late: u64,
 }
@@ -83,8 +83,8 @@ impl ListedOrder {
 
 /// The order of a pair's plan that is due in period `t`, or `None` where nothing is ordered there.
 ///
-/// `lead` is the pair's lead time, 0 to 104 periods, `earliest` the earliest period in which planned orders of the pair
-/// can come in, the greater of its lead time and its planning time fence, 0 to 104, and `t` is below the horizon.
+/// `lead` is the pair's lead time, 0 to 520 periods, `earliest` the earliest period in which planned orders of the pair
+/// can come in, the greater of its lead time and its planning time fence, 0 to 520, and `t` is below the horizon.
 pub fn planned_order(plan: &PairPlan, lead: u64, earliest: u64, t: usize) -> Option<PlannedOrder>
     requires { t < length plan.now.order }
     ensures { result ≡ order_in lead earliest plan.now t }

@@ -140,7 +140,14 @@ texts_by_items N (lane ∷ ls) is =
     )
 
 pub steps_are_few : StepsAreFew
-steps_are_few N is = omega (arith, texts_by_items N (lanes N) is, items_are_few N, lanes_are_few N is, (any_limited N is.read.limits).sources, (any_limited N is.read.limits).pairs)
+steps_are_few N is = omega (
+  arith,
+  texts_by_items N (lanes N) is,
+  items_are_few N,
+  lanes_are_few N is,
+  (any_limited N is.read.limits).sources,
+  (any_limited N is.read.limits).pairs,
+)
 
 -- ---- shipments
 

@@ -5,6 +5,7 @@ use Rattle.mrp_qty.specs.declared.limits.LimitSet.TheVariants as set
 use Rattle.mrp_qty.specs.declared.limits.Limits.{Limits}
 use Rattle.mrp_qty.specs.declared.limits.TheConstants.{LARGE, USUAL}
 
+-- the limits of a set, each as a number
 abbrev pub limits_of : LimitSet → Limits
 limits_of set.Usual = USUAL
 limits_of set.Large = LARGE

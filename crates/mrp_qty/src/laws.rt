@@ -4,14 +4,14 @@ ghost use Rattle.std.specs.Prelude.{◌≡◌, ◌+◌, ◌*◌, ◌^◌};
 ghost use Rattle.mrp_qty.specs.declared.horizon.TheConstants.{LONGEST};
 ghost use Rattle.mrp_qty.specs.declared.quantity.TheConstants.{MOST};
 ghost use Rattle.mrp_qty.specs.declared.limits.LimitSet.{LimitSet};
-ghost use Rattle.mrp_qty.specs.declared.limits.TheConstants.{LARGE, USUAL, MAX_TURNS, MOST_BILLS, MOST_DEMANDS, MOST_IN_ROW};
-ghost use Rattle.mrp_qty.specs.declared.limits.TheConstants.{MOST_OF_A_KIND, MOST_PAIRS, MOST_PER, MOST_PLANTS};
-ghost use Rattle.mrp_qty.specs.declared.limits.TheConstants.{MOST_RECORDS, MOST_ROOM, MOST_SHARE, MOST_SOURCES};
+ghost use Rattle.mrp_qty.specs.declared.limits.TheConstants.{LARGE, USUAL, MAX_TURNS, MOST_BILLS, MOST_DEMANDS};
+ghost use Rattle.mrp_qty.specs.declared.limits.TheConstants.{MOST_IN_ROW, MOST_OF_A_KIND, MOST_PAIRS, MOST_PER};
+ghost use Rattle.mrp_qty.specs.declared.limits.TheConstants.{MOST_PLANTS, MOST_RECORDS, MOST_ROOM, MOST_SHARE, MOST_SOURCES};
 ghost use Rattle.mrp_qty.specs.declared.limits.TheConstants.{MOST_SOURCES_OF_PAIR, MOST_TURNS, MOST_WORKERS};
 ghost use Rattle.mrp_qty.specs.Limits.{limits_of, rows_within};
 
-/// The limits that are the same for every table, as numbers: a quantity is at most 10^15 pieces, and the others are those
-/// of a row, of a text of records and of a run.
+/// The limits that are the same for every table, as numbers: a quantity is at most 10^15 pieces, and the others are
+/// those of a row, of a text of records and of a run.
 pub fn limits_are_numbers()
     ensures most { MOST ≡ 1000000000000000 }
     ensures sources_of_pair { MOST_SOURCES_OF_PAIR ≡ 4 }

@@ -47,7 +47,7 @@ pub const USUAL: Limits = Limits {
     of_a_kind: 1_000_000,
     periods: 104,
     lead: 104,
-    turns: 5_540_170,
+    turns: MAX_TURNS,
 };
 
 /// The limits of any table: 1,000 plants, 1,000,000 pairs, 520 periods.

@@ -37,7 +37,7 @@ impl Row {
         Ok(Row { amounts })
     }
 
-    /// How many periods the row has, 1 to 104.
+    /// How many periods the row has, 1 to 520.
     pub fn len(&self) -> usize
         ensures value { result ≡ length self.now }
         ensures row { IsRow self.now }
@@ -85,7 +85,7 @@ impl Row {
         periods::add_times(self.amounts.as_mut_slice(), times, other.as_slice());
     }
 
-    /// The sum over all periods, at most 104 times 10^15.
+    /// The sum over all periods, at most 520 times 10^15.
     pub fn total(&self) -> u64
         ensures { result ≡ sum self.now }
     {
