@@ -31,7 +31,8 @@ of_left (Some rows) says more go h = go rows h
 -- ---- a fault of the rows is one however they are read
 
 fault_as : (reading : Reading) (e : TableFault) (rows : List (List (List ℕ))) → TellsRows reading.limits (Err e) rows → TellsRowsAs reading (Err e) rows
-fault_as reading e rows = of_rows e.kind (IsSoundAbove reading.limits e.row rows) (Reads reading.limits rows (Err e)) (ReadsAs reading rows (Err e)) (λ reads. (Err e, reads, refl))
+fault_as reading e rows = of_rows e.kind (IsSoundAbove reading.limits e.row rows) (Reads reading.limits rows (Err e)) (ReadsAs reading rows (Err e))
+    (λ reads. (Err e, reads, refl))
 
 pub left_as : (reading : Reading) (left : Option (List (List (List ℕ)))) (e : TableFault) → OfLeft left (TellsRows reading.limits (Err e))
     → OfLeft left (TellsRowsAs reading (Err e))
@@ -110,7 +111,8 @@ reads_plainly r rows h = subst (Reads set.Usual rows) (sym (h.2 ∙ plain_is h.0
 
 tells_plainly : (r : Result Table TableFault) (rows : List (List (List ℕ))) → TellsRowsAs plainly r rows → TellsRows set.Usual r rows
 tells_plainly (Ok N) rows h = reads_plainly (Ok N) rows h
-tells_plainly (Err e) rows h = of_rows e.kind (IsSoundAbove set.Usual e.row rows) (ReadsAs plainly rows (Err e)) (Reads set.Usual rows (Err e)) (reads_plainly (Err e) rows) h
+tells_plainly (Err e) rows h = of_rows e.kind (IsSoundAbove set.Usual e.row rows) (ReadsAs plainly rows (Err e)) (Reads set.Usual rows (Err e))
+    (reads_plainly (Err e) rows) h
 
 pub plain : (text : Option (List ℕ)) (r : Result Table TableFault) → OfRecords text (TellsRowsAs plainly r) → OfRecords text (TellsRows set.Usual r)
 plain None r h = tt

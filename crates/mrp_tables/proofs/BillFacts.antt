@@ -1,7 +1,6 @@
 -- What a bill row says of a table without its bills, and what it makes of the table with them.
 use Rattle.std.proofs.Common.{◌≡◌, ℕ, Bool, true, false, not, List, length, nat_lt, Option, Some, None, is_some, option_map, ok_or, Result, Ok, Err}
 use Rattle.std.proofs.Common.{refl, sym, ap, ◌∙◌}
-use Rattle.mrp_qty.specs.declared.limits.TheConstants.{MOST_BILLS}
 use Rattle.mrp_master_data.specs.Growing.{with_bill}
 use Rattle.mrp_master_data.specs.Names.{pair_named, plant_no}
 use Rattle.mrp_master_data.specs.Table.{Table}

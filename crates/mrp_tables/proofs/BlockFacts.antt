@@ -2,7 +2,7 @@
 use Rattle.std.proofs.Common.{◌≡◌, ℕ, suc, ◌+◌, ◌<◌, true, List, [], ◌∷◌, ◌++◌, drop, take, set, length, get_or, Option, Some, None, Result, Ok, Err}
 use Rattle.std.proofs.Common.{refl, ap, sym, ◌∙◌, subst, arith}
 use Rattle.std.proofs.Common.{add-one, append_assoc, drop-cons, length-append}
-use Rattle.std.proofs.lemmas.List.{append-nil, take_more_set}
+use Rattle.std.proofs.lemmas.List.{append-nil, drop_all, take_more_set}
 use Rattle.std.specs.Io.KnownBytes.{Consumes, prepend_known}
 use Rattle.csv.specs.Reading.{strip_bom}
 use Rattle.mrp_master_data.specs.Table.{Table}
@@ -20,6 +20,7 @@ use Rattle.mrp_tables.specs.declared.pieces.Piece.{Piece}
 use Rattle.mrp_tables.specs.Drafts.{draft_state}
 use Rattle.mrp_tables.specs.Pieces.{AreGood, IsGood, IsPlain, none_left_of, rows_in, rows_of_bytes, TellsPieces, TellsRead, TellsThem, texts_of}
 use Rattle.mrp_tables.proofs.Apart.{parts_are_read_apart}
+use Rattle.mrp_tables.proofs.SourceFacts.{ahead_none}
 
 abbrev Rows : Type 0
 Rows = List (List (List ℕ))
@@ -181,21 +182,9 @@ texts_same (p ∷ ps) (q ∷ qs) count same =
     let tail = texts_same ps qs (omega (arith, count)) (λ k d lt. same (suc k) d (omega arith)) in
     λ i. head i ++ tail i
 
-pub prepend_on : (bs cs : List ℕ) (known : Option (List ℕ)) → prepend_known bs (prepend_known cs known) ≡ prepend_known (bs ++ cs) known
-prepend_on bs cs None = refl
-prepend_on bs cs (Some xs) = ap (λ (t : List ℕ). Some t) (sym (append_assoc bs cs xs))
-
 -- a plain piece, and what stands behind it
 pub apart_rows : (text more : List ℕ) → IsPlain text → rows_in (text ++ more) ≡ rows_in text ++ rows_in more
 apart_rows text more plain = parts_are_read_apart text more plain.quotes plain.closed
-
--- the rows of a piece were taken, and those of the pieces behind it are left
-pub goes_piece : (text others tail : List ℕ) (n m : ℕ) (s t : Table × Kind) → IsPlain text
-    → ReadsOn (Some (rows_in text ++ rows_in (others ++ tail))) (Some (rows_in (others ++ tail))) n s m t
-    → ReadsOn (Some (rows_in ((text ++ others) ++ tail))) (Some (rows_in (others ++ tail))) n s m t
-goes_piece text others tail n m s t plain goes =
-    subst (λ (rows : Rows). HasReadOn rows (rows_in (others ++ tail)) n s m t)
-    (sym (apart_rows text (others ++ tail) plain) ∙ ap rows_in (sym (append_assoc text others tail))) goes
 
 pub tells_piece : {A : Type 0} (text others tail : List ℕ) (old new : Draft) (r : Result A TableFault) → IsPlain text → TellsThem (rows_in text) old new r
     → TellsRead (Some (rows_in ((text ++ others) ++ tail))) (Some (rows_in (others ++ tail))) old new r
@@ -258,6 +247,12 @@ pub block_left : (before mid : Option (List ℕ)) (texts : List ℕ) (pieces : L
     (draft_state new)
 block_left before mid texts pieces taken old new filled same tells =
     block_taken before mid (prepend_known (texts_of (drop taken pieces)) mid) texts pieces taken old new filled same tells refl
+
+-- where all pieces were taken, nothing is given back
+pub all_taken : (mid after : Option (List ℕ)) (pieces : List Piece) (taken : ℕ) → after ≡ prepend_known (texts_of (drop taken pieces)) mid
+    → taken ≡ length pieces → after ≡ mid
+all_taken mid after pieces taken given whole =
+    given ∙ ap (λ (ps : List Piece). prepend_known (texts_of ps) mid) (drop_all taken pieces (omega (arith, whole))) ∙ ahead_none [] 0 mid (omega arith)
 
 nothing : (k : TableFaultKind) → OfRows k (Unit {0}) (Unit {0})
 nothing fault.ReadFault = tt

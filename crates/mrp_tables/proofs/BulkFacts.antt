@@ -2,7 +2,6 @@
 -- the same pairs, lanes and periods.
 use Rattle.std.proofs.Common.{◌≡◌, ℕ, Bool, true, false, not, List, length, nat_lt, Some, Result, Ok, Err, refl, sym, ap, ◌∙◌, subst}
 use Rattle.csv.specs.Records.{AllText}
-use Rattle.mrp_qty.specs.declared.limits.TheConstants.{MOST_BILLS, MOST_OF_A_KIND}
 use Rattle.mrp_master_data.specs.Growing.{with_bill, with_demand, with_receipt, with_ship}
 use Rattle.mrp_master_data.specs.Table.{horizon, Table}
 use Rattle.mrp_master_data.specs.declared.numbers.PairNo.{PairNo}
@@ -54,9 +53,6 @@ pub is_kind : (row : List (List ℕ)) (k l : Kind) → AllText row → row_kind 
 is_kind row k l text is same = text_kind row text ∙ is ∙ ap (λ (j : Kind). Ok j) same
 
 -- ---- the same pairs, lanes and periods
-
-pub keeps_itself : (N : Table) → KeepsNames N N
-keeps_itself N = refl
 
 pub keeps_on : (N M P : Table) → KeepsNames N M → KeepsNames M P → KeepsNames N P
 keeps_on N M P first then = then ∙ ap (λ (T : Table). record T { bills = P.bills; demands = P.demands; receipts = P.receipts; ships = P.ships }) first
@@ -130,7 +126,8 @@ amount-room {A} N M row room more made x kept is =
 
 ship-room-of : (N : Table) (bs : List BillRow) (ds : List DemandRow) (rs : List ReceiptRow) (ss : List ShipRow) (row : List (List ℕ)) (x : ShipRow)
     → ship_of N row ≡ Ok x
-    → ship_of (record N { bills = bs; demands = ds; receipts = rs; ships = ss }) row ≡ (check (nat_lt (length ss) (most N).of_a_kind) fault.TooMany >>= λ u. Ok x)
+    → ship_of (record N { bills = bs; demands = ds; receipts = rs; ships = ss }) row ≡
+    (check (nat_lt (length ss) (most N).of_a_kind) fault.TooMany >>= λ u. Ok x)
 unfolding ship_of
 ship-room-of N bs ds rs ss row x is =
     let terms = after (ship_terms row (horizon N)) _ x is in

@@ -9,7 +9,6 @@ use Rattle.mrp_master_data.specs.Rows.{Vendor}
 use Rattle.mrp_master_data.specs.declared.rows.PolicyRow.{PolicyRow}
 use Rattle.mrp_master_data.specs.declared.rows.ResetRow.{ResetRow}
 use Rattle.mrp_master_data.specs.Table.{IsPolicyRow, IsRead, IsVendorRow, Table}
-use Rattle.mrp_qty.specs.declared.limits.TheConstants.{MOST_PAIRS}
 use Rattle.mrp_validation.proofs.KeepingFew.{few, HasBelow}
 use Rattle.mrp_validation.specs.Grammar.{cum_between, reset_between}
 use Rattle.mrp_tables.specs.Lists.{bill_key_of, cum_key_of, key_between, lane_of, policy_key_of, reset_key_of, usage_key_of}

@@ -43,14 +43,6 @@ item_more N M k l name read knows named fresh made plants items pairs =
     } in
     subst (λ (T : Table). Knows T l) (sym made) (subst (λ (is : List (List ℕ)). FindsAll N.plants is N.pairs l) (sym grown) more)
 
-pub item_same : (N : Table) (k l : KnownNames) → Knows N k → l.plants.keys ≡ k.plants.keys → l.items.keys ≡ k.items.keys → l.pairs.keys ≡ k.pairs.keys
-    → Knows N l
-item_same N k l knows plants items pairs = record {
-  plants = subst (FindsNames N.plants) (sym plants) knows.plants;
-  items = subst (FindsNames N.items) (sym items) knows.items;
-  pairs = pairs ∙ knows.pairs;
-}
-
 pub pair_more : (N M : Table) (k l : KnownNames) (row : PairRow) (plant item : List ℕ) → Knows N k → slice_get N.plants row.plant.0 ≡ Some plant
     → slice_get N.items row.item.0 ≡ Some item → M ≡ with_pair N row
     → l.plants.keys ≡ k.plants.keys → l.items.keys ≡ k.items.keys → l.pairs.keys ≡ k.pairs.keys ++ named_key plant item ∷ []

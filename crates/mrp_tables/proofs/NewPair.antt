@@ -1,29 +1,25 @@
 -- The reader of tables: it adds a pair row, with its item and its sources.
-use Rattle.std.proofs.Common.{◌≡◌, ◌+◌, ◌<◌, ◌≤◌, ◌==◌, ◌&&◌, ℕ, Bool, true, false, if◌then◌else◌, List, [], ◌∷◌, ◌++◌, length, map, get_or, take, position}
+use Rattle.std.proofs.Common.{◌≡◌, ◌+◌, ◌<◌, ◌==◌, ◌&&◌, ℕ, Bool, true, false, if◌then◌else◌, List, [], ◌∷◌, ◌++◌, length, map, get_or, take, position}
 use Rattle.std.proofs.Common.{unwrap_or, Option, Some, None, refl, sym, ap, ◌∙◌, subst, append_assoc, arith}
 use Rattle.std.specs.List.{list_any}
 use Rattle.std.specs.Str.{bytes_eq}
 use Rattle.std.proofs.lemmas.Bool.{eqb-true, false≢true}
 use Rattle.std.proofs.lemmas.Bool.Decides.{nat_tests}
-use Rattle.std.proofs.lemmas.List.{get_or_append_left, get_or-take, length-take-le, length_push, map-append, take_all, take_more}
+use Rattle.std.proofs.lemmas.List.{get_or_append_left, get_or-take, length-take-le, length_push, map-append, take_more}
 use Rattle.std.proofs.lemmas.List.Folds.{list_any-append, list_any_at, list_any_none}
 use Rattle.std.proofs.Math.Seq.{get_or-append_seam}
 use Rattle.std.proofs.lemmas.List.Quantifiers.{position-Some}
 use Rattle.std.proofs.lemmas.List.Sums.{AllPass-from_list_all}
 use Rattle.std.proofs.lemmas.Option.{get_or_from_slice_get, slice_get-get_or}
 use Rattle.std.proofs.lemmas.Slice.Eq.{bytes_eq-Decides}
-use Rattle.mrp_tables.specs.declared.draft.Arrivals.{Arrivals}
-use Rattle.mrp_tables.specs.declared.draft.LaneKey.{LaneKey}
 use Rattle.mrp_master_data.specs.declared.rows.PairRow.{PairRow}
 use Rattle.mrp_master_data.specs.declared.rows.SourceRow.{SourceRow}
 use Rattle.mrp_tables.specs.Drafts.{IsNewPair, with_sources}
 use Rattle.mrp_master_data.specs.Names.{has_plant, pair_named, pair_of_item, plant_no}
 use Rattle.mrp_validation.specs.Grammar.{knows_sources, source_row}
 use Rattle.mrp_master_data.specs.Growing.{add_item, with_item, with_pair, with_source}
-use Rattle.mrp_tables.specs.Lists.{FitsRows}
 use Rattle.mrp_master_data.specs.Supplies.{SourceTerms}
 use Rattle.mrp_master_data.specs.Table.{IsRead, is_taken_from, Table}
-use Rattle.mrp_master_data.proofs.Grow.{length-add_item-le}
 use Rattle.mrp_master_data.proofs.Keys.{All-from_position, position_is}
 use Rattle.mrp_master_data.proofs.Mapped.{list_any_keys}
 
@@ -101,9 +97,6 @@ module _ (N M : Table) (x : ℕ) (ss : List SourceTerms) (i : ℕ) (d : SourceTe
       made ∙ ap (λ (T : Table). with_source T (source_row T x (get_or ss i d))) is
       ∙ ap (λ (rows : List SourceRow). let T : Table = record N { sources = rows } in T) step
 
-  pub sources_all : length ss ≤ i → M ≡ with_sources N x ss
-  sources_all le = is ∙ ap (with_sources N x) (take_all i ss le)
-
 -- ---- the pair and its item
 
 -- a pair that isn't there has a new key
@@ -155,22 +148,6 @@ fresh_pair N plant name item read lacks is = by (list_any (bytes_eq name) N.item
         subst (λ k. list_any (at_key plant k) N.pairs ≡ false) (sym here)
         (list_any_none (at_key plant (length N.items)) N.pairs (λ k d lt. misses ((get_or N.pairs k d).plant.0 == plant) (get_or N.pairs k d).item.0
         (length N.items) (read.pairs k d lt).item))
-
--- what is known of the sources stays when a pair and its item are added
-pub pair_fit : (N N1 N2 : Table) (name : List ℕ) (row : PairRow) (keys : List LaneKey) (states : List Arrivals) → N1 ≡ with_item N name → N2 ≡ with_pair N1 row
-    → FitsRows N keys states → FitsRows N2 keys states
-pair_fit N N1 N2 name row keys states e1 e2 fits =
-    let longer : length (N.pairs ++ row ∷ []) ≡ length N.pairs + 1 = length_push N.pairs row in
-    let bounds = length-add_item-le N.items name in
-    let made : FitsRows (with_pair (with_item N name) row) keys states = record {
-      lane_keys = fits.lane_keys;
-      apart = fits.apart;
-      each = fits.each;
-      lanes = fits.lanes;
-      sources = omega (arith, longer, fits.sources);
-      items = omega (arith, longer, bounds.1, fits.items);
-    } in
-    subst (λ (T : Table). FitsRows T keys states) (sym (e2 ∙ ap (λ (T : Table). with_pair T row) e1)) made
 
 -- the pair after the last is new
 pub pair_new : (N N1 N2 : Table) (name : List ℕ) (row : PairRow) (x : ℕ) → N1 ≡ with_item N name → N2 ≡ with_pair N1 row → x ≡ length N.pairs → IsRead N

@@ -1,8 +1,7 @@
 -- Reading a table in pieces: what the rows of a piece say, noted row by row.
-use Rattle.std.proofs.Common.{◌≡◌, ℕ, List, [], ◌∷◌, ◌++◌, Option, Some, None, refl, ap, sym, ◌∙◌, subst, append_assoc}
-use Rattle.std.proofs.lemmas.List.{append-nil}
+use Rattle.std.proofs.Common.{◌≡◌, ℕ, List, [], ◌∷◌, ◌++◌, Option, Some, None, refl, ap, sym, ◌∙◌, append_assoc}
 use Rattle.mrp_master_data.specs.Table.{Table}
-use Rattle.mrp_validation.specs.Left.{OfLeft, TakesRow}
+use Rattle.mrp_validation.specs.Left.{TakesRow}
 use Rattle.mrp_tables.specs.declared.bulk.BulkRow.{BulkRow}
 use Rattle.mrp_tables.specs.Bulk.{IsBulk, SayAll, Says}
 use Rattle.mrp_tables.specs.Pieces.{HaveSaid}
@@ -32,11 +31,3 @@ module _ (N : Table) where
     so.1 ∙ ap (λ (l : List (List (List ℕ))). so.0 ++ l) one.1 ∙ sym (append_assoc so.0 (one.0 ∷ []) rest),
     say_more so.0 said one.0 b so.2 one.2 one.3,
   )
-
-  -- no row is left
-  pub noted_all : (all left : Option (List (List (List ℕ)))) (said : List BulkRow) → HaveSaid N all left said → OfLeft left (λ rows. rows ≡ [])
-      → OfLeft all (λ rows. SayAll N rows said)
-  noted_all None left said so none = tt
-  noted_all (Some rows) None said so none = absurd so
-  noted_all (Some rows) (Some left) said so none =
-      subst (λ (l : List (List (List ℕ))). SayAll N l said) (sym (so.1 ∙ ap (λ (l : List (List (List ℕ))). so.0 ++ l) none ∙ append-nil so.0)) so.2

@@ -10,7 +10,7 @@ use Rattle.mrp_validation.specs.declared.fault.TableFault.{TableFault}
 use Rattle.mrp_validation.specs.declared.fault.TableFaultKind.{TableFaultKind}
 use Rattle.mrp_validation.specs.declared.kind.Kind.{Kind}
 use Rattle.mrp_validation.proofs.Keeping.{row_after_keeps}
-use Rattle.mrp_validation.proofs.Loop.{goes_nowhere, goes_on_on, goes_row, goes_to_fault, stops_row}
+use Rattle.mrp_validation.proofs.Loop.{goes_on_on, goes_row, goes_to_fault, stops_row}
 use Rattle.mrp_tables.specs.declared.bulk.BulkRow.{BulkRow}
 use Rattle.mrp_tables.specs.declared.draft.Draft.{Draft}
 use Rattle.mrp_tables.specs.Bulk.{bulk_after, IsBulk, SayAll, Says, TellsAfter}
@@ -23,10 +23,6 @@ pub record TakenSo (rows : List (List (List ℕ))) (old d : Draft) (said : List 
   pub rest : List (List (List ℕ))
   pub says : IsSaid d.lists rest said
   pub goes : (more : List (List (List ℕ))) → ReadsOn (Some (rows ++ more)) (Some (rest ++ more)) (old.rows + 1) (draft_state old) (d.rows + 1) (draft_state d)
-
-pub taken_none : (rows : List (List (List ℕ))) (old : Draft) (said : List BulkRow) → IsSaid old.lists rows said → TakenSo rows old old said
-taken_none rows old said says =
-    record { rest = rows; says = says; goes = λ more. goes_nowhere (Some (rows ++ more)) (old.rows + 1) (draft_state old) }
 
 -- the row that says the first of what is left
 record First (of : Table) (rest : List (List (List ℕ))) (b : BulkRow) (said : List BulkRow) : Type 0 where

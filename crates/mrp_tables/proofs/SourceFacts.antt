@@ -1,5 +1,5 @@
 -- The reader of tables: what it gets of bytes in front of a reader, and of the reader behind them.
-use Rattle.std.proofs.Common.{◌≡◌, ℕ, ◌+◌, ◌-◌, ◌≤◌, List, [], ◌++◌, length, take, drop, Option, Some, None, Result, Ok, Err, OnOk, refl, sym, ap}
+use Rattle.std.proofs.Common.{◌≡◌, ℕ, ◌+◌, ◌-◌, ◌≤◌, List, ◌++◌, length, take, drop, Option, Some, None, Result, Ok, Err, OnOk, refl, sym, ap}
 use Rattle.std.proofs.Common.{◌∙◌, append_assoc, arith}
 use Rattle.std.proofs.Common.{length-append, length-take-le, subst, take-add, take-take, take_at, drop_at}
 use Rattle.std.proofs.lemmas.List.{drop_all, length-take, take_all, take-append-le}
@@ -22,10 +22,6 @@ consumes_on None mid new bs cs first then = tt
 consumes_on (Some xs) None new bs cs first then = absurd first
 consumes_on (Some xs) (Some ys) None bs cs first then = absurd then
 consumes_on (Some xs) (Some ys) (Some zs) bs cs first then = first ∙ ap (λ (t : List ℕ). bs ++ t) then ∙ sym (append_assoc bs cs zs)
-
-pub consumes_none : (known : Option (List ℕ)) → Consumes known known []
-consumes_none None = tt
-consumes_none (Some xs) = refl
 
 pub consumes_kept : (old mid new : Option (List ℕ)) (bs : List ℕ) → Keeps old mid → Consumes mid new bs → Consumes old new bs
 consumes_kept None mid new bs kept taken = tt

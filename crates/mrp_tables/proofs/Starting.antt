@@ -58,7 +58,8 @@ abbrev given : Result Table TableFaultKind → List Begun
 given (Ok N) = N.calendar.begun
 given (Err e) = []
 
-no_days-by : (limits : LimitSet) (t : RunTerms) (N : Table) (c : Result CalendarTerms CalFault) → IsCalendarOf t c → Ok N ≡ started limits c → N.calendar.begun ≡ []
+no_days-by : (limits : LimitSet) (t : RunTerms) (N : Table) (c : Result CalendarTerms CalFault) → IsCalendarOf t c → Ok N ≡ started limits c
+    → N.calendar.begun ≡ []
 no_days-by limits t N (Ok c) is same = ap given same ∙ is.0.begun
 no_days-by limits t N (Err e) is same = ap given same
 
@@ -79,9 +80,11 @@ module _ (row : List (List ℕ)) (text : AllText row) where
   pub first-bad_order : (limits : LimitSet) (k : Kind) → row_kind row ≡ Ok k → is_run k ≡ false → Starts limits row (Err fault.KindOrder)
   first-bad_order limits k is other = starts-refused limits (first_terms limits row) fault.KindOrder (first-other row text limits k is other)
 
-  pub first-calendar : (limits : LimitSet) (k : Kind) (start : Result Table TableFaultKind) → row_kind row ≡ Ok k → is_run k ≡ true → StartsWith limits (run_terms limits row) start
+  pub first-calendar : (limits : LimitSet) (k : Kind) (start : Result Table TableFaultKind) → row_kind row ≡ Ok k → is_run k ≡ true
+      → StartsWith limits (run_terms limits row) start
       → Starts limits row start
-  first-calendar limits k start is run with_run = subst (λ (r : Result RunTerms TableFaultKind). StartsWith limits r start) (sym (first-run row text limits k is run)) with_run
+  first-calendar limits k start is run with_run = subst (λ (r : Result RunTerms TableFaultKind). StartsWith limits r start)
+      (sym (first-run row text limits k is run)) with_run
 
 -- a derived test for the run
 same_run : (k : Kind) → sameb kind_type k kind.Run ≡ is_run k

@@ -59,35 +59,36 @@ begun_fault limits (Some rows) (Some rest) row e takes tells = λ more.
     first_fault limits (Some (rows ++ more)) (Some (rest ++ more)) row e (takes_more rows rest more row takes) tells
 
 -- the first row starts a table, and those behind it
-module _ (limits : LimitSet) (row : List (List ℕ)) (made d : Draft) (starts : Starts limits row (Ok made.lists) × (made.last ≡ kind.Run)) (one : made.rows ≡ 1) where
-  second : made.rows + 1 ≡ 2
-  second = omega (arith, one)
+module _ (limits : LimitSet) (row : List (List ℕ)) (made d : Draft) (starts : Starts limits row (Ok made.lists) × (made.last ≡ kind.Run)) (one : made.rows ≡ 1)
+  where
+    second : made.rows + 1 ≡ 2
+    second = omega (arith, one)
 
-  pub begun_rest_fault : (left after : Option Rows) (e : TableFault) → TakesRow left after row → Faulty after made e
-      → OfLeft left (λ rows. TellsBegun limits rows (Err e))
-  begun_rest_fault None after e takes bad = tt
-  begun_rest_fault (Some rows) None e takes bad = absurd takes
-  begun_rest_fault (Some rows) (Some rest) e takes bad = λ more.
-      rest_fault limits (Some (rows ++ more)) (Some (rest ++ more)) row made.lists made.last e (takes_more rows rest more row takes) starts
-      (subst (λ (n : ℕ). OfRows e.kind (IsSoundTo n (draft_state made) e.row (rest ++ more)) (rows_after n (draft_state made) (rest ++ more) ≡ Err e)) second
-      (fault_then_more (made.rows + 1) (draft_state made) rest more e bad))
+    pub begun_rest_fault : (left after : Option Rows) (e : TableFault) → TakesRow left after row → Faulty after made e
+        → OfLeft left (λ rows. TellsBegun limits rows (Err e))
+    begun_rest_fault None after e takes bad = tt
+    begun_rest_fault (Some rows) None e takes bad = absurd takes
+    begun_rest_fault (Some rows) (Some rest) e takes bad = λ more.
+        rest_fault limits (Some (rows ++ more)) (Some (rest ++ more)) row made.lists made.last e (takes_more rows rest more row takes) starts
+        (subst (λ (n : ℕ). OfRows e.kind (IsSoundTo n (draft_state made) e.row (rest ++ more)) (rows_after n (draft_state made) (rest ++ more) ≡ Err e)) second
+        (fault_then_more (made.rows + 1) (draft_state made) rest more e bad))
 
-  pub begun_rest : (left after : Option Rows) → TakesRow left after row
-      → ReadsOn after (none_left_of after) (made.rows + 1) (draft_state made) (d.rows + 1) (draft_state d)
-      → OfLeft left (λ rows. TellsBegun limits rows (Ok (Some d)))
-  begun_rest None after takes goes = tt
-  begun_rest (Some rows) None takes goes = absurd takes
-  begun_rest (Some rows) (Some rest) takes goes = λ more. record {
-    row = row;
-    later = rest ++ more;
-    made = made.lists;
-    last = made.last;
-    rows_are = takes_more rows rest more row takes;
-    starts = starts;
-    goes =
-        subst (λ (n : ℕ). HasReadOn (rest ++ more) more n (draft_state made) (d.rows + 1) (draft_state d)) second
-        (goes_then_more rest more (made.rows + 1) (d.rows + 1) (draft_state made) (draft_state d) goes);
-  }
+    pub begun_rest : (left after : Option Rows) → TakesRow left after row
+        → ReadsOn after (none_left_of after) (made.rows + 1) (draft_state made) (d.rows + 1) (draft_state d)
+        → OfLeft left (λ rows. TellsBegun limits rows (Ok (Some d)))
+    begun_rest None after takes goes = tt
+    begun_rest (Some rows) None takes goes = absurd takes
+    begun_rest (Some rows) (Some rest) takes goes = λ more. record {
+      row = row;
+      later = rest ++ more;
+      made = made.lists;
+      last = made.last;
+      rows_are = takes_more rows rest more row takes;
+      starts = starts;
+      goes =
+          subst (λ (n : ℕ). HasReadOn (rest ++ more) more n (draft_state made) (d.rows + 1) (draft_state d)) second
+          (goes_then_more rest more (made.rows + 1) (d.rows + 1) (draft_state made) (draft_state d) goes);
+    }
 
 pub begun_none : (limits : LimitSet) (left : Option Rows) → OfLeft left (λ rows. TellsBegun limits rows (Ok None))
 begun_none limits None = tt
@@ -122,19 +123,11 @@ sound_first : (limits : LimitSet) (left : Option Rows) → OfLeft left (TellsRow
 sound_first limits None = tt
 sound_first limits (Some rows) = record { above = []; rest = rows; rows_are = refl; number_is = omega arith; no_fault = tt }
 
-pub beginning_refused : (limits : LimitSet) (before after : Option (List ℕ)) (e : TableFault) → e ≡ record { row = 1; kind = fault.Memory } → TellsBeginning limits before after (Err e)
+pub beginning_refused : (limits : LimitSet) (before after : Option (List ℕ)) (e : TableFault) → e ≡ record { row = 1; kind = fault.Memory }
+    → TellsBeginning limits before after (Err e)
 beginning_refused limits before after e is =
     subst (λ (f : TableFault). OfLeft (rows_of_bytes (option_map strip_bom before)) (TellsRows limits (Err f))) (sym is)
     (sound_first limits (rows_of_bytes (option_map strip_bom before)))
-
--- where the bytes left stay as they are
-pub keeps_beginning : (limits : LimitSet) (before mid after : Option (List ℕ)) (r : Result (Option Draft) TableFault) → Keeps before mid → TellsBeginning limits mid after r
-    → TellsBeginning limits before after r
-keeps_beginning limits None mid after (Ok None) kept tells = tt
-keeps_beginning limits None mid after (Ok (Some d)) kept tells = tt
-keeps_beginning limits None mid after (Err e) kept tells = tt
-keeps_beginning limits (Some xs) None after r kept tells = absurd kept
-keeps_beginning limits (Some xs) (Some ys) after r kept tells = subst (λ (t : List ℕ). TellsBeginning limits (Some t) after r) kept tells
 
 -- what was taken of the bytes left was read in front of the others
 pub begun_front : (limits : LimitSet) (before mid after : Option (List ℕ)) (text : List ℕ) (r : Result (Option Draft) TableFault) → Consumes before mid text

@@ -52,9 +52,12 @@ abbrev pub with_bulk : Table → BulkRow → Result Table TableFaultKind
 with_bulk N (bulk.Bill b) =
     check (not (has_bill N (Some b.parent.0) (Some b.component.0))) fault.Repeated >>= λ u.
     check (nat_lt (length N.bills) (most N).bills) fault.TooMany >>= λ u. Ok (with_bill N b)
-with_bulk N (bulk.Demand d) = check (nat_lt (length N.demands) (most N).demands) fault.TooMany >>= λ u. Ok (with_demand N d)
-with_bulk N (bulk.Receipt r) = check (nat_lt (length N.receipts) (most N).of_a_kind) fault.TooMany >>= λ u. Ok (with_receipt N r)
-with_bulk N (bulk.Ship s place) = check (nat_lt (length N.ships) (most N).of_a_kind) fault.TooMany >>= λ u. Ok (with_ship N s)
+with_bulk N (bulk.Demand d) = check (nat_lt (length N.demands) (most N).demands) fault.TooMany
+    >>= λ u. Ok (with_demand N d)
+with_bulk N (bulk.Receipt r) = check (nat_lt (length N.receipts) (most N).of_a_kind) fault.TooMany
+    >>= λ u. Ok (with_receipt N r)
+with_bulk N (bulk.Ship s place) = check (nat_lt (length N.ships) (most N).of_a_kind) fault.TooMany
+    >>= λ u. Ok (with_ship N s)
 
 -- the table and the kind of its last row, where this kind may follow
 unfoldable pub bulk_after : Table × Kind → BulkRow → Result (Table × Kind) TableFaultKind

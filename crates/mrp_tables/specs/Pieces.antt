@@ -122,4 +122,5 @@ abbrev pub TellsBeginning : LimitSet → Option (List ℕ) → Option (List ℕ)
 TellsBeginning limits before after (Ok None) = Keeps before after
 TellsBeginning limits before after (Ok (Some d)) =
     BeginsWith limits (rows_of_bytes (option_map strip_bom before)) (rows_of_bytes after) d
-TellsBeginning limits before after (Err e) = OfLeft (rows_of_bytes (option_map strip_bom before)) (TellsRows limits (Err e))
+TellsBeginning limits before after (Err e) =
+    OfLeft (rows_of_bytes (option_map strip_bom before)) (TellsRows limits (Err e))

@@ -5,7 +5,7 @@
 //! gives, and where that is less than a piece no more is read before its rows are looked at. From the first piece that
 //! isn't good the one loop reads the rest, so faults, their rows and what waits for the last row are its own.
 
-ghost use Rattle.std.specs.Prelude.{◌≡◌, ◌≤◌, ◌<◌, ◌+◌, take, drop, IfOk, OnOk, length};
+ghost use Rattle.std.specs.Prelude.{◌≡◌, ◌≤◌, ◌<◌, ◌+◌, true, take, drop, IfOk, OnOk, length};
 ghost use Rattle.std.specs.Io.KnownBytes.{Consumes, prepend_known};
 ghost use Rattle.mrp_validation.specs.Left.{GivesAll, rows_left};
 ghost use Rattle.mrp_tables.specs.Drafts.{IsDraftKept};
@@ -204,6 +204,7 @@ fn read_block<T: Threads + Sync, R: Read>(
     requires some { 0 < length pieces.old }
     ensures exact { TellsRead (rows_of_bytes (prepend_known (texts_of pieces.old) (left_of R.remaining source.old)))
         (rows_of_bytes (left_of R.remaining source.new)) draft.old draft.new result }
+    ensures all { IfOk result (λ all. all ≡ true → left_of R.remaining source.new ≡ left_of R.remaining source.old) }
     ensures draft { OnOk result (IsDraft draft.new) }
     ensures kept { OnOk result (IsDraftKept draft.new) }
     ensures limits { OnOk result (draft.new.lists.limits ≡ draft.old.lists.limits) }
@@ -227,6 +228,7 @@ fn read_piece<R: Read>(
     requires kept { IsDraftKept draft.old }
     ensures exact { TellsRead (rows_of_bytes (prepend_known text.now (left_of R.remaining source.old)))
         (rows_of_bytes (left_of R.remaining source.new)) draft.old draft.new result }
+    ensures all { IfOk result (λ all. all ≡ true → left_of R.remaining source.new ≡ left_of R.remaining source.old) }
     ensures draft { OnOk result (IsDraft draft.new) }
     ensures kept { OnOk result (IsDraftKept draft.new) }
     ensures limits { OnOk result (draft.new.lists.limits ≡ draft.old.lists.limits) }
@@ -255,6 +257,7 @@ fn read_filled<T: Threads + Sync, R: Read>(
     requires some { 0 < length pieces.old }
     ensures exact { TellsRead (rows_of_bytes (prepend_known (texts_of pieces.old) (left_of R.remaining source.old)))
         (rows_of_bytes (left_of R.remaining source.new)) draft.old draft.new result }
+    ensures all { IfOk result (λ all. all ≡ true → left_of R.remaining source.new ≡ left_of R.remaining source.old) }
     ensures draft { OnOk result (IsDraft draft.new) }
     ensures kept { OnOk result (IsDraftKept draft.new) }
     ensures limits { OnOk result (draft.new.lists.limits ≡ draft.old.lists.limits) }

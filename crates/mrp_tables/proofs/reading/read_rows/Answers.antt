@@ -201,7 +201,8 @@ returns-clause-least g c = least_rest _ _ _ _ c.in-Err.ensures.later c.tick.ensu
 pub returns-then-not-branch-clause-table : goal.returns-then-not-branch-clause-table
 returns-then-not-branch-clause-table g c =
     left_as c.args.reading (rows_left g.R.Read.remaining c.args.rows.now) (record { row = 0; kind = fault.Empty })
-    (no_first c.args.reading.limits (rows_left g.R.Read.remaining c.args.rows.now) (none_there c.in_ok-next_row.field-0 (rows_left g.R.Read.remaining c.args.rows.now)
+    (no_first c.args.reading.limits (rows_left g.R.Read.remaining c.args.rows.now)
+    (none_there c.in_ok-next_row.field-0 (rows_left g.R.Read.remaining c.args.rows.now)
     (rows_left g.R.Read.remaining c.next_row.new.rows) 1 (fields_of c.next_row.new.row) c.if-not-branch.true c.in_ok-next_row.ensures.exact))
 
 pub returns-then-not-branch-clause-failed : goal.returns-then-not-branch-clause-failed

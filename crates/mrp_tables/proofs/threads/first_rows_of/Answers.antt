@@ -19,7 +19,8 @@ returns-in_err-draft-clause-exact g c =
     let takes = some_there c.in_ok-next_row.field-0 (rows_left g.R.Read.remaining c.args.rows.now) (rows_left g.R.Read.remaining c.next_row.new.rows) 1
     (fields_of c.next_row.new.row) c.if-not-branch.false c.in_ok-next_row.ensures.exact in
     rw (handed_on c.from_residual-in_err-draft.result _ c.from_residual-in_err-draft.ensures.1)
-    (begun_fault c.args.limits (rows_left g.R.Read.remaining c.args.rows.now) (rows_left g.R.Read.remaining c.next_row.new.rows) (fields_of c.next_row.new.row) _ takes
+    (begun_fault c.args.limits (rows_left g.R.Read.remaining c.args.rows.now) (rows_left g.R.Read.remaining c.next_row.new.rows) (fields_of c.next_row.new.row)
+    _ takes
     c.in_err-draft.ensures.exact)
 
 pub returns-in-Ok-clause-exact : goal.returns-in-Ok-clause-exact

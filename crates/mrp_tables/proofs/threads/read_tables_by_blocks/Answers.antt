@@ -22,7 +22,8 @@ pub returns-in-Ok-Some-clause-table : goal.returns-in-Ok-Some-clause-table
 returns-in-Ok-Some-clause-table g c =
     of_bytes (option_map strip_bom (g.R.Read.remaining c.args.reader)) (TellsRowsAs c.args.reading c.finish-read.result)
     (c.finish-read.ensures.exact (rows_of_bytes (option_map strip_bom (g.R.Read.remaining c.args.reader)))
-    (subst (λ (known : Option (List ℕ)). BeginsWith c.args.reading.limits (rows_of_bytes (option_map strip_bom known)) (rows_of_bytes (left_of g.R.Read.remaining c.begin.new.source))
+    (subst (λ (known : Option (List ℕ)). BeginsWith c.args.reading.limits (rows_of_bytes (option_map strip_bom known))
+    (rows_of_bytes (left_of g.R.Read.remaining c.begin.new.source))
     c.in-Ok-Some.draft) c.new-source.ensures (rw c.in-Ok-Some.field-0-is at c.in-Ok-Some.ensures.exact)))
 
 pub returns-in-Err-clause-table : goal.returns-in-Err-clause-table
@@ -30,7 +31,8 @@ returns-in-Err-clause-table g c =
     let text = option_map strip_bom (g.R.Read.remaining c.args.reader) in
     of_bytes text _
     (left_as c.args.reading (rows_of_bytes text) c.in-Err.fault
-    (subst (λ (known : Option (List ℕ)). OfLeft (rows_of_bytes (option_map strip_bom known)) (TellsRows c.args.reading.limits (Err c.in-Err.fault))) c.new-source.ensures
+    (subst (λ (known : Option (List ℕ)). OfLeft (rows_of_bytes (option_map strip_bom known)) (TellsRows c.args.reading.limits (Err c.in-Err.fault)))
+    c.new-source.ensures
     c.in-Err.ensures.exact))
 
 pub returns-in-Ok-Some-clause-limits : goal.returns-in-Ok-Some-clause-limits

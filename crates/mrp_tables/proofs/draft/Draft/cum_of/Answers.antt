@@ -1,11 +1,9 @@
-use Rattle.std.proofs.Common.{◌<◌, ◌≤◌, List, length, ap, subst, arith}
+use Rattle.std.proofs.Common.{◌<◌, length}
 use Rattle.csv.specs.Records.{fields_of}
 use Rattle.mrp_master_data.specs.Table.{IsPair}
 use Rattle.mrp_master_data.specs.declared.numbers.PairNo.{PairNo}
 use Rattle.mrp_master_data.specs.declared.numbers.PlantNo.{PlantNo}
-use Rattle.mrp_master_data.specs.declared.rows.CumRow.{CumRow}
 use Rattle.mrp_tables.specs.Spelled.{terms_of_lane}
-use Rattle.mrp_master_data.specs.Table.{most}
 use Rattle.mrp_tables.proofs.Room.{full_of, room_of}
 use Rattle.mrp_tables.proofs.Finding.{cum_full, cum_known, cum_repeated, cum_unknown, of_found}
 use Rattle.mrp_validation.proofs.KeepingSteps.{handed_on}
@@ -21,7 +19,8 @@ returns-in_err-lane-clause-exact c =
 
 pub returns-then-cums-limits-clause-exact : goal.returns-then-cums-limits-clause-exact
 returns-then-cums-limits-clause-exact c =
-    let many = full_of (λ l. l.of_a_kind) c.limits.result c.args.self.now.lists c.cums.result.now c.args.self.now.lists.cums c.limits.ensures.value c.cums.ensures.value c.if-cums-limits.true in
+    let many = full_of (λ l. l.of_a_kind) c.limits.result c.args.self.now.lists c.cums.result.now c.args.self.now.lists.cums c.limits.ensures.value
+    c.cums.ensures.value c.if-cums-limits.true in
     cum_full c.args.self.now.lists (fields_of c.args.row.now) (terms_of_lane (fields_of c.args.row.now), c.in_ok-figure.figure) c.lane_named-named.result _
     c.in_ok-figure.ensures.exact c.lane_named-named.ensures.exact c.if-has_cum.ensures.exact
     c.in_ok-lane.ensures.exact many
@@ -69,7 +68,8 @@ returns-then-cums-limits-clause-room c = tt
 
 pub returns-clause-exact : goal.returns-clause-exact
 returns-clause-exact c =
-    let room = room_of (λ l. l.of_a_kind) c.limits.result c.args.self.now.lists c.cums.result.now c.args.self.now.lists.cums c.limits.ensures.value c.cums.ensures.value c.if-cums-limits.false in
+    let room = room_of (λ l. l.of_a_kind) c.limits.result c.args.self.now.lists c.cums.result.now c.args.self.now.lists.cums c.limits.ensures.value
+    c.cums.ensures.value c.if-cums-limits.false in
     rw c.of.ensures
     (cum_known c.args.self.now.lists (fields_of c.args.row.now) (terms_of_lane (fields_of c.args.row.now), c.in_ok-figure.figure) c.lane_named-named.result
     c.in_ok-lane.lane c.in_ok-figure.ensures.exact c.lane_named-named.ensures.exact c.if-has_cum.ensures.exact
@@ -85,4 +85,5 @@ returns-clause-row c =
     }
 
 pub returns-clause-room : goal.returns-clause-room
-returns-clause-room c = room_of (λ l. l.of_a_kind) c.limits.result c.args.self.now.lists c.cums.result.now c.args.self.now.lists.cums c.limits.ensures.value c.cums.ensures.value c.if-cums-limits.false
+returns-clause-room c = room_of (λ l. l.of_a_kind) c.limits.result c.args.self.now.lists c.cums.result.now c.args.self.now.lists.cums c.limits.ensures.value
+    c.cums.ensures.value c.if-cums-limits.false

@@ -1,8 +1,7 @@
-use Rattle.std.proofs.Common.{◌<◌, ◌≤◌, List, length, nat_lt, subst}
+use Rattle.std.proofs.Common.{length, nat_lt}
 use Rattle.csv.specs.Records.{fields_of}
 use Rattle.mrp_master_data.specs.Table.{most}
 use Rattle.mrp_tables.proofs.Room.{full_of, room_of}
-use Rattle.mrp_master_data.specs.declared.rows.DemandRow.{DemandRow}
 use Rattle.mrp_validation.specs.Grammar.{demand_made, demand_of}
 use Rattle.mrp_tables.proofs.AmountFacts.{has_none, has_some, row_made, row_refused, row_too_many}
 use Rattle.mrp_validation.proofs.KeepingSteps.{handed_on}
@@ -19,7 +18,8 @@ pub returns-then-demands-limits-clause-exact : goal.returns-then-demands-limits-
 unfolding demand_of
 returns-then-demands-limits-clause-exact c =
     let N = c.args.self.now.lists in
-    let many = full_of (λ l. l.demands) c.limits.result c.args.self.now.lists c.demands.result.now c.args.self.now.lists.demands c.limits.ensures.value c.demands.ensures.value c.if-demands-limits.true in
+    let many = full_of (λ l. l.demands) c.limits.result c.args.self.now.lists c.demands.result.now c.args.self.now.lists.demands c.limits.ensures.value
+    c.demands.ensures.value c.if-demands-limits.true in
     row_too_many N (fields_of c.args.row.now) (nat_lt (length N.demands) (most N).demands) demand_made
     (c.in_ok-amount.amount.pair, c.in_ok-amount.amount.period, c.in_ok-amount.amount.quantity) c.in_ok-amount.ensures.exact
     (has_none (length N.demands) (most N).demands many)
@@ -28,7 +28,8 @@ pub returns-clause-exact : goal.returns-clause-exact
 unfolding demand_of
 returns-clause-exact c =
     let N = c.args.self.now.lists in
-    let room = room_of (λ l. l.demands) c.limits.result c.args.self.now.lists c.demands.result.now c.args.self.now.lists.demands c.limits.ensures.value c.demands.ensures.value c.if-demands-limits.false in
+    let room = room_of (λ l. l.demands) c.limits.result c.args.self.now.lists c.demands.result.now c.args.self.now.lists.demands c.limits.ensures.value
+    c.demands.ensures.value c.if-demands-limits.false in
     rw c.of.ensures
     (row_made N (fields_of c.args.row.now) (nat_lt (length N.demands) (most N).demands) demand_made
     (c.in_ok-amount.amount.pair, c.in_ok-amount.amount.period, c.in_ok-amount.amount.quantity) c.in_ok-amount.ensures.exact

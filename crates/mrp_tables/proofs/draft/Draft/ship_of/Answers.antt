@@ -1,11 +1,9 @@
-use Rattle.std.proofs.Common.{ℕ, ◌<◌, ◌≤◌, List, length, ap, subst, ◌∙◌}
+use Rattle.std.proofs.Common.{ℕ, ◌<◌, length, ap, subst, ◌∙◌}
 use Rattle.csv.specs.Records.{fields_of}
 use Rattle.mrp_cal.specs.Calendar.{CalendarTerms}
 use Rattle.mrp_master_data.specs.Table.{IsPair}
 use Rattle.mrp_master_data.specs.declared.numbers.PairNo.{PairNo}
 use Rattle.mrp_master_data.specs.declared.numbers.PlantNo.{PlantNo}
-use Rattle.mrp_master_data.specs.declared.rows.ShipRow.{ShipRow}
-use Rattle.mrp_master_data.specs.Table.{most}
 use Rattle.mrp_tables.proofs.Room.{full_of, room_of}
 use Rattle.mrp_tables.specs.Spelled.{terms_of_lane}
 use Rattle.mrp_tables.proofs.Finding.{of_found, placed, ship_full, ship_known, ship_unknown}
@@ -50,7 +48,8 @@ returns-then-ships-limits-clause-room c = tt
 pub returns-then-ships-limits-clause-exact : goal.returns-then-ships-limits-clause-exact
 returns-then-ships-limits-clause-exact c =
     let periods = c.horizon-horizon.ensures.value ∙ ap (λ (k : CalendarTerms). k.periods) c.calendar.ensures.value in
-    let many = full_of (λ l. l.of_a_kind) c.limits.result c.args.self.now.lists c.ships.result.now c.args.self.now.lists.ships c.limits.ensures.value c.ships.ensures.value c.if-ships-limits.true in
+    let many = full_of (λ l. l.of_a_kind) c.limits.result c.args.self.now.lists c.ships.result.now c.args.self.now.lists.ships c.limits.ensures.value
+    c.ships.ensures.value c.if-ships-limits.true in
     ship_full c.args.self.now.lists (fields_of c.args.row.now) _
     (terms_of_lane (fields_of c.args.row.now), c.in_ok-period.period, c.in_ok-period.quantity) c.lane_named-named.result c.in_ok-lane.lane
     c.in_ok-period.ensures.exact periods c.lane_named-named.ensures.exact c.in_ok-lane.ensures.exact many
@@ -58,7 +57,8 @@ returns-then-ships-limits-clause-exact c =
 pub returns-clause-exact : goal.returns-clause-exact
 returns-clause-exact c =
     let periods = c.horizon-horizon.ensures.value ∙ ap (λ (k : CalendarTerms). k.periods) c.calendar.ensures.value in
-    let room = room_of (λ l. l.of_a_kind) c.limits.result c.args.self.now.lists c.ships.result.now c.args.self.now.lists.ships c.limits.ensures.value c.ships.ensures.value c.if-ships-limits.false in
+    let room = room_of (λ l. l.of_a_kind) c.limits.result c.args.self.now.lists c.ships.result.now c.args.self.now.lists.ships c.limits.ensures.value
+    c.ships.ensures.value c.if-ships-limits.false in
     rw c.of.ensures
     (ship_known c.args.self.now.lists (fields_of c.args.row.now) _
     (terms_of_lane (fields_of c.args.row.now), c.in_ok-period.period, c.in_ok-period.quantity) c.lane_named-named.result c.in_ok-lane.lane
