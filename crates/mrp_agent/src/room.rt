@@ -36,7 +36,7 @@ impl Model for Room {
 }
 
 impl Room {
-    /// Room for plans of so many periods, 1 to 104, in which nothing is planned.
+    /// Room for plans of so many periods, 1 to 520, in which nothing is planned.
     ///
     /// # Errors
     ///

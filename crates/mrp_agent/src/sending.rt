@@ -1,6 +1,6 @@
 //! The agent: what it sends next on a lane, and how it goes on once that is sent.
 
-ghost use Rattle.std.specs.Prelude.{◌≡◌, ◌==◌, ◌<◌, ◌≤◌, count_by, length, position};
+ghost use Rattle.std.specs.Prelude.{◌≡◌, ◌==◌, ◌<◌, ◌≤◌, true, count_by, length, position};
 ghost use Rattle.std.specs.List.{position_or_len};
 ghost use Rattle.mrp_plant_view.specs.Loads.{load_at};
 ghost use Rattle.mrp_agent.specs.Sending.{next_shipment, next_called, left_to_ship, left_to_call, figure_in};
@@ -102,18 +102,28 @@ impl Agent {
         ensures appended { IfSome result (λ r. IsAppended self.old self.new (outgoing_place self.old.view lane.0) r) }
         ensures unchanged { IfNone result (self.new ≡ self.old) }
     {
-        let k = self.out_place(lane);
+        let k = self.seek(lane);
         let next = self.next_at(k)?;
         self.sent_at(k, next);
         Some(next.entry)
     }
 
     /// The place of a lane among those that go out, or how many these are. It is looked for first where the last
-    /// record was sent.
+    /// record was sent or looked for.
     fn out_place(&self, lane: LaneNo) -> usize
         ensures { result ≡ outgoing_place self.now.view lane.0 }
     {
         outgoing_near(self.view.outgoing(), lane, self.last.sent)
+    }
+
+    /// The same, and the next look begins there.
+    fn seek(&mut self, lane: LaneNo) -> usize
+        ensures place { result ≡ outgoing_place self.old.view lane.0 }
+        ensures unchanged { self.new ≡ self.old }
+    {
+        let k = self.out_place(lane);
+        self.last.sent = k;
+        k
     }
 
     /// What is left of the item at the head of a lane's queue.
@@ -214,14 +224,30 @@ fn outgoing_place(lanes: &[OutgoingLane], lane: LaneNo) -> usize
     find_outgoing(lanes, lane).unwrap_or(lanes.len())
 }
 
-/// The place of a lane among those that go out, or how many these are. The lane is looked for at `near` first.
+/// The place of a lane among those that go out, or how many these are. The lane is looked for at `near` first, and then
+/// right behind it.
 fn outgoing_near(lanes: &[OutgoingLane], lane: LaneNo, near: usize) -> usize
     requires { count_by (λ l. l.number.0 == lane.0) lanes.now ≤ 1 }
     ensures { result ≡ position_or_len (λ l. l.number.0 == lane.0) lanes.now }
 {
-    match lanes.get(near) {
-        Some(known) if known.number.0 == lane.0 => near,
-        _ => outgoing_place(lanes, lane),
+    let next = near.saturating_add(1);
+    if is_outgoing_at(lanes, lane, near) {
+        near
+    } else if is_outgoing_at(lanes, lane, next) {
+        next
+    } else {
+        outgoing_place(lanes, lane)
+    }
+}
+
+/// Whether a lane stands at a place of those that go out.
+fn is_outgoing_at(lanes: &[OutgoingLane], lane: LaneNo, place: usize) -> bool
+    requires { count_by (λ l. l.number.0 == lane.0) lanes.now ≤ 1 }
+    ensures { result ≡ true → position_or_len (λ l. l.number.0 == lane.0) lanes.now ≡ place }
+{
+    match lanes.get(place) {
+        Some(known) => known.number.0 == lane.0,
+        None => false,
     }
 }
 
