@@ -31,9 +31,9 @@ same_records N (r ∷ rs) (s ∷ ss) is hr hs same =
     let others = same_records N rs ss is (All-tail (HasRow N) r rs hr) (All-tail (HasRow N) s ss hs) rest in
     ap (λ x. x ∷ rs) first ∙ ap (λ xs. s ∷ xs) others
 
-pub reads_back : (N : Table) → IsTable N → (written : List Record) → All (HasRow N) written → (read : List Record)
-    → AreRowsOf N (sheet_of (records_text N written)) read → read ≡ written
-reads_back N is written have read are = same_records N read written is are.have_rows have (sym are.rows_are ∙ written_rows N written is have)
+pub reads_back : (most : ℕ) (N : Table) → IsTable N → (written : List Record) → All (HasRow N) written → (read : List Record)
+    → AreRowsOf most N (sheet_of (records_text N written)) read → read ≡ written
+reads_back most N is written have read are = same_records N read written is are.have_rows have (sym are.rows_are ∙ written_rows N written is have)
 
 -- a row among those of records is one of theirs
 row_among : (N : Table) (written : List Record) (front : List (List (List ℕ))) (row : List (List ℕ)) (rest : List (List (List ℕ))) → All (HasRow N) written
@@ -54,15 +54,15 @@ no_fault_among N written front rest k is have same (row, others, at, bad) =
     let both : ◌≡◌ {A = Result Record RecordFaultKind} (Ok found.0) (Err k) = sym good ∙ bad in
     absurd (cc)
 
-fault_is : (N : Table) (count : ℕ) (rows : List (List (List ℕ))) (k : RecordFaultKind) → StopsAfter count N rows k → (StartsWithFault N rows k → ⊥)
+fault_is : (most : ℕ) (N : Table) (count : ℕ) (rows : List (List (List ℕ))) (k : RecordFaultKind) → StopsAfter most count N rows k → (StartsWithFault N rows k → ⊥)
     → (k ≡ fault.ReadFault) ⊎ (k ≡ fault.Memory)
-fault_is N count rows fault.ReadFault stops none = inl refl
-fault_is N count rows fault.Memory stops none = inr refl
-fault_is N count rows k stops none = absurd (none stops.1)
+fault_is most N count rows fault.ReadFault stops none = inl refl
+fault_is most N count rows fault.Memory stops none = inr refl
+fault_is most N count rows k stops none = absurd (none stops.1)
 
-pub has_no_fault : (N : Table) → IsTable N → (written : List Record) → All (HasRow N) written → (e : RecordFault)
-    → HasFault N (sheet_of (records_text N written)) e
+pub has_no_fault : (most : ℕ) (N : Table) → IsTable N → (written : List Record) → All (HasRow N) written → (e : RecordFault)
+    → HasFault most N (sheet_of (records_text N written)) e
     → (e.kind ≡ fault.ReadFault) ⊎ (e.kind ≡ fault.Memory)
-has_no_fault N is written have e has =
-    fault_is N (length has.before) has.rest e.kind has.stops
+has_no_fault most N is written have e has =
+    fault_is most N (length has.before) has.rest e.kind has.stops
     (no_fault_among N written (map (record_fields N) has.before) has.rest e.kind is have (sym (written_rows N written is have) ∙ has.rows_are))

@@ -31,14 +31,14 @@ WrittenRowsAreRead =
     (N : Table) → IsTable N → (written : List Record) → All (HasRow N) written
     → sheet_of (records_text N written) ≡ map (record_fields N) written
 
--- what was written reads back: no other records are read of it, and no row has a fault
+-- what was written reads back, however many may be read: no other records are read of it, and no row has a fault
 abbrev pub WrittenReadsBack : Type 0
 WrittenReadsBack =
-    (N : Table) → IsTable N → (written : List Record) → All (HasRow N) written
-    → (read : List Record) → AreRowsOf N (sheet_of (records_text N written)) read → read ≡ written
+    (most : ℕ) (N : Table) → IsTable N → (written : List Record) → All (HasRow N) written
+    → (read : List Record) → AreRowsOf most N (sheet_of (records_text N written)) read → read ≡ written
 
 abbrev pub WrittenHasNoFault : Type 0
 WrittenHasNoFault =
-    (N : Table) → IsTable N → (written : List Record) → All (HasRow N) written
-    → (e : RecordFault) → HasFault N (sheet_of (records_text N written)) e
+    (most : ℕ) (N : Table) → IsTable N → (written : List Record) → All (HasRow N) written
+    → (e : RecordFault) → HasFault most N (sheet_of (records_text N written)) e
     → (e.kind ≡ fault.ReadFault) ⊎ (e.kind ≡ fault.Memory)

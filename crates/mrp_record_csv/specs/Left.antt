@@ -8,7 +8,6 @@ use Rattle.mrp_record.specs.declared.record.Record.{Record}
 use Rattle.mrp_validation.specs.Left.{OfLeft, TakesRow}
 use Rattle.mrp_record_csv.specs.declared.fault.RecordFaultKind.{RecordFaultKind}
 use Rattle.mrp_record_csv.specs.declared.fault.RecordFaultKind.TheVariants as fault
-use Rattle.mrp_qty.specs.declared.limits.TheConstants.{MOST_RECORDS}
 use Rattle.mrp_record_csv.specs.Rows.{HasRow, record_fields}
 use Rattle.mrp_record_csv.specs.Reading.{StartsWithFault}
 
@@ -48,25 +47,25 @@ is_of_row (Err fault.Memory) = false
 is_of_row (Err k) = true
 
 -- the record of the next row is put behind the others
-pub record AddsRecord (N : Table) (before after : Option (List (List (List ℕ)))) (old new : List Record) : Type 0 where
+pub record AddsRecord (most : ℕ) (N : Table) (before after : Option (List (List (List ℕ)))) (old new : List Record) : Type 0 where
   pub added : Record
   pub has_row : HasRow N added
   pub takes : TakesRow before after (record_fields N added)
   pub records : new ≡ old ++ added ∷ []
-  pub room : length old < MOST_RECORDS
+  pub room : length old < most
 
 -- after so many records, what reading one more answers
-abbrev pub TellsRecordFault : Table → Option (List (List (List ℕ))) → ℕ → RecordFaultKind → Type 0
-TellsRecordFault N before count fault.ReadFault = Unit {0}
-TellsRecordFault N before count fault.Memory = Unit {0}
-TellsRecordFault N before count k = (count < MOST_RECORDS) × OfLeft before (λ rows. StartsWithFault N rows k)
+abbrev pub TellsRecordFault : ℕ → Table → Option (List (List (List ℕ))) → ℕ → RecordFaultKind → Type 0
+TellsRecordFault most N before count fault.ReadFault = Unit {0}
+TellsRecordFault most N before count fault.Memory = Unit {0}
+TellsRecordFault most N before count k = (count < most) × OfLeft before (λ rows. StartsWithFault N rows k)
 
-abbrev pub TellsNextRecord : Table → Option (List (List (List ℕ))) → Option (List (List (List ℕ))) → List Record
+abbrev pub TellsNextRecord : ℕ → Table → Option (List (List (List ℕ))) → Option (List (List (List ℕ))) → List Record
     → List Record
     → Result Bool RecordFaultKind → Type 0
-TellsNextRecord N before after old new (Ok true) = AddsRecord N before after old new
-TellsNextRecord N before after old new (Ok false) = (new ≡ old) × OfLeft before (λ rows. rows ≡ [])
-TellsNextRecord N before after old new (Err k) = TellsRecordFault N before (length old) k
+TellsNextRecord most N before after old new (Ok true) = AddsRecord most N before after old new
+TellsNextRecord most N before after old new (Ok false) = (new ≡ old) × OfLeft before (λ rows. rows ≡ [])
+TellsNextRecord most N before after old new (Err k) = TellsRecordFault most N before (length old) k
 
 -- the rows of the records read so far, and the rows left, are all the rows
 abbrev pub AreRead : Table → Option (List (List (List ℕ))) → Option (List (List (List ℕ))) → List Record → Type 0

@@ -17,5 +17,5 @@ mod writing;
 pub use fault::{RecordFault, RecordFaultKind};
 pub use mrp_qty::MOST_RECORDS;
 pub use mrp_record::Record;
-pub use reading::read_records;
+pub use reading::{read_lane_records, read_records};
 pub use writing::write_record;

@@ -1,6 +1,7 @@
 //! Records as CSV, read from rows.
 
-ghost use Rattle.std.specs.Prelude.{true, false, ◌≡◌, ◌+◌, ◌≤◌, [], length, IfOk, IfErr, OnOk, OnErr, option_map};
+ghost use Rattle.std.specs.Prelude.{true, false, ◌≡◌, ◌+◌, ◌≤◌, ◌<◌, [], length, IfOk, IfErr, OnOk, OnErr};
+ghost use Rattle.std.specs.Prelude.{option_map};
 ghost use Rattle.csv.specs.Reading.{has_failed, strip_bom};
 ghost use Rattle.csv.specs.Records.{AllText, fields_of};
 ghost use Rattle.mrp_validation.specs.Left.{GivesAll, MayCome, OfLeft, rows_left};
@@ -8,14 +9,16 @@ ghost use Rattle.mrp_validation.specs.Written.{OfRecords};
 ghost use Rattle.mrp_record_csv.specs.Left.{record_fault_of, is_of_row, StopsReading};
 ghost use Rattle.mrp_record_csv.specs.Left.{TellsNextRecord, TellsTakenRecord};
 ghost use Rattle.mrp_master_data.specs.Table.{Table};
+ghost use Rattle.mrp_net.specs.Lanes.{lane_at, lanes};
+ghost use Rattle.mrp_net.specs.Texts.{longest_text};
 ghost use Rattle.mrp_record_csv.specs.Reading.{AreRowsOf, HasFault};
 
 use crate::items::NamedItems;
 use crate::spelled::spelled_record;
 use crate::{RecordFault, RecordFaultKind};
 use csv::{ErrorKind, Reader, ReaderBuilder, StringRecord};
-use mrp_net::Network;
-use mrp_qty::MOST_RECORDS;
+use mrp_net::{LaneNo, Network};
+use mrp_qty::{MOST, MOST_RECORDS};
 use mrp_record::Record;
 use std::alloc::Global;
 use std::io::Read;
@@ -23,7 +26,7 @@ use std::io::Read;
 /// Reads the records of a text, a row each, at most [`MOST_RECORDS`]. A text without rows has none.
 ///
 /// Whether numbers are in their ranges, and whether one record follows from those before it, is for a
-/// book to say.
+/// book to say. [`read_lane_records`] takes as many as the text of a lane can have, which may be more.
 ///
 /// # Errors
 ///
@@ -35,10 +38,51 @@ pub fn read_records<R: Read + Drop>(
     reader: R,
 ) -> Result<Vec<Record>, RecordFault>
     ensures records { IfOk result (λ records. OfRecords (option_map strip_bom (R.remaining reader))
-        (λ rows. AreRowsOf network.now rows records.items)) }
+        (λ rows. AreRowsOf MOST_RECORDS network.now rows records.items)) }
     ensures fault { IfErr result (λ fault. OfRecords (option_map strip_bom (R.remaining reader))
-        (λ rows. HasFault network.now rows fault)) }
+        (λ rows. HasFault MOST_RECORDS network.now rows fault)) }
     ensures few { IfOk result (λ records. length records.items ≤ MOST_RECORDS) }
+{
+    read_at_most(alloc, network, MOST_RECORDS, reader)
+}
+
+/// Reads the records of a text of a lane, a row each, as [`read_records`] does, but at most as many as a text of
+/// the lane can have, as [`Network::longest_text`] says.
+///
+/// # Errors
+///
+/// Those of [`read_records`]; a row more than the lane's text can have is [`RecordFaultKind::ReadFault`].
+pub fn read_lane_records<R: Read + Drop>(
+    alloc: Global,
+    network: &Network,
+    lane: LaneNo,
+    reader: R,
+) -> Result<Vec<Record>, RecordFault>
+    requires { lane.0 < length (lanes network.now) }
+    ensures records { IfOk result (λ records. OfRecords (option_map strip_bom (R.remaining reader))
+        (λ rows. AreRowsOf (longest_text network.now (lane_at network.now lane.0)) network.now rows records.items)) }
+    ensures fault { IfErr result (λ fault. OfRecords (option_map strip_bom (R.remaining reader))
+        (λ rows. HasFault (longest_text network.now (lane_at network.now lane.0)) network.now rows fault)) }
+    ensures few { IfOk result (λ records.
+        length records.items ≤ longest_text network.now (lane_at network.now lane.0)) }
+{
+    let _pairs = network.pairs();
+    read_at_most(alloc, network, network.longest_text(lane), reader)
+}
+
+/// Reads the records of a text, a row each, at most so many.
+fn read_at_most<R: Read + Drop>(
+    alloc: Global,
+    network: &Network,
+    most: u64,
+    reader: R,
+) -> Result<Vec<Record>, RecordFault>
+    requires { most ≤ MOST }
+    ensures records { IfOk result (λ records. OfRecords (option_map strip_bom (R.remaining reader))
+        (λ rows. AreRowsOf most network.now rows records.items)) }
+    ensures fault { IfErr result (λ fault. OfRecords (option_map strip_bom (R.remaining reader))
+        (λ rows. HasFault most network.now rows fault)) }
+    ensures few { IfOk result (λ records. length records.items ≤ most) }
 {
     let items = match NamedItems::of(alloc, network) {
         Ok(items) => items,
@@ -49,32 +93,34 @@ pub fn read_records<R: Read + Drop>(
         .flexible(true)
         .from_reader(alloc, reader);
     let mut records = Vec::new(alloc);
-    read_rows(alloc, &items, &mut rows, &mut records)?;
+    read_rows(alloc, &items, most, &mut rows, &mut records)?;
     Ok(records)
 }
 
-/// Reads all rows, and puts their records into a list that has none. A fault's row is the one after
-/// those of the records that it then has.
+/// Reads all rows, at most so many, and puts their records into a list that has none. A fault's row is
+/// the one after those of the records that it then has.
 fn read_rows<R: Read>(
     alloc: Global,
     items: &NamedItems<'_>,
+    most: u64,
     rows: &mut Reader<R>,
     records: &mut Vec<Record>,
 ) -> Result<(), RecordFault>
     requires gives { GivesAll rows.old }
+    requires short { most ≤ MOST }
     requires none { records.old.items ≡ [] }
     ensures records { OnOk result (OfLeft (rows_left R.remaining rows.old)
-        (λ rows. AreRowsOf items.now rows records.new.items)) }
+        (λ rows. AreRowsOf most items.now rows records.new.items)) }
     ensures fault { IfErr result (λ fault. OfLeft (rows_left R.remaining rows.old)
-        (λ rows. HasFault items.now rows fault)) }
+        (λ rows. HasFault most items.now rows fault)) }
     ensures row { IfErr result (λ fault. fault.row ≡ length records.new.items + 1) }
     ensures failed { IfErr result (λ e. StopsReading e.kind (has_failed rows.new)
-        (e.row ≡ MOST_RECORDS + 1) MOST_RECORDS (rows_left R.remaining rows.old)) }
-    ensures few { OnOk result (length records.new.items ≤ MOST_RECORDS) }
+        (e.row ≡ most + 1) most (rows_left R.remaining rows.old)) }
+    ensures few { OnOk result (length records.new.items ≤ most) }
 {
     let mut row = StringRecord::new(alloc);
-    for number in 1..MOST_RECORDS + 2 {
-        match read_next(items, rows, &mut row, records) {
+    for number in 1..most + 2 {
+        match read_next(items, most, rows, &mut row, records) {
             Ok(true) => {}
             Ok(false) => return Ok(()),
             Err(kind) => return Err(RecordFault { row: number, kind }),
@@ -83,23 +129,25 @@ fn read_rows<R: Read>(
     unreachable!()
 }
 
-/// Reads the record of the next row, if there is one, and puts it behind the others.
+/// Reads the record of the next row, if there is one, and puts it behind the others, of which there are to be at most
+/// so many.
 fn read_next<R: Read>(
     items: &NamedItems<'_>,
+    most: u64,
     rows: &mut Reader<R>,
     row: &mut StringRecord,
     records: &mut Vec<Record>,
 ) -> Result<bool, RecordFaultKind>
     requires gives { GivesAll rows.old }
     ensures gives { OnOk result (GivesAll rows.new) }
-    ensures exact { TellsNextRecord items.now (rows_left R.remaining rows.old)
+    ensures exact { TellsNextRecord most items.now (rows_left R.remaining rows.old)
         (rows_left R.remaining rows.new) records.old.items records.new.items result }
     ensures kept { OnErr result (records.new.items ≡ records.old.items) }
     ensures failed { IfErr result (λ kind. StopsReading kind (has_failed rows.new)
-        (MOST_RECORDS ≤ length records.old.items) 0
+        (most ≤ length records.old.items) 0
         (rows_left R.remaining rows.old)) }
 {
-    let full = MOST_RECORDS <= records.len() as u64;
+    let full = most <= records.len() as u64;
     if !next_row(rows, row, full)? {
         return Ok(false);
     }

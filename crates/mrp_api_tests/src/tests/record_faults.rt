@@ -1,9 +1,12 @@
 //! Tests of the library: what is read of texts of records that are damaged, too long or not read to their end.
 
+ghost use Rattle.std.specs.Prelude.{◌<◌, length};
+ghost use Rattle.mrp_net.specs.Lanes.{lanes};
+
 use crate::tests::network_of;
 use crate::tests::records::DESPATCHES;
-use mrp_net::Network;
-use mrp_record_csv::{RecordFault, RecordFaultKind, read_records};
+use mrp_net::{LaneNo, Network};
+use mrp_record_csv::{RecordFault, RecordFaultKind, read_lane_records, read_records};
 use mrp_run_tests::TWO_PLANTS;
 use std::alloc::Global;
 use std::io;
@@ -201,4 +204,40 @@ fn limit_is_kept(alloc: Global) -> bool {
 #[test]
 fn four_million_records_are_read_and_no_more(rt: HostRuntime) {
     assert!(rt; limit_is_kept(rt.alloc()));
+}
+
+/// Whether so many rows are read as the text of a lane: as many records, or the last of them is refused.
+fn lane_text_is(alloc: Global, network: &Network, lane: LaneNo, rows: usize, good: bool) -> bool
+    requires { lane.0 < length (lanes network.now) }
+{
+    let Ok(text) = "close,1,,,,\n".repeat(alloc, rows) else {
+        return false;
+    };
+    match read_lane_records(alloc, network, lane, text.as_bytes()) {
+        Ok(records) => good && records.len() == rows,
+        Err(fault) => !good && fault.row == rows as u64 && fault.kind == RecordFaultKind::ReadFault,
+    }
+}
+
+/// Whether that many records are read of the text of a lane, and one more is refused.
+fn lane_has_most(alloc: Global, network: &Network, lane: usize, most: usize) -> bool {
+    lane < network.lanes()
+        && lane_text_is(alloc, network, LaneNo(lane), most, true)
+        && lane_text_is(alloc, network, LaneNo(lane), most.saturating_add(1), false)
+}
+
+/// Whether of both lanes of the firm as many records are read as they can have: a despatch lane with one shipment, and a
+/// schedule lane of four periods.
+fn lane_limits_are_kept(alloc: Global) -> bool {
+    let Some(network) = network_of(alloc, TWO_PLANTS) else {
+        return false;
+    };
+    let is_so = lane_has_most(alloc, &network, 0, 3) && lane_has_most(alloc, &network, 1, 6);
+    drop(network);
+    is_so
+}
+
+#[test]
+fn no_more_records_than_a_lane_can_have(rt: HostRuntime) {
+    assert!(rt; lane_limits_are_kept(rt.alloc()));
 }

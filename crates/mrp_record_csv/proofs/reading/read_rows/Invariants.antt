@@ -1,5 +1,4 @@
 use Rattle.std.proofs.Common.{◌≡◌, ◌+◌, ◌≤◌, length}
-use Rattle.mrp_qty.specs.declared.limits.TheConstants.{MOST_RECORDS}
 use Rattle.mrp_validation.specs.Left.{GivesAll, rows_left}
 use Rattle.mrp_record_csv.proofs.Loop.{IsReadSoFar}
 use Rattle.mrp_record_csv.proofs.reading.read_rows.Given as goal
@@ -9,6 +8,6 @@ abbrev pub invariant-loop-number : goal.invariant-loop-number
 invariant-loop-number g l = record {
   gives : GivesAll l.rows;
   so_far : IsReadSoFar l.items (rows_left g.R.Read.remaining l.fn.rows) (rows_left g.R.Read.remaining l.rows) l.records.items;
-  few : length l.records.items ≤ MOST_RECORDS;
+  few : length l.records.items ≤ l.fn.most;
   count : length l.records.items + 1 ≡ l.number;
 }
