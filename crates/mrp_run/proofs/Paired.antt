@@ -11,7 +11,7 @@ use Rattle.mrp_net.specs.Lanes.{lanes, lane_at}
 use Rattle.mrp_lane.specs.Ends.{End, Name}
 use Rattle.mrp_run.specs.declared.plant.Plant.{Plant}
 use Rattle.mrp_run.specs.Ends.{AreNames, is_from, is_to, HasEnded, HaveEnded, HaveLeft, HavePlans}
-use Rattle.mrp_run.specs.Plant.{IsClosed, names}
+use Rattle.mrp_run.specs.Plant.{IsClosed}
 use Rattle.mrp_run.proofs.Dealt.{filter_own, filter_other, apart, lane_is}
 use Rattle.mrp_run.proofs.DealtLists.{each_set, popped}
 

@@ -10,8 +10,11 @@ use std::sync::Wait;
 use std::thread::Parker;
 use std::time::Duration;
 
-/// How long a plant that nobody wakes sleeps at most, in microseconds.
+/// How long a plant that nobody wakes sleeps at most, in microseconds, and how much longer for each plant of the run:
+/// so the plants that wait wake by themselves no more than 20,000 times a second, however many they are.
 const NAP: u64 = 1000;
+
+const NAP_A_PLANT: u64 = 50;
 
 /// Which plants have the two ends of a lane.
 #[derive(Clone, Copy)]
@@ -28,6 +31,7 @@ pub(crate) struct Bells {
     lanes: Vec<LaneEnds>,
     signs: Signs,
     capacity: u64,
+    nap: Duration,
 }
 
 impl Bells {
@@ -43,6 +47,7 @@ impl Bells {
             lanes: ends_of(alloc, plants)?,
             signs: Signs::new(alloc, lane_total(plants))?,
             capacity,
+            nap: nap_of(plants.len()),
         })
     }
 
@@ -86,9 +91,15 @@ impl Bells {
     /// Sleeps until the plant's bell is rung, or has been since it last slept, and for a moment at most.
     pub(crate) fn sleep<R: Wait>(&self, rt: &R, plant: PlantNo) {
         if let Some(bell) = self.bells.get(plant.0) {
-            bell.park_timeout(rt, Duration::from_micros(NAP));
+            bell.park_timeout(rt, self.nap);
         }
     }
+}
+
+/// How long a plant of so many sleeps at most.
+fn nap_of(plants: usize) -> Duration {
+    let more = NAP_A_PLANT.saturating_mul(plants as u64);
+    Duration::from_micros(NAP.saturating_add(more))
 }
 
 /// So many bells.
