@@ -25,7 +25,8 @@ usual_rows : (reading : Reading) (known : Option (List ℕ)) (e : TableFault) �
 usual_rows reading None e none said = tt
 usual_rows reading (Some text) e none said =
     let rows = records default_config text in
-    of_rows e.kind (IsSoundAbove reading.limits e.row rows) (ReadsAs reading rows (Err e)) (Reads reading.limits rows (Err e)) (usual reading rows (Err e) none).0 said
+    of_rows e.kind (IsSoundAbove reading.limits e.row rows) (ReadsAs reading rows (Err e)) (Reads reading.limits rows (Err e))
+    (usual reading rows (Err e) none).0 said
 
 usual_refused : (reading : Reading) (known : Option (List ℕ)) (asked : Question) (f : TextFault) → reading.whole ≡ false → reading.limits ≡ set.Usual
     → RefusesAs reading known asked f
@@ -35,7 +36,8 @@ usual_refused reading known asked (fault.Table e) none same said =
 usual_refused reading known asked fault.Memory none same said = tt
 usual_refused reading known asked _ none same said = (said.0, subst (λ (l : LimitSet). IsTableOf l known said.0) same said.1, said.2.1)
 
-pub usual_refuses : {U : Type 0} (reading : Reading) (known : Option (List ℕ)) (asked : Question) (r : Result U TextFault) → reading.whole ≡ false → reading.limits ≡ set.Usual
+pub usual_refuses : {U : Type 0} (reading : Reading) (known : Option (List ℕ)) (asked : Question) (r : Result U TextFault) → reading.whole ≡ false
+    → reading.limits ≡ set.Usual
     → IfErr r (RefusesAs reading known asked) → IfErr r (Refuses known asked)
 usual_refuses reading known asked (Ok u) none same said = tt
 usual_refuses reading known asked (Err f) none same said = usual_refused reading known asked f none same said

@@ -19,7 +19,8 @@ two_fields : (field first second : List ℕ) (fields : List (List ℕ)) (rows : 
     → ◌≡◌ {A = List (List (List ℕ))} ((field ∷ []) ∷ []) ((first ∷ second ∷ fields) ∷ rows) → ⊥
 two_fields field first second fields rows is = cc
 
-one_field : (limits : LimitSet) (text field : List ℕ) (N : Table) → records default_config text ≡ (field ∷ []) ∷ [] → Reads limits (records default_config text) (Ok N) → ⊥
+one_field : (limits : LimitSet) (text field : List ℕ) (N : Table) → records default_config text ≡ (field ∷ []) ∷ []
+    → Reads limits (records default_config text) (Ok N) → ⊥
 one_field limits text field N is read = two_fields field _ _ _ _ (sym is ∙ (are_rows limits (records default_config text) N read).0)
 
 no_row : (limits : LimitSet) (N : Table) → Reads limits (records default_config []) (Ok N) → ⊥
@@ -57,7 +58,8 @@ unchosen true a b c rest none = absurd (none refl)
 unchosen false a b c rest none = refl
 
 -- a table's bytes hold a byte order mark whole, or don't begin one: so it is left out before more bytes as before none
-mark_left_out : (limits : LimitSet) (bytes more : List ℕ) (N : Table) → Reads limits (records default_config (strip_bom bytes)) (Ok N) → strip_bom (bytes ++ more) ≡ strip_bom bytes ++ more
+mark_left_out : (limits : LimitSet) (bytes more : List ℕ) (N : Table) → Reads limits (records default_config (strip_bom bytes)) (Ok N)
+    → strip_bom (bytes ++ more) ≡ strip_bom bytes ++ more
 unfolding strip_bom
 mark_left_out limits [] more N read = absurd (no_row limits N read)
 mark_left_out limits (a ∷ []) [] N read = refl
@@ -76,8 +78,10 @@ mark_left_out limits (a ∷ b ∷ []) (c ∷ rest) N read =
 mark_left_out limits (a ∷ b ∷ c ∷ rest) more N read = chosen (is_bom a b c) a b c rest more
 
 -- bytes whose table ends with its `end` row are those of no other table cut off
-pub cut_off : (limits : LimitSet) (bytes more : List ℕ) (N M : Table) → IsTableOf limits (Some bytes) N → IsTableOf limits (Some (bytes ++ more)) M → N.ended ≡ true → N ≡ M
+pub cut_off : (limits : LimitSet) (bytes more : List ℕ) (N M : Table) → IsTableOf limits (Some bytes) N → IsTableOf limits (Some (bytes ++ more)) M
+    → N.ended ≡ true → N ≡ M
 cut_off limits bytes more N M is whole ended =
     let read = (tables_are_read limits bytes N).0 is in
     let Whole : List ℕ → Type 0 = λ text. Reads limits (records default_config text) (Ok M) in
-    whole_table limits (strip_bom bytes) more N M read (subst Whole (mark_left_out limits bytes more N read) ((tables_are_read limits (bytes ++ more) M).0 whole)) ended
+    whole_table limits (strip_bom bytes) more N M read (subst Whole (mark_left_out limits bytes more N read)
+    ((tables_are_read limits (bytes ++ more) M).0 whole)) ended

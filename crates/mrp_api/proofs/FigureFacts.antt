@@ -1,6 +1,6 @@
 -- The library: two of its texts of one table agree. The cumulative figures of schedule lanes are what
 -- the delivery schedules call for.
-use Rattle.std.proofs.Common.{◌≡◌, ◌+◌, ℕ, List, [], ◌∷◌, length, get_or, All, ap, sym}
+use Rattle.std.proofs.Common.{◌+◌, ℕ, List, [], ◌∷◌, length, get_or, All, ap, sym}
 use Rattle.std.specs.List.{flat_map, range_with_len}
 use Rattle.std.proofs.lemmas.List.Elements.{All-append, All-map, All-nil}
 use Rattle.mrp_master_data.specs.declared.numbers.ItemNo.{ItemNo}

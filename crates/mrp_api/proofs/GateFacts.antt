@@ -25,7 +25,8 @@ late_fault Shut Spent N (fault.GateShut name) late = absurd late
 late_fault Shut Spent N fault.Stopped late = absurd late
 late_fault Shut Spent N _ late = tt
 
-text_fault : (Shut Spent : ℕ → Type 0) (limits : LimitSet) (known : Option (List ℕ)) (N : Table) (f : TextFault) → IsTableOf limits known N → IsGateFault Shut Spent (InTable N) f
+text_fault : (Shut Spent : ℕ → Type 0) (limits : LimitSet) (known : Option (List ℕ)) (N : Table) (f : TextFault) → IsTableOf limits known N
+    → IsGateFault Shut Spent (InTable N) f
     → IsGateFault Shut Spent (OfTableWithin limits known) f
 text_fault Shut Spent limits known N (fault.GateShut name) is said = (N, is, said)
 text_fault Shut Spent limits known N fault.Stopped is said = (N, is, said)

@@ -76,7 +76,8 @@ are_plan_rows N plans sized fits = (sized, (plans, fits, refl))
 -- bytes make one table
 pub one_table : BytesMakeOneTable
 one_table limits bytes N M a b =
-    let same = reads_one_way limits (records default_config (strip_bom bytes)) (Ok N) (Ok M) ((tables_are_read limits bytes N).0 a) ((tables_are_read limits bytes M).0 b) in
+    let same = reads_one_way limits (records default_config (strip_bom bytes)) (Ok N) (Ok M) ((tables_are_read limits bytes N).0 a)
+    ((tables_are_read limits bytes M).0 b) in
     cc
 
 -- names are those of one pair
@@ -237,7 +238,8 @@ accepted_passes choice bytes text (fault.Table e) is said = rows_pass (records d
     ((tables_are_read set.Usual bytes is.0).0 is.1) said
 accepted_passes choice bytes text fault.Memory is said = refl
 accepted_passes choice bytes text f is said =
-    answer_passes choice is.0 text f is.2 (subst (λ (N : Table). RefusesTable (question_of choice) N f) (one_table set.Usual bytes said.0 is.0 said.1 is.1) said.2)
+    answer_passes choice is.0 text f is.2 (subst (λ (N : Table). RefusesTable (question_of choice) N f) (one_table set.Usual bytes said.0 is.0 said.1 is.1)
+    said.2)
 
 -- nor where a request says how the rows are to be read
 rows_pass_as : (reading : Reading) (rows : List (List (List ℕ))) (N : Table) (e : TableFault) (k : TableFaultKind) (above : Type 0) → ReadsAs reading rows (Ok N)
@@ -249,7 +251,8 @@ rows_pass_as reading rows N e _ above read said = let same = one_way_as reading 
 pub requested_passes : RequestsExcludeRefusals
 requested_passes request bytes text (fault.Table e) is said =
     let rows = records default_config (strip_bom bytes) in
-    rows_pass_as request.reading rows is.0 e e.kind _ ((whole_end request.reading rows is.0).1 ((tables_are_read request.reading.limits bytes is.0).0 is.1, is.2.0)) said
+    rows_pass_as request.reading rows is.0 e e.kind _ ((whole_end request.reading rows is.0).1
+    ((tables_are_read request.reading.limits bytes is.0).0 is.1, is.2.0)) said
 requested_passes request bytes text fault.Memory is said = refl
 requested_passes request bytes text f is said =
     answer_passes request.choice is.0 text f is.2.1

@@ -1,5 +1,5 @@
 -- The library: the table of some bytes, for the text functions, is the one that the grammar reads in them.
-use Rattle.std.proofs.Common.{◌≡◌, ◌↔◌, ℕ, List, length, Option, None, Some, Ok, option_map}
+use Rattle.std.proofs.Common.{◌≡◌, ℕ, List, length, Option, None, Some, Ok, option_map}
 use Rattle.csv.specs.Reading.{default_config, records, strip_bom}
 use Rattle.mrp_commands.specs.declared.reading.Reading.{Reading}
 use Rattle.mrp_master_data.specs.Table.{Table, IsTable}

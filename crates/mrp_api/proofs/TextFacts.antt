@@ -29,7 +29,8 @@ refused-of reading known asked N (fault.Table e) is suits said = absurd said
 refused-of reading known asked N fault.Memory is suits said = tt
 refused-of reading known asked N _ is suits said = (N, is, (suits, said))
 
-pub refuses-of : {U : Type 0} (reading : Reading) (known : Option (List ℕ)) (asked : Question) (N : Table) (r : Result U TextFault) → IsTableOf reading.limits known N
+pub refuses-of : {U : Type 0} (reading : Reading) (known : Option (List ℕ)) (asked : Question) (N : Table) (r : Result U TextFault)
+    → IsTableOf reading.limits known N
     → Suits reading N → IfErr r (RefusesTable asked N) → IfErr r (RefusesAs reading known asked)
 refuses-of reading known asked N (Ok u) is suits said = tt
 refuses-of reading known asked N (Err f) is suits said = refused-of reading known asked N f is suits said

@@ -41,3 +41,7 @@ help_fault (Err failed) = Some fault.WriteFault
 abbrev pub unread_line : ErrorKind → List ℕ
 unread_line cause.InvalidData = codes "mrp: a word of the command is not UTF-8\n"
 unread_line _ = fault_line fault.Memory
+
+-- where a period above 103 is asked about, and the table is to be within the usual limits
+abbrev pub beyond_line : List ℕ
+beyond_line = codes "mrp: a period above 103 wants --large\n"

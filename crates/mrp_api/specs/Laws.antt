@@ -20,14 +20,16 @@ TablesAreRead = (limits : LimitSet) (bytes : List ℕ) (N : Table) → IsTableOf
 -- bytes make one table at most
 abbrev pub BytesMakeOneTable : Type 0
 BytesMakeOneTable =
-    (limits : LimitSet) (bytes : List ℕ) (N M : Table) → IsTableOf limits (Some bytes) N → IsTableOf limits (Some bytes) M
+    (limits : LimitSet) (bytes : List ℕ) (N M : Table) → IsTableOf limits (Some bytes) N
+    → IsTableOf limits (Some bytes) M
     → N ≡ M
 
 -- bytes have one report at most of the kind that is chosen
 abbrev pub ReportsAreOne : Type 0
 ReportsAreOne =
     (limits : LimitSet) (choice : Choice) (bytes a b : List ℕ)
-    → OfTableWithin limits (Some bytes) (λ N. IsAnswer choice N a) → OfTableWithin limits (Some bytes) (λ N. IsAnswer choice N b)
+    → OfTableWithin limits (Some bytes) (λ N. IsAnswer choice N a)
+    → OfTableWithin limits (Some bytes) (λ N. IsAnswer choice N b)
     → a ≡ b
 
 -- where bytes have a report, no fault is theirs but one of the machine

@@ -1,6 +1,6 @@
 -- The library: what a text function's refusal says of the bytes, the first fault of their rows, or
 -- what their table has or lacks.
-use Rattle.std.specs.Prelude.{◌≡◌, ℕ, ◌<◌, ◌≤◌, ◌⊎◌, List, [], ◌∷◌, Option, Some, None, option_map, slice_get, length}
+use Rattle.std.specs.Prelude.{◌≡◌, ℕ, ◌≤◌, ◌⊎◌, List, [], ◌∷◌, Option, Some, None, option_map, slice_get, length}
 use Rattle.std.specs.Prelude.{Contains, Err, false, string_bytes}
 use Rattle.csv.specs.Reading.{strip_bom}
 use Rattle.mrp_master_data.specs.Table.{Table, horizon}
@@ -116,4 +116,5 @@ Refuses known asked other = OfTable known (λ N. RefusesTable asked N other)
 abbrev pub RefusesAs : Reading → Option (List ℕ) → Question → TextFault → Type 0
 RefusesAs reading known asked (fault.Table e) = OfRecords (option_map strip_bom known) (TellsRowsAs reading (Err e))
 RefusesAs reading known asked fault.Memory = Unit {0}
-RefusesAs reading known asked other = OfTableWithin reading.limits known (λ N. Suits reading N × RefusesTable asked N other)
+RefusesAs reading known asked other =
+    OfTableWithin reading.limits known (λ N. Suits reading N × RefusesTable asked N other)

@@ -32,7 +32,8 @@ pub fn answer<T: Threads + Wait + Sync, R: Read + Drop, W: Write>(
 ) -> Result<(), TextFault>
     requires { IsInRange request.choice }
     ensures text { Writes (W.contents writer.old) (W.contents writer.new) result
-        (λ text. OfTableWithin request.entry.reading.limits (R.remaining reader) (λ N. IsRequested request.entry N text)) }
+        (λ text. OfTableWithin request.entry.reading.limits (R.remaining reader)
+        (λ N. IsRequested request.entry N text)) }
     ensures rows { WritesRows W.contents writer.old writer.new result
         (λ rows. OfTableWithin request.entry.reading.limits (R.remaining reader) (λ N. IsPlanRows N rows)) }
     ensures refusal { IfErr result (RefusesAs request.entry.reading (R.remaining reader)

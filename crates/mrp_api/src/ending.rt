@@ -5,7 +5,7 @@ ghost use Rattle.std.specs.Result.{result_err};
 ghost use Rattle.std.specs.IoError.{error_kind};
 ghost use Rattle.mrp_api.specs.Answer.{exit_status_of};
 ghost use Rattle.mrp_api.specs.Ending.{IsStatusOfUnread, Reports, TellsLine, help_fault, help_status};
-ghost use Rattle.mrp_api.specs.Ending.{unread_line};
+ghost use Rattle.mrp_api.specs.Ending.{beyond_line, unread_line};
 
 use crate::answers::exit_status;
 use crate::fault::TextFault;
@@ -70,12 +70,30 @@ pub fn unread<W: Write>(error: &io::Error, writer: &mut W) -> Ending
         (unread_line (error_kind error.now)) }
 {
     if error.kind() == io::ErrorKind::InvalidData {
-        Ending {
-            status: REFUSED,
-            printed: Ok(()),
-            reported: send(b"mrp: a word of the command is not UTF-8\n", writer),
-        }
+        refused(b"mrp: a word of the command is not UTF-8\n", writer)
     } else {
         ended(&Err(TextFault::Memory), writer)
+    }
+}
+
+/// The end where a period above 103 is asked about without `--large`, as no table within the usual limits has one.
+pub fn beyond_limits<W: Write>(writer: &mut W) -> Ending
+    ensures status { result.status ≡ 2 }
+    ensures printed { result.printed ≡ Ok tt }
+    ensures line { TellsLine (W.contents writer.old) (W.contents writer.new) result.reported beyond_line }
+{
+    refused(b"mrp: a period above 103 wants --large\n", writer)
+}
+
+/// The end where words are refused, with the line that says why to this writer.
+fn refused<W: Write>(line: &[u8], writer: &mut W) -> Ending
+    ensures status { result.status ≡ 2 }
+    ensures printed { result.printed ≡ Ok tt }
+    ensures line { TellsLine (W.contents writer.old) (W.contents writer.new) result.reported line.now }
+{
+    Ending {
+        status: REFUSED,
+        printed: Ok(()),
+        reported: send(line, writer),
     }
 }

@@ -10,11 +10,13 @@
 //! [`advice_text`] which open orders to move, [`shortages_text`] which requirements lack parts, and [`reach_text`] until
 //! when requirements and releases are whole. [`report_text`] writes the report that a [`Request`] asks for on one thread,
 //! and [`answer`] by threads, but for a plan on one thread; a request says too whether the table has to end with an `end`
-//! row. A [`Heading`] says whether the names of the columns stand above the rows; for codes, terms and figures a `Choice` has one.
+//! row, and within which limits it is read. Each other text function takes a table within the usual limits, with an
+//! `end` row or without. A [`Heading`] says whether the names of the columns stand above the rows; for codes, terms and
+//! figures a `Choice` has one.
 //! Where a text was not written whole, a [`TextFault`] says why: [`write_fault`] writes the line that
 //! reports it, and [`status`] and [`exit_status`] are the statuses with which a program ends. [`ended`]
-//! does both after the work, [`after_help`] after help or the version, and [`unread`] where the arguments
-//! can't be read.
+//! does both after the work, [`after_help`] after help or the version, [`unread`] where the arguments
+//! can't be read, and [`beyond_limits`] where they ask about a period that no table of the limits has.
 //!
 //! No call ends the process: a growth that is refused is [`TextFault::Memory`], or while the table is read
 //! [`TextFault::Table`] with that kind.
@@ -35,7 +37,7 @@ mod text;
 mod writing;
 
 pub use answers::{answer, exit_status};
-pub use ending::{Ending, REFUSED, after_help, ended, unread};
+pub use ending::{Ending, REFUSED, after_help, beyond_limits, ended, unread};
 pub use fault::{PairName, TextFault, status};
 pub use laws::{
     bytes_make_one_table, cut_tables_are_refused_or_whole, figures_are_called_for, reports_are_one,

@@ -34,7 +34,7 @@ use std::io::{Read, Write};
 use std::sync::Wait;
 use std::thread::Threads;
 
-/// Any table will do, whether it ends with an `end` row or not.
+/// A table within the usual limits, whether it ends with an `end` row or not.
 const READ_ALL: Reading = Reading {
     whole: false,
     limits: LimitSet::Usual,
@@ -367,7 +367,8 @@ pub fn reach_text<R: Read + Drop, W: Write>(
     usual_text(alloc, reader, writer, Choice::Reach { heading })
 }
 
-/// Reads a table, which may lack an `end` row, and writes the report that one thread is asked for.
+/// Reads a table within the usual limits, which may lack an `end` row, and writes the report that one thread is asked
+/// for.
 fn usual_text<R: Read + Drop, W: Write>(
     alloc: Global,
     reader: R,
@@ -404,7 +405,8 @@ pub fn report_text<R: Read + Drop, W: Write>(
 ) -> Result<(), TextFault>
     requires alone { IsAlone request.choice }
     ensures text { Writes (W.contents writer.old) (W.contents writer.new) result
-        (λ text. OfTableWithin request.entry.reading.limits (R.remaining reader) (λ N. IsRequested request.entry N text)) }
+        (λ text. OfTableWithin request.entry.reading.limits (R.remaining reader)
+        (λ N. IsRequested request.entry N text)) }
     ensures rows { WritesRows W.contents writer.old writer.new result
         (λ rows. OfTableWithin request.entry.reading.limits (R.remaining reader) (λ N. IsPlanRows N rows)) }
     ensures refusal { IfErr result (RefusesAs request.entry.reading (R.remaining reader)
@@ -427,7 +429,8 @@ pub(crate) fn report_by_threads<T: Threads + Sync, R: Read + Drop, W: Write>(
 ) -> Result<(), TextFault>
     requires alone { IsAlone request.choice }
     ensures text { Writes (W.contents writer.old) (W.contents writer.new) result
-        (λ text. OfTableWithin request.entry.reading.limits (R.remaining reader) (λ N. IsRequested request.entry N text)) }
+        (λ text. OfTableWithin request.entry.reading.limits (R.remaining reader)
+        (λ N. IsRequested request.entry N text)) }
     ensures rows { WritesRows W.contents writer.old writer.new result
         (λ rows. OfTableWithin request.entry.reading.limits (R.remaining reader) (λ N. IsPlanRows N rows)) }
     ensures refusal { IfErr result (RefusesAs request.entry.reading (R.remaining reader)

@@ -1,4 +1,4 @@
-use Rattle.std.proofs.Common.{List, ap, refl, rules, sym, ◌∙◌}
+use Rattle.std.proofs.Common.{ap, refl, rules, sym, ◌∙◌}
 use Rattle.std.specs.List.{list_any}
 use Rattle.std.specs.Str.{bytes_eq}
 use Rattle.std.specs.String.{string_bytes}
