@@ -1,12 +1,7 @@
 //! The library for C: what each call does once it is said how the table is to be read, and within which limits.
 
-ghost use Rattle.mrp_c_api.specs.Answers.{Answers, AnswersNamed};
-ghost use Rattle.mrp_c_api.specs.Options.{heading_of, limit_of};
-ghost use Rattle.mrp_report.specs.Headings.{code_names, lane_names};
-ghost use Rattle.mrp_api.specs.Refusals.{AskWhole};
-ghost use Rattle.mrp_api.specs.Reports.{IsAdviceReport, IsCodeReport, IsCumReport, IsHeaded, IsOrderReport};
-ghost use Rattle.mrp_api.specs.Reports.{IsReachReport, IsShortagesReport};
-ghost use Rattle.mrp_api.specs.Text.{IsPlanReport};
+ghost use Rattle.mrp_c_api.specs.Calls.{AnswersCodes, AnswersFigures, AnswersMessages, AnswersOrders, AnswersPlan};
+ghost use Rattle.mrp_c_api.specs.Calls.{AnswersReach, AnswersSchedules, AnswersShortages};
 
 use crate::buffer::{answer, refuse_name};
 use crate::options::{given, heading, limit};
@@ -22,7 +17,7 @@ pub(crate) fn plan(
     buffer: &mut [u8],
     size: &mut usize,
 ) -> u32
-    ensures { Answers table.now reading AskWhole IsPlanReport result buffer.old buffer.new size.new }
+    ensures { AnswersPlan table.now reading result buffer.old buffer.new size.new }
 {
     let choice = Choice::Plan {
         workers: 1,
@@ -43,8 +38,7 @@ pub(crate) fn orders(
     buffer: &mut [u8],
     size: &mut usize,
 ) -> u32
-    ensures { Answers table.now reading AskWhole
-        (IsOrderReport (limit_of limited until) (heading_of header)) result buffer.old buffer.new size.new }
+    ensures { AnswersOrders table.now reading limited until header result buffer.old buffer.new size.new }
 {
     let until = limit(limited, until);
     let heading = heading(header);
@@ -63,7 +57,7 @@ pub(crate) fn schedule(
     buffer: &mut [u8],
     size: &mut usize,
 ) -> u32
-    ensures { AnswersNamed table.now reading from.now to.now (heading_of header) result buffer.old buffer.new size.new }
+    ensures { AnswersSchedules table.now reading from.now to.now header result buffer.old buffer.new size.new }
 {
     let Ok(supplier) = from_utf8(from) else {
         return refuse_name(buffer, size);
@@ -87,8 +81,7 @@ pub(crate) fn check(
     buffer: &mut [u8],
     size: &mut usize,
 ) -> u32
-    ensures { Answers table.now reading AskWhole
-        (λ N. IsHeaded (heading_of header) code_names (IsCodeReport N)) result buffer.old buffer.new size.new }
+    ensures { AnswersCodes table.now reading header result buffer.old buffer.new size.new }
 {
     let heading = heading(header);
     let choice = Choice::Check { heading };
@@ -104,8 +97,7 @@ pub(crate) fn reach(
     buffer: &mut [u8],
     size: &mut usize,
 ) -> u32
-    ensures { Answers table.now reading AskWhole (IsReachReport (heading_of header))
-        result buffer.old buffer.new size.new }
+    ensures { AnswersReach table.now reading header result buffer.old buffer.new size.new }
 {
     let heading = heading(header);
     let choice = Choice::Reach { heading };
@@ -121,8 +113,7 @@ pub(crate) fn cums(
     buffer: &mut [u8],
     size: &mut usize,
 ) -> u32
-    ensures { Answers table.now reading AskWhole
-        (λ N. IsHeaded (heading_of header) lane_names (IsCumReport N)) result buffer.old buffer.new size.new }
+    ensures { AnswersFigures table.now reading header result buffer.old buffer.new size.new }
 {
     let heading = heading(header);
     let choice = Choice::Cums { heading };
@@ -141,8 +132,7 @@ pub(crate) fn advice(
     buffer: &mut [u8],
     size: &mut usize,
 ) -> u32
-    ensures { Answers table.now reading AskWhole
-        (IsAdviceReport (limit_of limited until) reach (heading_of header)) result buffer.old buffer.new size.new }
+    ensures { AnswersMessages table.now reading limited until reach header result buffer.old buffer.new size.new }
 {
     let until = limit(limited, until);
     let heading = heading(header);
@@ -163,8 +153,7 @@ pub(crate) fn shortages(
     buffer: &mut [u8],
     size: &mut usize,
 ) -> u32
-    ensures { Answers table.now reading AskWhole (IsShortagesReport (heading_of header))
-        result buffer.old buffer.new size.new }
+    ensures { AnswersShortages table.now reading header result buffer.old buffer.new size.new }
 {
     let heading = heading(header);
     let choice = Choice::Shortages { heading };

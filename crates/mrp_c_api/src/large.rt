@@ -1,12 +1,8 @@
 //! The library for C: the calls for tables within the large limits.
 
-ghost use Rattle.mrp_c_api.specs.Answers.{Answers, AnswersNamed};
-ghost use Rattle.mrp_c_api.specs.Options.{heading_of, large_reading_of, limit_of};
-ghost use Rattle.mrp_report.specs.Headings.{code_names, lane_names};
-ghost use Rattle.mrp_api.specs.Refusals.{AskWhole};
-ghost use Rattle.mrp_api.specs.Reports.{IsAdviceReport, IsCodeReport, IsCumReport, IsHeaded, IsOrderReport};
-ghost use Rattle.mrp_api.specs.Reports.{IsReachReport, IsShortagesReport};
-ghost use Rattle.mrp_api.specs.Text.{IsPlanReport};
+ghost use Rattle.mrp_c_api.specs.Calls.{AnswersCodes, AnswersFigures, AnswersMessages, AnswersOrders, AnswersPlan};
+ghost use Rattle.mrp_c_api.specs.Calls.{AnswersReach, AnswersSchedules, AnswersShortages};
+ghost use Rattle.mrp_c_api.specs.Options.{large_reading_of};
 
 use crate::calls;
 use crate::options::{Reading, large_reading_of};
@@ -22,8 +18,7 @@ pub extern "C" fn mrp_plan_large(
     buffer: &mut [u8],
     size: &mut usize,
 ) -> u32
-    ensures { Answers table.now (large_reading_of reading.now) AskWhole IsPlanReport result
-        buffer.old buffer.new size.new }
+    ensures { AnswersPlan table.now (large_reading_of reading.now) result buffer.old buffer.new size.new }
 {
     let reading = large_reading_of(reading);
     calls::plan(alloc, table, reading, buffer, size)
@@ -42,8 +37,8 @@ pub extern "C" fn mrp_orders_large(
     buffer: &mut [u8],
     size: &mut usize,
 ) -> u32
-    ensures { Answers table.now (large_reading_of reading.now) AskWhole
-        (IsOrderReport (limit_of limited until) (heading_of header)) result buffer.old buffer.new size.new }
+    ensures { AnswersOrders table.now (large_reading_of reading.now) limited until header result buffer.old buffer.new
+        size.new }
 {
     let reading = large_reading_of(reading);
     calls::orders(alloc, table, reading, limited, until, header, buffer, size)
@@ -62,8 +57,8 @@ pub extern "C" fn mrp_schedule_large(
     buffer: &mut [u8],
     size: &mut usize,
 ) -> u32
-    ensures { AnswersNamed table.now (large_reading_of reading.now) from.now to.now (heading_of header) result
-        buffer.old buffer.new size.new }
+    ensures { AnswersSchedules table.now (large_reading_of reading.now) from.now to.now header result buffer.old
+        buffer.new size.new }
 {
     let reading = large_reading_of(reading);
     calls::schedule(alloc, table, reading, from, to, header, buffer, size)
@@ -80,8 +75,7 @@ pub extern "C" fn mrp_check_large(
     buffer: &mut [u8],
     size: &mut usize,
 ) -> u32
-    ensures { Answers table.now (large_reading_of reading.now) AskWhole
-        (λ N. IsHeaded (heading_of header) code_names (IsCodeReport N)) result buffer.old buffer.new size.new }
+    ensures { AnswersCodes table.now (large_reading_of reading.now) header result buffer.old buffer.new size.new }
 {
     let reading = large_reading_of(reading);
     calls::check(alloc, table, reading, header, buffer, size)
@@ -98,8 +92,7 @@ pub extern "C" fn mrp_reach_large(
     buffer: &mut [u8],
     size: &mut usize,
 ) -> u32
-    ensures { Answers table.now (large_reading_of reading.now) AskWhole (IsReachReport (heading_of header))
-        result buffer.old buffer.new size.new }
+    ensures { AnswersReach table.now (large_reading_of reading.now) header result buffer.old buffer.new size.new }
 {
     let reading = large_reading_of(reading);
     calls::reach(alloc, table, reading, header, buffer, size)
@@ -116,8 +109,7 @@ pub extern "C" fn mrp_cums_large(
     buffer: &mut [u8],
     size: &mut usize,
 ) -> u32
-    ensures { Answers table.now (large_reading_of reading.now) AskWhole
-        (λ N. IsHeaded (heading_of header) lane_names (IsCumReport N)) result buffer.old buffer.new size.new }
+    ensures { AnswersFigures table.now (large_reading_of reading.now) header result buffer.old buffer.new size.new }
 {
     let reading = large_reading_of(reading);
     calls::cums(alloc, table, reading, header, buffer, size)
@@ -137,8 +129,8 @@ pub extern "C" fn mrp_advice_large(
     buffer: &mut [u8],
     size: &mut usize,
 ) -> u32
-    ensures { Answers table.now (large_reading_of reading.now) AskWhole
-        (IsAdviceReport (limit_of limited until) reach (heading_of header)) result buffer.old buffer.new size.new }
+    ensures { AnswersMessages table.now (large_reading_of reading.now) limited until reach header result buffer.old
+        buffer.new size.new }
 {
     let reading = large_reading_of(reading);
     calls::advice(
@@ -157,8 +149,7 @@ pub extern "C" fn mrp_shortages_large(
     buffer: &mut [u8],
     size: &mut usize,
 ) -> u32
-    ensures { Answers table.now (large_reading_of reading.now) AskWhole (IsShortagesReport (heading_of header))
-        result buffer.old buffer.new size.new }
+    ensures { AnswersShortages table.now (large_reading_of reading.now) header result buffer.old buffer.new size.new }
 {
     let reading = large_reading_of(reading);
     calls::shortages(alloc, table, reading, header, buffer, size)

@@ -10,8 +10,9 @@
 //! **Reading.** Each call is told how the table is to be read: where [`Reading::whole`] is true, one that does not end with
 //! an `end` row is refused, as with the option `--whole` of the program.
 //!
-//! **Limits.** A call takes a table within the usual limits. The call of its name with `_large` behind it is the same for a
-//! table within the large ones, as with the option `--large` of the program: 1,000 plants, 1,000,000 pairs, 520 periods.
+//! **Limits.** A call takes a table within the usual limits. The call of its name with `_large` behind it is the same for
+//! a table within the large ones, as with the option `--large` of the program: 1,000 plants, 1,000,000 pairs, 520
+//! periods.
 //!
 //! **Buffer.** `size` tells the length of the text in bytes. Where that is at most the length of the buffer, the buffer
 //! begins with the text and goes on as it was. Else the whole buffer is as it was, and the caller asks again with as
@@ -29,13 +30,9 @@ mod calls;
 mod large;
 mod options;
 
-ghost use Rattle.mrp_c_api.specs.Answers.{Answers, AnswersNamed};
-ghost use Rattle.mrp_c_api.specs.Options.{heading_of, limit_of, reading_of};
-ghost use Rattle.mrp_report.specs.Headings.{code_names, lane_names};
-ghost use Rattle.mrp_api.specs.Refusals.{AskWhole};
-ghost use Rattle.mrp_api.specs.Reports.{IsAdviceReport, IsCodeReport, IsCumReport, IsHeaded, IsOrderReport};
-ghost use Rattle.mrp_api.specs.Reports.{IsReachReport, IsShortagesReport};
-ghost use Rattle.mrp_api.specs.Text.{IsPlanReport};
+ghost use Rattle.mrp_c_api.specs.Calls.{AnswersCodes, AnswersFigures, AnswersMessages, AnswersOrders, AnswersPlan};
+ghost use Rattle.mrp_c_api.specs.Calls.{AnswersReach, AnswersSchedules, AnswersShortages};
+ghost use Rattle.mrp_c_api.specs.Options.{reading_of};
 
 use crate::options::reading_of;
 pub use options::Reading;
@@ -56,8 +53,7 @@ pub extern "C" fn mrp_plan(
     buffer: &mut [u8],
     size: &mut usize,
 ) -> u32
-    ensures { Answers table.now (reading_of reading.now) AskWhole IsPlanReport result
-        buffer.old buffer.new size.new }
+    ensures { AnswersPlan table.now (reading_of reading.now) result buffer.old buffer.new size.new }
 {
     let reading = reading_of(reading);
     calls::plan(alloc, table, reading, buffer, size)
@@ -83,8 +79,8 @@ pub extern "C" fn mrp_orders(
     buffer: &mut [u8],
     size: &mut usize,
 ) -> u32
-    ensures { Answers table.now (reading_of reading.now) AskWhole
-        (IsOrderReport (limit_of limited until) (heading_of header)) result buffer.old buffer.new size.new }
+    ensures { AnswersOrders table.now (reading_of reading.now) limited until header result buffer.old buffer.new
+        size.new }
 {
     let reading = reading_of(reading);
     calls::orders(alloc, table, reading, limited, until, header, buffer, size)
@@ -112,8 +108,8 @@ pub extern "C" fn mrp_schedule(
     buffer: &mut [u8],
     size: &mut usize,
 ) -> u32
-    ensures { AnswersNamed table.now (reading_of reading.now) from.now to.now (heading_of header) result
-        buffer.old buffer.new size.new }
+    ensures { AnswersSchedules table.now (reading_of reading.now) from.now to.now header result buffer.old
+        buffer.new size.new }
 {
     let reading = reading_of(reading);
     calls::schedule(alloc, table, reading, from, to, header, buffer, size)
@@ -135,8 +131,7 @@ pub extern "C" fn mrp_check(
     buffer: &mut [u8],
     size: &mut usize,
 ) -> u32
-    ensures { Answers table.now (reading_of reading.now) AskWhole
-        (λ N. IsHeaded (heading_of header) code_names (IsCodeReport N)) result buffer.old buffer.new size.new }
+    ensures { AnswersCodes table.now (reading_of reading.now) header result buffer.old buffer.new size.new }
 {
     let reading = reading_of(reading);
     calls::check(alloc, table, reading, header, buffer, size)
@@ -159,8 +154,7 @@ pub extern "C" fn mrp_reach(
     buffer: &mut [u8],
     size: &mut usize,
 ) -> u32
-    ensures { Answers table.now (reading_of reading.now) AskWhole (IsReachReport (heading_of header))
-        result buffer.old buffer.new size.new }
+    ensures { AnswersReach table.now (reading_of reading.now) header result buffer.old buffer.new size.new }
 {
     let reading = reading_of(reading);
     calls::reach(alloc, table, reading, header, buffer, size)
@@ -182,8 +176,7 @@ pub extern "C" fn mrp_cums(
     buffer: &mut [u8],
     size: &mut usize,
 ) -> u32
-    ensures { Answers table.now (reading_of reading.now) AskWhole
-        (λ N. IsHeaded (heading_of header) lane_names (IsCumReport N)) result buffer.old buffer.new size.new }
+    ensures { AnswersFigures table.now (reading_of reading.now) header result buffer.old buffer.new size.new }
 {
     let reading = reading_of(reading);
     calls::cums(alloc, table, reading, header, buffer, size)
@@ -212,8 +205,8 @@ pub extern "C" fn mrp_advice(
     buffer: &mut [u8],
     size: &mut usize,
 ) -> u32
-    ensures { Answers table.now (reading_of reading.now) AskWhole
-        (IsAdviceReport (limit_of limited until) reach (heading_of header)) result buffer.old buffer.new size.new }
+    ensures { AnswersMessages table.now (reading_of reading.now) limited until reach header result buffer.old
+        buffer.new size.new }
 {
     let reading = reading_of(reading);
     calls::advice(
@@ -237,8 +230,7 @@ pub extern "C" fn mrp_shortages(
     buffer: &mut [u8],
     size: &mut usize,
 ) -> u32
-    ensures { Answers table.now (reading_of reading.now) AskWhole (IsShortagesReport (heading_of header))
-        result buffer.old buffer.new size.new }
+    ensures { AnswersShortages table.now (reading_of reading.now) header result buffer.old buffer.new size.new }
 {
     let reading = reading_of(reading);
     calls::shortages(alloc, table, reading, header, buffer, size)
