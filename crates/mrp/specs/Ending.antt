@@ -1,6 +1,6 @@
 -- The program `mrp`: with which status it ends, and what it reports, where its arguments are refused
 -- or ask for help or the version.
-use Rattle.std.specs.Prelude.{ℕ, List, codes, Option, Some, None, Result, Ok, Err}
+use Rattle.std.specs.Prelude.{ℕ, Option, Some, None, Result, Ok, Err}
 use Rattle.mrp_command_line.specs.declared.meaning.Meaning.{Meaning}
 use Rattle.mrp_command_line.specs.declared.meaning.Meaning.TheVariants as means
 use Rattle.mrp_csv_out.specs.declared.fault.ReportFault.{ReportFault}
@@ -26,7 +26,3 @@ abbrev pub refusal_fault : {U E : Type 0} → Meaning → Result U E → Option 
 refusal_fault means.Memory printed = Some fault.Memory
 refusal_fault means.Asked printed = help_fault printed
 refusal_fault means.Refused printed = None
-
--- where a period above 103 is asked about without `--large`
-abbrev pub period_line : List ℕ
-period_line = codes "mrp: a period above 103 wants --large\n"

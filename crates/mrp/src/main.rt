@@ -6,12 +6,12 @@
 //! Keeps true: the program decides nothing; what it writes and its status are those of `mrp_api`.
 #![tactic(auto)]
 
-ghost use Rattle.std.specs.Prelude.{◌≡◌, Ok};
+ghost use Rattle.std.specs.Prelude.{◌≡◌};
 ghost use Rattle.std.specs.Process.{exit_status};
-ghost use Rattle.mrp_api.specs.Ending.{Reports, TellsLine};
-ghost use Rattle.mrp.specs.Ending.{period_line, refusal_fault, refusal_printed, refusal_status};
+ghost use Rattle.mrp_api.specs.Ending.{Reports};
+ghost use Rattle.mrp.specs.Ending.{refusal_fault, refusal_printed, refusal_status};
 
-use mrp_api::{Ending, REFUSED, TextFault, after_help, answer, ended, unread};
+use mrp_api::{Ending, REFUSED, TextFault, after_help, answer, beyond_limits, ended, unread};
 use mrp_command_line::{ChooseFault, Meaning, means, named_words, request};
 use mrp_report::{ReportFault, send};
 use std::env::FillError;
@@ -44,7 +44,7 @@ fn main(rt: HostRuntime) -> ExitCode {
             refused::<Stderr>(meaning, printed, &mut rt.stderr())
         }
         Err(ChooseFault::Memory) => ended::<Stderr>(&Err(TextFault::Memory), &mut rt.stderr()),
-        Err(ChooseFault::Period) => beyond::<Stderr>(&mut rt.stderr()),
+        Err(ChooseFault::Period) => beyond_limits::<Stderr>(&mut rt.stderr()),
     })
 }
 
@@ -115,18 +115,5 @@ fn refused<W: Write>(meaning: Meaning, said: io::Result<()>, writer: &mut W) -> 
             printed,
             reported: Ok(()),
         },
-    }
-}
-
-/// The end where a period above 103 is asked about without `--large`, with the line that says so to this writer.
-fn beyond<W: Write>(writer: &mut W) -> Ending
-    ensures status { result.status ≡ 2 }
-    ensures printed { result.printed ≡ Ok tt }
-    ensures line { TellsLine (W.contents writer.old) (W.contents writer.new) result.reported period_line }
-{
-    Ending {
-        status: REFUSED,
-        printed: Ok(()),
-        reported: send(b"mrp: a period above 103 wants --large\n", writer),
     }
 }
