@@ -147,7 +147,8 @@ abbrev pub FramesAreUncut : Type 0
 FramesAreUncut = uncut (record { whole = true; limits = set.Usual }) frames ≡ Ok frames
 
 abbrev pub FramesAreCut : Type 0
-FramesAreCut = uncut (record { whole = true; limits = set.Usual }) frames_without_end ≡ Err (record { row = 14; kind = Cut })
+FramesAreCut = uncut (record { whole = true; limits = set.Usual }) frames_without_end
+    ≡ Err (record { row = 14; kind = Cut })
 
 -- and where it need not be whole it is taken
 abbrev pub FramesNeedNoEnd : Type 0

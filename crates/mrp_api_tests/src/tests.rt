@@ -23,7 +23,7 @@ use std::alloc::Global;
 use std::process::Abort;
 use std::test::Fail;
 
-/// Any table will do, whether it ends with an `end` row or not.
+/// A table within the usual limits, whether it ends with an `end` row or not.
 const READ_ALL: Reading = Reading {
     whole: false,
     limits: LimitSet::Usual,

@@ -18,9 +18,9 @@ use mrp_net::{Network, PairNo};
 use std::alloc::Global;
 use std::io::Write;
 
-/// The most bytes of a row: the word, two names of 20, a code of 5 digits, the commas and the line
+/// The most bytes of a row: the word, two names of 20, a code of 6 digits, the commas and the line
 /// feed.
-const LONGEST_ROW: usize = 53;
+const LONGEST_ROW: usize = 54;
 
 /// Writes a row for each pair in table order: `code`, plant, item and the pair's low-level code. The
 /// levels are those of the network. The names of the columns stand above them where `heading` says so.

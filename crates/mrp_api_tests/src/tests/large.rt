@@ -28,6 +28,9 @@ const LONGER: &str = "run,2026-01-05,1,521,,,,\nplant,A,,,,,,\npair,A,X,buy,lot,
 
 const LONGER_LEAD: &str = "run,2026-01-05,7,2,,,,\nplant,A,,,,,,\npair,A,X,buy,lot,521,0,0\n";
 
+const LONGER_POLICY: &str = "run,2026-01-05,7,2,,,,\nplant,A,,,,,,\npair,A,X,buy,lot,1,0,0\n\
+policy,A,X,0,105,521,0,0\n";
+
 const LONGER_RULE: &str = "run,2026-01-05,7,2,,,,\nplant,A,,,,,,\npair,A,X,buy,periods:521,1,0,0\n";
 
 /// The orders of a table within these limits, or the line of its fault.
@@ -113,6 +116,8 @@ fn long_policies_want_the_large_limits(rt: HostRuntime) -> Result<(), Fail> {
     is_report(&rt, usual, "1 mrp: row 4: BadNumber\n");
     let large = coded(alloc, POLICY.as_bytes(), LimitSet::Large)?;
     is_report(&rt, large, "code,A,X,0\n");
+    let longer = coded(alloc, LONGER_POLICY.as_bytes(), LimitSet::Large)?;
+    is_report(&rt, longer, "1 mrp: row 4: BadNumber\n");
     Ok(())
 }
 
