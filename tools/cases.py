@@ -19,6 +19,8 @@ STORED = {"plan": "plan", "cums": "cums", **{it: f"{it} --header" for it in ("or
 # With how many workers a plant and records a mailbox a plan is made: the answer is the same.
 SETTINGS = ("", " --single", " --single --capacity 1", " --workers 1 --capacity 1", " --workers 1 --capacity 65536")
 SETTINGS += (" --workers 2 --capacity 1", " --workers 2 --capacity 65536", " --workers 64 --capacity 1", " --workers 64 --capacity 65536")
+# What the usual limits alone refuse, and --large need not.
+LIMITED = re.compile("2 |.*(TooMany|BadNumber|BadRule)$", re.MULTILINE)
 # Rows before those that a case is about: A makes X and takes Y from B.
 HEAD = "run,2026-01-05,7,4,,,,\nplant,A,,,,,,\nplant,B,,,,,,\npair,A,X,make,lot,1,0,0\npair,A,Y,from:B,lot,1,0,0\npair,B,Y,buy,lot,0,0,0\n"
 
@@ -43,8 +45,9 @@ def answer(program, words, table):
 
 
 def expect(program, words, table, wanted):
-    """Has a command answer so; a plan with each setting."""
-    for more in SETTINGS if words == "plan" else ("",):
+    """Has a command answer so; a plan with each setting, and each command with --large, where limits aren't what is refused."""
+    large = () if "--large" in words or LIMITED.match(wanted) else (" --large",)
+    for more in (*(SETTINGS if words == "plan" else ("",)), *large):
         got = answer(program, words + more, table)
         is_so = got[:2] not in ("1 ", "2 ", "3 ", "!1", "!3") if wanted == "accepted\n" else got == wanted
         if not is_so:
