@@ -1,6 +1,7 @@
 //! Records as CSV: the items of a network by their names.
 
 use crate::RecordFaultKind;
+use crate::most::Most;
 use mrp_net::{ItemNo, Network};
 use std::alloc::Global;
 use std::collections::HashMap;
@@ -29,8 +30,10 @@ impl<'n> Model for NamedItems<'n> {
 }
 
 impl<'n> NamedItems<'n> {
-    ghost use Rattle.std.specs.Prelude.{◌≡◌, IfErr, IfOk};
+    ghost use Rattle.std.specs.Prelude.{◌≡◌, ◌≤◌, IfErr, IfOk};
+    ghost use Rattle.mrp_qty.specs.declared.quantity.TheConstants.{MOST};
     ghost use Rattle.mrp_record_csv.specs.Grammar.{item_named};
+    ghost use Rattle.mrp_record_csv.specs.Most.{HasLane, most_records};
     ghost use Rattle.mrp_record_csv.specs.declared.fault.RecordFaultKind.TheVariants.{Memory};
 
     /// Puts the items of a network into a map.
@@ -52,5 +55,14 @@ impl<'n> NamedItems<'n> {
         ensures { result ≡ item_named self.now name.now }
     {
         self.items.get(name).copied()
+    }
+
+    /// How many records may be read of a text of the network.
+    pub(crate) fn most(&self, most: Most) -> u64
+        requires lane { HasLane self.now most }
+        ensures value { result ≡ most_records self.now most }
+        ensures short { result ≤ MOST }
+    {
+        most.records(self.network)
     }
 }

@@ -10,6 +10,7 @@ mod fault;
 mod items;
 mod kind;
 pub mod laws;
+mod most;
 mod reading;
 mod spelled;
 mod writing;

@@ -11,9 +11,11 @@ ghost use Rattle.mrp_record_csv.specs.Left.{TellsNextRecord, TellsTakenRecord};
 ghost use Rattle.mrp_master_data.specs.Table.{Table};
 ghost use Rattle.mrp_net.specs.Lanes.{lane_at, lanes};
 ghost use Rattle.mrp_net.specs.Texts.{longest_text};
+ghost use Rattle.mrp_record_csv.specs.Most.{HasLane, most_records};
 ghost use Rattle.mrp_record_csv.specs.Reading.{AreRowsOf, HasFault};
 
 use crate::items::NamedItems;
+use crate::most::Most;
 use crate::spelled::spelled_record;
 use crate::{RecordFault, RecordFaultKind};
 use csv::{ErrorKind, Reader, ReaderBuilder, StringRecord};
@@ -43,7 +45,7 @@ pub fn read_records<R: Read + Drop>(
         (λ rows. HasFault MOST_RECORDS network.now rows fault)) }
     ensures few { IfOk result (λ records. length records.items ≤ MOST_RECORDS) }
 {
-    read_at_most(alloc, network, MOST_RECORDS, reader)
+    read_at_most(alloc, network, Most::Fixed, reader)
 }
 
 /// Reads the records of a text of a lane, a row each, as [`read_records`] does, but at most as many as a text of
@@ -66,23 +68,22 @@ pub fn read_lane_records<R: Read + Drop>(
     ensures few { IfOk result (λ records.
         length records.items ≤ longest_text network.now (lane_at network.now lane.0)) }
 {
-    let _pairs = network.pairs();
-    read_at_most(alloc, network, network.longest_text(lane), reader)
+    read_at_most(alloc, network, Most::OfLane(lane), reader)
 }
 
 /// Reads the records of a text, a row each, at most so many.
 fn read_at_most<R: Read + Drop>(
     alloc: Global,
     network: &Network,
-    most: u64,
+    most: Most,
     reader: R,
 ) -> Result<Vec<Record>, RecordFault>
-    requires { most ≤ MOST }
+    requires { HasLane network.now most }
     ensures records { IfOk result (λ records. OfRecords (option_map strip_bom (R.remaining reader))
-        (λ rows. AreRowsOf most network.now rows records.items)) }
+        (λ rows. AreRowsOf (most_records network.now most) network.now rows records.items)) }
     ensures fault { IfErr result (λ fault. OfRecords (option_map strip_bom (R.remaining reader))
-        (λ rows. HasFault most network.now rows fault)) }
-    ensures few { IfOk result (λ records. length records.items ≤ most) }
+        (λ rows. HasFault (most_records network.now most) network.now rows fault)) }
+    ensures few { IfOk result (λ records. length records.items ≤ most_records network.now most) }
 {
     let items = match NamedItems::of(alloc, network) {
         Ok(items) => items,
@@ -97,9 +98,33 @@ fn read_at_most<R: Read + Drop>(
     Ok(records)
 }
 
+/// Reads all rows, at most as many as is said, and puts their records into a list that has none. That a row is one too
+/// many is answered where it is, and nowhere else.
+fn read_rows<R: Read>(
+    alloc: Global,
+    items: &NamedItems<'_>,
+    most: Most,
+    rows: &mut Reader<R>,
+    records: &mut Vec<Record>,
+) -> Result<(), RecordFault>
+    requires gives { GivesAll rows.old }
+    requires lane { HasLane items.now most }
+    requires none { records.old.items ≡ [] }
+    ensures records { OnOk result (OfLeft (rows_left R.remaining rows.old)
+        (λ rows. AreRowsOf (most_records items.now most) items.now rows records.new.items)) }
+    ensures fault { IfErr result (λ fault. OfLeft (rows_left R.remaining rows.old)
+        (λ rows. HasFault (most_records items.now most) items.now rows fault)) }
+    ensures failed { IfErr result (λ e. StopsReading e.kind (has_failed rows.new)
+        (e.row ≡ most_records items.now most + 1) (most_records items.now most)
+        (rows_left R.remaining rows.old)) }
+    ensures few { OnOk result (length records.new.items ≤ most_records items.now most) }
+{
+    read_up_to(alloc, items, items.most(most), rows, records)
+}
+
 /// Reads all rows, at most so many, and puts their records into a list that has none. A fault's row is
 /// the one after those of the records that it then has.
-fn read_rows<R: Read>(
+fn read_up_to<R: Read>(
     alloc: Global,
     items: &NamedItems<'_>,
     most: u64,

@@ -1,7 +1,7 @@
 use Rattle.std.proofs.Common.{◌≡◌, ◌+◌, ◌≤◌, length}
 use Rattle.mrp_validation.specs.Left.{GivesAll, rows_left}
 use Rattle.mrp_record_csv.proofs.Loop.{IsReadSoFar}
-use Rattle.mrp_record_csv.proofs.reading.read_rows.Given as goal
+use Rattle.mrp_record_csv.proofs.reading.read_up_to.Given as goal
 
 -- each turn read one record, and its rows with the rows left are all the rows
 abbrev pub invariant-loop-number : goal.invariant-loop-number

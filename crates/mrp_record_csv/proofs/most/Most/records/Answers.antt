@@ -10,7 +10,7 @@ use Rattle.mrp_net.specs.declared.lane.Lane.{Lane}
 use Rattle.mrp_net.specs.Lanes.{lane_at, lane_items}
 use Rattle.mrp_net.specs.Texts.{longest_block, longest_text}
 use Rattle.mrp_net.proofs.Lengths.{block_is_short, lane_items_are_few}
-use Rattle.mrp_record_csv.proofs.reading.read_lane_records.Goals as goal
+use Rattle.mrp_record_csv.proofs.most.Most.records.Goals as goal
 
 text_is_short : (N : Table) (lane : Lane) → IsTable N → longest_text N lane ≤ MOST
 text_is_short N lane is =
@@ -22,6 +22,6 @@ text_is_short N lane is =
     let sum : sum_by (longest_block N lane) items ≤ length items * most = sum_by-le (longest_block N lane) most items short in
     omega (arith, sum, lane_items_are_few N lane is)
 
-pub read_at_most-requires : goal.read_at_most-requires
-read_at_most-requires g c =
-    omega (arith, c.longest_text.ensures, text_is_short c.args.network.now (lane_at c.args.network.now c.args.lane.0) c.pairs-pairs.ensures.table)
+pub returns-in-OfLane-clause-short : goal.returns-in-OfLane-clause-short
+returns-in-OfLane-clause-short c =
+    omega (arith, c.longest_text.ensures, text_is_short c.args.network.now (lane_at c.args.network.now c.in-OfLane.lane.0) c.pairs-pairs.ensures.table)
